@@ -1,0 +1,15 @@
+-- Texts are lists of bytes. Null is the empty list.
+use Rattle.std.specs.Prelude.{ℕ, ◌==◌, List, [], ◌∷◌, suc, if◌then◌else◌, get_or, codes}
+
+-- how often a byte stands in a text
+abbrev pub count_of : ℕ → List ℕ → ℕ
+count_of b [] = 0
+count_of b (x ∷ xs) = if x == b then suc (count_of b xs) else count_of b xs
+
+-- the argument of this number, the name being number 0; null where it is missing
+abbrev pub argument : ℕ → List (List ℕ) → List ℕ
+argument k arguments = get_or arguments k []
+
+-- what a processor with nothing to do runs: it reads a text of the input and prints its value
+abbrev pub idle_program : List ℕ
+idle_program = codes "#(ps,#(rs))"

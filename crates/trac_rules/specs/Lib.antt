@@ -1,0 +1,13 @@
+-- The language as definitions, to be read in this order.
+pub mod Bytes
+pub mod Form
+pub mod State
+pub mod Matching
+pub mod Scanning
+pub mod Limits
+pub mod Performing
+pub mod Stepping
+pub mod Session
+pub mod Running
+-- How proofs store these values.
+pub mod Codes

@@ -1,0 +1,38 @@
+-- The output and the ending of a whole run.
+use Rattle.std.specs.Prelude.{ℕ, zero, suc, List, [], ◌++◌, Result, Ok, Err, true}
+use Rattle.trac_rules.specs.declared.refusal.Refusal.{Refusal}
+use Rattle.trac_rules.specs.declared.refusal.Refusal.TheVariants.{Memory, TooLong, NeedInput, Ended, JournalFull, AtStart, Closed, NotMet}
+use Rattle.trac_rules.specs.State.{State, Tape, initial}
+use Rattle.trac_rules.specs.Stepping.{step}
+
+-- how a run ends: the budget of steps is spent, the input has ended (or the program halts), or a limit would be passed
+pub data Stop : Type 0 where
+  BudgetSpent : Stop
+  InputEnded : Stop
+  LimitPassed : Stop
+
+pub record Output : Type 0 where
+  pub bytes : List ℕ
+  pub stop : Stop
+
+-- on a tape that has ended a step is refused for a limit, or for the end
+abbrev pub stop_of : Refusal → Stop
+stop_of TooLong = LimitPassed
+stop_of refusal = InputEnded
+
+abbrev pub silent : State → State
+silent s = record s { output = [] }
+
+-- the output of a state, and then that of the rest of the run
+abbrev pub going_on : Result State Refusal → (State → Output) → Output
+going_on (Ok t) rest = record { bytes = t.output ++ (rest t).bytes; stop = (rest t).stop }
+going_on (Err refusal) rest = record { bytes = []; stop = stop_of refusal }
+
+-- a run of at most so many steps from a state: the output is emptied before each step
+unfoldable pub output_from : ℕ → Tape → State → Output
+output_from zero tape s = record { bytes = []; stop = BudgetSpent }
+output_from (suc n) tape s = going_on (step tape (silent s)) (λ t. output_from n tape t)
+
+-- a run over the whole input, within a budget of steps
+abbrev pub output_of : List ℕ → ℕ → Output
+output_of input budget = output_from budget (record { bytes = input; ended = true }) initial

@@ -1,0 +1,115 @@
+-- The plain session: a limit, a tape, and a list of states that is never empty.
+use Rattle.std.specs.Prelude.{◌≡◌, ℕ, zero, suc, ◌+◌, ◌<◌, ◌≤◌, nat_lt, nat_le, List, [], ◌∷◌, ◌++◌, length, drop, if◌then◌else◌, Bool, true, false, Option, None, Some, Result, Ok, Err, MatchOption, option_and_then}
+use Rattle.trac_rules.specs.declared.limit.TheConstants.{TAPE_LIMIT}
+use Rattle.trac_rules.specs.declared.refusal.Refusal.{Refusal}
+use Rattle.trac_rules.specs.declared.refusal.Refusal.TheVariants.{Memory, TooLong, NeedInput, Ended, JournalFull, AtStart, Closed, NotMet}
+use Rattle.trac_rules.specs.declared.reply.Reply.{Reply}
+use Rattle.trac_rules.specs.declared.reply.Reply.TheVariants.{Done, Refused}
+use Rattle.trac_rules.specs.State.{State, Tape, initial}
+use Rattle.trac_rules.specs.Stepping.{step}
+
+pub record PlainSession : Type 0 where
+  -- how many states there may be beside the last one
+  pub limit : ℕ
+  pub tape : Tape
+  -- the states before the last one, the newest first
+  pub earlier : List State
+  pub last : State
+
+abbrev pub new_session : ℕ → PlainSession
+new_session limit = record { limit = limit; tape = record { bytes = []; ended = false }; earlier = []; last = initial }
+
+pub data Command : Type 0 where
+  Feed : List ℕ → Command
+  End : Command
+  Step : Command
+  Back : Command
+  Commit : Command
+
+-- ---- each command: the reply, and the session after it
+
+pub record Answer : Type 0 where
+  pub reply : Reply
+  pub session : PlainSession
+
+abbrev pub done : PlainSession → Answer
+done p = record { reply = Done; session = p }
+
+-- whatever is refused changes nothing
+abbrev pub refused : Refusal → PlainSession → Answer
+refused refusal p = record { reply = Refused refusal; session = p }
+
+abbrev pub fed : List ℕ → PlainSession → Answer
+fed bytes p =
+    if p.tape.ended then refused Closed p else
+    if nat_le (length p.tape.bytes + length bytes) TAPE_LIMIT then done (record p { tape = record p.tape { bytes = p.tape.bytes ++ bytes } }) else
+    refused TooLong p
+
+-- the next state is added to the list
+abbrev pub stepped_to : Result State Refusal → PlainSession → Answer
+stepped_to (Ok t) p = done (record p { earlier = p.last ∷ p.earlier; last = t })
+stepped_to (Err refusal) p = refused refusal p
+
+-- the last state is taken away, where these are those before it
+abbrev pub backed_to : List State → PlainSession → Answer
+backed_to [] p = refused AtStart p
+backed_to (s ∷ earlier) p = done (record p { earlier = earlier; last = s })
+
+-- the state with nothing printed and nothing read
+abbrev pub settled : State → State
+settled s = record s { output = []; position = 0 }
+
+unfoldable pub answer : Command → PlainSession → Answer
+answer (Feed bytes) p = fed bytes p
+answer End p = done (record p { tape = record p.tape { ended = true } })
+answer Step p = if nat_lt (length p.earlier) p.limit then stepped_to (step p.tape p.last) p else refused JournalFull p
+answer Back p = backed_to p.earlier p
+-- the last state alone stays, settled; the tape loses what is read
+answer Commit p = done (record p {
+  tape = record p.tape { bytes = drop p.last.position p.tape.bytes };
+  earlier = [];
+  last = settled p.last;
+})
+
+-- ---- the one free choice: memory may be refused in place of a feed's `Done` and of a step's `Done` or `TooLong`, and of nothing else
+
+abbrev pub MayRunOut : Command → Reply → Type 0
+MayRunOut (Feed bytes) Done = Unit {0}
+MayRunOut Step Done = Unit {0}
+MayRunOut Step (Refused TooLong) = Unit {0}
+MayRunOut command reply = ⊥
+
+-- a session that was old may give this reply to the command, and go on as new
+abbrev pub Answers : Command → PlainSession → Reply → PlainSession → Type 0
+Answers command old (Refused Memory) new = MayRunOut command (answer command old).reply × (new ≡ old)
+Answers command old reply new = answer command old ≡ record { reply = reply; session = new }
+
+-- ---- walks
+
+-- the session after the command, where that is not refused
+abbrev pub accepted_by : Answer → Option PlainSession
+accepted_by a = accepted_as a.reply a.session
+  where
+    accepted_as : Reply → PlainSession → Option PlainSession
+    accepted_as Done p = Some p
+    accepted_as (Refused refusal) p = None
+
+-- the session after as many accepted commands of one kind
+abbrev pub repeated : Command → ℕ → PlainSession → Option PlainSession
+repeated command zero p = Some p
+repeated command (suc n) p = option_and_then (λ q. accepted_by (answer command q)) (repeated command n p)
+
+-- a walk of at most n such commands: so many were accepted, and a refusal ended it where they are fewer than n
+pub record IsWalk (command : Command) (n : ℕ) (old : PlainSession) (steps : ℕ) (why : Option Refusal) (new : PlainSession) : Type 0 where
+  pub within : steps ≤ n
+  pub walked : repeated command steps old ≡ Some new
+  pub stopped : MatchOption why (steps ≡ n) (λ refusal. (steps < n) × Answers command new (Refused refusal) new)
+
+-- ---- lists of commands
+
+-- these may be the replies to these commands, one after another
+abbrev pub Run : List Command → List Reply → PlainSession → PlainSession → Type 0
+Run [] [] old new = new ≡ old
+Run (command ∷ commands) (reply ∷ replies) old new = (middle : PlainSession) × (Answers command old reply middle) × Run commands replies middle new
+Run [] (reply ∷ replies) old new = ⊥
+Run (command ∷ commands) [] old new = ⊥

@@ -1,0 +1,35 @@
+-- One step.
+use Rattle.std.specs.Prelude.{◌≡◌, if◌then◌else◌, Result, Ok, Err}
+use Rattle.trac_rules.specs.declared.refusal.Refusal.{Refusal}
+use Rattle.trac_rules.specs.declared.refusal.Refusal.TheVariants.{Memory, TooLong, NeedInput, Ended, JournalFull, AtStart, Closed, NotMet}
+use Rattle.trac_rules.specs.State.{State, Tape}
+use Rattle.trac_rules.specs.Scanning.{Scanned, Moves, Calls, scan}
+use Rattle.trac_rules.specs.Performing.{perform}
+use Rattle.trac_rules.specs.Limits.{is_within_limits}
+
+-- what scanning and performing say, before limits are looked at
+abbrev pub carried_out : Tape → Scanned → Result State Refusal
+carried_out tape (Moves t) = Ok t
+carried_out tape (Calls call) = perform tape call
+
+-- only the state after the step is judged
+abbrev pub limited : Result State Refusal → Result State Refusal
+limited (Ok t) = if is_within_limits t then Ok t else Err TooLong
+limited (Err refusal) = Err refusal
+
+-- the state after a step, or why it is refused
+unfoldable pub step : Tape → State → Result State Refusal
+step tape s = limited (carried_out tape (scan s))
+
+-- ---- the one free choice: memory
+
+-- memory may be refused in place of a state and of `TooLong`, and of nothing else
+abbrev pub MayLackMemory : Result State Refusal → Type 0
+MayLackMemory (Ok t) = Unit {0}
+MayLackMemory (Err TooLong) = Unit {0}
+MayLackMemory (Err refusal) = ⊥
+
+-- a step of this outcome may be refused so
+abbrev pub MayRefuse : Result State Refusal → Refusal → Type 0
+MayRefuse outcome Memory = MayLackMemory outcome
+MayRefuse outcome refusal = outcome ≡ Err refusal

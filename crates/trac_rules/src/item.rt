@@ -1,0 +1,10 @@
+//! What a form is made of.
+
+/// A place of a form: a byte, or a gap where a text was cut out.
+#[derive(Clone, Copy, Debug, PartialEq, Eq)]
+pub enum Item {
+    /// A byte of the form's text.
+    Byte(u8),
+    /// Where the text of this ordinal was cut out, which was `width` bytes long: at least one.
+    Gap { ordinal: u32, width: u32 },
+}

@@ -1,0 +1,12 @@
+//! The language: what a TRAC T-64 processor does, as definitions (the folder `specs/`), the small types
+//! that both the definitions and the programs name, and the laws of the definitions as contracts.
+#![tactic(auto)]
+
+pub mod byte;
+pub mod item;
+pub mod kind;
+pub mod limit;
+pub mod primitive;
+pub mod refusal;
+pub mod reply;
+pub mod scan;

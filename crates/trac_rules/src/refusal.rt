@@ -1,0 +1,32 @@
+//! Why a call was refused.
+
+use thiserror::Error;
+
+/// Why a step, a feed or a step back was refused. Whatever is refused changes nothing.
+#[derive(Clone, Copy, Debug, PartialEq, Eq, Error)]
+pub enum Refusal {
+    /// A growth was refused memory.
+    #[error("no memory")]
+    Memory,
+    /// A limit would be passed.
+    #[error("a limit would be passed")]
+    TooLong,
+    /// More input has to be fed first.
+    #[error("more input is needed")]
+    NeedInput,
+    /// The input has ended and is all read, or the program halts.
+    #[error("the input has ended")]
+    Ended,
+    /// The journal holds as many records as it may.
+    #[error("the journal is full")]
+    JournalFull,
+    /// There is no record to go back over.
+    #[error("this is the first state")]
+    AtStart,
+    /// Something was fed behind the end of the input.
+    #[error("the input was closed")]
+    Closed,
+    /// The name that was looked for was not met.
+    #[error("the name was not met")]
+    NotMet,
+}
