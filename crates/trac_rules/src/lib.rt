@@ -5,6 +5,7 @@
 pub mod byte;
 pub mod item;
 pub mod kind;
+pub mod laws;
 pub mod limit;
 pub mod primitive;
 pub mod refusal;
