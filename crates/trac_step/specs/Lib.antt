@@ -1,0 +1,6 @@
+-- How the machine keeps a state.
+pub mod Cuts
+pub mod Layout
+pub mod Calling
+pub mod Record
+pub mod Tape

@@ -1,0 +1,19 @@
+//! The innermost begun function.
+ghost use Rattle.std.specs.Prelude.{◌≡◌, ◌<◌, ◌+◌, length, drop, take, slice_get, MatchOption};
+ghost use Rattle.trac_step.specs.Cuts.{AreArguments, BeginsFunction};
+
+use crate::mark::Mark;
+
+// The last of the marks that begins a function: behind it only arguments begin.
+pub(crate) fn innermost(marks: &[Mark]) -> Option<usize>
+    ensures { MatchOption result (AreArguments marks.now) (λ k. BeginsFunction marks.now k) }
+{
+    let mut i = marks.len();
+    while i > 0 {
+        i -= 1;
+        if marks[i].frame.is_some() {
+            return Some(i);
+        }
+    }
+    None
+}

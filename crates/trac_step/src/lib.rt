@@ -1,0 +1,20 @@
+//! The machine: a state of the language that takes one step at a time, and goes back over it.
+#![tactic(auto)]
+
+pub mod args;
+pub mod engine;
+mod front;
+mod innermost;
+pub mod mark;
+mod matching;
+mod name;
+pub mod record;
+pub mod tape;
+
+pub use args::Args;
+pub use engine::{Core, Machine};
+pub use mark::Mark;
+pub use record::Record;
+pub use tape::Tape;
+pub use trac_rules::kind::Kind;
+pub use trac_rules::refusal::Refusal;
