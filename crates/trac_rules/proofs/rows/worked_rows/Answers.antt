@@ -1,12 +1,12 @@
 -- Each clause is computed from the definitions.
-use Rattle.std.proofs.Common.{◌≡◌, ◌++◌, ◌∷◌, [], codes, replicate, refl, sym, ◌∙◌}
+use Rattle.std.proofs.Common.{◌≡◌, ◌++◌, ◌∷◌, [], codes, replicate, refl, sym, ◌∙◌, arith}
 use Rattle.trac_rules.specs.Limits.{is_within_limits}
 use Rattle.trac_rules.specs.Matching.{match_of}
 use Rattle.trac_rules.specs.Performing.{perform}
-use Rattle.trac_rules.specs.Rows.{state_after}
+use Rattle.trac_rules.specs.Rows.{session_after, state_after}
 use Rattle.trac_rules.specs.Running.{output_from}
 use Rattle.trac_rules.specs.Scanning.{scan}
-use Rattle.trac_rules.specs.Session.{Back, Feed, Step, answer, new_session}
+use Rattle.trac_rules.specs.Session.{Back, Commit, End, Feed, Step, answer, new_session}
 use Rattle.trac_rules.specs.State.{State, initial}
 use Rattle.trac_rules.specs.Stepping.{step}
 use Rattle.trac_rules.specs.declared.kind.Kind.TheVariants.{Active}
@@ -158,3 +158,35 @@ returns-clause-all_kinds_replies c = refl
 pub returns-clause-all_kinds_active : goal.returns-clause-all_kinds_active
 unfolding match_of scan is_within_limits perform step answer
 returns-clause-all_kinds_active c = refl
+
+pub returns-clause-all_kinds_run : goal.returns-clause-all_kinds_run
+unfolding match_of scan is_within_limits perform step answer
+returns-clause-all_kinds_run c = (session_after (Feed (codes "AB'") ∷ []) (new_session 4), refl, (session_after (Feed (codes "AB'") ∷ Step ∷ []) (new_session 4), refl, (session_after (Feed (codes "AB'") ∷ Step ∷ Step ∷ []) (new_session 4), refl, (session_after (Feed (codes "AB'") ∷ Step ∷ Step ∷ Step ∷ []) (new_session 4), refl, (session_after (Feed (codes "AB'") ∷ Step ∷ Step ∷ Step ∷ Step ∷ []) (new_session 4), refl, (session_after (Feed (codes "AB'") ∷ Step ∷ Step ∷ Step ∷ Step ∷ Step ∷ []) (new_session 4), refl, (session_after (Feed (codes "AB'") ∷ Step ∷ Step ∷ Step ∷ Step ∷ Step ∷ Back ∷ []) (new_session 4), refl, (session_after (Feed (codes "AB'") ∷ Step ∷ Step ∷ Step ∷ Step ∷ Step ∷ Back ∷ End ∷ []) (new_session 4), refl, (session_after (Feed (codes "AB'") ∷ Step ∷ Step ∷ Step ∷ Step ∷ Step ∷ Back ∷ End ∷ Feed (codes "C") ∷ []) (new_session 4), refl, (session_after (Feed (codes "AB'") ∷ Step ∷ Step ∷ Step ∷ Step ∷ Step ∷ Back ∷ End ∷ Feed (codes "C") ∷ Commit ∷ []) (new_session 4), refl, (session_after (Feed (codes "AB'") ∷ Step ∷ Step ∷ Step ∷ Step ∷ Step ∷ Back ∷ End ∷ Feed (codes "C") ∷ Commit ∷ Back ∷ []) (new_session 4), refl, refl)))))))))))
+
+pub returns-clause-walk_there : goal.returns-clause-walk_there
+unfolding match_of scan is_within_limits perform step answer
+returns-clause-walk_there c = record { within = omega arith; walked = refl; stopped = refl }
+
+pub returns-clause-walk_back : goal.returns-clause-walk_back
+unfolding match_of scan is_within_limits perform step answer
+returns-clause-walk_back c = record { within = omega arith; walked = refl; stopped = refl }
+
+pub returns-clause-walk_at_start : goal.returns-clause-walk_at_start
+unfolding match_of scan is_within_limits perform step answer
+returns-clause-walk_at_start c = record { within = omega arith; walked = refl; stopped = (omega arith, refl) }
+
+pub returns-clause-walk_waiting : goal.returns-clause-walk_waiting
+unfolding match_of scan is_within_limits perform step answer
+returns-clause-walk_waiting c = record { within = omega arith; walked = refl; stopped = (omega arith, refl) }
+
+pub returns-clause-walk_full : goal.returns-clause-walk_full
+unfolding match_of scan is_within_limits perform step answer
+returns-clause-walk_full c = record { within = omega arith; walked = refl; stopped = (omega arith, refl) }
+
+pub returns-clause-walk_to_start : goal.returns-clause-walk_to_start
+unfolding match_of scan is_within_limits perform step answer
+returns-clause-walk_to_start c = record { within = omega arith; walked = refl; stopped = (omega arith, refl) }
+
+pub returns-clause-walk_to_the_rest : goal.returns-clause-walk_to_the_rest
+unfolding match_of scan is_within_limits perform step answer
+returns-clause-walk_to_the_rest c = record { within = omega arith; walked = refl; stopped = refl }
