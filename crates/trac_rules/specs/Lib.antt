@@ -9,5 +9,7 @@ pub mod Performing
 pub mod Stepping
 pub mod Session
 pub mod Running
+-- Words in which the worked rows are said.
+pub mod Rows
 -- How proofs store these values.
 pub mod Codes

@@ -10,4 +10,5 @@ pub mod limit;
 pub mod primitive;
 pub mod refusal;
 pub mod reply;
+pub mod rows;
 pub mod scan;

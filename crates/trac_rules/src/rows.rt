@@ -1,0 +1,71 @@
+//! Worked rows of the language, computed from the definitions.
+ghost use Rattle.std.specs.Prelude.{◌≡◌, ◌++◌, ◌∷◌, [], codes, replicate, None, Some};
+ghost use Rattle.trac_rules.specs.Rows.{replies_to, session_after, state_after};
+ghost use Rattle.trac_rules.specs.Running.{BudgetSpent, InputEnded, output_of};
+ghost use Rattle.trac_rules.specs.Session.{Back, Commit, End, Feed, IsWalk, Run, Step, new_session};
+ghost use Rattle.trac_rules.specs.State.{initial};
+ghost use Rattle.trac_rules.specs.declared.byte.TheConstants.{CARRIAGE_RETURN, LINE_FEED};
+ghost use Rattle.trac_rules.specs.declared.kind.Kind.TheVariants.{Active};
+ghost use Rattle.trac_rules.specs.declared.refusal.Refusal.TheVariants.{AtStart, Closed, JournalFull, NeedInput};
+ghost use Rattle.trac_rules.specs.declared.reply.Reply.TheVariants.{Done, Refused};
+
+/// What whole runs print, what sessions reply, and how both stand afterwards.
+pub fn worked_rows()
+    // No input: seven steps, and then the input has ended.
+    ensures nothing_before_the_end { output_of [] 7 ≡ record { bytes = []; stop = BudgetSpent } }
+    ensures nothing { output_of [] 8 ≡ record { bytes = []; stop = InputEnded } }
+    // A text is printed: nineteen steps.
+    ensures text_before_the_end { output_of (codes "AB'") 19 ≡ record { bytes = codes "AB"; stop = BudgetSpent } }
+    ensures text { output_of (codes "AB'") 20 ≡ record { bytes = codes "AB"; stop = InputEnded } }
+    // A `(` of the input finds its match in the idle program, so nothing is printed: eighteen steps.
+    ensures opening_before_the_end { output_of (codes "a(b") 18 ≡ record { bytes = []; stop = BudgetSpent } }
+    ensures opening { output_of (codes "a(b") 19 ≡ record { bytes = []; stop = InputEnded } }
+    // A `(` without a match protects all the rest.
+    ensures unmatched { output_of (codes "((a'") 1000000000 ≡ record { bytes = []; stop = InputEnded } }
+    // A `)` too many ends the idle program's `ps`: twenty-two steps.
+    ensures stray_before_the_end { output_of (codes "a)b,c'") 22 ≡ record { bytes = codes "a"; stop = BudgetSpent } }
+    ensures stray { output_of (codes "a)b,c'") 23 ≡ record { bytes = codes "a"; stop = InputEnded } }
+    // At the end of the input the meta character may be missing.
+    ensures without_meta { output_of (codes "ABC") 1000000000 ≡ record { bytes = codes "ABC"; stop = InputEnded } }
+    // A `#` that begins no function stands for itself.
+    ensures sharps { output_of (codes "a#b##c'") 1000000000 ≡ record { bytes = codes "a#b##c"; stop = InputEnded } }
+    // A carriage return and a line feed are deleted, but not in a protected text.
+    ensures layout { output_of (codes "A" ++ CARRIAGE_RETURN ∷ LINE_FEED ∷ codes "B'") 1000000000 ≡ record { bytes = codes "AB"; stop = InputEnded } }
+    ensures protected_layout { output_of (codes "(A" ++ LINE_FEED ∷ codes "B)'") 1000000000 ≡ record { bytes = codes "A" ++ LINE_FEED ∷ codes "B"; stop = InputEnded } }
+    // Eleven steps there: the text is printed.
+    ensures there_replies { replies_to (Feed (codes "AB'") ∷ replicate 11 Step) (new_session 64) ≡ replicate 12 Done }
+    ensures there_output { (state_after (Feed (codes "AB'") ∷ replicate 11 Step) (new_session 64)).output ≡ codes "AB" }
+    // One step back: the text stands in the idle program's `ps` again.
+    ensures back_replies { replies_to (Feed (codes "AB'") ∷ replicate 11 Step ++ Back ∷ []) (new_session 64) ≡ replicate 13 Done }
+    ensures back_output { (state_after (Feed (codes "AB'") ∷ replicate 11 Step ++ Back ∷ []) (new_session 64)).output ≡ [] }
+    ensures back_active { (state_after (Feed (codes "AB'") ∷ replicate 11 Step ++ Back ∷ []) (new_session 64)).active ≡ codes ")" }
+    ensures back_frames { (state_after (Feed (codes "AB'") ∷ replicate 11 Step ++ Back ∷ []) (new_session 64)).frames ≡ record { kind = Active; arguments = codes "ps" ∷ []; gathered = codes "AB" } ∷ [] }
+    // Ten more steps back: the initial state, behind which there is none.
+    ensures start { state_after (Feed (codes "AB'") ∷ replicate 11 Step ++ replicate 11 Back) (new_session 64) ≡ initial }
+    ensures start_replies { replies_to (Feed (codes "AB'") ∷ replicate 11 Step ++ replicate 11 Back ++ Back ∷ []) (new_session 64) ≡ replicate 23 Done ++ Refused AtStart ∷ [] }
+    ensures start_stays { state_after (Feed (codes "AB'") ∷ replicate 11 Step ++ replicate 11 Back ++ Back ∷ []) (new_session 64) ≡ initial }
+    // A step waits for input, and is taken again after a step back and more input.
+    ensures waiting { replies_to (Feed (codes "AB") ∷ replicate 8 Step) (new_session 64) ≡ replicate 8 Done ++ Refused NeedInput ∷ [] }
+    ensures resumed_replies { replies_to (Feed (codes "AB") ∷ replicate 8 Step ++ Feed (codes "'") ∷ Step ∷ Back ∷ Feed (codes "C'") ∷ Step ∷ []) (new_session 64) ≡ replicate 8 Done ++ Refused NeedInput ∷ replicate 5 Done }
+    ensures resumed_active { (state_after (Feed (codes "AB") ∷ replicate 8 Step ++ Feed (codes "'") ∷ Step ∷ []) (new_session 64)).active ≡ codes "AB)" }
+    ensures resumed_position { (state_after (Feed (codes "AB") ∷ replicate 8 Step ++ Feed (codes "'") ∷ Step ∷ []) (new_session 64)).position ≡ 3 }
+    ensures resumed_again { state_after (Feed (codes "AB") ∷ replicate 8 Step ++ Feed (codes "'") ∷ Step ∷ Back ∷ Feed (codes "C'") ∷ Step ∷ []) (new_session 64) ≡ state_after (Feed (codes "AB") ∷ replicate 8 Step ++ Feed (codes "'") ∷ Step ∷ []) (new_session 64) }
+    // A full journal refuses a step, until it is emptied.
+    ensures full_journal { replies_to (Feed (codes "AB'") ∷ replicate 5 Step ++ Commit ∷ Step ∷ Back ∷ Back ∷ []) (new_session 4) ≡ replicate 5 Done ++ Refused JournalFull ∷ Done ∷ Done ∷ Done ∷ Refused AtStart ∷ [] }
+    // Behind the end of the input nothing is fed, and the rest is read without a meta character.
+    ensures closed_replies { replies_to (Feed (codes "A") ∷ End ∷ Feed (codes "B") ∷ replicate 8 Step) (new_session 64) ≡ Done ∷ Done ∷ Refused Closed ∷ replicate 8 Done }
+    ensures closed_active { (state_after (Feed (codes "A") ∷ End ∷ Feed (codes "B") ∷ replicate 8 Step) (new_session 64)).active ≡ codes "A)" }
+    ensures closed_position { (state_after (Feed (codes "A") ∷ End ∷ Feed (codes "B") ∷ replicate 8 Step) (new_session 64)).position ≡ 1 }
+    // Every kind of command, with refusals between them.
+    ensures all_kinds_replies { replies_to (Feed (codes "AB'") ∷ replicate 5 Step ++ Back ∷ End ∷ Feed (codes "C") ∷ Commit ∷ Back ∷ []) (new_session 4) ≡ replicate 5 Done ++ Refused JournalFull ∷ Done ∷ Done ∷ Refused Closed ∷ Done ∷ Refused AtStart ∷ [] }
+    ensures all_kinds_active { (state_after (Feed (codes "AB'") ∷ replicate 5 Step ++ Back ∷ End ∷ Feed (codes "C") ∷ Commit ∷ Back ∷ []) (new_session 4)).active ≡ codes ",#(rs))" }
+    ensures all_kinds_run { Run (Feed (codes "AB'") ∷ replicate 5 Step ++ Back ∷ End ∷ Feed (codes "C") ∷ Commit ∷ Back ∷ []) (replicate 5 Done ++ Refused JournalFull ∷ Done ∷ Done ∷ Refused Closed ∷ Done ∷ Refused AtStart ∷ []) (new_session 4) (session_after (Feed (codes "AB'") ∷ replicate 5 Step ++ Back ∷ End ∷ Feed (codes "C") ∷ Commit ∷ Back ∷ []) (new_session 4)) }
+    // The same as walks, whose length and ending are told.
+    ensures walk_there { IsWalk Step 11 (session_after (Feed (codes "AB'") ∷ []) (new_session 64)) 11 None (session_after (Feed (codes "AB'") ∷ replicate 11 Step) (new_session 64)) }
+    ensures walk_back { IsWalk Back 10 (session_after (Feed (codes "AB'") ∷ replicate 11 Step ++ Back ∷ []) (new_session 64)) 10 None (session_after (Feed (codes "AB'") ∷ []) (new_session 64)) }
+    ensures walk_at_start { IsWalk Back 1 (session_after (Feed (codes "AB'") ∷ []) (new_session 64)) 0 (Some AtStart) (session_after (Feed (codes "AB'") ∷ []) (new_session 64)) }
+    ensures walk_waiting { IsWalk Step 8 (session_after (Feed (codes "AB") ∷ []) (new_session 64)) 7 (Some NeedInput) (session_after (Feed (codes "AB") ∷ replicate 7 Step) (new_session 64)) }
+    ensures walk_full { IsWalk Step 5 (session_after (Feed (codes "AB'") ∷ []) (new_session 4)) 4 (Some JournalFull) (session_after (Feed (codes "AB'") ∷ replicate 4 Step) (new_session 4)) }
+    ensures walk_to_start { IsWalk Back 2 (session_after (Feed (codes "AB'") ∷ replicate 4 Step ++ Commit ∷ Step ∷ []) (new_session 4)) 1 (Some AtStart) (session_after (Feed (codes "AB'") ∷ replicate 4 Step ++ Commit ∷ []) (new_session 4)) }
+    ensures walk_to_the_rest { IsWalk Step 8 (session_after (Feed (codes "A") ∷ End ∷ []) (new_session 64)) 8 None (session_after (Feed (codes "A") ∷ End ∷ replicate 8 Step) (new_session 64)) }
+{}
