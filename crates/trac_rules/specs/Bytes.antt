@@ -1,4 +1,4 @@
--- Texts are lists of bytes. Null is the empty list.
+-- Texts are lists of bytes, each a number below 256. Null is the empty list.
 use Rattle.std.specs.Prelude.{ℕ, ◌==◌, List, [], ◌∷◌, suc, if◌then◌else◌, get_or, codes}
 
 -- how often a byte stands in a text
@@ -10,6 +10,6 @@ count_of b (x ∷ xs) = if x == b then suc (count_of b xs) else count_of b xs
 abbrev pub argument : ℕ → List (List ℕ) → List ℕ
 argument k arguments = get_or arguments k []
 
--- what a processor with nothing to do runs: it reads a text of the input and prints its value
+-- what a processor with nothing to do runs: it reads a text of the input, scans it, and prints what that leaves
 abbrev pub idle_program : List ℕ
 idle_program = codes "#(ps,#(rs))"

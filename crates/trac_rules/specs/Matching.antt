@@ -1,5 +1,5 @@
 -- Which `)` matches a protecting `(`. Every `(` and `)` is counted, and nothing else.
-use Rattle.std.specs.Prelude.{◌≡◌, ℕ, zero, suc, ◌+◌, ◌≤◌, ◌==◌, ◌&&◌, List, [], ◌++◌, ◌∷◌, length, take, drop, slice_index, Bool, cond, Option, None, Some}
+use Rattle.std.specs.Prelude.{◌≡◌, ℕ, zero, suc, ◌+◌, ◌≤◌, ◌==◌, ◌&&◌, List, [], length, take, drop, slice_index, Bool, cond, Option, None, Some}
 use Rattle.trac_rules.specs.declared.byte.TheConstants.{OPENING, CLOSING}
 use Rattle.trac_rules.specs.Bytes.{count_of}
 
@@ -25,7 +25,7 @@ pub record Protected : Type 0 where
   pub inner : List ℕ
   pub rest : List ℕ
 
--- without a match the whole rest is protected
+-- without a match the whole rest is protected (this project's profile)
 abbrev pub protected_up_to : Option ℕ → List ℕ → Protected
 protected_up_to None text = record { inner = text; rest = [] }
 protected_up_to (Some k) text = record { inner = take k text; rest = drop (k + 1) text }

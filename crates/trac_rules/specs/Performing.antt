@@ -1,5 +1,5 @@
 -- What the primitives do, and where their values go.
-use Rattle.std.specs.Prelude.{ℕ, suc, ◌+◌, ◌==◌, List, [], ◌∷◌, ◌++◌, length, take, drop, if◌then◌else◌, Bool, true, false, Option, None, Some, Result, Ok, Err, codes, position}
+use Rattle.std.specs.Prelude.{ℕ, ◌+◌, ◌==◌, List, [], ◌∷◌, ◌++◌, length, take, drop, if◌then◌else◌, Bool, true, false, Option, None, Some, Result, Ok, Err, codes, position}
 use Rattle.std.specs.List.{join_with_byte}
 use Rattle.std.specs.Str.{str_eq_ignore_ascii_case}
 use Rattle.trac_rules.specs.declared.byte.TheConstants.{STAR, CLOSING, LINE_FEED}
@@ -15,7 +15,7 @@ use Rattle.trac_rules.specs.Scanning.{Call, gather}
 
 -- ---- names
 
--- what a name stands for, each letter in either case
+-- what a name stands for, each letter in either case (this project's profile)
 abbrev pub primitive_of : List ℕ → Primitive
 primitive_of name =
     if str_eq_ignore_ascii_case name (codes "ps") then PrintString else
@@ -47,14 +47,14 @@ reads value n s = record { value = value; forced = false; printed = []; state = 
 abbrev pub unread : Tape → State → List ℕ
 unread tape s = drop s.position tape.bytes
 
--- `rs` without a meta character in the unread input, the second argument saying whether the input has ended:
--- then the whole rest is given if it is not null
+-- `rs` where no meta character stands in the rest of the input, with whether the input has ended:
+-- then the whole rest is given if it is not null (this project's profile)
 abbrev pub read_rest : List ℕ → Bool → State → Result Effect Refusal
 read_rest rest false s = Err NeedInput
 read_rest [] true s = Err Ended
 read_rest (b ∷ rest) true s = Ok (reads (b ∷ rest) (length (b ∷ rest)) s)
 
--- `rs`, the first argument being the place of the first meta character in the unread input, which is read and not given
+-- `rs`, with the place of the first meta character in the unread input, which is read and not given
 abbrev pub read_up_to : Option ℕ → Tape → State → Result Effect Refusal
 read_up_to (Some k) tape s = Ok (reads (take k (unread tape s)) (k + 1) s)
 read_up_to None tape s = read_rest (unread tape s) tape.ended s
@@ -66,17 +66,19 @@ effect_of Unknown tape arguments s = Ok (no_effect s)
 
 -- ---- a call
 
--- what shows a function in the trace: its beginning, all its arguments with `*` between them, its end
+-- how a function of this kind begins
 abbrev pub beginning_of : Kind → List ℕ
 beginning_of Active = codes "#("
 beginning_of Neutral = codes "##("
 
--- the line of the trace, where the trace is on
+-- the line of the trace, where the trace is on: the function's beginning, all its arguments with `*` between them, its end,
+-- and a line feed (this project's profile)
 abbrev pub trace_line : Bool → Kind → List (List ℕ) → List ℕ
 trace_line false kind arguments = []
 trace_line true kind arguments = beginning_of kind ++ join_with_byte STAR arguments ++ CLOSING ∷ LINE_FEED ∷ []
 
--- where the value goes: before the active text that of an active function and every forced one, to the current text any other
+-- where the value goes: that of an active function and every forced one before the active text, and any other to the current text;
+-- that a neutral function's value may be forced is this project's profile
 abbrev pub placed : Kind → Bool → List ℕ → State → State
 placed Active forced value s = record s { active = value ++ s.active }
 placed Neutral true value s = record s { active = value ++ s.active }

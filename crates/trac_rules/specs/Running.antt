@@ -1,7 +1,7 @@
 -- The output and the ending of a whole run.
 use Rattle.std.specs.Prelude.{ℕ, zero, suc, List, [], ◌++◌, Result, Ok, Err, true}
 use Rattle.trac_rules.specs.declared.refusal.Refusal.{Refusal}
-use Rattle.trac_rules.specs.declared.refusal.Refusal.TheVariants.{Memory, TooLong, NeedInput, Ended, JournalFull, AtStart, Closed, NotMet}
+use Rattle.trac_rules.specs.declared.refusal.Refusal.TheVariants.{TooLong, Ended}
 use Rattle.trac_rules.specs.State.{State, Tape, initial}
 use Rattle.trac_rules.specs.Stepping.{step}
 
@@ -15,15 +15,16 @@ pub record Output : Type 0 where
   pub bytes : List ℕ
   pub stop : Stop
 
--- on a tape that has ended a step is refused for a limit, or for the end
+-- on a tape that has ended a step is refused for a limit or for the end, and for nothing else
 abbrev pub stop_of : Refusal → Stop
 stop_of TooLong = LimitPassed
+stop_of Ended = InputEnded
 stop_of refusal = InputEnded
 
 abbrev pub silent : State → State
 silent s = record s { output = [] }
 
--- the output of a state, and then that of the rest of the run
+-- after a step the output of its state and then that of the rest of the run; after a refusal nothing more
 abbrev pub going_on : Result State Refusal → (State → Output) → Output
 going_on (Ok t) rest = record { bytes = t.output ++ (rest t).bytes; stop = (rest t).stop }
 going_on (Err refusal) rest = record { bytes = []; stop = stop_of refusal }

@@ -35,20 +35,20 @@ front_of (b ∷ rest) =
 
 -- ---- changes of the current text: the argument being gathered of the innermost frame, or the base text
 
--- with the text at the end of the current text, where these are the frames
+-- the state with a text at the end of the current text; the first argument is the state's frames
 abbrev pub gathered_in : List Frame → List ℕ → State → State
 gathered_in [] text s = record s { base = s.base ++ text }
 gathered_in (f ∷ fs) text s = record s { frames = record f { gathered = f.gathered ++ text } ∷ fs }
 
--- with the text at the end of the current text
+-- the state with a text at the end of the current text
 abbrev pub gather : List ℕ → State → State
 gather text s = gathered_in s.frames text s
 
--- with the first n bytes of the active text deleted
+-- the state without the first n bytes of the active text
 abbrev pub deleted : ℕ → State → State
 deleted n s = record s { active = drop n s.active }
 
--- with a function of this kind begun, which has a null argument
+-- the state with a begun function of this kind, which has a null argument
 abbrev pub begun : Kind → State → State
 begun kind s = record s { frames = record { kind = kind; arguments = []; gathered = [] } ∷ s.frames }
 
@@ -69,17 +69,19 @@ pub data Scanned : Type 0 where
   Moves : State → Scanned
   Calls : Call → Scanned
 
--- a deleted `,`, where these are the frames: it ends an argument, or is outside any function
+-- behind a deleted `,`, the first argument being the state's frames: an argument is ended, or, outside any function,
+-- nothing more happens (this project's profile)
 abbrev pub comma_in : List Frame → State → State
 comma_in [] s = s
 comma_in (f ∷ fs) s = record s { frames = with_next_argument f ∷ fs }
 
--- a deleted `)`, where these are the frames: it ends the innermost function, or is outside any function
+-- behind a deleted `)`, the first argument being the state's frames: the innermost function is ended, or, outside any function,
+-- nothing more happens (this project's profile)
 abbrev pub closing_in : List Frame → State → Scanned
 closing_in [] s = Moves s
 closing_in (f ∷ fs) s = Calls (record { kind = f.kind; arguments = f.arguments ++ f.gathered ∷ []; state = record s { frames = fs } })
 
--- a deleted `(`: what it protects goes to the current text unchanged, and its match is deleted
+-- a `(` with what it protects: both it and its match are deleted, and what is between goes to the current text unchanged
 abbrev pub protect : Protected → State → State
 protect p s = gather p.inner (record s { active = p.rest })
 

@@ -1,15 +1,15 @@
 -- The plain session: a limit, a tape, and a list of states that is never empty.
-use Rattle.std.specs.Prelude.{◌≡◌, ℕ, zero, suc, ◌+◌, ◌<◌, ◌≤◌, nat_lt, nat_le, List, [], ◌∷◌, ◌++◌, length, drop, if◌then◌else◌, Bool, true, false, Option, None, Some, Result, Ok, Err, MatchOption, option_and_then}
+use Rattle.std.specs.Prelude.{◌≡◌, ℕ, zero, suc, ◌+◌, ◌<◌, ◌≤◌, nat_lt, nat_le, List, [], ◌∷◌, ◌++◌, length, drop, if◌then◌else◌, true, false, Option, None, Some, Result, Ok, Err, MatchOption, option_and_then}
 use Rattle.trac_rules.specs.declared.limit.TheConstants.{TAPE_LIMIT}
 use Rattle.trac_rules.specs.declared.refusal.Refusal.{Refusal}
-use Rattle.trac_rules.specs.declared.refusal.Refusal.TheVariants.{Memory, TooLong, NeedInput, Ended, JournalFull, AtStart, Closed, NotMet}
+use Rattle.trac_rules.specs.declared.refusal.Refusal.TheVariants.{Memory, TooLong, JournalFull, AtStart, Closed}
 use Rattle.trac_rules.specs.declared.reply.Reply.{Reply}
 use Rattle.trac_rules.specs.declared.reply.Reply.TheVariants.{Done, Refused}
 use Rattle.trac_rules.specs.State.{State, Tape, initial}
 use Rattle.trac_rules.specs.Stepping.{step}
 
 pub record PlainSession : Type 0 where
-  -- how many states there may be beside the last one
+  -- how many states there may be beside the last one: at least one, and at most JOURNAL_LIMIT
   pub limit : ℕ
   pub tape : Tape
   -- the states before the last one, the newest first
@@ -50,12 +50,12 @@ abbrev pub stepped_to : Result State Refusal → PlainSession → Answer
 stepped_to (Ok t) p = done (record p { earlier = p.last ∷ p.earlier; last = t })
 stepped_to (Err refusal) p = refused refusal p
 
--- the last state is taken away, where these are those before it
+-- the last state is taken away; the first argument is the states before it
 abbrev pub backed_to : List State → PlainSession → Answer
 backed_to [] p = refused AtStart p
 backed_to (s ∷ earlier) p = done (record p { earlier = earlier; last = s })
 
--- the state with nothing printed and nothing read
+-- the state with its output released, over a tape that has lost what is read
 abbrev pub settled : State → State
 settled s = record s { output = []; position = 0 }
 
@@ -79,7 +79,7 @@ MayRunOut Step Done = Unit {0}
 MayRunOut Step (Refused TooLong) = Unit {0}
 MayRunOut command reply = ⊥
 
--- a session that was old may give this reply to the command, and go on as new
+-- from the session `old` the command may be answered so, and leave the session `new`
 abbrev pub Answers : Command → PlainSession → Reply → PlainSession → Type 0
 Answers command old (Refused Memory) new = MayRunOut command (answer command old).reply × (new ≡ old)
 Answers command old reply new = answer command old ≡ record { reply = reply; session = new }
@@ -99,7 +99,7 @@ abbrev pub repeated : Command → ℕ → PlainSession → Option PlainSession
 repeated command zero p = Some p
 repeated command (suc n) p = option_and_then (λ q. accepted_by (answer command q)) (repeated command n p)
 
--- a walk of at most n such commands: so many were accepted, and a refusal ended it where they are fewer than n
+-- a walk of at most n steps forward or back: `steps` of them were accepted, and a refusal ended it where that is fewer than n
 pub record IsWalk (command : Command) (n : ℕ) (old : PlainSession) (steps : ℕ) (why : Option Refusal) (new : PlainSession) : Type 0 where
   pub within : steps ≤ n
   pub walked : repeated command steps old ≡ Some new

@@ -1,5 +1,5 @@
 -- The state of a processor: nine parts.
-use Rattle.std.specs.Prelude.{ℕ, List, [], Option, Bool, true, false}
+use Rattle.std.specs.Prelude.{ℕ, List, [], Option, Bool, false}
 use Rattle.std.specs.Ordering.{nat_cmp}
 use Rattle.std.specs.Cmp.Lexicographic.{slice_cmp}
 use Rattle.std.specs.FinMap.{FinMap}
@@ -19,7 +19,7 @@ pub record Frame : Type 0 where
 abbrev pub Forms : Type 0
 Forms = FinMap (slice_cmp nat_cmp) Form
 
--- a block is the forms that it holds, in their order, with their names; none where it is erased
+-- a block is the forms that it holds, in their order, with their names, no name twice; none where it is erased
 abbrev pub Block : Type 0
 Block = Option (List (List ℕ × Form))
 

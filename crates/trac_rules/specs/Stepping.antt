@@ -1,7 +1,7 @@
 -- One step.
 use Rattle.std.specs.Prelude.{◌≡◌, if◌then◌else◌, Result, Ok, Err}
 use Rattle.trac_rules.specs.declared.refusal.Refusal.{Refusal}
-use Rattle.trac_rules.specs.declared.refusal.Refusal.TheVariants.{Memory, TooLong, NeedInput, Ended, JournalFull, AtStart, Closed, NotMet}
+use Rattle.trac_rules.specs.declared.refusal.Refusal.TheVariants.{Memory, TooLong}
 use Rattle.trac_rules.specs.State.{State, Tape}
 use Rattle.trac_rules.specs.Scanning.{Scanned, Moves, Calls, scan}
 use Rattle.trac_rules.specs.Performing.{perform}
@@ -23,13 +23,13 @@ step tape s = limited (carried_out tape (scan s))
 
 -- ---- the one free choice: memory
 
--- memory may be refused in place of a state and of `TooLong`, and of nothing else
+-- memory may be refused where the outcome is a state, or `TooLong`, and nowhere else
 abbrev pub MayLackMemory : Result State Refusal → Type 0
 MayLackMemory (Ok t) = Unit {0}
 MayLackMemory (Err TooLong) = Unit {0}
 MayLackMemory (Err refusal) = ⊥
 
--- a step of this outcome may be refused so
+-- where this is the outcome of the definitions, a machine may answer this refusal
 abbrev pub MayRefuse : Result State Refusal → Refusal → Type 0
 MayRefuse outcome Memory = MayLackMemory outcome
 MayRefuse outcome refusal = outcome ≡ Err refusal

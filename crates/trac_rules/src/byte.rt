@@ -1,4 +1,4 @@
-//! The bytes that scanning gives a meaning.
+//! The bytes that have a meaning of their own.
 
 /// `(`, which begins a protected text.
 pub const OPENING: u8 = b'(';

@@ -1,6 +1,6 @@
 //! What a form is made of.
 
-/// A place of a form: a byte, or a gap where a text was cut out.
+/// An item of a form: a byte, or a gap where a text was cut out.
 #[derive(Clone, Copy, Debug, PartialEq, Eq)]
 pub enum Item {
     /// A byte of the form's text.

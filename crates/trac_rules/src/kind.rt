@@ -5,6 +5,6 @@
 pub enum Kind {
     /// `#(..)`: the value goes before the active text, and is scanned.
     Active,
-    /// `##(..)`: the value goes to the current text, and is not scanned.
+    /// `##(..)`: a value that is not forced goes to the current text, and is not scanned.
     Neutral,
 }

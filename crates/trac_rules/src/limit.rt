@@ -1,16 +1,16 @@
 //! The limits on what a processor holds (this project's profile).
 
-/// How many bytes the active text, the base text and all arguments hold together.
+/// The active text, the base text and all arguments hold at most so many bytes together.
 pub const TEXT_LIMIT: usize = 16_777_216;
 
-/// How many marks there are: one for each begun function, and one for each of its finished arguments.
+/// There are at most so many marks: one for each begun function, and one for each of its finished arguments.
 pub const MARK_LIMIT: usize = 1_048_576;
 
-/// How many bytes of output are kept until they are released.
+/// At most so many bytes of output are kept until they are released.
 pub const OUTPUT_LIMIT: usize = 16_777_216;
 
-/// How many bytes of input a session keeps.
+/// A session keeps at most so many bytes of input.
 pub const TAPE_LIMIT: usize = 33_554_432;
 
-/// How many records a journal may be allowed to hold.
+/// A journal may be allowed to hold at most so many records, and no fewer than one.
 pub const JOURNAL_LIMIT: usize = 1_048_576;

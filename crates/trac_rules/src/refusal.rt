@@ -2,7 +2,8 @@
 
 use thiserror::Error;
 
-/// Why a step, a feed or a step back was refused. Whatever is refused changes nothing.
+/// Why a call was refused. A refused step, backward step or feed changes nothing;
+/// after a walk that a refusal ended, the steps that it counted stand.
 #[derive(Clone, Copy, Debug, PartialEq, Eq, Error)]
 pub enum Refusal {
     /// A growth was refused memory.
