@@ -9,5 +9,6 @@ pub mod Performing
 pub mod Stepping
 pub mod Session
 pub mod Running
+pub mod GoingOn
 -- How proofs store these values.
 pub mod Codes
