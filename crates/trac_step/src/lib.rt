@@ -9,6 +9,7 @@ pub mod mark;
 mod matching;
 mod name;
 pub mod record;
+mod scanning;
 pub mod tape;
 
 pub use args::Args;
