@@ -1,18 +1,18 @@
 -- What each rule does to the parts of a machine: they stay sound, and show the state that the rule names.
-use Rattle.std.proofs.Common.{◌≡◌, ℕ, zero, suc, ◌+◌, ◌-◌, ◌<◌, ◌≤◌, List, [], ◌∷◌, ◌++◌, length, take, drop, reverse, refl, sym, ap, ◌∙◌, subst, arith}
+use Rattle.std.proofs.Common.{◌≡◌, ℕ, zero, suc, ◌+◌, ◌<◌, ◌≤◌, List, [], ◌∷◌, ◌++◌, length, take, drop, reverse, refl, sym, ap, ◌∙◌, arith}
 use Rattle.std.specs.Prelude.{Option, Some, None}
-use Rattle.std.proofs.lemmas.List.{length-append, length-drop, length-take, drop-drop, take_all, drop_all}
+use Rattle.std.proofs.lemmas.List.{length-append, length-drop, drop-drop, take_all, drop_all}
 use Rattle.trac_gap.specs.Ends.{Ends}
 use Rattle.trac_rules.specs.declared.kind.Kind.{Kind}
-use Rattle.trac_rules.specs.declared.limit.TheConstants.{TEXT_LIMIT, MARK_LIMIT, OUTPUT_LIMIT}
-use Rattle.trac_rules.specs.State.{Frame, State}
+use Rattle.trac_rules.specs.declared.limit.TheConstants.{MARK_LIMIT}
+use Rattle.trac_rules.specs.State.{Frame}
 use Rattle.trac_rules.specs.Matching.{match_of, protected, protected_up_to}
-use Rattle.trac_rules.specs.Scanning.{deleted, gather, gather_first, protect, begun, comma_in}
+use Rattle.trac_rules.specs.Scanning.{gather, protect}
 use Rattle.trac_rules.specs.Limits.{marks}
 use Rattle.trac_step.specs.declared.mark.Mark.{Mark}
-use Rattle.trac_step.specs.Layout.{AreMarks, Parts, state_of, IsSound, Shown}
+use Rattle.trac_step.specs.Layout.{Parts, state_of, IsSound, Shown}
 use Rattle.trac_step.proofs.Neutral.{AreMarks-longer}
-use Rattle.trac_step.proofs.Rules.{mark_at, gathers, begins, next_argument, ordered_push, marks-parts, has_frames-parts}
+use Rattle.trac_step.proofs.Rules.{mark_at, gathers, ordered_push, marks-parts}
 
 -- parts that differ in nothing but their texts and marks
 pub same_parts : (p q : Parts) {active text : List ℕ} {ms : List Mark} → q.active ≡ active → q.text ≡ text → q.marks ≡ ms → q.meta ≡ p.meta → q.position ≡ p.position → q.output ≡ p.output →

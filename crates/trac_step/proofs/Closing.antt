@@ -1,14 +1,13 @@
 -- The innermost function at the end of a neutral text: its arguments, and what stands before it.
-use Rattle.std.proofs.Common.{◌≡◌, ℕ, ◌+◌, ◌-◌, ◌<◌, ◌≤◌, List, [], ◌∷◌, ◌++◌, length, take, drop, get_or, reverse, refl, sym, ap, ◌∙◌, subst, arith}
-use Rattle.std.specs.Prelude.{Option, Some, None, Ok, Err}
-use Rattle.std.proofs.lemmas.List.{take-take, length-take-le, take-append-drop, drop_more, reverse-append, reverse-reverse, append_assoc}
+use Rattle.std.proofs.Common.{◌≡◌, ℕ, ◌-◌, ◌≤◌, List, [], ◌∷◌, ◌++◌, length, take, drop, reverse, refl, sym, ap, ◌∙◌, subst, arith}
+use Rattle.std.specs.Prelude.{Some}
+use Rattle.std.proofs.lemmas.List.{take-take, length-take-le}
 use Rattle.std.proofs.lemmas.Slice.{between_is}
 use Rattle.std.proofs.lemmas.Grind.{reverse_onto}
 use Rattle.trac_rules.specs.declared.kind.Kind.{Kind}
-use Rattle.trac_rules.specs.State.{Frame, State}
 use Rattle.trac_step.specs.declared.mark.Mark.{Mark}
 use Rattle.trac_step.specs.Cuts.{AreCuts, cut, AreArguments}
-use Rattle.trac_step.specs.Layout.{Neutral, marked, neutral, AreMarks}
+use Rattle.trac_step.specs.Layout.{Neutral, neutral, AreMarks}
 
 -- ---- cuts
 

@@ -1,11 +1,11 @@
 -- The function that a `)` ends, in the parts of a machine.
-use Rattle.std.proofs.Common.{◌≡◌, ℕ, ◌+◌, ◌-◌, ◌<◌, ◌≤◌, List, [], ◌∷◌, ◌++◌, length, take, drop, get_or, reverse, refl, sym, ap, ◌∙◌, subst, arith}
-use Rattle.std.specs.Prelude.{Option, Some, None}
+use Rattle.std.proofs.Common.{◌≡◌, ℕ, ◌+◌, ◌<◌, ◌≤◌, List, [], ◌∷◌, ◌++◌, length, take, drop, get_or, reverse, sym, ap, ◌∙◌, subst}
+use Rattle.std.specs.Prelude.{Some}
 use Rattle.std.proofs.lemmas.List.{take-append-drop, drop_more, reverse-append, reverse-reverse, append_assoc}
 use Rattle.trac_rules.specs.declared.kind.Kind.{Kind}
 use Rattle.trac_rules.specs.declared.scan.Front.TheVariants.{Closing}
-use Rattle.trac_rules.specs.State.{Frame, State}
-use Rattle.trac_rules.specs.Scanning.{Call, Scanned, Moves, Calls, front_of, scan_at, scan, closing_in, deleted}
+use Rattle.trac_rules.specs.State.{State}
+use Rattle.trac_rules.specs.Scanning.{Calls, front_of, scan_at, scan, closing_in, deleted}
 use Rattle.trac_step.specs.declared.mark.Mark.{Mark}
 use Rattle.trac_step.specs.Cuts.{AreCuts, cut, AreArguments}
 use Rattle.trac_step.specs.Layout.{Neutral, neutral, AreMarks, Parts, state_of}

@@ -1,13 +1,12 @@
 -- The neutral text and its marks: sizes, and what each change of them does to base text and frames.
-use Rattle.std.proofs.Common.{◌≡◌, ℕ, zero, suc, ◌+◌, ◌-◌, ◌<◌, ◌≤◌, ◌≢◌, List, [], ◌∷◌, ◌++◌, length, take, drop, reverse, refl, sym, ap, ◌∙◌, subst, arith}
+use Rattle.std.proofs.Common.{◌≡◌, ℕ, ◌+◌, ◌<◌, ◌≤◌, List, [], ◌∷◌, ◌++◌, length, take, drop, refl, sym, subst, arith}
 use Rattle.std.specs.Prelude.{Option, Some, None}
-use Rattle.std.proofs.lemmas.List.{take_all, drop_all, take-append-le, drop-append-le, length-take-le, length-drop, length-append, reverse-append, append-nil, length-reverse}
+use Rattle.std.proofs.lemmas.List.{take_all, drop_all, take-append-le, drop-append-le, length-take-le, length-drop, length-append}
 use Rattle.trac_rules.specs.declared.kind.Kind.{Kind}
-use Rattle.trac_rules.specs.State.{Frame, State}
-use Rattle.trac_rules.specs.Scanning.{with_next_argument, gathered_in, gather}
+use Rattle.trac_rules.specs.State.{Frame}
 use Rattle.trac_rules.specs.Limits.{total_length, argument_bytes, marks}
 use Rattle.trac_step.specs.declared.mark.Mark.{Mark}
-use Rattle.trac_step.specs.Layout.{Neutral, with_argument, marked, neutral, AreMarks, Parts, state_of}
+use Rattle.trac_step.specs.Layout.{Neutral, with_argument, marked, neutral, AreMarks}
 
 -- ---- sizes
 

@@ -52,8 +52,21 @@ impl<E: TwoEnds<u8, A>, A: Allocator + Copy> Core<E, A> {
         self.text.cut_right(n);
     }
 
-    // A `,` inside a function: an argument is finished, and a null one begun.
+    // A `,`: inside a function an argument is finished, and a null one begun.
     pub(crate) fn comma(&mut self) -> Result<(), Refusal>
+        requires front { 0 < length self.old.state.active }
+        requires room { 0 < length self.old.state.frames → marks self.old.state.frames < MARK_LIMIT }
+        ensures ok { OnOk result (self.new.state ≡ comma_in self.old.state.frames (deleted 1 self.old.state)) }
+        ensures err { IfErr result (λ e. (e ≡ Refusal.Memory) × (self.new ≡ self.old)) }
+    {
+        if self.marks.left().is_empty() {
+            self.delete(1);
+            return Ok(());
+        }
+        self.next_argument()
+    }
+
+    fn next_argument(&mut self) -> Result<(), Refusal>
         requires front { 0 < length self.old.state.active }
         requires inside { 0 < length self.old.state.frames }
         requires room { marks self.old.state.frames < MARK_LIMIT }

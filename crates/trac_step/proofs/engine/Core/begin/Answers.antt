@@ -1,10 +1,9 @@
-use Rattle.std.proofs.Common.{◌≡◌, ℕ, ◌+◌, ◌<◌, ◌++◌, ◌∷◌, [], length, drop, refl, sym, ap, ◌∙◌, subst, arith}
+use Rattle.std.proofs.Common.{◌≡◌, ℕ, ◌++◌, ◌∷◌, [], length, drop, refl, sym, ap, subst, arith}
 use Rattle.std.specs.Prelude.{Some, None}
 use Rattle.trac_gap.specs.Ends.{Ends}
-use Rattle.trac_rules.specs.Scanning.{begun, deleted}
 use Rattle.trac_step.specs.declared.mark.Mark.{Mark}
-use Rattle.trac_step.specs.Layout.{Parts, parts_of, state_of, IsSound, Shown}
-use Rattle.trac_step.proofs.Rules.{mark_at, begins}
+use Rattle.trac_step.specs.Layout.{parts_of, IsSound}
+use Rattle.trac_step.proofs.Rules.{mark_at}
 use Rattle.trac_step.proofs.Changes.{same_parts, sound_push, marks_of_view}
 use Rattle.trac_step.proofs.engine.Core.begin.Goals as goal
 

@@ -1,8 +1,8 @@
-use Rattle.std.proofs.Common.{◌≡◌, ℕ, ◌+◌, ◌≤◌, ◌++◌, length, take, drop, refl, sym, ap, ◌∙◌, subst, arith}
+use Rattle.std.proofs.Common.{ℕ, take, drop, sym, ap, ◌∙◌, subst, arith}
 use Rattle.std.proofs.lemmas.List.{length-take, length-drop}
 use Rattle.trac_gap.specs.Ends.{Ends}
 use Rattle.trac_rules.specs.Scanning.{gather_first}
-use Rattle.trac_step.specs.Layout.{Parts, parts_of, state_of, IsSound, Shown}
+use Rattle.trac_step.specs.Layout.{parts_of, state_of, IsSound, Shown}
 use Rattle.trac_step.proofs.Changes.{sound_gather, gather_parts}
 use Rattle.trac_step.proofs.engine.Core.gather_first.Goals as goal
 

@@ -1,10 +1,9 @@
-use Rattle.std.proofs.Common.{◌≡◌, ℕ, ◌+◌, ◌-◌, ◌≤◌, ◌++◌, [], List, length, take, drop, refl, sym, ap, ◌∙◌, subst, arith}
-use Rattle.std.specs.Prelude.{Some, None}
+use Rattle.std.proofs.Common.{◌≡◌, ℕ, [], length, take, drop, sym, ap, ◌∙◌, subst, arith}
 use Rattle.std.proofs.lemmas.List.{length-take, length-drop}
 use Rattle.trac_gap.specs.Ends.{Ends}
 use Rattle.trac_rules.specs.Matching.{match_of, protected}
 use Rattle.trac_rules.specs.Scanning.{protect}
-use Rattle.trac_step.specs.Layout.{Parts, parts_of, state_of, IsSound, Shown}
+use Rattle.trac_step.specs.Layout.{parts_of, state_of, IsSound, Shown}
 use Rattle.trac_step.proofs.Changes.{sound_gather, protect_matched, protect_unmatched, protected_ends, unmatched_ends}
 use Rattle.trac_step.proofs.engine.Core.protect.Goals as goal
 
