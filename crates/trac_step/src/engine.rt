@@ -3,7 +3,6 @@ ghost use Rattle.std.specs.Prelude.{◌≡◌, IfOk, IsOkUnless, length};
 ghost use Rattle.trac_rules.specs.State.{initial};
 ghost use Rattle.trac_rules.specs.Session.{settled};
 
-use crate::innermost::frame_count;
 use crate::mark::Mark;
 use std::alloc::{Allocator, Global};
 use std::marker::Model;
@@ -94,48 +93,5 @@ impl<E: TwoEnds<u8, A>, A: Allocator + Copy> Core<E, A> {
     {
         self.output.clear();
         self.position = 0;
-    }
-
-    /// What is not scanned yet.
-    pub fn active(&self) -> &[u8]
-        ensures { result.now ≡ self.now.state.active }
-    {
-        self.text.right()
-    }
-
-    /// How many functions are begun and not ended.
-    pub fn depth(&self) -> usize
-        ensures { result ≡ length self.now.state.frames }
-    {
-        frame_count(self.marks.left())
-    }
-
-    /// The byte that ends a text of the input.
-    pub fn meta(&self) -> u8
-        ensures { result ≡ self.now.state.meta }
-    {
-        self.meta
-    }
-
-    /// Whether each call is printed. No primitive turns the trace on yet.
-    pub fn trace(&self) -> bool
-        ensures { result ≡ self.now.state.trace }
-    {
-        let _parts = &self.meta;
-        false
-    }
-
-    /// How many bytes of the tape are read.
-    pub fn position(&self) -> usize
-        ensures { result ≡ self.now.state.position }
-    {
-        self.position
-    }
-
-    /// What is printed and not released yet.
-    pub fn output(&self) -> &[u8]
-        ensures { result.now ≡ self.now.state.output }
-    {
-        self.output.as_slice()
     }
 }

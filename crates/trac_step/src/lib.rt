@@ -10,11 +10,14 @@ mod innermost;
 pub mod mark;
 mod matching;
 mod name;
+mod readers;
 mod reading;
 pub mod record;
 mod scanning;
 mod stepping;
 pub mod tape;
+#[cfg(test)]
+mod tests;
 
 pub use args::Args;
 pub use engine::{Core, Machine};
