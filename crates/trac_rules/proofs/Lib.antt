@@ -1,1 +1,7 @@
 pub mod Balanced
+pub mod Changed
+pub mod Positions
+pub mod Steps
+pub mod Refusals
+pub mod Replies
+pub mod GoingOn

@@ -9,6 +9,7 @@ pub mod Performing
 pub mod Stepping
 pub mod Session
 pub mod Running
+pub mod GoingOn
 -- Words in which the worked rows are said.
 pub mod Rows
 -- How proofs store these values.

@@ -1,0 +1,259 @@
+-- What the reply to a command says of the session.
+use Rattle.std.proofs.Common.{◌≡◌, ℕ, ◌+◌, ◌<◌, ◌≤◌, Bool, true, false, ltb, leb, List, [], ◌∷◌, ◌++◌, length, drop, refl, sym, ap, ◌∙◌, inl, inr, ⊎_elim}
+use Rattle.std.specs.Prelude.{Some, Result, Ok, Err, if◌then◌else◌, ◌⊎◌}
+use Rattle.std.proofs.lemmas.Bool.{lt-ltb, le-ltb, le-leb, lt-leb, cases_Bool, cond-true, cond-false, cases_lt}
+use Rattle.trac_rules.specs.declared.limit.TheConstants.{TAPE_LIMIT}
+use Rattle.trac_rules.specs.declared.refusal.Refusal.{Refusal}
+use Rattle.trac_rules.specs.declared.refusal.Refusal.TheVariants.{TooLong, NeedInput, Ended, JournalFull, AtStart, Closed}
+use Rattle.trac_rules.specs.declared.reply.Reply.{Reply}
+use Rattle.trac_rules.specs.declared.reply.Reply.TheVariants.{Done, Refused}
+use Rattle.trac_rules.specs.State.{State}
+use Rattle.trac_rules.specs.Stepping.{step}
+use Rattle.trac_rules.specs.Session.{PlainSession, Feed, End, Step, Back, Commit, Answer, done, refused, stepped_to, backed_to, settled, answer, accepted_by}
+use Rattle.trac_rules.proofs.Refusals.{step_refusals, step_never_JournalFull}
+
+-- a refused command is not done
+pub done_of_refused : (refusal : Refusal) (p q : PlainSession) → refused refusal p ≡ done q → ⊥
+done_of_refused r p q h = let e : Refused r ≡ Done = ap (λ a. a.reply) h in cc
+
+-- refusals are told apart
+pub refused_alike : (r t : Refusal) (p q : PlainSession) → refused r p ≡ refused t q → (r ≡ t) × (q ≡ p)
+refused_alike r t p q h = let e : Refused r ≡ Refused t = ap (λ a. a.reply) h in (cc, sym (ap (λ a. a.session) h))
+
+-- an accepted command is done
+pub accepted_by_Some : (reply : Reply) (session q : PlainSession) → accepted_by (record { reply = reply; session = session }) ≡ Some q → (reply ≡ Done) × (session ≡ q)
+accepted_by_Some Done s q h = (refl, cc)
+accepted_by_Some (Refused r) s q h = absurd (cc)
+
+-- the answer to an accepted command is done
+pub accepted_done : (a : Answer) (q : PlainSession) → accepted_by a ≡ Some q → a ≡ done q
+accepted_done a q h =
+    let parts = accepted_by_Some a.reply a.session q h in
+    λ i. record { reply = parts.0 i; session = parts.1 i }
+
+-- ---- a step
+
+-- the session with one more state
+abbrev pub with_next : PlainSession → State → PlainSession
+with_next p t = record p { earlier = p.last ∷ p.earlier; last = t }
+
+-- an outcome that was taken
+pub stepped_to_done : (x : Result State Refusal) (p q : PlainSession) → stepped_to x p ≡ done q → (t : State) × (x ≡ Ok t) × (q ≡ with_next p t)
+stepped_to_done (Ok t) p q h = (t, refl, sym (ap (λ a. a.session) h))
+stepped_to_done (Err r) p q h = absurd (done_of_refused r p q h)
+
+-- an outcome that was refused
+pub stepped_to_refused : (x : Result State Refusal) (p q : PlainSession) (refusal : Refusal) → stepped_to x p ≡ refused refusal q → (x ≡ Err refusal) × (q ≡ p)
+stepped_to_refused (Ok t) p q r h = absurd (done_of_refused r q (with_next p t) (sym h))
+stepped_to_refused (Err u) p q r h = let parts = refused_alike u r p q h in (ap Err parts.0, parts.1)
+
+-- with room in the journal a step gives what the language says
+pub answer_Step : (p : PlainSession) → length p.earlier < p.limit → answer Step p ≡ stepped_to (step p.tape p.last) p
+unfolding answer
+answer_Step p l = cond-true (ltb (length p.earlier) p.limit) (stepped_to (step p.tape p.last) p) (refused JournalFull p) (lt-ltb (length p.earlier) p.limit l)
+
+-- without room in the journal a step is refused
+pub answer_Step_full : (p : PlainSession) → p.limit ≤ length p.earlier → answer Step p ≡ refused JournalFull p
+unfolding answer
+answer_Step_full p l = cond-false (ltb (length p.earlier) p.limit) (stepped_to (step p.tape p.last) p) (refused JournalFull p) (le-ltb (length p.earlier) p.limit l)
+
+-- a step to a state is done
+pub answer_Step_Ok : (p : PlainSession) (t : State) → length p.earlier < p.limit → step p.tape p.last ≡ Ok t → answer Step p ≡ done (with_next p t)
+answer_Step_Ok p t l e = answer_Step p l ∙ ap (λ x. stepped_to x p) e
+
+-- a refused step is refused
+pub answer_Step_Err : (p : PlainSession) (refusal : Refusal) → length p.earlier < p.limit → step p.tape p.last ≡ Err refusal → answer Step p ≡ refused refusal p
+answer_Step_Err p r l e = answer_Step p l ∙ ap (λ x. stepped_to x p) e
+
+-- a step that was done went to the next state
+pub Step_done : (p q : PlainSession) → answer Step p ≡ done q → (t : State) × (step p.tape p.last ≡ Ok t) × (q ≡ with_next p t) × (length p.earlier < p.limit)
+Step_done p q h =
+    ⊎_elim
+    (λ (l : length p.earlier < p.limit).
+    let at = stepped_to_done (step p.tape p.last) p q (sym (answer_Step p l) ∙ h) in
+    (at.0, at.1, at.2, l))
+    (λ (l : p.limit ≤ length p.earlier). absurd (done_of_refused JournalFull p q (sym (answer_Step_full p l) ∙ h)))
+    (cases_lt (length p.earlier) p.limit)
+
+-- a step that was refused found the journal full, or was refused by the language
+pub Step_refused : (p q : PlainSession) (refusal : Refusal) → answer Step p ≡ refused refusal q →
+    (q ≡ p) × (((refusal ≡ JournalFull) × (p.limit ≤ length p.earlier)) ⊎ ((length p.earlier < p.limit) × (step p.tape p.last ≡ Err refusal)))
+Step_refused p q r h =
+    ⊎_elim
+    (λ (l : length p.earlier < p.limit).
+    let at = stepped_to_refused (step p.tape p.last) p q r (sym (answer_Step p l) ∙ h) in
+    (at.1, inr (l, at.0)))
+    (λ (l : p.limit ≤ length p.earlier).
+    let same = refused_alike JournalFull r p q (sym (answer_Step_full p l) ∙ h) in
+    (same.1, inl (sym same.0, l)))
+    (cases_lt (length p.earlier) p.limit)
+
+-- a step that was refused for anything but the journal was refused by the language
+pub Step_refused_by_step : (p q : PlainSession) (refusal : Refusal) → (refusal ≡ JournalFull → ⊥) → answer Step p ≡ refused refusal q → step p.tape p.last ≡ Err refusal
+Step_refused_by_step p q r other h =
+    ⊎_elim
+    (λ (full : (r ≡ JournalFull) × (p.limit ≤ length p.earlier)). absurd (other full.0))
+    (λ (stepped : (length p.earlier < p.limit) × (step p.tape p.last ≡ Err r)). stepped.1)
+    (Step_refused p q r h).1
+
+-- a step that the session refused for a limit was refused so by the language
+pub Step_refused_TooLong : (p q : PlainSession) → answer Step p ≡ refused TooLong q → step p.tape p.last ≡ Err TooLong
+Step_refused_TooLong p q h = Step_refused_by_step p q TooLong (λ e. cc) h
+
+-- a step that the session refused for want of input was refused so by the language
+pub Step_refused_NeedInput : (p q : PlainSession) → answer Step p ≡ refused NeedInput q → step p.tape p.last ≡ Err NeedInput
+Step_refused_NeedInput p q h = Step_refused_by_step p q NeedInput (λ e. cc) h
+
+-- a step that the session refused at the end was refused so by the language
+pub Step_refused_Ended : (p q : PlainSession) → answer Step p ≡ refused Ended q → step p.tape p.last ≡ Err Ended
+Step_refused_Ended p q h = Step_refused_by_step p q Ended (λ e. cc) h
+
+-- a step that was refused for a full journal found no room in it
+pub Step_refused_JournalFull : (p q : PlainSession) → answer Step p ≡ refused JournalFull q → p.limit ≤ length p.earlier
+Step_refused_JournalFull p q h =
+    ⊎_elim
+    (λ (full : (JournalFull ≡ JournalFull) × (p.limit ≤ length p.earlier)). full.1)
+    (λ (stepped : (length p.earlier < p.limit) × (step p.tape p.last ≡ Err JournalFull)). absurd (step_never_JournalFull p.tape p.last stepped.1))
+    (Step_refused p q JournalFull h).1
+
+-- a step is refused for nothing else
+pub Step_refusals : (p q : PlainSession) (refusal : Refusal) → answer Step p ≡ refused refusal q →
+    (refusal ≡ JournalFull) ⊎ ((refusal ≡ TooLong) ⊎ (((refusal ≡ NeedInput) × (p.tape.ended ≡ false)) ⊎ (refusal ≡ Ended)))
+Step_refusals p q r h =
+    ⊎_elim
+    (λ (full : (r ≡ JournalFull) × (p.limit ≤ length p.earlier)). inl full.0)
+    (λ (stepped : (length p.earlier < p.limit) × (step p.tape p.last ≡ Err r)). inr (step_refusals p.tape p.last r stepped.1))
+    (Step_refused p q r h).1
+
+-- ---- a feed
+
+-- the session with more input
+abbrev pub with_more : PlainSession → List ℕ → PlainSession
+with_more p bytes = record p { tape = record p.tape { bytes = p.tape.bytes ++ bytes } }
+
+-- behind the end a feed is refused
+pub answer_Feed_closed : (bytes : List ℕ) (p : PlainSession) → p.tape.ended ≡ true → answer (Feed bytes) p ≡ refused Closed p
+unfolding answer
+answer_Feed_closed d p e = rw e refl
+
+-- with room on the tape a feed is done
+pub answer_Feed_room : (bytes : List ℕ) (p : PlainSession) → p.tape.ended ≡ false → length p.tape.bytes + length bytes ≤ TAPE_LIMIT → answer (Feed bytes) p ≡ done (with_more p bytes)
+unfolding answer
+answer_Feed_room d p e l =
+    let fits : Bool = leb (length p.tape.bytes + length d) TAPE_LIMIT in
+    cond-false p.tape.ended (refused Closed p) (if fits then done (with_more p d) else refused TooLong p) e
+    ∙ cond-true fits (done (with_more p d)) (refused TooLong p) (le-leb (length p.tape.bytes + length d) TAPE_LIMIT l)
+
+-- without room on the tape a feed is refused
+pub answer_Feed_long : (bytes : List ℕ) (p : PlainSession) → p.tape.ended ≡ false → TAPE_LIMIT < length p.tape.bytes + length bytes → answer (Feed bytes) p ≡ refused TooLong p
+unfolding answer
+answer_Feed_long d p e l =
+    let fits : Bool = leb (length p.tape.bytes + length d) TAPE_LIMIT in
+    cond-false p.tape.ended (refused Closed p) (if fits then done (with_more p d) else refused TooLong p) e
+    ∙ cond-false fits (done (with_more p d)) (refused TooLong p) (lt-leb (length p.tape.bytes + length d) TAPE_LIMIT l)
+
+-- a feed that was done is on the tape
+pub Feed_done : (bytes : List ℕ) (p q : PlainSession) → answer (Feed bytes) p ≡ done q →
+    (q ≡ with_more p bytes) × (p.tape.ended ≡ false) × (length p.tape.bytes + length bytes ≤ TAPE_LIMIT)
+Feed_done d p q h =
+    ⊎_elim
+    (λ (e : p.tape.ended ≡ true). absurd (done_of_refused Closed p q (sym (answer_Feed_closed d p e) ∙ h)))
+    (λ (e : p.tape.ended ≡ false). ⊎_elim
+    (λ (l : TAPE_LIMIT < length p.tape.bytes + length d). absurd (done_of_refused TooLong p q (sym (answer_Feed_long d p e l) ∙ h)))
+    (λ (l : length p.tape.bytes + length d ≤ TAPE_LIMIT). (sym (ap (λ a. a.session) (sym (answer_Feed_room d p e l) ∙ h)), e, l))
+    (cases_lt TAPE_LIMIT (length p.tape.bytes + length d)))
+    (cases_Bool p.tape.ended)
+
+-- a feed that was refused came behind the end, or found no room
+pub Feed_refused : (bytes : List ℕ) (p q : PlainSession) (refusal : Refusal) → answer (Feed bytes) p ≡ refused refusal q →
+    (q ≡ p) × (((refusal ≡ Closed) × (p.tape.ended ≡ true)) ⊎ ((refusal ≡ TooLong) × (p.tape.ended ≡ false) × (TAPE_LIMIT < length p.tape.bytes + length bytes)))
+Feed_refused d p q r h =
+    ⊎_elim
+    (λ (e : p.tape.ended ≡ true).
+    let same = refused_alike Closed r p q (sym (answer_Feed_closed d p e) ∙ h) in
+    (same.1, inl (sym same.0, e)))
+    (λ (e : p.tape.ended ≡ false). ⊎_elim
+    (λ (l : TAPE_LIMIT < length p.tape.bytes + length d).
+    let same = refused_alike TooLong r p q (sym (answer_Feed_long d p e l) ∙ h) in
+    (same.1, inr (sym same.0, e, l)))
+    (λ (l : length p.tape.bytes + length d ≤ TAPE_LIMIT). absurd (done_of_refused r q (with_more p d) (sym h ∙ answer_Feed_room d p e l)))
+    (cases_lt TAPE_LIMIT (length p.tape.bytes + length d)))
+    (cases_Bool p.tape.ended)
+
+-- ---- the end, a step back, a commit
+
+-- the session with its input ended
+abbrev pub with_end : PlainSession → PlainSession
+with_end p = record p { tape = record p.tape { ended = true } }
+
+-- the end is always done
+pub answer_End : (p : PlainSession) → answer End p ≡ done (with_end p)
+unfolding answer
+answer_End p = refl
+
+-- an end that was done is on the tape
+pub End_done : (p q : PlainSession) → answer End p ≡ done q → q ≡ with_end p
+End_done p q h = sym (ap (λ a. a.session) (sym (answer_End p) ∙ h))
+
+-- the session with its last state alone
+abbrev pub committed : PlainSession → PlainSession
+committed p = record p {
+  tape = record p.tape { bytes = drop p.last.position p.tape.bytes };
+  earlier = [];
+  last = settled p.last;
+}
+
+-- a commit is always done
+pub answer_Commit : (p : PlainSession) → answer Commit p ≡ done (committed p)
+unfolding answer
+answer_Commit p = refl
+
+-- a commit that was done left the last state alone
+pub Commit_done : (p q : PlainSession) → answer Commit p ≡ done q → q ≡ committed p
+Commit_done p q h = sym (ap (λ a. a.session) (sym (answer_Commit p) ∙ h))
+
+-- a step back from the first state is refused
+pub answer_Back_start : (p : PlainSession) → p.earlier ≡ [] → answer Back p ≡ refused AtStart p
+unfolding answer
+answer_Back_start p e = ap (λ states. backed_to states p) e
+
+-- a step back from any other state takes the last state away
+pub answer_Back_from : (p : PlainSession) (s : State) (earlier : List State) → p.earlier ≡ s ∷ earlier → answer Back p ≡ done (record p { earlier = earlier; last = s })
+unfolding answer
+answer_Back_from p s earlier e = ap (λ states. backed_to states p) e
+
+-- the outcome of a step back, where these are the states before the last one
+pub backed_to_done : (earlier : List State) (p q : PlainSession) → backed_to earlier p ≡ done q →
+    (s : State) × (rest : List State) × (earlier ≡ s ∷ rest) × (q ≡ record p { earlier = rest; last = s })
+backed_to_done [] p q h = absurd (done_of_refused AtStart p q h)
+backed_to_done (s ∷ rest) p q h = (s, rest, refl, sym (ap (λ a. a.session) h))
+
+-- the refusal of a step back, where these are the states before the last one
+pub backed_to_refused : (earlier : List State) (p q : PlainSession) (refusal : Refusal) → backed_to earlier p ≡ refused refusal q → (q ≡ p) × (refusal ≡ AtStart) × (earlier ≡ [])
+backed_to_refused [] p q r h = let same = refused_alike AtStart r p q h in (same.1, sym same.0, refl)
+backed_to_refused (s ∷ rest) p q r h = absurd (done_of_refused r q (record p { earlier = rest; last = s }) (sym h))
+
+-- a step back that was done took the last state away
+pub Back_done : (p q : PlainSession) → answer Back p ≡ done q →
+    (s : State) × (rest : List State) × (p.earlier ≡ s ∷ rest) × (q ≡ record p { earlier = rest; last = s })
+unfolding answer
+Back_done p q h = backed_to_done p.earlier p q h
+
+-- a step back that was refused was at the first state
+pub Back_refused : (p q : PlainSession) (refusal : Refusal) → answer Back p ≡ refused refusal q → (q ≡ p) × (refusal ≡ AtStart) × (p.earlier ≡ [])
+unfolding answer
+Back_refused p q r h = backed_to_refused p.earlier p q r h
+
+-- a step back undoes a step
+pub Back_of_Step : (p q : PlainSession) → answer Step p ≡ done q → answer Back q ≡ done p
+Back_of_Step p q h =
+    let at = Step_done p q h in
+    ap (answer Back) at.2 ∙ answer_Back_from (with_next p at.0) p.last p.earlier refl
+
+-- the end is never refused
+pub End_not_refused : (p q : PlainSession) (refusal : Refusal) → answer End p ≡ refused refusal q → ⊥
+End_not_refused p q r h = done_of_refused r q (with_end p) (sym h ∙ answer_End p)
+
+-- a commit is never refused
+pub Commit_not_refused : (p q : PlainSession) (refusal : Refusal) → answer Commit p ≡ refused refusal q → ⊥
+Commit_not_refused p q r h = done_of_refused r q (committed p) (sym h ∙ answer_Commit p)
