@@ -1,5 +1,5 @@
 -- A front of a text that is read byte by byte, and how many `(` of it are open.
-use Rattle.std.proofs.Common.{◌≡◌, ℕ, ◌+◌, ◌-◌, ◌<◌, ◌≤◌, ◌≢◌, List, false, length, take, get_or, refl, sym, ◌∙◌, arith, below_more}
+use Rattle.std.proofs.Common.{◌≡◌, ℕ, ◌+◌, ◌-◌, ◌<◌, ◌≤◌, ◌≢◌, List, false, length, take, get_or, arith, below_more}
 use Rattle.trac_rules.specs.declared.byte.TheConstants.{OPENING, CLOSING}
 use Rattle.trac_rules.specs.Bytes.{count_of}
 use Rattle.trac_rules.specs.Matching.{closes_at}

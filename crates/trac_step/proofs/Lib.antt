@@ -1,2 +1,12 @@
 pub mod Cutting
 pub mod Depth
+pub mod Neutral
+pub mod Rules
+pub mod Changes
+pub mod Closing
+pub mod Ended
+pub mod Ending
+pub mod Fitting
+pub mod Moving
+pub mod Outcomes
+pub mod ReadTexts

@@ -1,5 +1,5 @@
 -- A text cut into arguments at the places of marks.
-use Rattle.std.specs.Prelude.{◌≡◌, ℕ, zero, suc, ◌+◌, ◌-◌, ◌<◌, ◌≤◌, List, [], ◌∷◌, length, take, drop, get_or, None, IsSome}
+use Rattle.std.specs.Prelude.{◌≡◌, ℕ, zero, suc, ◌+◌, ◌-◌, ◌<◌, ◌≤◌, List, [], ◌∷◌, length, take, drop, get_or, None, IsSome, is_some, if◌then◌else◌}
 use Rattle.trac_step.specs.declared.mark.Mark.{Mark}
 
 -- the text from a place on, cut at the places of the marks
@@ -34,3 +34,8 @@ pub record BeginsFunction (marks : List Mark) (k : ℕ) : Type 0 where
   pub within : k < length marks
   pub begins : IsSome (get_or marks k (record { place = 0; frame = None })).frame
   pub behind : AreArguments (drop (k + 1) marks)
+
+-- how many of the marks begin functions
+abbrev pub function_count : List Mark → ℕ
+function_count [] = 0
+function_count (m ∷ marks) = if is_some m.frame then suc (function_count marks) else function_count marks

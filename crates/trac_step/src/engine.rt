@@ -3,6 +3,7 @@ ghost use Rattle.std.specs.Prelude.{◌≡◌, IfOk, IsOkUnless, length};
 ghost use Rattle.trac_rules.specs.State.{initial};
 ghost use Rattle.trac_rules.specs.Session.{settled};
 
+use crate::innermost::frame_count;
 use crate::mark::Mark;
 use std::alloc::{Allocator, Global};
 use std::marker::Model;
@@ -100,6 +101,13 @@ impl<E: TwoEnds<u8, A>, A: Allocator + Copy> Core<E, A> {
         ensures { result.now ≡ self.now.state.active }
     {
         self.text.right()
+    }
+
+    /// How many functions are begun and not ended.
+    pub fn depth(&self) -> usize
+        ensures { result ≡ length self.now.state.frames }
+    {
+        frame_count(self.marks.left())
     }
 
     /// The byte that ends a text of the input.

@@ -1,6 +1,6 @@
 //! The innermost begun function.
 ghost use Rattle.std.specs.Prelude.{◌≡◌, ◌<◌, ◌+◌, length, drop, take, slice_get, MatchOption};
-ghost use Rattle.trac_step.specs.Cuts.{AreArguments, BeginsFunction};
+ghost use Rattle.trac_step.specs.Cuts.{AreArguments, BeginsFunction, function_count};
 
 use crate::mark::Mark;
 
@@ -16,4 +16,17 @@ pub(crate) fn innermost(marks: &[Mark]) -> Option<usize>
         }
     }
     None
+}
+
+// How many of the marks begin functions.
+pub(crate) fn frame_count(marks: &[Mark]) -> usize
+    ensures { result ≡ function_count marks.now }
+{
+    let mut count = 0;
+    for mark in marks {
+        if mark.frame.is_some() {
+            count += 1;
+        }
+    }
+    count
 }

@@ -2,13 +2,17 @@
 #![tactic(auto)]
 
 pub mod args;
+mod calling;
 pub mod engine;
 mod front;
 mod innermost;
 pub mod mark;
 mod matching;
 mod name;
+mod reading;
 pub mod record;
+mod scanning;
+mod stepping;
 pub mod tape;
 
 pub use args::Args;

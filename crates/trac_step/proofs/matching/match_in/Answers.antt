@@ -1,6 +1,6 @@
-use Rattle.std.proofs.Common.{◌≡◌, ℕ, ◌+◌, length, sym, ◌∙◌, arith}
+use Rattle.std.proofs.Common.{sym, arith}
 use Rattle.trac_rules.proofs.Balanced.{match_at, match_none, closes_at_true}
-use Rattle.trac_step.proofs.Depth.{IsOpen, opens, closes, passes_by}
+use Rattle.trac_step.proofs.Depth.{opens, closes, passes_by}
 use Rattle.trac_step.proofs.matching.match_in.Goals as goal
 use Rattle.trac_step.proofs.matching.match_in.Goals.{then-b-eq-OPENING, else-b-eq-OPENING+then-b-eq-CLOSING+else-depth-eq0, else-b-eq-OPENING+else-b-eq-CLOSING}
 

@@ -1,4 +1,4 @@
-use Rattle.std.proofs.Common.{◌≡◌, length, rules, ap, ◌∙◌, sym}
+use Rattle.std.proofs.Common.{length, ap, ◌∙◌, sym}
 use Rattle.trac_step.proofs.Cutting.{length-cut}
 use Rattle.trac_step.proofs.args.Args.count.Goals as goal
 

@@ -1,6 +1,6 @@
-use Rattle.std.proofs.Common.{◌≡◌, ◌≤◌, ℕ, List, [], length, get_or, take, drop, ◌-◌, refl, sym, ap, ◌∙◌, arith}
+use Rattle.std.proofs.Common.{◌≡◌, ◌≤◌, [], length, get_or, sym, ap, ◌∙◌, arith}
 use Rattle.std.proofs.lemmas.List.{get_or_past}
-use Rattle.trac_step.specs.Cuts.{cut, start_of, end_of}
+use Rattle.trac_step.specs.Cuts.{cut}
 use Rattle.trac_step.proofs.Cutting.{length-cut, get-cut, start_before_end}
 use Rattle.trac_step.proofs.args.Args.get.Goals as goal
 

@@ -1,0 +1,121 @@
+-- The outcome of a step, from what scanning asks for and what is performed.
+use Rattle.std.proofs.Common.{◌≡◌, ◌<◌, List, [], ◌∷◌, length, refl, sym, ap, ◌∙◌, subst, arith, true, false, Bool}
+use Rattle.std.specs.Prelude.{Result, Ok, Err}
+use Rattle.trac_rules.specs.declared.refusal.Refusal.{Refusal}
+use Rattle.trac_rules.specs.declared.refusal.Refusal.TheVariants.{Memory, TooLong, NeedInput, Ended, JournalFull, AtStart, Closed, NotMet}
+use Rattle.trac_rules.specs.declared.scan.Front.{Front}
+use Rattle.trac_rules.specs.declared.scan.Front.TheVariants.{Nothing, Opening, Layout, Comma, ActiveCall, NeutralCall, Sharp, Closing, Plain}
+use Rattle.trac_rules.specs.State.{Frame, State, Tape}
+use Rattle.trac_rules.specs.Scanning.{Call, Scanned, Moves, Calls, front_of, scan, scan_at, closing_in, deleted}
+use Rattle.trac_rules.specs.Performing.{perform}
+use Rattle.trac_rules.specs.Limits.{is_within_limits}
+use Rattle.trac_rules.specs.Stepping.{step, limited, carried_out, MayLackMemory, MayRefuse}
+use Rattle.trac_rules.proofs.Refusals.{step_never_Memory}
+use Rattle.trac_step.specs.Calling.{IfCalls, IfMoves, IsMove}
+use Rattle.trac_step.proofs.Ending.{scan_front}
+
+-- a refusal that is the outcome's own
+pub may_refuse_own : (outcome : Result State Refusal) (e : Refusal) → outcome ≡ Err e → (e ≡ Memory → ⊥) → MayRefuse outcome e
+may_refuse_own outcome Memory is other = absurd (other refl)
+may_refuse_own outcome TooLong is other = is
+may_refuse_own outcome NeedInput is other = is
+may_refuse_own outcome Ended is other = is
+may_refuse_own outcome JournalFull is other = is
+may_refuse_own outcome AtStart is other = is
+may_refuse_own outcome Closed is other = is
+may_refuse_own outcome NotMet is other = is
+
+-- memory, where it may be refused
+pub refuses_memory : (outcome : Result State Refusal) (e : Refusal) → e ≡ Memory → MayLackMemory outcome → MayRefuse outcome e
+refuses_memory outcome e is lacks = subst (MayRefuse outcome) (sym is) lacks
+
+step_as : (tape : Tape) (s : State) (scanned : Scanned) → scan s ≡ scanned → step tape s ≡ limited (carried_out tape scanned)
+unfolding step
+step_as tape s scanned e = ap (λ x. limited (carried_out tape x)) e
+
+limited_within : (t : State) → true ≡ is_within_limits t → limited (Ok t) ≡ Ok t
+limited_within t e = rw (← e) refl
+
+limited_beyond : (t : State) → false ≡ is_within_limits t → limited (Ok t) ≡ Err TooLong
+limited_beyond t e = rw (← e) refl
+
+-- a state is judged by its limits alone, and memory may be refused in either case
+lacks_limited : (t : State) → MayLackMemory (limited (Ok t))
+lacks_limited t = lacks_by (is_within_limits t) refl
+  where
+    lacks_by : (b : Bool) → b ≡ is_within_limits t → MayLackMemory (limited (Ok t))
+    lacks_by true e = subst MayLackMemory (sym (limited_within t e)) tt
+    lacks_by false e = subst MayLackMemory (sym (limited_beyond t e)) tt
+
+-- ---- a function is performed
+
+pub calls_of : (s : State) → front_of s.active ≡ Closing → 0 < length s.frames → (call : Call) × (scan s ≡ Calls call)
+calls_of s front inside =
+    let called = calls_in s.frames inside in
+    (called.0, scan_front s Closing front ∙ called.1)
+  where
+    calls_in : (fs : List Frame) → 0 < length fs → (call : Call) × (closing_in fs (deleted 1 s) ≡ Calls call)
+    calls_in [] h = absurd (omega arith)
+    calls_in (f ∷ fs) h = (_, refl)
+
+module _ (tape : Tape) (s : State) (front : front_of s.active ≡ Closing) (inside : 0 < length s.frames) where
+  call_holds : (P : Call → Type 0) → IfCalls (scan s) P → P (calls_of s front inside).0
+  call_holds P h = subst (λ x. IfCalls x P) (calls_of s front inside).1 h
+
+  pub call_refused : (e : Refusal) → IfCalls (scan s) (λ call. perform tape call ≡ Err e) → MayRefuse (step tape s) e
+  call_refused e h =
+      let outcome : step tape s ≡ Err e = step_as tape s (Calls (calls_of s front inside).0) (calls_of s front inside).1 ∙ ap limited (call_holds (λ call. perform tape call ≡ Err e) h) in
+      may_refuse_own (step tape s) e outcome (λ is. step_never_Memory tape s (outcome ∙ ap Err is))
+
+  module _ (after : Call → State) (performs : IfCalls (scan s) (λ call. perform tape call ≡ Ok (after call))) where
+    outcome_of_call : step tape s ≡ limited (Ok (after (calls_of s front inside).0))
+    outcome_of_call =
+        step_as tape s (Calls (calls_of s front inside).0) (calls_of s front inside).1
+        ∙ ap limited (call_holds (λ call. perform tape call ≡ Ok (after call)) performs)
+
+    pub call_beyond : IfCalls (scan s) (λ call. false ≡ is_within_limits (after call)) → step tape s ≡ Err TooLong
+    call_beyond h = outcome_of_call ∙ limited_beyond (after (calls_of s front inside).0) (call_holds (λ call. false ≡ is_within_limits (after call)) h)
+
+    pub call_lacks : MayLackMemory (step tape s)
+    call_lacks = subst MayLackMemory (sym outcome_of_call) (lacks_limited (after (calls_of s front inside).0))
+
+    pub call_taken : (t : State) → IfCalls (scan s) (λ call. true ≡ is_within_limits (after call)) → IfCalls (scan s) (λ call. t ≡ after call) → step tape s ≡ Ok t
+    call_taken t fits is =
+        outcome_of_call ∙ limited_within (after (calls_of s front inside).0) (call_holds (λ call. true ≡ is_within_limits (after call)) fits)
+        ∙ ap Ok (sym (call_holds (λ call. t ≡ after call) is))
+
+-- ---- scanning moves on
+
+moves_of : (scanned : Scanned) → IsMove scanned → (t : State) × (scanned ≡ Moves t)
+moves_of (Moves t) h = (t, refl)
+moves_of (Calls call) h = absurd h
+
+pub is_move : (s : State) (front : Front) → front ≡ front_of s.active → (front ≡ Closing → s.frames ≡ []) → IsMove (scan s)
+is_move s front at none = subst IsMove (sym (scan_front s front (sym at))) (move_at front none)
+  where
+    move_at : (front : Front) → (front ≡ Closing → s.frames ≡ []) → IsMove (scan_at front s)
+    move_at Closing none = subst (λ fs. IsMove (closing_in fs (deleted 1 s))) (sym (none refl)) tt
+    move_at Nothing none = tt
+    move_at Opening none = tt
+    move_at Layout none = tt
+    move_at Comma none = tt
+    move_at ActiveCall none = tt
+    move_at NeutralCall none = tt
+    move_at Sharp none = tt
+    move_at Plain none = tt
+
+module _ (tape : Tape) (s : State) (moves : IsMove (scan s)) where
+  outcome_of_move : step tape s ≡ limited (Ok (moves_of (scan s) moves).0)
+  outcome_of_move = step_as tape s (Moves (moves_of (scan s) moves).0) (moves_of (scan s) moves).1
+
+  move_holds : (P : State → Type 0) → IfMoves (scan s) P → P (moves_of (scan s) moves).0
+  move_holds P h = subst (λ x. IfMoves x P) (moves_of (scan s) moves).1 h
+
+  pub move_beyond : IfMoves (scan s) (λ t. false ≡ is_within_limits t) → step tape s ≡ Err TooLong
+  move_beyond h = outcome_of_move ∙ limited_beyond _ (move_holds (λ t. false ≡ is_within_limits t) h)
+
+  pub move_lacks : MayLackMemory (step tape s)
+  move_lacks = subst MayLackMemory (sym outcome_of_move) (lacks_limited (moves_of (scan s) moves).0)
+
+pub move_taken : (tape : Tape) (s t : State) → scan s ≡ Moves t → IfMoves (scan s) (λ u. true ≡ is_within_limits u) → step tape s ≡ Ok t
+move_taken tape s t scanned h = step_as tape s (Moves t) scanned ∙ limited_within t (subst (λ x. IfMoves x (λ u. true ≡ is_within_limits u)) scanned h)

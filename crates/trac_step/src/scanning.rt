@@ -1,0 +1,112 @@
+//! The rules of scanning that perform no function, each on the machine's own parts.
+ghost use Rattle.std.specs.Prelude.{◌≡◌, ◌<◌, ◌≤◌, ◌+◌, [], ◌∷◌, length, drop, Some, IfErr, OnOk};
+ghost use Rattle.trac_rules.specs.Bytes.{idle_program};
+ghost use Rattle.trac_rules.specs.Matching.{protected};
+ghost use Rattle.trac_rules.specs.Scanning.{protect, deleted, begun, comma_in, gather_first};
+ghost use Rattle.trac_rules.specs.Limits.{marks};
+
+use crate::engine::{Core, IDLE_PROGRAM};
+use crate::mark::Mark;
+use crate::matching::match_in;
+use std::alloc::Allocator;
+use trac_gap::TwoEnds;
+use trac_rules::kind::Kind;
+use trac_rules::limit::MARK_LIMIT;
+use trac_rules::refusal::Refusal;
+
+impl<E: TwoEnds<u8, A>, A: Allocator + Copy> Core<E, A> {
+    // The active text is null: all other text goes, and the idle program is loaded.
+    pub(crate) fn reload(&mut self) -> Result<(), Refusal>
+        requires { self.old.state.active ≡ [] }
+        ensures ok { OnOk result (self.new.state ≡ record self.old.state { active = idle_program; base = []; frames = [] }) }
+        ensures err { IfErr result (λ e. (e ≡ Refusal.Memory) × (self.new ≡ self.old)) }
+    {
+        let Ok(()) = self.text.reserve(IDLE_PROGRAM.len()) else {
+            return Err(Refusal::Memory);
+        };
+        self.text.cut_left(self.text.left().len());
+        self.marks.cut_left(self.marks.left().len());
+        self.text.put_right(IDLE_PROGRAM);
+        Ok(())
+    }
+
+    // A `(`: what it protects goes to the current text.
+    pub(crate) fn protect(&mut self)
+        requires { 0 < length self.old.state.active }
+        ensures { self.new.state ≡ protect (protected (drop 1 self.old.state.active)) self.old.state }
+    {
+        self.text.cut_right(1);
+        if let Some(place) = match_in(self.text.right()) {
+            self.text.shift_left(place);
+            self.text.cut_right(1);
+        } else {
+            self.text.shift_left(self.text.right().len());
+        }
+    }
+
+    // The first n bytes of the active text are deleted.
+    pub(crate) fn delete(&mut self, n: usize)
+        requires { n ≤ length self.old.state.active }
+        ensures { self.new.state ≡ deleted n self.old.state }
+    {
+        self.text.cut_right(n);
+    }
+
+    // A `,`: inside a function an argument is finished, and a null one begun.
+    pub(crate) fn comma(&mut self) -> Result<(), Refusal>
+        requires front { 0 < length self.old.state.active }
+        requires room { 0 < length self.old.state.frames → marks self.old.state.frames < MARK_LIMIT }
+        ensures ok { OnOk result (self.new.state ≡ comma_in self.old.state.frames (deleted 1 self.old.state)) }
+        ensures err { IfErr result (λ e. (e ≡ Refusal.Memory) × (self.new ≡ self.old)) }
+    {
+        if self.marks.left().is_empty() {
+            self.delete(1);
+            return Ok(());
+        }
+        self.next_argument()
+    }
+
+    fn next_argument(&mut self) -> Result<(), Refusal>
+        requires front { 0 < length self.old.state.active }
+        requires inside { 0 < length self.old.state.frames }
+        requires room { marks self.old.state.frames < MARK_LIMIT }
+        ensures ok { OnOk result (self.new.state ≡ comma_in self.old.state.frames (deleted 1 self.old.state)) }
+        ensures err { IfErr result (λ e. (e ≡ Refusal.Memory) × (self.new ≡ self.old)) }
+    {
+        let Ok(()) = self.marks.reserve(1) else {
+            return Err(Refusal::Memory);
+        };
+        self.text.cut_right(1);
+        self.marks.push_left(Mark {
+            place: self.text.left().len(),
+            frame: None,
+        });
+        Ok(())
+    }
+
+    // The first n bytes of the active text begin a function of this kind.
+    pub(crate) fn begin(&mut self, kind: Kind, n: usize) -> Result<(), Refusal>
+        requires front { n ≤ length self.old.state.active }
+        requires room { marks self.old.state.frames < MARK_LIMIT }
+        ensures ok { OnOk result (self.new.state ≡ begun kind (deleted n self.old.state)) }
+        ensures err { IfErr result (λ e. (e ≡ Refusal.Memory) × (self.new ≡ self.old)) }
+    {
+        let Ok(()) = self.marks.reserve(1) else {
+            return Err(Refusal::Memory);
+        };
+        self.text.cut_right(n);
+        self.marks.push_left(Mark {
+            place: self.text.left().len(),
+            frame: Some(kind),
+        });
+        Ok(())
+    }
+
+    // The first byte of the active text goes to the current text.
+    pub(crate) fn gather_first(&mut self)
+        requires { 0 < length self.old.state.active }
+        ensures { self.new.state ≡ gather_first self.old.state }
+    {
+        self.text.shift_left(1);
+    }
+}
