@@ -1,18 +1,17 @@
 -- Sessions as their fields show them, and what the calls make of the fields.
 use Rattle.std.proofs.Common.{◌≡◌, ℕ, suc, ◌+◌, ◌-◌, ◌<◌, ◌≤◌, Bool, true, false, List, [], ◌∷◌, ◌++◌, length, take, drop, reverse, refl, sym, ap, subst, ◌∙◌, arith}
-use Rattle.std.specs.Prelude.{Option, None, Some, IsSome, Result, Ok, Err, OnOk, IfErr}
+use Rattle.std.specs.Prelude.{Option, Some, IsSome, Result, Ok, Err, OnOk, IfErr}
 use Rattle.std.proofs.Math.Seq.{take-length}
-use Rattle.std.proofs.lemmas.List.{reverse-append, length-append, length-reverse, length-drop, take-append-le, nil_from_length}
+use Rattle.std.proofs.lemmas.List.{reverse-append, length-append, length-reverse, length-drop, take-append-le}
 use Rattle.trac_rules.specs.declared.limit.TheConstants.{TAPE_LIMIT}
 use Rattle.trac_rules.specs.declared.refusal.Refusal.{Refusal}
 use Rattle.trac_rules.specs.declared.refusal.Refusal.TheVariants.{Memory, TooLong, NeedInput, Ended, JournalFull, AtStart, Closed, NotMet}
-use Rattle.trac_rules.specs.declared.reply.Reply.{Reply}
 use Rattle.trac_rules.specs.declared.reply.Reply.TheVariants.{Done, Refused}
-use Rattle.trac_rules.specs.State.{State, Tape}
+use Rattle.trac_rules.specs.State.{State}
 use Rattle.trac_rules.specs.Stepping.{step, MayLackMemory, MayRefuse}
 use Rattle.trac_rules.specs.Session.{PlainSession, Feed, End, Step, Back, Commit, done, refused, settled, stepped_to, answer, MayRunOut, Answers}
 use Rattle.trac_rules.proofs.Steps.{step_within}
-use Rattle.trac_rules.proofs.Replies.{with_next, answer_Step, answer_Step_Ok, answer_Step_Err, answer_Step_full, answer_Feed_closed, answer_Feed_long, answer_Feed_room, with_more, answer_End, answer_Commit, answer_Back_start, answer_Back_from}
+use Rattle.trac_rules.proofs.Replies.{answer_Step, answer_Step_Ok, answer_Step_Err, answer_Step_full, answer_Feed_closed, answer_Feed_long, answer_Feed_room, answer_End, answer_Commit, answer_Back_start, answer_Back_from}
 use Rattle.trac.specs.Journal.{led_on, earlier_of, AreRecords, Remembers, plain_of, IsSound}
 use Rattle.trac.specs.Replies.{reply_of}
 
@@ -130,7 +129,7 @@ pub Feed_memory_of_fields : {R : Type 0} → (before : R → State → Option St
     MayRunOut (Feed more) (answer (Feed more) p).reply × (plain_of before limit same ended journal last ≡ p)
 Feed_memory_of_fields before limit bytes same ended journal last p more view open_ room same_is =
     let would : (answer (Feed more) p).reply ≡ Done =
-        ap (λ q. (answer (Feed more) q).reply) (sym view) ∙ ap (λ a. a.reply) (answer_Feed_room more (plain_of before limit bytes ended journal last) open_ room) in
+    ap (λ q. (answer (Feed more) q).reply) (sym view) ∙ ap (λ a. a.reply) (answer_Feed_room more (plain_of before limit bytes ended journal last) open_ room) in
     (rw would tt, ap (λ (b : List ℕ). plain_of before limit b ended journal last) same_is ∙ view)
 
 -- ---- steps
@@ -211,7 +210,7 @@ pub Back_of_fields : {R : Type 0} → (before : R → State → Option State) (l
     answer Back p ≡ done (plain_of before limit bytes ended new s)
 Back_of_fields before limit bytes ended old new r last s p view with_r says =
     let some : p.earlier ≡ s ∷ earlier_of before (reverse new) s =
-        sym (ap (λ (q : PlainSession). q.earlier) view) ∙ earlier_of-more before new old s last (r, with_r, says) in
+    sym (ap (λ (q : PlainSession). q.earlier) view) ∙ earlier_of-more before new old s last (r, with_r, says) in
     answer_Back_from p s (earlier_of before (reverse new) s) some
     ∙ ap (λ (q : PlainSession). done (record q { earlier = earlier_of before (reverse new) s; last = s })) (sym view)
 

@@ -49,10 +49,10 @@ so_far_turn in_old in_now in_new out_old out_now out_new budget p q m n far on f
   gave = Appends-both out_old out_now out_new far.written on.written far.gave on.gave;
   at_end = on.at_end;
   rest = λ more none.
-    ap (λ text. output_of text budget) (append_assoc far.got on.got more)
-    ∙ far.rest (on.got ++ more) (λ over. let at = on.closed over in ap (λ g. g ++ more) at.0 ∙ none at.1)
-    ∙ ap (prepended far.written) (on.rest more none)
-    ∙ prepended-prepended far.written on.written (going_on_from q more n);
+      ap (λ text. output_of text budget) (append_assoc far.got on.got more)
+      ∙ far.rest (on.got ++ more) (λ over. let at = on.closed over in ap (λ g. g ++ more) at.0 ∙ none at.1)
+      ∙ ap (prepended far.written) (on.rest more none)
+      ∙ prepended-prepended far.written on.written (going_on_from q more n);
 }
 
 -- a front behind what was written
@@ -73,9 +73,9 @@ pub ran : (in_old in_now in_new out_old out_now out_new : Option (List ℕ)) (bu
     SoFar in_old in_now out_old out_now budget p m → Finishes in_now in_new out_now out_new p m ending → Runs in_old in_new out_old out_new (λ text. output_of text budget) ending
 ran in_old in_now in_new out_old out_now out_new budget p m ending far last =
     let all : (more : List ℕ) → (p.tape.ended ≡ true → more ≡ []) → output_of ((far.got ++ last.got) ++ more) budget ≡ prepended far.written (going_on_from p (last.got ++ more) m) =
-        λ more none.
-            ap (λ text. output_of text budget) (append_assoc far.got last.got more)
-            ∙ far.rest (last.got ++ more) (λ over. ap (λ g. g ++ more) (last.closed over) ∙ none over) in
+    λ more none.
+    ap (λ text. output_of text budget) (append_assoc far.got last.got more)
+    ∙ far.rest (last.got ++ more) (λ over. ap (λ g. g ++ more) (last.closed over) ∙ none over) in
     record {
       got = far.got ++ last.got;
       written = far.written ++ last.written;
@@ -84,9 +84,9 @@ ran in_old in_now in_new out_old out_now out_new budget p m ending far last =
       gave = Appends-both out_old out_now out_new far.written last.written far.gave last.gave;
       at_end = last.at_end;
       front = λ more none. subst (λ (o : Output). IsFrontOf (far.written ++ last.written) o.bytes) (sym (all more none))
-        (front_behind far.written last.written (going_on_from p (last.got ++ more) m).bytes (last.front more none));
+          (front_behind far.written last.written (going_on_from p (last.got ++ more) m).bytes (last.front more none));
       shows = λ more none. subst (λ (o : Output). Shows ending (far.written ++ last.written) o) (sym (all more none))
-        (Shows-prepended ending far.written last.written (going_on_from p (last.got ++ more) m) (last.shows more none));
+          (Shows-prepended ending far.written last.written (going_on_from p (last.got ++ more) m) (last.shows more none));
     }
 
 -- a run that did not begin for want of memory
@@ -101,7 +101,7 @@ ran_not input out_old out_new text stated result none closes = record {
   at_end = λ over. absurd (false≢true over);
   front = λ more _. subst (λ t. IsFrontOf t (stated more).bytes) (sym (empty_front closes.written text closes.front none)) (front_of_nothing (stated more).bytes);
   shows = λ more _. ⊎_elim
-    (λ (all : (result ≡ Memory) × (closes.written ≡ text)). subst (λ w. Shows w closes.written (stated more)) (sym all.0) tt)
-    (λ (fault : result ≡ Write). Shows-Write result closes.written (stated more) fault)
-    closes.ends;
+      (λ (all : (result ≡ Memory) × (closes.written ≡ text)). subst (λ w. Shows w closes.written (stated more)) (sym all.0) tt)
+      (λ (fault : result ≡ Write). Shows-Write result closes.written (stated more) fault)
+      closes.ends;
 }

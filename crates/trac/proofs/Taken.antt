@@ -1,37 +1,37 @@
 -- Input that is taken: what is pending is written, the session commits, and the reader is asked once.
-use Rattle.std.proofs.Common.{◌≡◌, ℕ, suc, ◌+◌, ◌-◌, ◌*◌, ◌<◌, ◌≤◌, Bool, true, false, List, [], ◌∷◌, ◌++◌, length, take, drop, refl, sym, ap, subst, ◌∙◌, arith, inl, inr, ⊎_elim}
-use Rattle.std.specs.Prelude.{Option, None, Some, Result, Ok, Err, OnOk, IfErr, if◌then◌else◌, ◌⊎◌}
+use Rattle.std.proofs.Common.{◌≡◌, ℕ, suc, ◌+◌, ◌-◌, ◌<◌, ◌≤◌, Bool, true, false, List, [], ◌++◌, length, take, drop, refl, sym, ap, subst, ◌∙◌, arith, inl, inr, ⊎_elim}
+use Rattle.std.specs.Prelude.{Option, if◌then◌else◌}
 use Rattle.std.specs.Io.KnownBytes.{Keeps, Appends, Consumes, IsAtEnd}
 use Rattle.std.proofs.lemmas.Bool.{false≢true}
-use Rattle.std.proofs.lemmas.List.{append-nil, length-drop, length-append, length-take-le, nil_from_length}
+use Rattle.std.proofs.lemmas.List.{append-nil, length-drop, length-append, length-take-le}
 use Rattle.trac_rules.specs.declared.limit.TheConstants.{TEXT_LIMIT, TAPE_LIMIT}
 use Rattle.trac_rules.specs.declared.refusal.Refusal.{Refusal}
 use Rattle.trac_rules.specs.declared.refusal.Refusal.TheVariants as refusals
-use Rattle.trac_rules.specs.declared.reply.Reply.TheVariants.{Done, Refused}
-use Rattle.trac_rules.specs.State.{Tape}
+use Rattle.trac_rules.specs.declared.reply.Reply.TheVariants.{Refused}
 use Rattle.trac_rules.specs.Session.{PlainSession, Step, Commit, Feed, End, done, refused, answer, Answers}
-use Rattle.trac_rules.specs.Running.{Output, LimitPassed}
 use Rattle.trac_rules.specs.GoingOn.{prepended, going_on_from}
 use Rattle.trac_rules.proofs.GoingOn.{after_Commit, going_on-Commit, after_Feed, going_on-Feed, after_End, going_on-End, going_on_hopeless}
 use Rattle.trac_rules.proofs.Refusals.{wants_input_of_open}
-use Rattle.trac_rules.proofs.Replies.{Commit_done, End_done, Feed_done, Feed_refused, Step_refused_NeedInput, with_more}
+use Rattle.trac_rules.proofs.Replies.{Commit_done, End_done, Feed_done, Feed_refused, Step_refused_NeedInput}
 use Rattle.trac.specs.declared.running.ending.Ending.{Ending}
 use Rattle.trac.specs.declared.running.ending.Ending.TheVariants.{Ended, Budget, Limit, Memory, Read, Write}
-use Rattle.trac.specs.Written.{IsFrontOf, WritesFront, Closes}
-use Rattle.trac.specs.Runs.{Shows, ending_of_feed, IsFresh, turns_left, GoesOn, Finishes, FeedsOrEnds, EndsFor, TakesNone, TakesMore}
-use Rattle.trac.proofs.Known.{Appends-nothing, Appends-both, Appends-kept, Consumes-nothing, Consumes-kept, front_of_front, front_of_itself, empty_front}
-use Rattle.trac.proofs.Turned.{front_pending, Shows-Write, Shows-closed, ended_after_Commit, end_turns}
+use Rattle.trac.specs.Written.{WritesFront, Closes}
+use Rattle.trac.specs.Runs.{Shows, ending_of_feed, IsFresh, turns_left, GoesOn, Finishes, EndsFor, TakesNone, TakesMore}
+use Rattle.trac.proofs.Known.{Appends-both, Appends-kept, Consumes-nothing, front_of_front, front_of_itself, empty_front}
+use Rattle.trac.proofs.Turned.{front_pending, Shows-Write, ended_after_Commit, end_turns}
 
 -- ---- one read
 
 -- a feed that was refused for anything but memory was too long, and then much is unread
 pub too_long_for : (p q : PlainSession) (got : List ℕ) (refusal : Refusal) → p.tape.ended ≡ false → length got ≤ 4096 → answer (Feed got) p ≡ refused refusal q → (q ≡ p) × (TEXT_LIMIT < length p.tape.bytes)
 too_long_for p q got refusal open_ few h =
-    let at = Feed_refused got p q refusal h in
-    (at.0, ⊎_elim
-        (λ (closed : (refusal ≡ refusals.Closed) × (p.tape.ended ≡ true)). absurd (false≢true (sym open_ ∙ closed.1)))
-        (λ (long : (refusal ≡ refusals.TooLong) × (p.tape.ended ≡ false) × (TAPE_LIMIT < length p.tape.bytes + length got)). omega (arith, long.2))
-        at.1)
+    let at = Feed_refused got p q refusal h in (
+      at.0,
+      ⊎_elim
+          (λ (closed : (refusal ≡ refusals.Closed) × (p.tape.ended ≡ true)). absurd (false≢true (sym open_ ∙ closed.1)))
+          (λ (long : (refusal ≡ refusals.TooLong) × (p.tape.ended ≡ false) × (TAPE_LIMIT < length p.tape.bytes + length got)). omega (arith, long.2))
+          at.1,
+    )
 
 -- how a refused feed ends a run
 pub feed_ends : (p q : PlainSession) (got : List ℕ) (refusal : Refusal) → p.tape.ended ≡ false → length got ≤ 4096 → Answers (Feed got) p (Refused refusal) q → (q ≡ p) × EndsFor (ending_of_feed refusal) p got
@@ -112,15 +112,15 @@ taken_on in_old in_new out_old out_new q r s n wanted on_tape e gave taken =
       gave = gave;
       closed = λ over. absurd (shut over);
       at_end = λ over. ⊎_elim
-        (λ (end : (taken.got ≡ []) × IsAtEnd in_new × (answer End r ≡ done s)). end.1)
-        (λ (more : (0 < length taken.got) × (answer (Feed taken.got) r ≡ done s)).
-            absurd (false≢true (sym (after_Feed r s taken.got (on_tape_after_Commit q r e) more.1).4 ∙ over)))
-        taken.fed;
+          (λ (end : (taken.got ≡ []) × IsAtEnd in_new × (answer End r ≡ done s)). end.1)
+          (λ (more : (0 < length taken.got) × (answer (Feed taken.got) r ≡ done s)).
+          absurd (false≢true (sym (after_Feed r s taken.got (on_tape_after_Commit q r e) more.1).4 ∙ over)))
+          taken.fed;
       rest = λ more none. ⊎_elim
-        (λ (end : (taken.got ≡ []) × IsAtEnd in_new × (answer End r ≡ done s)).
-            ended_rest q r s taken.got more n on_tape e end.0 (none (after_End r s (on_tape_after_Commit q r e) end.2).4) end.2)
-        (λ (fed : (0 < length taken.got) × (answer (Feed taken.got) r ≡ done s)). fed_rest q r s taken.got more n on_tape e fed.1)
-        taken.fed;
+          (λ (end : (taken.got ≡ []) × IsAtEnd in_new × (answer End r ≡ done s)).
+          ended_rest q r s taken.got more n on_tape e end.0 (none (after_End r s (on_tape_after_Commit q r e) end.2).4) end.2)
+          (λ (fed : (0 < length taken.got) × (answer (Feed taken.got) r ≡ done s)). fed_rest q r s taken.got more n on_tape e fed.1)
+          taken.fed;
     }
 
 -- a session that is as fresh as the committed one
@@ -139,9 +139,9 @@ pub taken_fresh : (in_old in_new : Option (List ℕ)) (q r s : PlainSession) →
 taken_fresh in_old in_new q r s some e taken =
     ⊎_elim
     (λ (end : (taken.got ≡ []) × IsAtEnd in_new × (answer End r ≡ done s)).
-        let at = after_End r s (on_tape_after_Commit q r e) end.2 in fresh_like q r s some e (at.0, at.1, at.2))
+    let at = after_End r s (on_tape_after_Commit q r e) end.2 in fresh_like q r s some e (at.0, at.1, at.2))
     (λ (fed : (0 < length taken.got) × (answer (Feed taken.got) r ≡ done s)).
-        let at = after_Feed r s taken.got (on_tape_after_Commit q r e) fed.1 in fresh_like q r s some e (at.0, at.1, at.2))
+    let at = after_Feed r s taken.got (on_tape_after_Commit q r e) fed.1 in fresh_like q r s some e (at.0, at.1, at.2))
     taken.fed
 
 -- the end adds nothing where it has come, and one before
@@ -156,17 +156,17 @@ pub taken_fewer : (in_old in_new : Option (List ℕ)) (q r s : PlainSession) (n 
     q.last.position ≡ 0 → turns_left s n < turns_left q n
 taken_fewer in_old in_new q r s n wanted e taken start =
     let kept : length r.tape.bytes ≡ length q.tape.bytes =
-        ap length (tape_after_Commit q r e) ∙ length-drop q.last.position q.tape.bytes ∙ ap (λ k. length q.tape.bytes - k) start ∙ omega arith in
+    ap length (tape_after_Commit q r e) ∙ length-drop q.last.position q.tape.bytes ∙ ap (λ k. length q.tape.bytes - k) start ∙ omega arith in
     let before = one_end_turn q.tape.ended (wanted_open q wanted) in
     ⊎_elim
     (λ (end : (taken.got ≡ []) × IsAtEnd in_new × (answer End r ≡ done s)).
-        let same : length s.tape.bytes ≡ length r.tape.bytes = ap (λ (t : PlainSession). length t.tape.bytes) (End_done r s end.2) in
-        let after = no_end_turn s.tape.ended (after_End r s (on_tape_after_Commit q r e) end.2).4 in
-        omega (arith, before, after, same, kept))
+    let same : length s.tape.bytes ≡ length r.tape.bytes = ap (λ (t : PlainSession). length t.tape.bytes) (End_done r s end.2) in
+    let after = no_end_turn s.tape.ended (after_End r s (on_tape_after_Commit q r e) end.2).4 in
+    omega (arith, before, after, same, kept))
     (λ (fed : (0 < length taken.got) × (answer (Feed taken.got) r ≡ done s)).
-        let at = Feed_done taken.got r s fed.1 in
-        let longer : length s.tape.bytes ≡ length r.tape.bytes + length taken.got = ap (λ (t : PlainSession). length t.tape.bytes) at.0 ∙ length-append r.tape.bytes taken.got in
-        omega (arith, before, end_turns s.tape.ended, longer, kept, at.2, fed.0))
+    let at = Feed_done taken.got r s fed.1 in
+    let longer : length s.tape.bytes ≡ length r.tape.bytes + length taken.got = ap (λ (t : PlainSession). length t.tape.bytes) at.0 ∙ length-append r.tape.bytes taken.got in
+    omega (arith, before, end_turns s.tape.ended, longer, kept, at.2, fed.0))
     taken.fed
 
 -- ---- the run ends
@@ -245,9 +245,9 @@ unfed_closed in_old in_new out_old out_mid out_new q r s n ending result wanted 
       at_end = λ over. absurd (shut over);
       front = λ more none. front_pending q (taken.got ++ more) (n + 1);
       shows = λ more none. ⊎_elim
-        (λ (all : (result ≡ ending) × (closes.written ≡ s.last.output)).
-            subst (λ w. Shows w q.last.output (going_on_from q (taken.got ++ more) (n + 1))) (sym all.0)
-            (shows_unfed q r n taken.got ending wanted on_tape e taken.why (taken.got ++ more)))
-        (λ (fault : result ≡ Write). Shows-Write result q.last.output (going_on_from q (taken.got ++ more) (n + 1)) fault)
-        closes.ends;
+          (λ (all : (result ≡ ending) × (closes.written ≡ s.last.output)).
+          subst (λ w. Shows w q.last.output (going_on_from q (taken.got ++ more) (n + 1))) (sym all.0)
+          (shows_unfed q r n taken.got ending wanted on_tape e taken.why (taken.got ++ more)))
+          (λ (fault : result ≡ Write). Shows-Write result q.last.output (going_on_from q (taken.got ++ more) (n + 1)) fault)
+          closes.ends;
     }

@@ -1,23 +1,22 @@
 -- One turn of a run, from a session with nothing to go back over and nothing pending.
-use Rattle.std.proofs.Common.{◌≡◌, ℕ, zero, suc, ◌+◌, ◌-◌, ◌*◌, ◌<◌, ◌≤◌, Bool, true, false, List, [], ◌∷◌, ◌++◌, length, drop, refl, sym, ap, subst, ◌∙◌, arith, ⊎_elim}
+use Rattle.std.proofs.Common.{◌≡◌, ℕ, zero, suc, ◌+◌, ◌-◌, ◌<◌, ◌≤◌, Bool, true, false, List, [], ◌++◌, length, refl, sym, ap, subst, ◌∙◌, arith, ⊎_elim}
 use Rattle.std.specs.Prelude.{Option, None, Some, MatchOption, Result, Ok, Err, OnOk, IfErr, if◌then◌else◌, ◌⊎◌, ◌==◌}
-use Rattle.std.specs.Io.KnownBytes.{Appends, Consumes, IsAtEnd}
+use Rattle.std.specs.Io.KnownBytes.{Appends, IsAtEnd}
 use Rattle.std.proofs.lemmas.Bool.Decides.{nat_tests}
-use Rattle.std.proofs.lemmas.List.{append_assoc, nil_from_length, length-drop}
-use Rattle.trac_rules.specs.declared.limit.TheConstants.{TEXT_LIMIT, TAPE_LIMIT}
+use Rattle.trac_rules.specs.declared.limit.TheConstants.{TAPE_LIMIT}
 use Rattle.trac_rules.specs.declared.refusal.Refusal.{Refusal}
 use Rattle.trac_rules.specs.declared.refusal.Refusal.TheVariants as refusals
 use Rattle.trac_rules.specs.declared.reply.Reply.TheVariants.{Refused}
-use Rattle.trac_rules.specs.Session.{PlainSession, Step, Commit, done, refused, settled, answer, Answers, repeated, IsWalk}
-use Rattle.trac_rules.specs.Running.{Output, BudgetSpent, InputEnded, LimitPassed}
+use Rattle.trac_rules.specs.Session.{PlainSession, Step, Commit, done, refused, answer, Answers, repeated, IsWalk}
+use Rattle.trac_rules.specs.Running.{Output, LimitPassed}
 use Rattle.trac_rules.specs.GoingOn.{prepended, going_on_from}
 use Rattle.trac_rules.proofs.GoingOn.{after_repeated, going_on-repeated, after_Commit, going_on-Commit, going_on_spent, going_on_ended, going_on_too_long}
-use Rattle.trac_rules.proofs.Replies.{committed, Commit_done, Step_refused_JournalFull, Step_refusals}
+use Rattle.trac_rules.proofs.Replies.{Commit_done, Step_refused_JournalFull, Step_refusals}
 use Rattle.trac.specs.declared.running.ending.Ending.{Ending}
-use Rattle.trac.specs.declared.running.ending.Ending.TheVariants.{Ended, Budget, Limit, Memory, Read, Write}
+use Rattle.trac.specs.declared.running.ending.Ending.TheVariants.{Ended, Budget, Limit, Write}
 use Rattle.trac.specs.Written.{IsFrontOf, WritesFront, Closes}
 use Rattle.trac.specs.Runs.{Shows, IsFresh, turns_left, GoesOn, Finishes}
-use Rattle.trac.proofs.Known.{Appends-nothing, Consumes-nothing, front_of_front, front_of_itself}
+use Rattle.trac.proofs.Known.{Consumes-nothing, front_of_front}
 
 -- ---- the walk
 
@@ -68,10 +67,10 @@ pub refused_for_none : (q : PlainSession) (refusal : Refusal) → answer Step q 
 refused_for_none q refusal h not_full not_long not_input not_ended =
     ⊎_elim not_full
     (λ (others : (refusal ≡ refusals.TooLong) ⊎ (((refusal ≡ refusals.NeedInput) × (q.tape.ended ≡ false)) ⊎ (refusal ≡ refusals.Ended))).
-        ⊎_elim not_long
-        (λ (wants : ((refusal ≡ refusals.NeedInput) × (q.tape.ended ≡ false)) ⊎ (refusal ≡ refusals.Ended)).
-            ⊎_elim (λ (input : (refusal ≡ refusals.NeedInput) × (q.tape.ended ≡ false)). not_input input.0) not_ended wants)
-        others)
+    ⊎_elim not_long
+    (λ (wants : ((refusal ≡ refusals.NeedInput) × (q.tape.ended ≡ false)) ⊎ (refusal ≡ refusals.Ended)).
+    ⊎_elim (λ (input : (refusal ≡ refusals.NeedInput) × (q.tape.ended ≡ false)). not_input input.0) not_ended wants)
+    others)
     (Step_refusals q q refusal h)
 
 -- the input is known to be whole on the one tape where it is on the other
@@ -109,10 +108,10 @@ closed_run input out_old out_new p m k q text ending result after at_end pending
   closed = λ _. refl;
   at_end = at_end;
   front = λ more none. subst (λ (o : Output). IsFrontOf closes.written o.bytes) (sym (after.rest more none))
-    (front_of_front closes.written q.last.output (going_on_from q more (m - k)).bytes (subst (IsFrontOf closes.written) pending closes.front) (front_pending q more (m - k)));
+      (front_of_front closes.written q.last.output (going_on_from q more (m - k)).bytes (subst (IsFrontOf closes.written) pending closes.front) (front_pending q more (m - k)));
   shows = λ more none. subst (λ (o : Output). Shows result closes.written o) (sym (after.rest more none))
-    (Shows-closed ending result closes.written q.last.output (going_on_from q more (m - k))
-    (subst (λ t. ((result ≡ ending) × (closes.written ≡ t)) ⊎ (result ≡ Write)) pending closes.ends) (shows more (none_after p q more after.tape none)));
+      (Shows-closed ending result closes.written q.last.output (going_on_from q more (m - k))
+      (subst (λ t. ((result ≡ ending) × (closes.written ≡ t)) ⊎ (result ≡ Write)) pending closes.ends) (shows more (none_after p q more after.tape none)));
 }
 
 -- the budget is spent
@@ -189,7 +188,7 @@ finished_front input out_old out_new p m k q ending after at_end fault front = r
   closed = λ _. refl;
   at_end = at_end;
   front = λ more none. subst (λ (o : Output). IsFrontOf front.written o.bytes) (sym (after.rest more none))
-    (front_of_front front.written q.last.output (going_on_from q more (m - k)).bytes front.front (front_pending q more (m - k)));
+      (front_of_front front.written q.last.output (going_on_from q more (m - k)).bytes front.front (front_pending q more (m - k)));
   shows = λ more none. Shows-Write ending front.written (going_on_from p more m) fault;
 }
 
@@ -252,8 +251,8 @@ walked_on in_old in_new out_old out_new p m k q r (Ok u) after on =
       closed = λ over. on.closed (ended ∙ over);
       at_end = on.at_end;
       rest = λ more none.
-        after.rest (on.got ++ more) (λ over. let at = on.closed (ended ∙ over) in ap (λ g. g ++ more) at.0 ∙ none at.1)
-        ∙ on.rest more none;
+          after.rest (on.got ++ more) (λ over. let at = on.closed (ended ∙ over) in ap (λ g. g ++ more) at.0 ∙ none at.1)
+          ∙ on.rest more none;
     }
 
 -- finishing from the session after the walk
@@ -263,7 +262,7 @@ walked_finish in_old in_new out_old out_new p m k q (Ok u) after on = tt
 walked_finish in_old in_new out_old out_new p m k q (Err e) after on =
     let ended : q.tape.ended ≡ p.tape.ended = ap (λ t. t.ended) after.tape in
     let all : (more : List ℕ) → (p.tape.ended ≡ true → more ≡ []) → going_on_from p (on.got ++ more) m ≡ going_on_from q (on.got ++ more) (m - k) =
-        λ more none. after.rest (on.got ++ more) (λ over. ap (λ g. g ++ more) (on.closed (ended ∙ over)) ∙ none over) in
+    λ more none. after.rest (on.got ++ more) (λ over. ap (λ g. g ++ more) (on.closed (ended ∙ over)) ∙ none over) in
     record {
       got = on.got;
       written = on.written;

@@ -9,9 +9,8 @@ ghost use Rattle.trac.specs.Runs.{Runs, ending_of_feed as ending_of, IsFresh, Go
 mod ending;
 mod writing;
 
-pub use ending::Ending;
-
 use crate::session::Session;
+pub use ending::Ending;
 use std::alloc::Allocator;
 use std::io::{Read, Write};
 use trac_rules::limit::{JOURNAL_LIMIT, TEXT_LIMIT};

@@ -7,14 +7,13 @@ ghost use Rattle.trac.specs.Replies.{reply_of};
 mod journal;
 mod walk;
 
-pub use walk::Walk;
-
 use journal::{Kept, step_kept};
 use std::alloc::{Allocator, Global};
 use std::marker::Model;
 use trac_rules::limit::{JOURNAL_LIMIT, TAPE_LIMIT};
 use trac_rules::refusal::Refusal;
 use trac_step::{Machine, Tape};
+pub use walk::Walk;
 
 /// A processor with its input and a journal of its steps. It is seen as a tape and the list of states
 /// from the last commit on, the last of which is the machine's.

@@ -1,4 +1,4 @@
-use Rattle.std.proofs.Common.{refl, rules}
+use Rattle.std.proofs.Common.{refl}
 use Rattle.trac.proofs.Ran.{so_far_new, so_far_turn, ran, ran_not}
 use Rattle.trac.proofs.running.run.Goals as goal
 

@@ -1,4 +1,4 @@
-use Rattle.std.proofs.Common.{◌≡◌, ◌+◌, ◌∙◌, subst}
+use Rattle.std.proofs.Common.{◌+◌, ◌∙◌, subst}
 use Rattle.std.proofs.lemmas.Result.{err_from_is_err_and}
 use Rattle.std.specs.Io.KnownBytes.{Appends}
 use Rattle.trac.specs.Written.{WritesFront, Closes}
@@ -25,7 +25,7 @@ read_more-requires g c = wanted_open_after c.args.session.now c.commit.new.self 
 pub returns-in-Ok-clause-ok : goal.returns-in-Ok-clause-ok
 returns-in-Ok-clause-ok g c = λ n.
     let gave : Appends (g.W.Write.contents c.args.output.now) (g.W.Write.contents c.flush.new.output) c.args.session.now.last.output =
-        subst (Appends (g.W.Write.contents c.args.output.now) (g.W.Write.contents c.flush.new.output)) c.pending.ensures (Appends-kept _ _ _ _ c.in_ok-write_whole.ensures.ok c.flush.ensures.same) in
+    subst (Appends (g.W.Write.contents c.args.output.now) (g.W.Write.contents c.flush.new.output)) c.pending.ensures (Appends-kept _ _ _ _ c.in_ok-write_whole.ensures.ok c.flush.ensures.same) in
     taken_on _ _ _ _ c.args.session.now c.commit.new.self c.read_more.new.session n c.requires.wanted c.requires.on_tape c.commit.ensures gave c.in-Ok.ensures.ok
 
 pub returns-in-Ok-clause-fresh : goal.returns-in-Ok-clause-fresh
@@ -37,13 +37,13 @@ returns-in-Ok-clause-fewer g c = λ n start. taken_fewer _ _ c.args.session.now 
 pub returns-in-Err-Read-clause-err : goal.returns-in-Err-Read-clause-err
 returns-in-Err-Read-clause-err g c = λ n.
     let gave : Appends (g.W.Write.contents c.args.output.now) (g.W.Write.contents c.flush.new.output) c.args.session.now.last.output =
-        subst (Appends (g.W.Write.contents c.args.output.now) (g.W.Write.contents c.flush.new.output)) c.pending.ensures (Appends-kept _ _ _ _ c.in_ok-write_whole.ensures.ok c.flush.ensures.same) in
+    subst (Appends (g.W.Write.contents c.args.output.now) (g.W.Write.contents c.flush.new.output)) c.pending.ensures (Appends-kept _ _ _ _ c.in_ok-write_whole.ensures.ok c.flush.ensures.same) in
     unfed_finish _ _ _ _ c.args.session.now c.commit.new.self c.read_more.new.session n _ c.requires.wanted c.requires.on_tape c.commit.ensures gave
     (subst (TakesNone _ _ _ _) c.in-Err-Read.field-0-is c.in-Err-Read.ensures.err)
 
 pub returns-in-Err-clause-err : goal.returns-in-Err-clause-err
 returns-in-Err-clause-err g c = λ n.
     let gave : Appends (g.W.Write.contents c.args.output.now) (g.W.Write.contents c.flush.new.output) c.args.session.now.last.output =
-        subst (Appends (g.W.Write.contents c.args.output.now) (g.W.Write.contents c.flush.new.output)) c.pending.ensures (Appends-kept _ _ _ _ c.in_ok-write_whole.ensures.ok c.flush.ensures.same) in
+    subst (Appends (g.W.Write.contents c.args.output.now) (g.W.Write.contents c.flush.new.output)) c.pending.ensures (Appends-kept _ _ _ _ c.in_ok-write_whole.ensures.ok c.flush.ensures.same) in
     unfed_closed _ _ _ _ _ c.args.session.now c.commit.new.self c.read_more.new.session n c.in-Err.ending c.finish.result c.requires.wanted c.requires.on_tape c.commit.ensures gave c.in-Err.ensures.err
     (subst (λ text. Closes (g.W.Write.contents c.flush.new.output) (g.W.Write.contents c.finish.new.output) text c.in-Err.ending c.finish.result) c.pending-in-Err.ensures c.finish.ensures)

@@ -1,4 +1,4 @@
-use Rattle.std.proofs.Common.{◌≡◌, ◌-◌, ◌<◌, true, false, length, refl, sym, ap, ◌∙◌, arith, ⊎_elim}
+use Rattle.std.proofs.Common.{◌≡◌, ◌-◌, arith, ⊎_elim}
 use Rattle.std.specs.Prelude.{◌⊎◌}
 use Rattle.trac_rules.specs.declared.refusal.Refusal.TheVariants as refusals
 use Rattle.trac.specs.declared.running.ending.Ending.TheVariants.{Ended, Budget, Limit, Memory}
@@ -105,7 +105,7 @@ unreachable-requires g c =
     ⊎_elim
     (λ (e : c.in-Some.refusal ≡ refusals.AtStart). refused_for_none c.forward-walk.new.self refusals.AtStart (stopped_for c.args.session.now c.args.left.now c.forward-walk.result.done c.forward-walk.result.why c.forward-walk.new.self c.in-Some.refusal refusals.AtStart c.forward-walk.ensures c.in-Some.is e).1 (λ x. cc) (λ x. cc) (λ x. cc) (λ x. cc))
     (λ (others : (c.in-Some.refusal ≡ refusals.Closed) ⊎ (c.in-Some.refusal ≡ refusals.NotMet)). ⊎_elim
-        (λ (e : c.in-Some.refusal ≡ refusals.Closed). refused_for_none c.forward-walk.new.self refusals.Closed (stopped_for c.args.session.now c.args.left.now c.forward-walk.result.done c.forward-walk.result.why c.forward-walk.new.self c.in-Some.refusal refusals.Closed c.forward-walk.ensures c.in-Some.is e).1 (λ x. cc) (λ x. cc) (λ x. cc) (λ x. cc))
-        (λ (e : c.in-Some.refusal ≡ refusals.NotMet). refused_for_none c.forward-walk.new.self refusals.NotMet (stopped_for c.args.session.now c.args.left.now c.forward-walk.result.done c.forward-walk.result.why c.forward-walk.new.self c.in-Some.refusal refusals.NotMet c.forward-walk.ensures c.in-Some.is e).1 (λ x. cc) (λ x. cc) (λ x. cc) (λ x. cc))
-        others)
+    (λ (e : c.in-Some.refusal ≡ refusals.Closed). refused_for_none c.forward-walk.new.self refusals.Closed (stopped_for c.args.session.now c.args.left.now c.forward-walk.result.done c.forward-walk.result.why c.forward-walk.new.self c.in-Some.refusal refusals.Closed c.forward-walk.ensures c.in-Some.is e).1 (λ x. cc) (λ x. cc) (λ x. cc) (λ x. cc))
+    (λ (e : c.in-Some.refusal ≡ refusals.NotMet). refused_for_none c.forward-walk.new.self refusals.NotMet (stopped_for c.args.session.now c.args.left.now c.forward-walk.result.done c.forward-walk.result.why c.forward-walk.new.self c.in-Some.refusal refusals.NotMet c.forward-walk.ensures c.in-Some.is e).1 (λ x. cc) (λ x. cc) (λ x. cc) (λ x. cc))
+    others)
     c.in-AtStart.is

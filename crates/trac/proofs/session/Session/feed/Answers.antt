@@ -1,5 +1,4 @@
-use Rattle.std.proofs.Common.{◌≡◌, ◌+◌, ◌≤◌, ◌<◌, ◌∙◌, length, arith}
-use Rattle.trac_rules.specs.declared.limit.TheConstants.{TAPE_LIMIT}
+use Rattle.std.proofs.Common.{◌≡◌, ◌∙◌, length, arith}
 use Rattle.trac_step.specs.Record.{before}
 use Rattle.trac.proofs.Journaled.{Feed_closed_of_fields, Feed_long_of_fields, Feed_room_of_fields, Feed_memory_of_fields, IsSound-feed}
 use Rattle.trac.proofs.session.Session.feed.Goals as goal

@@ -1,4 +1,4 @@
-use Rattle.std.proofs.Common.{◌≡◌, ◌≤◌, ◌<◌, ◌∙◌, length, arith}
+use Rattle.std.proofs.Common.{◌≡◌, ◌<◌, ◌∙◌, length, arith}
 use Rattle.trac_step.specs.Record.{before}
 use Rattle.trac.proofs.Journaled.{Step_full_of_fields, Step_of_fields, IsSound-step}
 use Rattle.trac.proofs.session.Session.step.Goals as goal

@@ -1,7 +1,7 @@
-use Rattle.std.proofs.Common.{◌≡◌, ◌≤◌, ◌∙◌, [], length, sym, arith}
-use Rattle.std.proofs.lemmas.List.{append-nil, nil_from_length}
+use Rattle.std.proofs.Common.{◌≡◌, ◌∙◌, [], sym}
+use Rattle.std.proofs.lemmas.List.{nil_from_length}
 use Rattle.trac_step.specs.Record.{before}
-use Rattle.trac.proofs.Journaled.{Back_start_of_fields, Back_of_fields, IsSound-back, newest_says_some}
+use Rattle.trac.proofs.Journaled.{Back_start_of_fields, Back_of_fields, IsSound-back}
 use Rattle.trac.proofs.session.Session.step_back.Goals as goal
 
 pub returns-in_default : goal.returns-in_default
