@@ -1,2 +1,7 @@
+pub mod Lines
+pub mod Logging
+pub mod Reading
 pub mod Requests
+pub mod Schedule
 pub mod Trials
+pub mod Writing

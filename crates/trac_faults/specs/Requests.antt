@@ -1,5 +1,6 @@
 -- What one request for memory meets and leaves behind.
-use Rattle.std.specs.Prelude.{ℕ, ◌+◌, ◌-◌, ◌^◌, ◌==◌, min, Bool, true, false, if◌then◌else◌}
+use Rattle.std.specs.Prelude.{◌-◌, ◌==◌, Bool, true, false, if◌then◌else◌}
+use Rattle.trac_faults.specs.Schedule.{counted}
 use Rattle.trac_faults.specs.declared.requests.Requests.{Requests}
 use Rattle.trac_faults.specs.declared.requests.Rule.{Rule}
 use Rattle.trac_faults.specs.declared.requests.Rule.TheVariants.{AcceptAll, RefuseNth, RefuseAll}
@@ -15,10 +16,6 @@ abbrev pub rule_after : Rule → Rule
 rule_after AcceptAll = AcceptAll
 rule_after (RefuseNth n) = RefuseNth (n - 1)
 rule_after RefuseAll = RefuseAll
-
--- one more, up to the largest count
-abbrev pub counted : ℕ → ℕ
-counted n = min (n + 1) (2 ^ 64 - 1)
 
 -- the rule and the counts behind one request
 abbrev pub after_request : Requests → Requests
