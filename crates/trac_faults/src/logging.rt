@@ -33,8 +33,12 @@ pub struct CallLog<A: Allocator = Global> {
 }
 
 impl<A: Allocator + Copy> CallLog<A> {
+    ghost use Rattle.trac_faults.specs.Logging.{allocator_of};
+
     /// An empty log, which takes memory from `alloc` as calls come.
-    pub fn new(alloc: A) -> CallLog<A> {
+    pub fn new(alloc: A) -> CallLog<A>
+        ensures { allocator_of result ≡ alloc }
+    {
         CallLog {
             alloc,
             calls: RefCell::new(Vec::new(alloc)),

@@ -1,4 +1,6 @@
 //! An allocator that refuses chosen requests.
+ghost use Rattle.std.specs.Prelude.{◌≡◌};
+
 use super::requests::{Requests, Rule};
 use std::alloc::{AllocError, Allocator};
 use std::cell::Cell;
@@ -15,8 +17,12 @@ pub struct Refusing<B: Allocator> {
 }
 
 impl<B: Allocator> Refusing<B> {
+    ghost use Rattle.trac_faults.specs.Memory.{backing_of};
+
     /// An allocator that accepts all requests until it is told otherwise. It needs no memory of its own.
-    pub fn new(backing: B) -> Refusing<B> {
+    pub fn new(backing: B) -> Refusing<B>
+        ensures { backing_of result ≡ backing }
+    {
         Refusing {
             backing,
             requests: Cell::new(Requests::none()),
@@ -60,7 +66,9 @@ fn accepts(requests: &Cell<Requests>) -> bool {
 }
 
 unsafe impl<B: Allocator> Allocator for Refusing<B> {
-    ghost dealloc_token = { λ heap ty ptr. B.dealloc_token heap.backing ty ptr };
+    ghost use Rattle.trac_faults.specs.Memory.{backing_of};
+
+    ghost dealloc_token = { λ heap ty ptr. B.dealloc_token (backing_of heap) ty ptr };
 
     fn allocate(&self, size: usize, align: usize) -> Result<*mut u8, AllocError> {
         if !accepts(&self.requests) {

@@ -1,8 +1,11 @@
 //! Each request refused in turn, at a vector and at a map: after a refusal nothing has changed, and the next try is accepted.
-use crate::Refusing;
+//! And each read, each write and each flush failing in turn.
+use crate::{FaultyReader, FaultyWriter, Refusing, each_fault};
 use indexmap::IndexMap;
-use std::alloc::{AllocError, Global};
+use std::alloc::{AllocError, Allocator, Global};
 use std::hash::{BuildHasherDefault, FoldHasher};
+use std::io;
+use std::io::Write;
 use std::process::Abort;
 use std::test::Fail;
 
@@ -10,8 +13,9 @@ type Memory<'a> = &'a Refusing<Global>;
 
 type Numbered<'a> = IndexMap<Vec<u8, Memory<'a>>, u8, BuildHasherDefault<FoldHasher>, Memory<'a>>;
 
-fn push_all(rt: &impl Abort, memory: Memory<'_>) -> Result<(), AllocError> {
-    let mut numbers = Vec::new(memory);
+// Generic over its allocator, as code under test is.
+fn push_all<A: Allocator + Copy>(rt: &impl Abort, alloc: A) -> Result<(), AllocError> {
+    let mut numbers = Vec::new(alloc);
     for n in 0..100u8 {
         if numbers.push(n).is_err() {
             assert_eq!(rt; numbers.len(), n as usize, "as before");
@@ -92,4 +96,62 @@ fn hands_on_an_error(rt: HostRuntime) {
     });
     assert_eq!(rt; ended, Err(2));
     assert_eq!(rt; calls, 2);
+}
+
+// Copies three bytes, one a call. What was written is a front of them, and all of them where nothing failed.
+fn copy_three<A: Allocator>(
+    rt: &impl Abort,
+    mut reader: FaultyReader<'_>,
+    mut writer: FaultyWriter<A>,
+) -> io::Result<()> {
+    let copied = io::copy(&mut reader, &mut writer);
+    assert!(rt; b"abc".starts_with(writer.contents()));
+    copied?;
+    assert_eq!(rt; writer.contents(), b"abc".as_slice());
+    writer.flush()
+}
+
+fn fails_read(rt: &(impl Abort + AllocGlobal), nth: u64) -> bool {
+    let reader = FaultyReader::new(b"abc").at_most(1).failing_at(nth);
+    copy_three(rt, reader, FaultyWriter::new(rt.alloc())).is_err()
+}
+
+fn fails_write(rt: &(impl Abort + AllocGlobal), nth: u64) -> bool {
+    let writer = FaultyWriter::new(rt.alloc()).at_most(1).failing_at(nth);
+    copy_three(rt, FaultyReader::new(b"abc"), writer).is_err()
+}
+
+fn takes_none_at_write(rt: &(impl Abort + AllocGlobal), nth: u64) -> bool {
+    let writer = FaultyWriter::new(rt.alloc()).at_most(1).taking_none_at(nth);
+    copy_three(rt, FaultyReader::new(b"abc"), writer).is_err()
+}
+
+fn fails_flush(rt: &(impl Abort + AllocGlobal), nth: u64) -> bool {
+    let writer = FaultyWriter::new(rt.alloc()).failing_flush_at(nth);
+    copy_three(rt, FaultyReader::new(b"abc"), writer).is_err()
+}
+
+#[test]
+fn each_call_of_readers_and_writers(rt: HostRuntime) -> Result<(), Fail> {
+    assert_eq!(rt;
+        each_fault::<AllocError, _>(99, |nth| Ok(fails_read(&rt, nth)))?,
+        Some(5)
+    );
+    assert_eq!(rt;
+        each_fault::<AllocError, _>(99, |nth| Ok(fails_write(&rt, nth)))?,
+        Some(4)
+    );
+    assert_eq!(rt;
+        each_fault::<AllocError, _>(99, |nth| Ok(takes_none_at_write(&rt, nth)))?,
+        Some(4)
+    );
+    assert_eq!(rt;
+        each_fault::<AllocError, _>(99, |nth| Ok(fails_flush(&rt, nth)))?,
+        Some(2)
+    );
+    assert_eq!(rt;
+        each_fault::<AllocError, _>(2, |nth| Ok(fails_read(&rt, nth)))?,
+        None
+    );
+    Ok(())
 }
