@@ -9,4 +9,5 @@ pub mod Ending
 pub mod Fitting
 pub mod Moving
 pub mod Outcomes
+pub mod Peeling
 pub mod ReadTexts

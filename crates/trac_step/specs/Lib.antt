@@ -2,5 +2,6 @@
 pub mod Cuts
 pub mod Layout
 pub mod Calling
+pub mod Frames
 pub mod Record
 pub mod Tape

@@ -36,7 +36,7 @@ pub(crate) struct Action<'t> {
 }
 
 // The arguments behind the mark of this number, to the end of the text.
-fn arguments_behind<'a>(text: &'a [u8], marks: &'a [Mark], k: usize) -> Args<'a>
+pub(crate) fn arguments_behind<'a>(text: &'a [u8], marks: &'a [Mark], k: usize) -> Args<'a>
     requires ordered { AreMarks (length text.now) (reverse marks.now) }
     requires within { k < length marks.now }
     ensures { result ≡ cut (place_of marks.now k) (drop (k + 1) marks.now) text.now }
@@ -74,7 +74,7 @@ fn put_value<E: TwoEnds<u8, A>, A: Allocator + Copy>(
 }
 
 // The number of the mark at which the innermost function begins.
-fn called(text: &[u8], marks: &[Mark]) -> usize
+pub(crate) fn called(text: &[u8], marks: &[Mark]) -> usize
     requires ordered { AreMarks (length text.now) (reverse marks.now) }
     requires some { 0 < length marks.now }
     ensures { BeginsFunction marks.now result }

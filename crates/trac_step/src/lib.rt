@@ -4,6 +4,7 @@
 pub mod args;
 mod calling;
 pub mod engine;
+mod frames;
 mod front;
 mod innermost;
 pub mod mark;
