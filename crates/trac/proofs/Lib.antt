@@ -1,0 +1,6 @@
+pub mod Journaled
+pub mod Walked
+pub mod Known
+pub mod Turned
+pub mod Taken
+pub mod Ran

@@ -1,0 +1,7 @@
+-- What a session keeps, and what a run does.
+pub mod Replies
+pub mod Journal
+pub mod Written
+pub mod Runs
+-- How proofs store these values.
+pub mod Codes

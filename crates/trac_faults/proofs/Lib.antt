@@ -1,0 +1,3 @@
+mod Steps
+mod Asking
+mod Runs

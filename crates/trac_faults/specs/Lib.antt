@@ -1,0 +1,8 @@
+pub mod Lines
+pub mod Logging
+pub mod Memory
+pub mod Reading
+pub mod Requests
+pub mod Schedule
+pub mod Trials
+pub mod Writing
