@@ -16,7 +16,7 @@ abbrev pub IfCalls : Scanned → (Call → Type 0) → Type 0
 IfCalls (Moves t) P = Unit {0}
 IfCalls (Calls call) P = P call
 
--- the state after a call that reads so many bytes, prints its first argument or nothing, and has this value, which is not forced
+-- the state after a call that reads so many bytes, prints the argument behind its name or nothing, and has this value, which is not forced
 abbrev pub ended_call : Bool → List ℕ → ℕ → Call → State
 ended_call prints value taken call = placed call.kind false value (record call.state {
   position = call.state.position + taken;

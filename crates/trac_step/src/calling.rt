@@ -28,7 +28,7 @@ use trac_rules::scan::Front;
 // What a call does. Its value is never forced yet.
 #[derive(Clone, Copy)]
 pub(crate) struct Action<'t> {
-    // whether it prints its first argument
+    // whether it prints the argument behind its name
     pub(crate) prints: bool,
     pub(crate) value: &'t [u8],
     // how many bytes of the tape it reads
@@ -45,7 +45,7 @@ pub(crate) fn arguments_behind<'a>(text: &'a [u8], marks: &'a [Mark], k: usize) 
     Args::new(text, marks.split_at(k + 1).1, place)
 }
 
-// The first argument, where it is printed, and else null.
+// The argument behind the name, where it is printed, and else null.
 fn printed_of<'a>(text: &'a [u8], marks: &'a [Mark], k: usize, prints: bool) -> &'a [u8]
     requires ordered { AreMarks (length text.now) (reverse marks.now) }
     requires within { k < length marks.now }

@@ -1,7 +1,8 @@
 //! A machine over a short input, step by step.
 use crate::{Kind, Machine, Record, Refusal, Tape};
-use std::alloc::Global;
+use std::alloc::{Allocator, Global};
 use std::test::*;
+use trac_faults::Refusing;
 use trac_gap::PlainEnds;
 
 const INPUT: Tape<'static> = Tape {
@@ -84,5 +85,46 @@ fn waits_for_input(rt: HostRuntime) -> Result<(), Fail> {
     };
     assert!(rt; machine.position() <= ended.bytes.len());
     assert!(rt; matches!(machine.step(ended), Err(Refusal::Ended)));
+    Ok(())
+}
+
+// A machine, where memory may be refused once: the next try is accepted.
+fn made<A: Allocator + Copy>(alloc: A) -> Result<Machine<A>, Refusal> {
+    match Machine::new(alloc) {
+        Err(Refusal::Memory) => Machine::new(alloc),
+        other => other,
+    }
+}
+
+// Eleven steps, of which each may be refused once for memory: nothing has changed then, and the next try is accepted.
+fn printed_twice<A: Allocator + Copy>(alloc: A) -> Result<bool, Refusal> {
+    let mut machine = made(alloc)?;
+    for _ in 0..11 {
+        if machine.position() > INPUT.bytes.len() {
+            return Ok(false);
+        }
+        let depth = machine.depth();
+        let scanned = machine.active().len();
+        if machine.step(INPUT).is_err() {
+            if machine.depth() != depth || machine.active().len() != scanned {
+                return Ok(false);
+            }
+            if machine.position() > INPUT.bytes.len() {
+                return Ok(false);
+            }
+            let _taken = machine.step(INPUT)?;
+        }
+    }
+    Ok(machine.output() == b"AB".as_slice())
+}
+
+#[test]
+fn survives_each_refusal(rt: HostRuntime) -> Result<(), Fail> {
+    let memory = Refusing::new(rt.alloc());
+    let runs = memory.refuse_each(1_000, |_| -> Result<(), Fail> {
+        assert_eq!(rt; printed_twice(&memory)?, true);
+        Ok(())
+    })?;
+    assert!(rt; runs > Some(11), "{runs:?} runs");
     Ok(())
 }
