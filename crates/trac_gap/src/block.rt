@@ -66,6 +66,7 @@ impl<T: Copy, A: Allocator + Copy> Block<T, A> {
         })
     }
 
+    #[inline]
     pub(crate) fn room(&self) -> usize
         ensures room { result ≡ self.now.capacity - item_count self.now }
         ensures within { item_count self.now ≤ self.now.capacity }
@@ -74,6 +75,7 @@ impl<T: Copy, A: Allocator + Copy> Block<T, A> {
         self.gap_end - self.gap_start
     }
 
+    #[inline]
     pub(crate) fn left(&self) -> &[T]
         ensures left { result.now ≡ self.now.left }
         ensures within { item_count self.now ≤ self.now.capacity }
@@ -81,6 +83,7 @@ impl<T: Copy, A: Allocator + Copy> Block<T, A> {
         self.places.items(self.origin, 0, self.gap_start)
     }
 
+    #[inline]
     pub(crate) fn right(&self) -> &[T]
         ensures right { result.now ≡ self.now.right }
         ensures within { item_count self.now ≤ self.now.capacity }
@@ -89,6 +92,7 @@ impl<T: Copy, A: Allocator + Copy> Block<T, A> {
             .items(self.origin, self.gap_end, self.capacity - self.gap_end)
     }
 
+    #[inline]
     pub(crate) fn push_left(&mut self, x: T)
         requires { item_count self.old < self.old.capacity }
         ensures { self.new ≡ record self.old { left = self.old.left ++ x ∷ [] } }
@@ -105,6 +109,7 @@ impl<T: Copy, A: Allocator + Copy> Block<T, A> {
         self.gap_start += items.len();
     }
 
+    #[inline]
     pub(crate) fn push_right(&mut self, x: T)
         requires { item_count self.old < self.old.capacity }
         ensures { self.new ≡ record self.old { right = x ∷ self.old.right } }
@@ -121,8 +126,11 @@ impl<T: Copy, A: Allocator + Copy> Block<T, A> {
         self.places.copy_in(self.origin, self.gap_end, items);
     }
 
+    #[inline]
     pub(crate) fn pop_left(&mut self) -> Option<T>
-        ensures { MatchOption result (self.old.left ≡ [] × self.new ≡ self.old) (λ x. self.old ≡ record self.new { left = self.new.left ++ x ∷ [] }) }
+        ensures { MatchOption result
+            (self.old.left ≡ [] × self.new ≡ self.old)
+            (λ x. self.old ≡ record self.new { left = self.new.left ++ x ∷ [] }) }
     {
         if self.gap_start == 0 {
             return None;
@@ -131,8 +139,11 @@ impl<T: Copy, A: Allocator + Copy> Block<T, A> {
         Some(self.places.item(self.origin, self.gap_start))
     }
 
+    #[inline]
     pub(crate) fn pop_right(&mut self) -> Option<T>
-        ensures { MatchOption result (self.old.right ≡ [] × self.new ≡ self.old) (λ x. self.old ≡ record self.new { right = x ∷ self.new.right }) }
+        ensures { MatchOption result
+            (self.old.right ≡ [] × self.new ≡ self.old)
+            (λ x. self.old ≡ record self.new { right = x ∷ self.new.right }) }
     {
         if self.gap_end == self.capacity {
             return None;
@@ -142,6 +153,7 @@ impl<T: Copy, A: Allocator + Copy> Block<T, A> {
         Some(first)
     }
 
+    #[inline]
     pub(crate) fn cut_left(&mut self, n: usize)
         requires { n ≤ length self.old.left }
         ensures { self.new ≡ record self.old { left = take (length self.old.left - n) self.old.left } }
@@ -149,6 +161,7 @@ impl<T: Copy, A: Allocator + Copy> Block<T, A> {
         self.gap_start -= n;
     }
 
+    #[inline]
     pub(crate) fn cut_right(&mut self, n: usize)
         requires { n ≤ length self.old.right }
         ensures { self.new ≡ record self.old { right = drop n self.old.right } }
@@ -156,9 +169,13 @@ impl<T: Copy, A: Allocator + Copy> Block<T, A> {
         self.gap_end += n;
     }
 
+    #[inline]
     pub(crate) fn shift_left(&mut self, n: usize)
         requires { n ≤ length self.old.right }
-        ensures { self.new ≡ record self.old { left = self.old.left ++ take n self.old.right; right = drop n self.old.right } }
+        ensures { self.new ≡ record self.old {
+          left = self.old.left ++ take n self.old.right;
+          right = drop n self.old.right;
+        } }
     {
         self.places
             .shift(self.origin, self.gap_end, self.gap_start, n);
@@ -166,9 +183,14 @@ impl<T: Copy, A: Allocator + Copy> Block<T, A> {
         self.gap_end += n;
     }
 
+    #[inline]
     pub(crate) fn shift_right(&mut self, n: usize)
         requires { n ≤ length self.old.left }
-        ensures { let kept = length self.old.left - n in self.new ≡ record self.old { left = take kept self.old.left; right = drop kept self.old.left ++ self.old.right } }
+        ensures { let kept = length self.old.left - n in
+            self.new ≡ record self.old {
+              left = take kept self.old.left;
+              right = drop kept self.old.left ++ self.old.right;
+            } }
     {
         self.gap_start -= n;
         self.gap_end -= n;

@@ -9,7 +9,7 @@ use std::alloc::{AllocError, Allocator, Global};
 use std::marker::Model;
 
 /// Both lists lie in one block, with the gap between them. Pushing, popping and cutting move no
-/// other item, and a run crosses the gap in one copy. With no capacity there is no block.
+/// other item. With no capacity there is no block.
 #[derive(Drop)]
 pub struct GapBuf<T: Copy, A: Allocator + Copy = Global> {
     alloc: A,
@@ -68,6 +68,7 @@ impl<T: Copy, A: Allocator + Copy> TwoEnds<T, A> for GapBuf<T, A> {
         Ok(())
     }
 
+    #[inline]
     fn room(&self) -> usize {
         match &self.block {
             Some(block) => block.room(),
@@ -75,6 +76,7 @@ impl<T: Copy, A: Allocator + Copy> TwoEnds<T, A> for GapBuf<T, A> {
         }
     }
 
+    #[inline]
     fn left(&self) -> &[T] {
         match &self.block {
             Some(block) => block.left(),
@@ -82,6 +84,7 @@ impl<T: Copy, A: Allocator + Copy> TwoEnds<T, A> for GapBuf<T, A> {
         }
     }
 
+    #[inline]
     fn right(&self) -> &[T] {
         match &self.block {
             Some(block) => block.right(),
@@ -89,6 +92,7 @@ impl<T: Copy, A: Allocator + Copy> TwoEnds<T, A> for GapBuf<T, A> {
         }
     }
 
+    #[inline]
     fn push_left(&mut self, x: T) {
         let Some(block) = &mut self.block else {
             unreachable!()
@@ -102,6 +106,7 @@ impl<T: Copy, A: Allocator + Copy> TwoEnds<T, A> for GapBuf<T, A> {
         }
     }
 
+    #[inline]
     fn push_right(&mut self, x: T) {
         let Some(block) = &mut self.block else {
             unreachable!()
@@ -115,6 +120,7 @@ impl<T: Copy, A: Allocator + Copy> TwoEnds<T, A> for GapBuf<T, A> {
         }
     }
 
+    #[inline]
     fn pop_left(&mut self) -> Option<T> {
         match &mut self.block {
             Some(block) => block.pop_left(),
@@ -122,6 +128,7 @@ impl<T: Copy, A: Allocator + Copy> TwoEnds<T, A> for GapBuf<T, A> {
         }
     }
 
+    #[inline]
     fn pop_right(&mut self) -> Option<T> {
         match &mut self.block {
             Some(block) => block.pop_right(),
@@ -129,24 +136,28 @@ impl<T: Copy, A: Allocator + Copy> TwoEnds<T, A> for GapBuf<T, A> {
         }
     }
 
+    #[inline]
     fn cut_left(&mut self, n: usize) {
         if let Some(block) = &mut self.block {
             block.cut_left(n);
         }
     }
 
+    #[inline]
     fn cut_right(&mut self, n: usize) {
         if let Some(block) = &mut self.block {
             block.cut_right(n);
         }
     }
 
+    #[inline]
     fn shift_left(&mut self, n: usize) {
         if let Some(block) = &mut self.block {
             block.shift_left(n);
         }
     }
 
+    #[inline]
     fn shift_right(&mut self, n: usize) {
         if let Some(block) = &mut self.block {
             block.shift_right(n);

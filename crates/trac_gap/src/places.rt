@@ -62,7 +62,9 @@ pub(crate) fn allocate<T, A: Allocator>(
     count: usize,
 ) -> Result<(Origin<T>, Places<T>, Lease<T, A>), AllocError>
     requires { FitsInBlock T.row count }
-    ensures { IfOk result (λ r. (r.1.at ≡ r.0.ptr) × (r.1.slots ≡ replicate count None) × (r.2.at ≡ r.0.ptr) × (r.2.count ≡ count) × (r.2.alloc ≡ alloc.now)) }
+    ensures { IfOk result (λ r.
+        (r.1.at ≡ r.0.ptr) × (r.1.slots ≡ replicate count None)
+        × (r.2.at ≡ r.0.ptr) × (r.2.count ≡ count) × (r.2.alloc ≡ alloc.now)) }
 {
     match alloc.allocate(count * size_of::<T>(), align_of::<T>()) {
         Ok(block) => {
@@ -87,7 +89,8 @@ pub(crate) fn deallocate<T, A: Allocator>(
     places: Places<T>,
     lease: Lease<T, A>,
 )
-    requires { (places.at ≡ origin.ptr) × (length places.slots ≡ count) × (lease.at ≡ origin.ptr) × (lease.count ≡ count) × (lease.alloc ≡ alloc.now) }
+    requires { (places.at ≡ origin.ptr) × (length places.slots ≡ count)
+        × (lease.at ≡ origin.ptr) × (lease.count ≡ count) × (lease.alloc ≡ alloc.now) }
 {
     let Places { mark: _ } = places;
     let Lease { mark: _ } = lease;
@@ -102,16 +105,20 @@ pub(crate) fn deallocate<T, A: Allocator>(
 
 impl<T> Places<T> {
     /// Puts `item` into the place `index`. An item that was there is forgotten.
+    #[inline]
     pub(crate) fn put(&mut self, origin: Origin<T>, index: usize, item: T)
         requires { (origin.ptr ≡ self.old.at) × (index < length self.old.slots) }
-        ensures { (self.new.at ≡ self.old.at) × (self.new.slots ≡ slice_set self.old.slots index (Some item)) }
+        ensures { (self.new.at ≡ self.old.at)
+            × (self.new.slots ≡ slice_set self.old.slots index (Some item)) }
     {
         unsafe { origin.ptr.add(index).write(item) }
     }
 
     /// The items in the `count` places from `from` on, each of which has one.
+    #[inline]
     pub(crate) fn items(&self, origin: Origin<T>, from: usize, count: usize) -> &[T]
-        requires { (origin.ptr ≡ self.now.at) × (from + count ≤ length self.now.slots) × IsFull (run from count self.now.slots) }
+        requires { (origin.ptr ≡ self.now.at) × (from + count ≤ length self.now.slots)
+            × IsFull (run from count self.now.slots) }
         ensures { result.now ≡ items_of (run from count self.now.slots) }
     {
         unsafe { slice::from_raw_parts(origin.ptr.add(from), count) }
