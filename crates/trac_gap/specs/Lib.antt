@@ -1,1 +1,5 @@
 pub mod Ends
+pub mod Places
+pub mod Ownership
+pub mod Block
+pub mod GapBuf

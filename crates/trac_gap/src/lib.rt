@@ -2,12 +2,22 @@
 //! places that both share.
 #![tactic(auto)]
 
+mod block;
 pub mod error;
+pub mod gap_buf;
+mod places;
 pub mod plain;
+mod runs;
 #[cfg(test)]
 mod tests;
 pub mod two_ends;
 
+// A crate above can name a buffer in a contract only if the types of its fields are exported.
+#[doc(hidden)]
+pub use block::Block;
 pub use error::GapError;
+pub use gap_buf::GapBuf;
+#[doc(hidden)]
+pub use places::{Lease, Origin, Places};
 pub use plain::PlainEnds;
 pub use two_ends::TwoEnds;

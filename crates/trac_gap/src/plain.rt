@@ -22,7 +22,8 @@ impl<T: Copy, A: Allocator + Copy> Model for PlainEnds<T, A> {
 
     ghost view = { λ p. record { left = p.left.items; right = p.right.items; capacity = p.capacity } };
 
-    ghost invariant = { λ p. (vec_len p.left + vec_len p.right ≤ p.capacity) × (p.capacity ≤ vec_capacity p.left) × (p.capacity ≤ vec_capacity p.right) };
+    ghost invariant = { λ p. (vec_len p.left + vec_len p.right ≤ p.capacity)
+        × (p.capacity ≤ vec_capacity p.left) × (p.capacity ≤ vec_capacity p.right) };
 }
 
 impl<T: Copy, A: Allocator + Copy> TwoEnds<T, A> for PlainEnds<T, A> {

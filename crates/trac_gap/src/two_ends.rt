@@ -26,7 +26,8 @@ pub trait TwoEnds<T: Copy, A: Allocator + Copy>: Sized + Drop {
 
         // Where the room is there already, nothing is asked of the allocator.
         ensures succeeds { item_count (ends self.old) + n ≤ (ends self.old).capacity → IsOk result }
-        ensures same { item_count (ends self.old) + n ≤ (ends self.old).capacity → ends self.new ≡ ends self.old };
+        ensures same { item_count (ends self.old) + n ≤ (ends self.old).capacity
+            → ends self.new ≡ ends self.old };
 
     /// How many more items there are places for.
     fn room(&self) -> usize
@@ -66,16 +67,24 @@ pub trait TwoEnds<T: Copy, A: Allocator + Copy>: Sized + Drop {
 
     /// Takes the last item of the left list; `None` where that list is empty.
     fn pop_left(&mut self) -> Option<T>
-        ensures { MatchOption result ((ends self.old).left ≡ [] × ends self.new ≡ ends self.old) (λ x. ends self.old ≡ record (ends self.new) { left = (ends self.new).left ++ x ∷ [] }) };
+        ensures { MatchOption result
+            ((ends self.old).left ≡ [] × ends self.new ≡ ends self.old)
+            (λ x.
+            ends self.old ≡ record (ends self.new) { left = (ends self.new).left ++ x ∷ [] }) };
 
     /// Takes the first item of the right list; `None` where that list is empty.
     fn pop_right(&mut self) -> Option<T>
-        ensures { MatchOption result ((ends self.old).right ≡ [] × ends self.new ≡ ends self.old) (λ x. ends self.old ≡ record (ends self.new) { right = x ∷ (ends self.new).right }) };
+        ensures { MatchOption result
+            ((ends self.old).right ≡ [] × ends self.new ≡ ends self.old)
+            (λ x.
+            ends self.old ≡ record (ends self.new) { right = x ∷ (ends self.new).right }) };
 
     /// Drops the last `n` items of the left list.
     fn cut_left(&mut self, n: usize)
         requires { n ≤ length (ends self.old).left }
-        ensures { ends self.new ≡ record (ends self.old) { left = take (length (ends self.old).left - n) (ends self.old).left } };
+        ensures { ends self.new ≡ record (ends self.old) {
+          left = take (length (ends self.old).left - n) (ends self.old).left;
+        } };
 
     /// Drops the first `n` items of the right list.
     fn cut_right(&mut self, n: usize)
@@ -85,12 +94,19 @@ pub trait TwoEnds<T: Copy, A: Allocator + Copy>: Sized + Drop {
     /// Moves the first `n` items of the right list, in order, to the end of the left list.
     fn shift_left(&mut self, n: usize)
         requires { n ≤ length (ends self.old).right }
-        ensures { ends self.new ≡ record (ends self.old) { left = (ends self.old).left ++ take n (ends self.old).right; right = drop n (ends self.old).right } };
+        ensures { ends self.new ≡ record (ends self.old) {
+          left = (ends self.old).left ++ take n (ends self.old).right;
+          right = drop n (ends self.old).right;
+        } };
 
     /// Moves the last `n` items of the left list, in order, before the first of the right list.
     fn shift_right(&mut self, n: usize)
         requires { n ≤ length (ends self.old).left }
-        ensures { let kept = length (ends self.old).left - n in ends self.new ≡ record (ends self.old) { left = take kept (ends self.old).left; right = drop kept (ends self.old).left ++ (ends self.old).right } };
+        ensures { let kept = length (ends self.old).left - n in
+            ends self.new ≡ record (ends self.old) {
+              left = take kept (ends self.old).left;
+              right = drop kept (ends self.old).left ++ (ends self.old).right;
+            } };
 
     /// A second pair of the same lists, with memory of its own and at least the same capacity.
     /// Refused with `Memory` where the allocator refuses.

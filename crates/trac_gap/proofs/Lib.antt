@@ -1,0 +1,6 @@
+mod Copying
+mod Full
+mod Halves
+mod Lending
+mod Pasted
+mod Rows

@@ -1,0 +1,79 @@
+-- What a row has before, in and behind the places that were written.
+use Rattle.std.proofs.Common.{◌≡◌, ℕ, suc, ◌+◌, ◌-◌, ◌≤◌, ◌<◌, ◌++◌, List, [], ◌∷◌, length, take, drop, get_or, set, sym, ap, ◌∙◌, append_assoc, add-zero, arith, length-append, length-drop}
+use Rattle.std.proofs.lemmas.List.{take-append-drop, set_split, take-append-le, take-take, get_or-take, get_or-drop}
+use Rattle.std.proofs.Math.Seq.{take-append_seam, drop-append_seam, take-append-add, drop-append-add, length-take-le, drop-drop}
+use Rattle.trac_gap.specs.Places.{pasted}
+
+module _ {X : Type 0} (cs : List X) (i : ℕ) (ws : List X) (fits : i + length ws ≤ length cs) where
+  front : length (take i cs) ≡ i
+  front = length-take-le i cs (omega arith)
+
+  abbrev rest : List X
+  rest = drop (i + length ws) cs
+
+  pub length-pasted : length (pasted cs i ws) ≡ length cs
+  unfolding pasted
+  length-pasted = omega (arith, front, length-append (take i cs) (ws ++ rest), length-append ws rest, length-drop (i + length ws) cs)
+
+  pub take-pasted : take (i + length ws) (pasted cs i ws) ≡ take i cs ++ ws
+  unfolding pasted
+  take-pasted =
+      ap (λ k. take (k + length ws) (take i cs ++ (ws ++ rest))) (sym front) ∙ take-append-add (take i cs) (ws ++ rest) (length ws)
+      ∙ ap (λ l. take i cs ++ l) (take-append_seam ws rest)
+
+  pub drop-pasted : drop i (pasted cs i ws) ≡ ws ++ rest
+  unfolding pasted
+  drop-pasted = ap (λ k. drop k (take i cs ++ (ws ++ rest))) (sym front) ∙ drop-append_seam (take i cs) (ws ++ rest)
+
+  pub take-pasted_before : (j : ℕ) → j ≤ i → take j (pasted cs i ws) ≡ take j cs
+  unfolding pasted
+  take-pasted_before j h =
+      let long : j ≤ length (take i cs) = omega (arith, front) in
+      take-append-le j (take i cs) (ws ++ rest) long ∙ take-take j i cs h
+
+  pub drop-pasted_behind : (j : ℕ) → i + length ws ≤ j → drop j (pasted cs i ws) ≡ drop j cs
+  unfolding pasted
+  drop-pasted_behind j h =
+      let m = j - (i + length ws) in let A = take i cs ++ ws in
+      let long : length A ≡ i + length ws = omega (arith, front, length-append (take i cs) ws) in
+      let at : j ≡ length A + m = omega arith in let again : i + length ws + m ≡ j = omega arith in
+      ap (drop j) (sym (append_assoc (take i cs) ws rest)) ∙ ap (λ k. drop k (A ++ rest)) at ∙ drop-append-add A rest m
+      ∙ drop-drop m (i + length ws) cs ∙ ap (λ k. drop k cs) again
+
+  -- a place that was not written
+  pub get_or-pasted_before : (j : ℕ) (d : X) → j < i → get_or (pasted cs i ws) j d ≡ get_or cs j d
+  get_or-pasted_before j d h =
+      sym (get_or-take i (pasted cs i ws) j d h) ∙ ap (λ l. get_or l j d) (take-pasted_before i (omega arith)) ∙ get_or-take i cs j d h
+
+  pub get_or-pasted_behind : (j : ℕ) (d : X) → i + length ws ≤ j → get_or (pasted cs i ws) j d ≡ get_or cs j d
+  get_or-pasted_behind j d h =
+      ap (λ k. get_or (pasted cs i ws) k d) (sym (add-zero j)) ∙ sym (get_or-drop j (pasted cs i ws) 0 d) ∙ ap (λ l. get_or l 0 d) (drop-pasted_behind j h)
+      ∙ get_or-drop j cs 0 d ∙ ap (λ k. get_or cs k d) (add-zero j)
+
+pub pasted_none : {X : Type 0} (cs : List X) (i : ℕ) → pasted cs i [] ≡ cs
+unfolding pasted
+pasted_none cs i = ap (λ k. take i cs ++ drop k cs) (add-zero i) ∙ take-append-drop i cs
+
+module _ {X : Type 0} (cs : List X) (i : ℕ) (ws : List X) (c : X) where
+  -- one more place is written, behind those that were
+  pub set-pasted_behind : (j : ℕ) → j ≡ i + length ws → j < length cs → set (pasted cs i ws) j c ≡ pasted cs i (ws ++ c ∷ [])
+  unfolding pasted
+  set-pasted_behind j at within =
+      let fits : i + length ws ≤ length cs = omega arith in
+      let same = length-pasted cs i ws fits in
+      let more : suc j ≡ i + length (ws ++ c ∷ []) = omega (arith, length-append ws (c ∷ [])) in
+      let front : take j (pasted cs i ws) ≡ take i cs ++ ws = ap (λ k. take k (pasted cs i ws)) at ∙ take-pasted cs i ws fits in
+      let back : drop (suc j) (pasted cs i ws) ≡ drop (i + length (ws ++ c ∷ [])) cs = drop-pasted_behind cs i ws fits (suc j) (omega arith) ∙ ap (λ k. drop k cs) more in
+      set_split (pasted cs i ws) j c (omega arith) ∙ (λ n. front n ++ c ∷ back n)
+      ∙ append_assoc (take i cs) ws (c ∷ drop (i + length (ws ++ c ∷ [])) cs)
+      ∙ ap (λ l. take i cs ++ l) (sym (append_assoc ws (c ∷ []) (drop (i + length (ws ++ c ∷ [])) cs)))
+
+  -- one more place is written, before those that were
+  pub set-pasted_before : (j : ℕ) → j ≡ suc i → j + length ws ≤ length cs → set (pasted cs j ws) i c ≡ pasted cs i (c ∷ ws)
+  unfolding pasted
+  set-pasted_before j at fits =
+      let same = length-pasted cs j ws fits in
+      let more : j + length ws ≡ i + suc (length ws) = omega arith in
+      let front : take i (pasted cs j ws) ≡ take i cs = take-pasted_before cs j ws fits i (omega arith) in
+      let back : drop (suc i) (pasted cs j ws) ≡ ws ++ drop (i + suc (length ws)) cs = ap (λ k. drop k (pasted cs j ws)) (sym at) ∙ drop-pasted cs j ws fits ∙ ap (λ k. ws ++ drop k cs) more in
+      set_split (pasted cs j ws) i c (omega arith) ∙ (λ n. front n ++ c ∷ back n)

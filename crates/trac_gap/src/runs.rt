@@ -1,0 +1,74 @@
+//! Copies of runs of items into a row of places, and within it.
+ghost use Rattle.std.specs.Prelude.{◌≡◌, ℕ, ◌+◌, ◌-◌, ◌^◌, ◌<◌, ◌≤◌, Some, None, length, map, get_or, IsSome};
+ghost use Rattle.trac_gap.specs.Places.{IsFull, run, pasted};
+
+use crate::places::{Origin, Places};
+
+impl<T: Copy> Places<T> {
+    /// The item in the place `index`, which has one.
+    #[inline]
+    pub(crate) fn item(&self, origin: Origin<T>, index: usize) -> T
+        requires { (origin.ptr ≡ self.now.at) × (index < length self.now.slots)
+            × IsSome (get_or self.now.slots index None) }
+        ensures { get_or self.now.slots index None ≡ Some result }
+    {
+        self.items(origin, index, 1)[0]
+    }
+
+    /// Copies `items` to the places from `at` on.
+    pub(crate) fn copy_in(&mut self, origin: Origin<T>, at: usize, items: &[T])
+        requires { (origin.ptr ≡ self.old.at) × (at + length items.now ≤ length self.old.slots)
+            × (length self.old.slots < 2 ^ 64) }
+        ensures { (self.new.at ≡ self.old.at)
+            × (self.new.slots ≡ pasted self.old.slots at (map Some items.now)) }
+    {
+        for i in 0..items.len() {
+            self.put(origin, at + i, items[i]);
+        }
+    }
+
+    /// Copies the `count` items from the place `from` on to the places from `to` on, which may
+    /// overlap them.
+    pub(crate) fn shift(&mut self, origin: Origin<T>, from: usize, to: usize, count: usize)
+        requires { (origin.ptr ≡ self.old.at) × (from + count ≤ length self.old.slots)
+            × (to + count ≤ length self.old.slots) × (length self.old.slots < 2 ^ 64)
+            × IsFull (run from count self.old.slots) }
+        ensures { (self.new.at ≡ self.old.at)
+            × (self.new.slots ≡ pasted self.old.slots to (run from count self.old.slots)) }
+    {
+        if to <= from {
+            self.shift_down(origin, from, to, count);
+        } else {
+            self.shift_up(origin, from, to, count);
+        }
+    }
+
+    // `shift` to lower places, the first item first.
+    fn shift_down(&mut self, origin: Origin<T>, from: usize, to: usize, count: usize)
+        requires { (origin.ptr ≡ self.old.at) × (from + count ≤ length self.old.slots)
+            × (to ≤ from) × (length self.old.slots < 2 ^ 64)
+            × IsFull (run from count self.old.slots) }
+        ensures { (self.new.at ≡ self.old.at)
+            × (self.new.slots ≡ pasted self.old.slots to (run from count self.old.slots)) }
+    {
+        for i in 0..count {
+            let item = self.item(origin, from + i);
+            self.put(origin, to + i, item);
+        }
+    }
+
+    // `shift` to higher places, the last item first.
+    fn shift_up(&mut self, origin: Origin<T>, from: usize, to: usize, count: usize)
+        requires { (origin.ptr ≡ self.old.at) × (to + count ≤ length self.old.slots)
+            × (from ≤ to) × (length self.old.slots < 2 ^ 64)
+            × IsFull (run from count self.old.slots) }
+        ensures { (self.new.at ≡ self.old.at)
+            × (self.new.slots ≡ pasted self.old.slots to (run from count self.old.slots)) }
+    {
+        for i in 0..count {
+            let at = count - 1 - i;
+            let item = self.item(origin, from + at);
+            self.put(origin, to + at, item);
+        }
+    }
+}
