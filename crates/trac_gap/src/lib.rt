@@ -7,6 +7,8 @@ pub mod error;
 pub mod gap_buf;
 mod places;
 pub mod plain;
+#[cfg(test)]
+mod refusals;
 mod runs;
 #[cfg(test)]
 mod tests;
