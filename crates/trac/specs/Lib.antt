@@ -3,5 +3,6 @@ pub mod Replies
 pub mod Journal
 pub mod Written
 pub mod Runs
+pub mod Words
 -- How proofs store these values.
 pub mod Codes

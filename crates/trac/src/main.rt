@@ -1,7 +1,68 @@
-//! The program `trac`.
+//! The program `trac`: a processor for the language TRAC T-64.
 #![tactic(auto)]
 
 pub mod running;
 pub mod session;
+#[cfg(test)]
+mod tests;
+pub mod words;
 
-fn main() {}
+ghost use Rattle.std.specs.Prelude.{◌≡◌, IfOk};
+ghost use Rattle.std.specs.Process.{exit_status};
+ghost use Rattle.trac.specs.Runs.{status_of};
+ghost use Rattle.trac.specs.Words.{IsLine};
+
+use running::{Ending, run};
+use std::alloc::AllocError;
+use std::process::ExitCode;
+use std::rt::Env;
+use std::{env, io};
+use words::{Line, read_line};
+
+/// The status of a command line that is not understood.
+const NOT_UNDERSTOOD: u8 = 2;
+
+fn main(rt: HostRuntime) -> ExitCode {
+    match asked_line(&rt) {
+        Ok(Line::Run(options)) => {
+            let ending = run(rt.alloc(), &mut rt.stdin(), &mut rt.stdout(), options);
+            say(&rt, ending)
+        }
+        Ok(Line::Help(text)) => match print!(rt; "{text}") {
+            Ok(()) => ExitCode::SUCCESS,
+            Err(_) => say(&rt, Ending::Write),
+        },
+        Ok(Line::Bad(text)) => {
+            let _ = eprint!(rt; "{text}");
+            ExitCode::from(NOT_UNDERSTOOD)
+        }
+        Err(AllocError) => say(&rt, Ending::Memory),
+    }
+}
+
+// What the words of the command line ask for. The error is that memory was refused.
+fn asked_line(rt: &(impl Env + AllocGlobal)) -> Result<Line, AllocError>
+    ensures { IfOk result IsLine }
+{
+    let alloc = rt.alloc();
+    let words: Vec<String> = match env::args(rt) {
+        Ok(words) => words.collect(alloc)?,
+        Err(error) if error.kind() == io::ErrorKind::OutOfMemory => return Err(AllocError),
+        Err(_) => {
+            let text = "error: invalid UTF-8 was detected in one or more arguments\n";
+            return Ok(Line::Bad(String::from_str(alloc, text)?));
+        }
+    };
+    let texts: Vec<&str> = words.iter().map(|word| word.as_str()).collect(alloc)?;
+    read_line(alloc, texts.as_slice())
+}
+
+// Says on standard error how the run ended, and gives the status for it. A print that fails changes nothing.
+fn say(rt: &impl Eprint, ending: Ending) -> ExitCode
+    ensures { exit_status result ≡ status_of ending }
+{
+    if ending != Ending::Ended {
+        let _ = rt.eprintln(ending);
+    }
+    ExitCode::from(ending.status())
+}

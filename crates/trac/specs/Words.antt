@@ -1,0 +1,19 @@
+-- What a command line may ask for.
+use Rattle.std.specs.Prelude.{◌≤◌}
+use Rattle.trac_rules.specs.declared.limit.TheConstants.{JOURNAL_LIMIT}
+use Rattle.trac.specs.declared.running.TheConstants.{BUDGET_LIMIT}
+use Rattle.trac.specs.declared.running.Options.{Options}
+use Rattle.trac.specs.declared.words.Line.{Line}
+use Rattle.trac.specs.declared.words.Line.TheVariants.{Run, Help, Bad}
+
+-- the options of a run are within their ranges
+pub record AreWithin (options : Options) : Type 0 where
+  pub some_steps : 1 ≤ options.budget
+  pub most_steps : options.budget ≤ BUDGET_LIMIT
+  pub some_records : 1 ≤ options.journal
+  pub most_records : options.journal ≤ JOURNAL_LIMIT
+
+abbrev pub IsLine : Line → Type 0
+IsLine (Run options) = AreWithin options
+IsLine (Help text) = Unit {0}
+IsLine (Bad text) = Unit {0}

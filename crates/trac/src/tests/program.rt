@@ -1,0 +1,59 @@
+//! The command line, and how endings show.
+use crate::running::{Ending, Options};
+use crate::words::{Line, read_line};
+use std::test::Fail;
+
+#[test]
+fn command_lines(rt: HostRuntime) -> Result<(), Fail> {
+    let alloc = rt.alloc();
+    match read_line(alloc, ["trac", "run"].as_slice())? {
+        Line::Run(options) => {
+            let wanted = Options {
+                budget: 1_000_000_000,
+                journal: 64,
+            };
+            assert_eq!(rt; options, wanted);
+        }
+        _ => panic!(rt; "it is understood"),
+    }
+    for words in [
+        ["trac", "--help"].as_slice(),
+        ["trac", "-h"].as_slice(),
+        ["trac", "run", "--help"].as_slice(),
+    ] {
+        match read_line(alloc, words)? {
+            Line::Help(text) => assert!(rt; text.contains("Usage: trac")),
+            _ => panic!(rt; "help is shown"),
+        }
+    }
+    for words in [
+        ["trac"].as_slice(),
+        ["trac", "walk"].as_slice(),
+        ["trac", "help"].as_slice(),
+        ["trac", "run", "file"].as_slice(),
+        ["trac", "run", "--fast"].as_slice(),
+        ["trac", "--version"].as_slice(),
+    ] {
+        match read_line(alloc, words)? {
+            Line::Bad(text) => assert!(rt; text.starts_with("error: ")),
+            _ => panic!(rt; "it is not understood"),
+        }
+    }
+    Ok(())
+}
+
+#[test]
+fn endings(rt: HostRuntime) -> Result<(), Fail> {
+    for (ending, status, line) in [
+        (Ending::Ended, 0, ""),
+        (Ending::Budget, 3, "trac: budget spent"),
+        (Ending::Limit, 4, "trac: limit passed"),
+        (Ending::Memory, 5, "trac: no memory"),
+        (Ending::Read, 6, "trac: read fault"),
+        (Ending::Write, 7, "trac: write fault"),
+    ] {
+        assert_eq!(rt; ending.status(), status);
+        assert_eq!(rt; ending.to_string(rt.alloc())?.as_str(), line);
+    }
+    Ok(())
+}
