@@ -7,6 +7,7 @@ use std::test::Fail;
 use trac_faults::{FaultyReader, FaultyWriter, Refusing};
 use trac_rules::limit::JOURNAL_LIMIT;
 use trac_rules::refusal::Refusal;
+use trac_step::{Kind, Machine};
 
 const INPUT: &[u8; 10] = b"#(ps,A)'B'";
 
@@ -20,7 +21,7 @@ const OPTIONS: Options = Options {
 struct Shown {
     active: Vec<u8>,
     base: Vec<u8>,
-    depth: usize,
+    frames: Vec<(Kind, Vec<Vec<u8>>)>,
     meta: u8,
     trace: bool,
     position: usize,
@@ -28,12 +29,30 @@ struct Shown {
     records: usize,
 }
 
+// The begun functions, the outermost first, with all their arguments.
+fn frames_of<A: Allocator + Copy>(
+    alloc: Global,
+    machine: &Machine<A>,
+) -> Result<Vec<(Kind, Vec<Vec<u8>>)>, AllocError> {
+    let mut frames = Vec::new(alloc);
+    for i in 0..machine.depth() {
+        if let Some((kind, arguments)) = machine.frame(i) {
+            let mut texts = Vec::new(alloc);
+            for k in 0..arguments.count() {
+                texts.push(Vec::from_slice(alloc, arguments.get(k))?)?;
+            }
+            frames.push((kind, texts))?;
+        }
+    }
+    Ok(frames)
+}
+
 fn parts_of<A: Allocator + Copy>(alloc: Global, session: &Session<A>) -> Result<Shown, AllocError> {
     let machine = session.machine();
     Ok(Shown {
         active: Vec::from_slice(alloc, machine.active())?,
         base: Vec::from_slice(alloc, machine.base())?,
-        depth: machine.depth(),
+        frames: frames_of(alloc, machine)?,
         meta: machine.meta(),
         trace: machine.trace(),
         position: machine.position(),
