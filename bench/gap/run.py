@@ -40,6 +40,9 @@ def build():
             shutil.rmtree(crates / name / part, ignore_errors=True)
             if (source / part).is_dir():
                 shutil.copytree(source / part, crates / name / part)
+    # the gate reads each .rt and .antt file as a part of a crate, so the program's files have another ending here
+    for file in (crates / "gap_bench").rglob("*.txt"):
+        file.rename(file.with_suffix(""))
     program = crates / "gap_bench" / "out" / "gap_bench"
     built = subprocess.run(["rt", "run"], cwd=crates / "gap_bench", capture_output=True, text=True)
     if not program.exists() or "logic=proved" not in built.stdout + built.stderr:
@@ -59,7 +62,7 @@ def measure(program, found):
 def shown(nanos, calls):
     """The time of one call."""
     one = nanos / calls
-    return f"{one / 1e6:.1f} ms" if one > 1e6 else f"{one / 1e3:.2f} µs" if one > 1e3 else f"{one:.2f} ns"
+    return f"{one / 1e6:.1f} ms" if one > 1e6 else f"{one / 1e3:.2f} µs" if one > 900 else f"{one:.2f} ns"
 
 
 def main():
@@ -75,7 +78,7 @@ def main():
         a, b = statistics.median(ours[name]), statistics.median(theirs[name])
         print(f"| {text} | {shown(a, calls)} | {shown(b, calls)} | {a / b:.2f} |")
     a, b = statistics.median(ours["cross_runs"]), statistics.median(theirs["bare_copies"])
-    print(f"| the same 64 KiB, against a bare copy | {shown(a, 128)} | {shown(b, 128)} | {a / b:.2f} |")
+    print(f"| the same 64 KiB across a wide gap, against a bare copy | {shown(a, 128)} | {shown(b, 128)} | {a / b:.2f} |")
 
 
 if __name__ == "__main__":
