@@ -11,7 +11,7 @@ pub use prog.Memory.{Memory, size, align, capped, up}
 pub use prog.Routine.{Routine}
 pub use prog.Wp.{WpFn, Tables}
 pub use types.Logic.{Logic, sem}
-pub use types.Kit.{Item, ‵, raw, ⋆, ◌⊛◌, some, later, given, at_ret, ◌$◌, ◌∵◌, !, qed, by, move, keep, drop, use0, use1, use2, split, split3, join, pick, show, learn, fsplit, fjoin, feq_i, feq_l, check, suffices, await, updating, now as at_once, done}
+pub use types.Kit.{Item, ‵, raw, ⋆, ◌⊛◌, some, later, given, at_ret, ◌$◌, ◌∵◌, !, qed, by, move, keep, use0, use1, use2, split, split3, join, pick, show, learn, fsplit, fjoin, feq_i, feq_l, check, suffices, await, updating, now as at_once, done}
 pub use types.Run.{stop, fld, addr, un, no_more, and_then, of_opd, lit, unit_lit, first, blocks, branches, skips, exec, returns, returns_within, enter}
 pub use types.Part.{agg}
 pub use types.ByLocal.{alloc_all, pass_all, free_all, look_at, get, through, sets, lands_as, lands_last, env}

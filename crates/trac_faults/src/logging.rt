@@ -1,7 +1,5 @@
 //! A log of the calls of readers and writers, in order.
 ghost use Rattle.std.specs.Prelude.{◌≡◌};
-ghost use Rattle.std.specs.Io.{ReadsAtMost, WritesAtMost};
-ghost use Rattle.std.specs.Io.KnownBytes.{ReadConsumes, WriteAppends, Keeps};
 
 use std::alloc::{Allocator, Global};
 use std::cell::{Cell, RefCell};
