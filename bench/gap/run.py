@@ -59,7 +59,7 @@ def measure(program, found):
 def shown(nanos, calls):
     """The time of one call."""
     one = nanos / calls
-    return f"{one / 1e6:.1f} ms" if one > 1e6 else f"{one / 1e3:.2f} µs" if one > 1e3 else f"{one:.2f} ns"
+    return f"{one / 1e6:.1f} ms" if one > 1e6 else f"{one / 1e3:.2f} µs" if one > 900 else f"{one:.2f} ns"
 
 
 def main():
@@ -75,7 +75,7 @@ def main():
         a, b = statistics.median(ours[name]), statistics.median(theirs[name])
         print(f"| {text} | {shown(a, calls)} | {shown(b, calls)} | {a / b:.2f} |")
     a, b = statistics.median(ours["cross_runs"]), statistics.median(theirs["bare_copies"])
-    print(f"| the same 64 KiB, against a bare copy | {shown(a, 128)} | {shown(b, 128)} | {a / b:.2f} |")
+    print(f"| the same 64 KiB across a wide gap, against a bare copy | {shown(a, 128)} | {shown(b, 128)} | {a / b:.2f} |")
 
 
 if __name__ == "__main__":
