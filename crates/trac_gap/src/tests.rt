@@ -2,7 +2,7 @@
 ghost use Rattle.std.specs.Prelude.{◌≡◌, ◌<◌, [], ◌∷◌, ◌++◌, IfOk};
 
 use crate::{GapBuf, GapError, PlainEnds, TwoEnds};
-use std::alloc::{Allocator, Global};
+use std::alloc::{AllocError, Allocator, Global};
 use std::process::Abort;
 use std::test::*;
 
@@ -208,5 +208,12 @@ fn no_room_for_so_many(rt: HostRuntime) -> Result<(), Fail> {
     assert_eq!(rt; gap.reserve(usize::MAX / 8), Err(GapError::Memory));
     assert_eq!(rt; gap.left(), [5].as_slice());
     assert_eq!(rt; gap.room(), room);
+    Ok(())
+}
+
+#[test]
+fn names_the_refusal(rt: HostRuntime) -> Result<(), Fail> {
+    let text = format!(in rt.alloc(); "{}", GapError::from(AllocError))?;
+    assert_eq!(rt; text.as_str(), "out of memory");
     Ok(())
 }
