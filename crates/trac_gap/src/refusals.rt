@@ -17,14 +17,13 @@ fn grown_and_copied<E: TwoEnds<u8, A>, A: Allocator + Copy>(
     let mut ends = E::new(alloc);
     for round in 1..8usize {
         let room = ends.room();
-        let left = ends.left().len();
-        let right = ends.right().len();
+        let before = b"aaaaaaaa".split_at(round - 1).0;
         if ends.reserve(round).is_err() {
             assert_eq!(rt; ends.room(), room, "the room, in round {round}");
-            assert_eq!(rt; ends.left().len(), left, "the left list, in round {round}");
+            assert_eq!(rt; ends.left(), before, "the left list, in round {round}");
             assert_eq!(rt;
-                ends.right().len(),
-                right,
+                ends.right(),
+                b"".as_slice(),
                 "the right list, in round {round}"
             );
             ends.reserve(round)?;
@@ -33,7 +32,15 @@ fn grown_and_copied<E: TwoEnds<u8, A>, A: Allocator + Copy>(
         ends.push_left(b'a');
         let copy = match ends.copy() {
             Ok(copy) => copy,
-            Err(_) => ends.copy()?,
+            Err(_) => {
+                assert_eq!(rt;
+                    ends.left(),
+                    b"aaaaaaaa".split_at(round).0,
+                    "in round {round}"
+                );
+                assert_eq!(rt; ends.right(), b"".as_slice(), "in round {round}");
+                ends.copy()?
+            }
         };
         assert_eq!(rt; copy.left(), ends.left(), "in round {round}");
         assert_eq!(rt; copy.right(), ends.right(), "in round {round}");

@@ -97,7 +97,7 @@ fn made<A: Allocator + Copy>(alloc: A) -> Result<Machine<A>, Refusal> {
 }
 
 // Eleven steps, of which each may be refused once for memory: nothing has changed then, and the next try is accepted.
-fn printed_twice<A: Allocator + Copy>(alloc: A) -> Result<bool, Refusal> {
+fn prints_the_input<A: Allocator + Copy>(alloc: A) -> Result<bool, Refusal> {
     let mut machine = made(alloc)?;
     for _ in 0..11 {
         if machine.position() > INPUT.bytes.len() {
@@ -122,7 +122,7 @@ fn printed_twice<A: Allocator + Copy>(alloc: A) -> Result<bool, Refusal> {
 fn survives_each_refusal(rt: HostRuntime) -> Result<(), Fail> {
     let memory = Refusing::new(rt.alloc());
     let runs = memory.refuse_each(1_000, |_| -> Result<(), Fail> {
-        assert_eq!(rt; printed_twice(&memory)?, true);
+        assert_eq!(rt; prints_the_input(&memory)?, true);
         Ok(())
     })?;
     assert!(rt; runs > Some(11), "{runs:?} runs");
