@@ -9,7 +9,10 @@ use trac_rules::limit::JOURNAL_LIMIT;
 use trac_rules::refusal::Refusal;
 use trac_step::{Kind, Machine};
 
+// Both print `AB`, the first in two parts.
 const INPUT: &[u8; 10] = b"#(ps,A)'B'";
+
+const SHORT_INPUT: &[u8; 3] = b"AB'";
 
 const OPTIONS: Options = Options {
     budget: 1_000,
@@ -62,7 +65,11 @@ fn parts_of<A: Allocator + Copy>(alloc: Global, session: &Session<A>) -> Result<
 }
 
 // A session over all of the input, where memory may be refused once: nothing is done then.
-fn fed<A: Allocator + Copy>(rt: &impl Abort, alloc: A) -> Result<Session<A>, Refusal> {
+fn fed<A: Allocator + Copy>(
+    rt: &impl Abort,
+    alloc: A,
+    input: &[u8],
+) -> Result<Session<A>, Refusal> {
     let mut session = match Session::new(alloc, JOURNAL_LIMIT) {
         Ok(session) => session,
         Err(refusal) => {
@@ -70,9 +77,9 @@ fn fed<A: Allocator + Copy>(rt: &impl Abort, alloc: A) -> Result<Session<A>, Ref
             Session::new(alloc, JOURNAL_LIMIT)?
         }
     };
-    if let Err(refusal) = session.feed(INPUT) {
+    if let Err(refusal) = session.feed(input) {
         assert_eq!(rt; refusal, Refusal::Memory);
-        session.feed(INPUT)?;
+        session.feed(input)?;
     }
     session.end();
     Ok(session)
@@ -102,9 +109,10 @@ fn steps_to_end<A: Allocator + Copy>(
 fn there_and_back(
     rt: &(impl Abort + AllocGlobal),
     memory: &Refusing<Global>,
+    input: &[u8],
     steps: u64,
 ) -> Result<(), Fail> {
-    let mut session = fed(rt, memory)?;
+    let mut session = fed(rt, memory, input)?;
     let first = parts_of(rt.alloc(), &session)?;
     assert_eq!(rt; steps_to_end(rt, &mut session)?, steps);
     assert_eq!(rt; session.pending(), b"AB".as_slice());
@@ -130,10 +138,12 @@ fn there_and_back(
 
 #[test]
 fn each_request_of_a_session(rt: HostRuntime) -> Result<(), Fail> {
-    let steps = steps_to_end(&rt, &mut fed(&rt, rt.alloc())?)?;
-    let memory = Refusing::new(rt.alloc());
-    let runs = memory.refuse_each(10_000, |_| there_and_back(&rt, &memory, steps))?;
-    assert!(rt; runs > Some(steps), "{runs:?} runs");
+    for input in [INPUT.as_slice(), SHORT_INPUT.as_slice()] {
+        let steps = steps_to_end(&rt, &mut fed(&rt, rt.alloc(), input)?)?;
+        let memory = Refusing::new(rt.alloc());
+        let runs = memory.refuse_each(10_000, |_| there_and_back(&rt, &memory, input, steps))?;
+        assert!(rt; runs > Some(steps), "{runs:?} runs");
+    }
     Ok(())
 }
 
@@ -161,9 +171,14 @@ fn each_request_of_a_run(rt: HostRuntime) -> Result<(), Fail> {
 // One byte a read; the read of this number fails.
 #[test]
 fn each_read(rt: HostRuntime) {
+    for read in 1..=8 {
+        let mut reader = FaultyReader::new(INPUT).at_most(1).failing_at(read);
+        let mut writer = FaultyWriter::new(rt.alloc());
+        let ending = run(rt.alloc(), &mut reader, &mut writer, OPTIONS);
+        assert_eq!(rt; ending, Ending::Read, "at read {read}");
+        assert_eq!(rt; writer.contents(), b"".as_slice(), "at read {read}");
+    }
     for (read, output, ending) in [
-        (1, b"".as_slice(), Ending::Read),
-        (8, b"".as_slice(), Ending::Read),
         (9, b"A".as_slice(), Ending::Read),
         (10, b"A".as_slice(), Ending::Read),
         (11, b"AB".as_slice(), Ending::Read),

@@ -63,21 +63,36 @@ fn eleven_steps_and_back(rt: HostRuntime) -> Result<(), Fail> {
     Ok(())
 }
 
+// `rs` has read `AB`: it goes before the active text, and `ps` gathers its second argument.
+fn expect_read(rt: &impl Abort, session: &Session) {
+    let machine = session.machine();
+    assert_eq!(rt; machine.active(), b"AB)".as_slice());
+    assert_eq!(rt; machine.base(), b"".as_slice());
+    assert_eq!(rt; machine.depth(), 1);
+    let Some((kind, arguments)) = machine.frame(0) else {
+        panic!(rt; "one function is begun");
+    };
+    assert_eq!(rt; kind, Kind::Active);
+    assert_eq!(rt; arguments.count(), 2);
+    assert_eq!(rt; arguments.get(0), b"ps".as_slice());
+    assert_eq!(rt; arguments.get(1), b"".as_slice());
+    assert_eq!(rt; machine.meta(), b'\'');
+    assert!(rt; !machine.trace());
+    assert_eq!(rt; machine.position(), 3);
+    assert_eq!(rt; session.pending(), b"".as_slice());
+}
+
 #[test]
 fn more_input_is_waited_for(rt: HostRuntime) -> Result<(), Fail> {
     let mut session = fed(rt.alloc(), JOURNAL_LIMIT, b"AB")?;
     assert_eq!(rt; session.forward(8), walk(7, Some(Refusal::NeedInput)));
     session.feed(b"'")?;
     assert_eq!(rt; session.forward(1), walk(1, None));
-    assert_eq!(rt; session.machine().active(), b"AB)".as_slice());
-    assert_eq!(rt; session.machine().position(), 3);
+    expect_read(&rt, &session);
     assert_eq!(rt; session.back(1), walk(1, None));
     session.feed(b"C'")?;
     assert_eq!(rt; session.forward(1), walk(1, None));
-    assert_eq!(rt; session.machine().active(), b"AB)".as_slice());
-    assert_eq!(rt; session.machine().position(), 3);
-    assert_eq!(rt; session.machine().depth(), 1);
-    assert_eq!(rt; session.pending(), b"".as_slice());
+    expect_read(&rt, &session);
     Ok(())
 }
 
@@ -120,5 +135,23 @@ fn a_commit_keeps_what_is_unread(rt: HostRuntime) -> Result<(), Fail> {
     assert_eq!(rt; session.forward(11), walk(11, None));
     assert_eq!(rt; session.pending(), b"C".as_slice());
     assert_eq!(rt; session.machine().position(), 2);
+    Ok(())
+}
+
+// A tape one byte too long is refused, and a value one byte longer than the texts may be.
+#[test]
+fn limits_are_kept(rt: HostRuntime) -> Result<(), Fail> {
+    let alloc = rt.alloc();
+    let mut session = Session::new(alloc, 64)?;
+    let bytes = vec![in alloc; b'a'; 16_777_217]?;
+    session.feed(bytes.as_slice())?;
+    let rest = vec![in alloc; b'a'; 16_777_215]?;
+    session.feed(rest.as_slice())?;
+    assert_eq!(rt; session.feed(b"a"), Err(Refusal::TooLong));
+    assert_eq!(rt; session.feed(b""), Ok(()));
+    session.end();
+    assert_eq!(rt; session.forward(8), walk(7, Some(Refusal::TooLong)));
+    assert_eq!(rt; session.machine().position(), 0);
+    assert_eq!(rt; session.machine().active(), b"))".as_slice());
     Ok(())
 }
