@@ -1,4 +1,5 @@
 pub mod Balanced
+pub mod Numerals
 pub mod Changed
 pub mod Positions
 pub mod Steps

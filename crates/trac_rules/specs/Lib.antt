@@ -5,6 +5,7 @@ pub mod State
 pub mod Matching
 pub mod Scanning
 pub mod Limits
+pub mod Number
 pub mod Performing
 pub mod Stepping
 pub mod Session

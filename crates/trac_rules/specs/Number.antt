@@ -1,0 +1,88 @@
+-- Numbers: the numeral at the end of a text, the whole number that it writes, and arithmetic within the range of numbers.
+use Rattle.std.specs.Prelude.{ℕ, ◌-◌, ◌^◌, ℤ, pos, neg_ℤ, ◌+ℤ◌, ◌-ℤ◌, ◌*ℤ◌, int_lt, int_le, int_div, List, [], ◌∷◌, ◌++◌, length, take, nat_lt, if◌then◌else◌, Bool, ◌&&◌, Option, None, Some}
+use Rattle.std.specs.Fmt.{signed_decimal}
+use Rattle.std.specs.Ordering.{int_eq}
+use Rattle.std.specs.Str.{all_ascii_digits}
+use Rattle.std.specs.Str.Parse.{signed_digits_value, without_leading_sign}
+
+-- ---- numerals
+
+-- the longest tail of a text that passes the test; null where none does
+abbrev pub longest_tail : (List ℕ → Bool) → List ℕ → List ℕ
+longest_tail passes [] = []
+longest_tail passes (b ∷ bs) = if passes (b ∷ bs) then b ∷ bs else longest_tail passes bs
+
+-- an optional `+` or `-`, and then at least one digit
+abbrev pub is_numeral : List ℕ → Bool
+is_numeral text = nat_lt 0 (length (without_leading_sign text)) && all_ascii_digits (without_leading_sign text)
+
+-- the numeral of a text is its longest tail of this form
+unfoldable pub numeral_of : List ℕ → List ℕ
+numeral_of text = longest_tail is_numeral text
+
+-- what stands before the numeral
+unfoldable pub prefix_of : List ℕ → List ℕ
+prefix_of text = take (length text - length (numeral_of text)) text
+
+-- the whole number that a numeral writes; a null one writes 0
+unfoldable pub whole_number : List ℕ → ℤ
+whole_number numeral = signed_digits_value 10 numeral
+
+-- ---- the range
+
+-- the numbers of the range lie from minus this bound up to the bound, which is not among them (this project's profile).
+-- No other definition knows how wide a number is
+abbrev pub number_bound : ℕ
+number_bound = 2 ^ 63
+
+abbrev pub fits : ℤ → Bool
+fits n = int_le (neg_ℤ (pos number_bound)) n && int_lt n (pos number_bound)
+
+-- a number of the range, and none in place of any other
+abbrev pub if_fits : ℤ → Option ℤ
+if_fits n = if fits n then Some n else None
+
+-- the number that a numeral writes, if it fits
+unfoldable pub number_of : List ℕ → Option ℤ
+number_of numeral = if_fits (whole_number numeral)
+
+-- ---- arithmetic: a result, if it fits
+
+unfoldable pub sum_of : ℤ → ℤ → Option ℤ
+sum_of a b = if_fits (a +ℤ b)
+
+unfoldable pub difference_of : ℤ → ℤ → Option ℤ
+difference_of a b = if_fits (a -ℤ b)
+
+unfoldable pub product_of : ℤ → ℤ → Option ℤ
+product_of a b = if_fits (a *ℤ b)
+
+-- cut toward zero (this project's profile); none for a divisor of 0
+unfoldable pub quotient_of : ℤ → ℤ → Option ℤ
+quotient_of a b = if int_eq b (pos 0) then None else if_fits (int_div a b)
+
+-- the number of the first numeral is the greater one, whether they fit or not (this project's profile)
+unfoldable pub is_greater : List ℕ → List ℕ → Bool
+is_greater a b = int_lt (whole_number b) (whole_number a)
+
+-- ---- texts
+
+-- a number in decimal: `-` where it is negative, no `+` and no leading zeros
+abbrev pub number_text : ℤ → List ℕ
+number_text n = signed_decimal n
+
+-- an operation on two numbers; none where one of them is missing
+abbrev pub on_both : (ℤ → ℤ → Option ℤ) → Option ℤ → Option ℤ → Option ℤ
+on_both operation None b = None
+on_both operation (Some a) None = None
+on_both operation (Some a) (Some b) = operation a b
+
+-- a result behind a prefix; another text where there is none
+abbrev pub result_text : List ℕ → Option ℤ → List ℕ → List ℕ
+result_text prefix (Some n) other = prefix ++ number_text n
+result_text prefix None other = other
+
+-- the prefix of the first text, and then the result of an operation on the numbers of both; the third text where there is none
+unfoldable pub calculated : (ℤ → ℤ → Option ℤ) → List ℕ → List ℕ → List ℕ → List ℕ
+calculated operation first second other =
+    result_text (prefix_of first) (on_both operation (number_of (numeral_of first)) (number_of (numeral_of second))) other
