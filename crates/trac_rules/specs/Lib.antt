@@ -10,6 +10,7 @@ pub mod Stepping
 pub mod Session
 pub mod Running
 pub mod GoingOn
+pub mod Octal
 -- Words in which the worked rows are said.
 pub mod Rows
 -- How proofs store these values.

@@ -7,6 +7,7 @@ pub mod item;
 pub mod kind;
 pub mod laws;
 pub mod limit;
+pub mod octals;
 pub mod primitive;
 pub mod refusal;
 pub mod reply;
