@@ -6,3 +6,4 @@ pub mod Steps
 pub mod Refusals
 pub mod Replies
 pub mod GoingOn
+pub mod OctalTexts

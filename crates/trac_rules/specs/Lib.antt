@@ -6,6 +6,7 @@ pub mod Matching
 pub mod Scanning
 pub mod Limits
 pub mod Number
+pub mod Octal
 pub mod Performing
 pub mod Stepping
 pub mod Session

@@ -8,6 +8,7 @@ pub mod kind;
 pub mod laws;
 pub mod limit;
 pub mod numbers;
+pub mod octals;
 pub mod primitive;
 pub mod refusal;
 pub mod reply;

@@ -1,0 +1,70 @@
+-- Octal strings: the longest tail, and the text of the bits of a text.
+use Rattle.std.proofs.Common.{◌≡◌, ℕ, ◌+◌, ◌-◌, ◌/◌, ◌<◌, ◌≤◌, Bool, true, false, cond, List, [], ◌∷◌, ◌++◌, length, refl, sym, ap, ◌∙◌, arith}
+use Rattle.std.specs.Prelude.{◌==◌, nat_le}
+use Rattle.std.proofs.lemmas.List.{length-append}
+use Rattle.std.proofs.lemmas.Bool.{and_parts, cond_both, leb-true, eqb-true, agree_below_at}
+use Rattle.trac_rules.specs.declared.octals.TheConstants.{ZERO, SEVEN}
+use Rattle.trac_rules.specs.Octal.{IsOctal, bits_of, digit_of, is_octal, is_octal_digit, is_odd, octal_tail, text_of}
+
+-- ---- the longest tail
+
+-- an octal text is its own octal string
+pub octal_tail-octal : (text : List ℕ) → IsOctal text → octal_tail text ≡ text
+octal_tail-octal [] h = refl
+octal_tail-octal (b ∷ rest) h = rw h refl
+
+-- the octal string of a text is a tail of it
+pub octal_tail_is_tail : (text : List ℕ) → (front : List ℕ) × (text ≡ front ++ octal_tail text)
+octal_tail_is_tail [] = ([], refl)
+octal_tail_is_tail (b ∷ rest) =
+    let behind = octal_tail_is_tail rest in
+    elim (is_octal (b ∷ rest)) as (λ t. (front : List ℕ) × (b ∷ rest ≡ front ++ cond t (b ∷ rest) (octal_tail rest))) [
+      | true ↦ ([], refl)
+      | false ↦ (b ∷ behind.0, ap (λ t. b ∷ t) behind.1)
+    ]
+
+-- it is of octal digits alone
+pub octal_tail_is_octal : (text : List ℕ) → IsOctal (octal_tail text)
+octal_tail_is_octal [] = refl
+octal_tail_is_octal (b ∷ rest) =
+    cond_both (is_octal (b ∷ rest)) (b ∷ rest) (octal_tail rest) IsOctal (λ h. h) (λ _. octal_tail_is_octal rest)
+
+-- no tail of octal digits alone is longer
+pub octal_tail_is_longest : (front tail : List ℕ) → IsOctal tail → length tail ≤ length (octal_tail (front ++ tail))
+octal_tail_is_longest [] tail h = rw (octal_tail-octal tail h) (omega arith)
+octal_tail_is_longest (b ∷ front) tail h =
+    let behind : length tail ≤ length (octal_tail (front ++ tail)) = octal_tail_is_longest front tail h in
+    elim (is_octal (b ∷ front ++ tail)) as (λ t. length tail ≤ length (cond t (b ∷ front ++ tail) (octal_tail (front ++ tail)))) [
+      | true ↦ omega (arith, length-append front tail)
+      | false ↦ behind
+    ]
+
+-- ---- digits and their bits
+
+-- a digit is at least `0` and at most `7`
+pub digit_range : (b : ℕ) → is_octal_digit b ≡ true → (ZERO ≤ b) × (b ≤ SEVEN)
+digit_range b h =
+    let both = and_parts (nat_le ZERO b) (nat_le b SEVEN) h in
+    (leb-true ZERO b both.0, leb-true b SEVEN both.1)
+
+-- a value below eight is that of the digit of its bits
+pub digit_of-value : (v : ℕ) → v < 8 → digit_of (is_odd (v / 4)) (is_odd (v / 2)) (is_odd v) ≡ ZERO + v
+digit_of-value v l =
+    eqb-true _ _ (agree_below_at (λ n. digit_of (is_odd (n / 4)) (is_odd (n / 2)) (is_odd n) == ZERO + n) (λ _. true) 8 v refl l)
+
+-- a digit is the one of its bits
+pub digit_of-bits : (b : ℕ) → is_octal_digit b ≡ true → digit_of (is_odd ((b - ZERO) / 4)) (is_odd ((b - ZERO) / 2)) (is_odd (b - ZERO)) ≡ b
+digit_of-bits b h =
+    let range = digit_range b h in
+    digit_of-value (b - ZERO) (omega (arith, range.0, range.1)) ∙ omega (arith, range.0, range.1)
+
+-- an octal text is the one of its bits
+pub text_of-bits_of : (text : List ℕ) → IsOctal text → text_of (bits_of text) ≡ text
+text_of-bits_of [] h = refl
+text_of-bits_of (b ∷ text) h =
+    let both = and_parts (is_octal_digit b) (is_octal text) h in
+    rw (digit_of-bits b both.0, text_of-bits_of text both.1) refl
+
+-- so an octal text with these bits is the text of them
+pub text_from_bits : (text : List ℕ) (bits : List Bool) → IsOctal text → bits_of text ≡ bits → text ≡ text_of bits
+text_from_bits text bits h e = sym (text_of-bits_of text h) ∙ ap text_of e
