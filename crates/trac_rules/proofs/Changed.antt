@@ -7,7 +7,7 @@ use Rattle.trac_rules.specs.declared.limit.TheConstants.{TEXT_LIMIT, MARK_LIMIT,
 use Rattle.trac_rules.specs.declared.kind.Kind.{Kind}
 use Rattle.trac_rules.specs.declared.kind.Kind.TheVariants.{Active, Neutral}
 use Rattle.trac_rules.specs.declared.primitive.Primitive.{Primitive}
-use Rattle.trac_rules.specs.declared.primitive.Primitive.TheVariants.{PrintString, ReadString, Unknown}
+use Rattle.trac_rules.specs.declared.primitive.Primitive.TheVariants.{PrintString, ReadString, Compute, Unknown}
 use Rattle.trac_rules.specs.declared.refusal.Refusal.{Refusal}
 use Rattle.trac_rules.specs.declared.refusal.Refusal.TheVariants.{TooLong}
 use Rattle.trac_rules.specs.declared.scan.Front.{Front}
@@ -170,6 +170,7 @@ effect_of-changed f g old new s same ReadString arguments =
     let unread_alike : drop (f s.position) new.bytes ≡ drop s.position old.bytes = same.unread in
     ap (λ (text : List ℕ). read_up_to (position (λ b. b == s.meta) text) new (changed f g s)) unread_alike
     ∙ read_up_to-changed f g old new s same (position (λ b. b == s.meta) (unread old s))
+effect_of-changed f g old new s same (Compute computation) arguments = refl
 effect_of-changed f g old new s same Unknown arguments = refl
 
 -- a value goes to the same place

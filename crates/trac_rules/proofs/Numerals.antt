@@ -2,7 +2,8 @@
 use Rattle.std.proofs.Common.{◌≡◌, ℕ, ◌-◌, ◌≤◌, Bool, true, false, ◌⊎◌, List, [], ◌∷◌, ◌++◌, length, take, refl, sym, ap, ◌∙◌, arith, inl, inr, ⊎_elim, length-append}
 use Rattle.std.proofs.lemmas.List.{take_at}
 use Rattle.std.proofs.lemmas.Bool.{cases_Bool, cond-true, cond-false}
-use Rattle.trac_rules.specs.Number.{longest_tail, is_numeral, numeral_of, prefix_of}
+use Rattle.trac_rules.specs.Bytes.{longest_tail}
+use Rattle.trac_rules.specs.Number.{is_numeral, numeral_of, prefix_of}
 
 -- a text that passes is its own longest tail
 pub longest_tail_whole : (passes : List ℕ → Bool) (b : ℕ) (bs : List ℕ) → passes (b ∷ bs) ≡ true → longest_tail passes (b ∷ bs) ≡ b ∷ bs

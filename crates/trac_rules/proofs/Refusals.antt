@@ -7,7 +7,7 @@ use Rattle.trac_rules.specs.declared.limit.TheConstants.{TEXT_LIMIT, MARK_LIMIT,
 use Rattle.trac_rules.specs.declared.kind.Kind.{Kind}
 use Rattle.trac_rules.specs.declared.kind.Kind.TheVariants.{Active, Neutral}
 use Rattle.trac_rules.specs.declared.primitive.Primitive.{Primitive}
-use Rattle.trac_rules.specs.declared.primitive.Primitive.TheVariants.{PrintString, ReadString, Unknown}
+use Rattle.trac_rules.specs.declared.primitive.Primitive.TheVariants.{PrintString, ReadString, Compute, Unknown}
 use Rattle.trac_rules.specs.declared.refusal.Refusal.{Refusal}
 use Rattle.trac_rules.specs.declared.refusal.Refusal.TheVariants.{Memory, TooLong, NeedInput, Ended, JournalFull, AtStart, Closed, NotMet}
 use Rattle.trac_rules.specs.Bytes.{argument}
@@ -43,6 +43,7 @@ read_up_to_refusals tape None s r h = read_rest_refusals tape (unread tape s) s 
 pub effect_refusals : (primitive : Primitive) (tape : Tape) (arguments : List (List ℕ)) (s : State) (refusal : Refusal) → effect_of primitive tape arguments s ≡ Err refusal → MayWant tape refusal
 effect_refusals PrintString tape arguments s r h = absurd (cc)
 effect_refusals ReadString tape arguments s r h = read_up_to_refusals tape (position (λ b. b == s.meta) (unread tape s)) s r h
+effect_refusals (Compute computation) tape arguments s r h = absurd (cc)
 effect_refusals Unknown tape arguments s r h = absurd (cc)
 
 -- a call is refused for what its primitive was refused for
@@ -156,6 +157,7 @@ effect_long ReadString tape more arguments s l some h =
     let all : unread (whole tape more) s ≡ unread tape s ++ more = unread-whole tape more s l in
     read_up_to_long tape more s (position (λ b. b == s.meta) (unread (whole tape more) s)) l some
     (λ k e. position-append_None (λ b. b == s.meta) (unread tape s) more k none (ap (position (λ b. b == s.meta)) (sym all) ∙ e))
+effect_long (Compute computation) tape more arguments s l some h = absurd (cc)
 effect_long Unknown tape more arguments s l some h = absurd (cc)
 
 -- a gathered text counts among the text bytes

@@ -7,7 +7,7 @@ use Rattle.std.proofs.lemmas.List.Quantifiers.{position-Some}
 use Rattle.trac_rules.specs.declared.kind.Kind.{Kind}
 use Rattle.trac_rules.specs.declared.kind.Kind.TheVariants.{Active, Neutral}
 use Rattle.trac_rules.specs.declared.primitive.Primitive.{Primitive}
-use Rattle.trac_rules.specs.declared.primitive.Primitive.TheVariants.{PrintString, ReadString, Unknown}
+use Rattle.trac_rules.specs.declared.primitive.Primitive.TheVariants.{PrintString, ReadString, Compute, Unknown}
 use Rattle.trac_rules.specs.declared.refusal.Refusal.{Refusal}
 use Rattle.trac_rules.specs.declared.refusal.Refusal.TheVariants.{TooLong, NeedInput}
 use Rattle.trac_rules.specs.Bytes.{argument}
@@ -66,6 +66,7 @@ pub effect_further : (primitive : Primitive) (tape : Tape) (arguments : List (Li
 effect_further PrintString tape arguments s = is_as_far tape s s refl
 effect_further ReadString tape arguments s =
     read_up_to_further tape s (position (λ b. b == s.meta) (unread tape s)) (λ k e. (position-Some (λ b. b == s.meta) (unread tape s) k 0 e).0)
+effect_further (Compute computation) tape arguments s = is_as_far tape s s refl
 effect_further Unknown tape arguments s = is_as_far tape s s refl
 
 -- a gathered text leaves the position as it is
@@ -164,6 +165,7 @@ effect_of-whole ReadString tape more arguments s l unended wanted =
       (position-Some (λ b. b == s.meta) (unread tape s) k 0 e).0,
     ))
     wanted
+effect_of-whole (Compute computation) tape more arguments s l unended wanted = refl
 effect_of-whole Unknown tape more arguments s l unended wanted = refl
 
 -- a call that does not want input is performed alike on a whole tape

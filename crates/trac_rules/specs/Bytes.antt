@@ -1,10 +1,15 @@
 -- Texts are lists of bytes, each a number below 256. Null is the empty list.
-use Rattle.std.specs.Prelude.{ℕ, ◌==◌, List, [], ◌∷◌, suc, if◌then◌else◌, get_or, codes}
+use Rattle.std.specs.Prelude.{ℕ, ◌==◌, List, [], ◌∷◌, suc, if◌then◌else◌, Bool, get_or, codes}
 
 -- how often a byte stands in a text
 abbrev pub count_of : ℕ → List ℕ → ℕ
 count_of b [] = 0
 count_of b (x ∷ xs) = if x == b then suc (count_of b xs) else count_of b xs
+
+-- the longest tail of a text that passes the test; null where none does
+abbrev pub longest_tail : (List ℕ → Bool) → List ℕ → List ℕ
+longest_tail passes [] = []
+longest_tail passes (b ∷ bs) = if passes (b ∷ bs) then b ∷ bs else longest_tail passes bs
 
 -- the argument of this number, the name being number 0; null where it is missing
 abbrev pub argument : ℕ → List (List ℕ) → List ℕ

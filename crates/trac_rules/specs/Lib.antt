@@ -7,6 +7,7 @@ pub mod Scanning
 pub mod Limits
 pub mod Number
 pub mod Octal
+pub mod Computing
 pub mod Performing
 pub mod Stepping
 pub mod Session

@@ -4,13 +4,9 @@ use Rattle.std.specs.Fmt.{signed_decimal}
 use Rattle.std.specs.Ordering.{int_eq}
 use Rattle.std.specs.Str.{all_ascii_digits}
 use Rattle.std.specs.Str.Parse.{signed_digits_value, without_leading_sign}
+use Rattle.trac_rules.specs.Bytes.{longest_tail}
 
 -- ---- numerals
-
--- the longest tail of a text that passes the test; null where none does
-abbrev pub longest_tail : (List ℕ → Bool) → List ℕ → List ℕ
-longest_tail passes [] = []
-longest_tail passes (b ∷ bs) = if passes (b ∷ bs) then b ∷ bs else longest_tail passes bs
 
 -- an optional `+` or `-`, and then at least one digit
 abbrev pub is_numeral : List ℕ → Bool
@@ -77,12 +73,12 @@ on_both operation None b = None
 on_both operation (Some a) None = None
 on_both operation (Some a) (Some b) = operation a b
 
--- a result behind a prefix; another text where there is none
-abbrev pub result_text : List ℕ → Option ℤ → List ℕ → List ℕ
-result_text prefix (Some n) other = prefix ++ number_text n
-result_text prefix None other = other
-
--- the prefix of the first text, and then the result of an operation on the numbers of both; the third text where there is none
-unfoldable pub calculated : (ℤ → ℤ → Option ℤ) → List ℕ → List ℕ → List ℕ → List ℕ
-calculated operation first second other =
-    result_text (prefix_of first) (on_both operation (number_of (numeral_of first)) (number_of (numeral_of second))) other
+-- the prefix of the first text, and then the result of an operation on the numbers of both; none where a number or the result
+-- does not fit, or there is no result
+unfoldable pub calculated : (ℤ → ℤ → Option ℤ) → List ℕ → List ℕ → Option (List ℕ)
+calculated operation first second =
+    behind (prefix_of first) (on_both operation (number_of (numeral_of first)) (number_of (numeral_of second)))
+  where
+    behind : List ℕ → Option ℤ → Option (List ℕ)
+    behind prefix (Some n) = Some (prefix ++ number_text n)
+    behind prefix None = None

@@ -1,6 +1,7 @@
 -- Octal strings: texts of the digits `0` to `7`, which stand for lists of bits.
 use Rattle.std.specs.Prelude.{ℕ, suc, ◌+◌, ◌-◌, ◌/◌, ◌%◌, ◌==◌, ◌&&◌, ◌||◌, not, nat_le, min, max, ℤ, pos, negsuc, Bool, false, List, [], ◌∷◌, ◌++◌, length, take, drop, replicate, map, zip, flat_map, IsTrue, if◌then◌else◌}
 use Rattle.std.specs.List.{list_all}
+use Rattle.trac_rules.specs.Bytes.{longest_tail}
 use Rattle.trac_rules.specs.declared.octals.TheConstants.{ZERO, SEVEN}
 
 -- ---- texts
@@ -17,8 +18,7 @@ IsOctal text = IsTrue (is_octal text)
 
 -- the octal string of a text: its longest tail of octal digits (this project's profile)
 abbrev pub octal_tail : List ℕ → List ℕ
-octal_tail [] = []
-octal_tail (b ∷ rest) = if is_octal (b ∷ rest) then b ∷ rest else octal_tail rest
+octal_tail text = longest_tail is_octal text
 
 -- ---- bits
 

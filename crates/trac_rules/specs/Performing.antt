@@ -6,10 +6,13 @@ use Rattle.trac_rules.specs.declared.byte.TheConstants.{STAR, CLOSING, LINE_FEED
 use Rattle.trac_rules.specs.declared.kind.Kind.{Kind}
 use Rattle.trac_rules.specs.declared.kind.Kind.TheVariants.{Active, Neutral}
 use Rattle.trac_rules.specs.declared.primitive.Primitive.{Primitive}
-use Rattle.trac_rules.specs.declared.primitive.Primitive.TheVariants.{PrintString, ReadString, Unknown}
+use Rattle.trac_rules.specs.declared.primitive.Primitive.TheVariants.{PrintString, ReadString, Compute, Unknown}
+use Rattle.trac_rules.specs.declared.primitive.Computation.TheVariants.{Equal, Greater, Calculate, Union, Meet, Complement, Shift, Rotate}
+use Rattle.trac_rules.specs.declared.primitive.Operation.TheVariants.{Add, Subtract, Multiply, Divide}
 use Rattle.trac_rules.specs.declared.refusal.Refusal.{Refusal}
 use Rattle.trac_rules.specs.declared.refusal.Refusal.TheVariants.{NeedInput, Ended}
 use Rattle.trac_rules.specs.Bytes.{argument}
+use Rattle.trac_rules.specs.Computing.{Value, computed}
 use Rattle.trac_rules.specs.State.{State, Tape}
 use Rattle.trac_rules.specs.Scanning.{Call, gather}
 
@@ -20,6 +23,17 @@ abbrev pub primitive_of : List ℕ → Primitive
 primitive_of name =
     if str_eq_ignore_ascii_case name (codes "ps") then PrintString else
     if str_eq_ignore_ascii_case name (codes "rs") then ReadString else
+    if str_eq_ignore_ascii_case name (codes "eq") then Compute Equal else
+    if str_eq_ignore_ascii_case name (codes "gr") then Compute Greater else
+    if str_eq_ignore_ascii_case name (codes "ad") then Compute (Calculate Add) else
+    if str_eq_ignore_ascii_case name (codes "su") then Compute (Calculate Subtract) else
+    if str_eq_ignore_ascii_case name (codes "ml") then Compute (Calculate Multiply) else
+    if str_eq_ignore_ascii_case name (codes "dv") then Compute (Calculate Divide) else
+    if str_eq_ignore_ascii_case name (codes "bu") then Compute Union else
+    if str_eq_ignore_ascii_case name (codes "bi") then Compute Meet else
+    if str_eq_ignore_ascii_case name (codes "bc") then Compute Complement else
+    if str_eq_ignore_ascii_case name (codes "bs") then Compute Shift else
+    if str_eq_ignore_ascii_case name (codes "br") then Compute Rotate else
     Unknown
 
 -- ---- effects
@@ -34,6 +48,10 @@ pub record Effect : Type 0 where
 -- a null value and nothing else
 abbrev pub no_effect : State → Effect
 no_effect s = record { value = []; forced = false; printed = []; state = s }
+
+-- a value and nothing else
+abbrev pub gives : Value → State → Effect
+gives value s = record { value = value.text; forced = value.forced; printed = []; state = s }
 
 -- prints a text
 abbrev pub prints : List ℕ → State → Effect
@@ -62,6 +80,7 @@ read_up_to None tape s = read_rest (unread tape s) tape.ended s
 abbrev pub effect_of : Primitive → Tape → List (List ℕ) → State → Result Effect Refusal
 effect_of PrintString tape arguments s = Ok (prints (argument 1 arguments) s)
 effect_of ReadString tape arguments s = read_up_to (position (λ b. b == s.meta) (unread tape s)) tape s
+effect_of (Compute computation) tape arguments s = Ok (gives (computed computation arguments) s)
 effect_of Unknown tape arguments s = Ok (no_effect s)
 
 -- ---- a call

@@ -42,19 +42,19 @@ pub fn worked_numerals()
     ensures greatest { number_of (codes "9223372036854775807") ≡ Some (pos 9223372036854775807) }
     ensures above_greatest { number_of (codes "9223372036854775808") ≡ None }
     // The prefix of the first text stands before the result.
-    ensures difference { calculated difference_of (codes "a-5") (codes "b2") (codes "Z") ≡ codes "a-7" }
-    ensures behind_a_sign { calculated sum_of (codes "--4") (codes "1") (codes "Z") ≡ codes "--3" }
-    ensures behind_all { calculated sum_of (codes "5-") (codes "3") (codes "Z") ≡ codes "5-3" }
-    ensures times_zero { calculated product_of (codes "x") (codes "3") (codes "Z") ≡ codes "x0" }
+    ensures difference { calculated difference_of (codes "a-5") (codes "b2") ≡ Some (codes "a-7") }
+    ensures behind_a_sign { calculated sum_of (codes "--4") (codes "1") ≡ Some (codes "--3") }
+    ensures behind_all { calculated sum_of (codes "5-") (codes "3") ≡ Some (codes "5-3") }
+    ensures times_zero { calculated product_of (codes "x") (codes "3") ≡ Some (codes "x0") }
     // A quotient is cut toward zero.
-    ensures cut { calculated quotient_of (codes "7") (codes "-2") (codes "Z") ≡ codes "-3" }
-    ensures cut_negative { calculated quotient_of (codes "-7") (codes "2") (codes "Z") ≡ codes "-3" }
+    ensures cut { calculated quotient_of (codes "7") (codes "-2") ≡ Some (codes "-3") }
+    ensures cut_negative { calculated quotient_of (codes "-7") (codes "2") ≡ Some (codes "-3") }
     // What does not fit, and a divisor of 0, give the other text.
-    ensures sum_past { calculated sum_of (codes "9223372036854775807") (codes "1") (codes "Z") ≡ codes "Z" }
-    ensures difference_past { calculated difference_of (codes "-9223372036854775808") (codes "1") (codes "Z") ≡ codes "Z" }
-    ensures operand_past { calculated sum_of (codes "9223372036854775808") (codes "-1") (codes "Z") ≡ codes "Z" }
-    ensures least_turned { calculated quotient_of (codes "-9223372036854775808") (codes "-1") (codes "Z") ≡ codes "Z" }
-    ensures by_zero { calculated quotient_of (codes "1") (codes "0") (codes "Z") ≡ codes "Z" }
+    ensures sum_past { calculated sum_of (codes "9223372036854775807") (codes "1") ≡ None }
+    ensures difference_past { calculated difference_of (codes "-9223372036854775808") (codes "1") ≡ None }
+    ensures operand_past { calculated sum_of (codes "9223372036854775808") (codes "-1") ≡ None }
+    ensures least_turned { calculated quotient_of (codes "-9223372036854775808") (codes "-1") ≡ None }
+    ensures by_zero { calculated quotient_of (codes "1") (codes "0") ≡ None }
     // Whole numbers are compared, of any length.
     ensures minus_zero_first { is_greater (codes "-0") (codes "0") ≡ false }
     ensures minus_zero_second { is_greater (codes "0") (codes "-0") ≡ false }

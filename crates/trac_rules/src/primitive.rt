@@ -7,6 +7,42 @@ pub enum Primitive {
     PrintString,
     /// `rs`: reads the input up to the meta character.
     ReadString,
+    /// A primitive that gives a value made of its arguments alone, and does nothing else.
+    Compute(Computation),
     /// Any other name: its value is null, and it does nothing (this project's profile).
     Unknown,
+}
+
+/// How a value is made of arguments alone.
+#[derive(Clone, Copy, Debug, PartialEq, Eq)]
+pub enum Computation {
+    /// `eq`: a choice by whether two texts are the same.
+    Equal,
+    /// `gr`: a choice by whether one number is greater than another.
+    Greater,
+    /// `ad`, `su`, `ml`, `dv`: the result of an operation on two numbers.
+    Calculate(Operation),
+    /// `bu`: the bitwise or of two octal strings.
+    Union,
+    /// `bi`: the bitwise and of two octal strings.
+    Meet,
+    /// `bc`: an octal string with each bit turned over.
+    Complement,
+    /// `bs`: an octal string with its bits moved.
+    Shift,
+    /// `br`: an octal string with its bits rotated.
+    Rotate,
+}
+
+/// An operation on two numbers.
+#[derive(Clone, Copy, Debug, PartialEq, Eq)]
+pub enum Operation {
+    /// `ad`: the sum.
+    Add,
+    /// `su`: the first number less the second.
+    Subtract,
+    /// `ml`: the product.
+    Multiply,
+    /// `dv`: the first number by the second, cut toward zero (this project's profile).
+    Divide,
 }

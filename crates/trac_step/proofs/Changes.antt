@@ -9,7 +9,7 @@ use Rattle.trac_rules.specs.State.{Frame}
 use Rattle.trac_rules.specs.Matching.{match_of, protected, protected_up_to}
 use Rattle.trac_rules.specs.Scanning.{gather, protect}
 use Rattle.trac_rules.specs.Limits.{marks}
-use Rattle.trac_step.specs.declared.mark.Mark.{Mark}
+use Rattle.trac_prims.specs.declared.mark.Mark.{Mark}
 use Rattle.trac_step.specs.Layout.{Parts, state_of, IsSound, Shown}
 use Rattle.trac_step.proofs.Neutral.{AreMarks-longer}
 use Rattle.trac_step.proofs.Rules.{mark_at, gathers, ordered_push, marks-parts}

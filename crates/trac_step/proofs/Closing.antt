@@ -5,8 +5,8 @@ use Rattle.std.proofs.lemmas.List.{take-take, length-take-le}
 use Rattle.std.proofs.lemmas.Slice.{between_is}
 use Rattle.std.proofs.lemmas.Grind.{reverse_onto}
 use Rattle.trac_rules.specs.declared.kind.Kind.{Kind}
-use Rattle.trac_step.specs.declared.mark.Mark.{Mark}
-use Rattle.trac_step.specs.Cuts.{AreCuts, cut, AreArguments}
+use Rattle.trac_prims.specs.declared.mark.Mark.{Mark}
+use Rattle.trac_prims.specs.Cuts.{AreCuts, cut, AreArguments}
 use Rattle.trac_step.specs.Layout.{Neutral, neutral, AreMarks}
 
 -- ---- cuts

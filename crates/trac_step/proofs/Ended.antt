@@ -11,8 +11,8 @@ use Rattle.trac_rules.specs.Bytes.{argument}
 use Rattle.trac_rules.specs.State.{Tape}
 use Rattle.trac_rules.specs.Scanning.{Call, Calls, front_of, scan}
 use Rattle.trac_rules.specs.Performing.{Effect, effect_of, perform, performed_by, placed, primitive_of, read_up_to, reads, unread}
-use Rattle.trac_step.specs.declared.mark.Mark.{Mark}
-use Rattle.trac_step.specs.Cuts.{AreArguments, BeginsFunction, cut}
+use Rattle.trac_prims.specs.declared.mark.Mark.{Mark}
+use Rattle.trac_prims.specs.Cuts.{AreArguments, BeginsFunction, cut}
 use Rattle.trac_step.specs.Layout.{AreMarks, Parts, state_of, IsSound, Shown}
 use Rattle.trac_step.specs.Calling.{IfCalls, ended_call, place_of}
 use Rattle.trac_step.proofs.Neutral.{AreMarks-longer}

@@ -6,8 +6,8 @@ use Rattle.trac_rules.specs.declared.kind.Kind.{Kind}
 use Rattle.trac_rules.specs.declared.scan.Front.TheVariants.{Closing}
 use Rattle.trac_rules.specs.State.{State}
 use Rattle.trac_rules.specs.Scanning.{Calls, front_of, scan_at, scan, closing_in, deleted}
-use Rattle.trac_step.specs.declared.mark.Mark.{Mark}
-use Rattle.trac_step.specs.Cuts.{AreCuts, cut, AreArguments}
+use Rattle.trac_prims.specs.declared.mark.Mark.{Mark}
+use Rattle.trac_prims.specs.Cuts.{AreCuts, cut, AreArguments}
 use Rattle.trac_step.specs.Layout.{Neutral, neutral, AreMarks, Parts, state_of}
 use Rattle.trac_step.proofs.Rules.{with_neutral}
 use Rattle.trac_step.proofs.Closing.{reverse_first, IsInnermost, is_innermost, cuts_of_marks, marks_before, AreCuts-within}

@@ -15,7 +15,7 @@ use Rattle.trac_rules.specs.State.{State}
 use Rattle.trac_rules.specs.Scanning.{front_of, scan}
 use Rattle.trac_rules.specs.Limits.{text_bytes, marks, is_within_limits}
 use Rattle.trac_rules.proofs.Refusals.{beyond_limits_of_text}
-use Rattle.trac_step.specs.Cuts.{BeginsFunction}
+use Rattle.trac_prims.specs.Cuts.{BeginsFunction}
 use Rattle.trac_step.specs.Layout.{Parts, state_of, IsSound, Shown}
 use Rattle.trac_step.specs.Calling.{IfCalls, ended_call, place_of, with_value}
 use Rattle.trac_step.proofs.Rules.{text_bytes-parts, marks-parts}

@@ -1,4 +1,3 @@
-pub mod Cutting
 pub mod Depth
 pub mod Neutral
 pub mod Rules
@@ -10,4 +9,3 @@ pub mod Fitting
 pub mod Moving
 pub mod Outcomes
 pub mod Peeling
-pub mod ReadTexts

@@ -14,7 +14,7 @@ use Rattle.trac_rules.specs.State.{Frame, State}
 use Rattle.trac_rules.specs.Matching.{match_of, protected}
 use Rattle.trac_rules.specs.Scanning.{Moves, front_of, scan, scan_at, protect, deleted, begun, comma_in, closing_in, gather_first}
 use Rattle.trac_rules.specs.Limits.{is_within_limits, marks}
-use Rattle.trac_step.specs.declared.mark.Mark.{Mark}
+use Rattle.trac_prims.specs.declared.mark.Mark.{Mark}
 use Rattle.trac_step.specs.Layout.{Parts, state_of, IsSound, Shown, neutral}
 use Rattle.trac_step.specs.Calling.{IfMoves, IsMove, adds_mark}
 use Rattle.trac_step.proofs.Rules.{mark_at, within_limits, begins, next_argument, ordered_push, marks-parts}

@@ -4,8 +4,8 @@ use Rattle.std.specs.Prelude.{Option, Some, None, slice_get}
 use Rattle.std.proofs.lemmas.List.{take-take, length-take-le, length-reverse}
 use Rattle.trac_rules.specs.declared.kind.Kind.{Kind}
 use Rattle.trac_rules.specs.State.{Frame}
-use Rattle.trac_step.specs.declared.mark.Mark.{Mark}
-use Rattle.trac_step.specs.Cuts.{BeginsFunction, cut}
+use Rattle.trac_prims.specs.declared.mark.Mark.{Mark}
+use Rattle.trac_prims.specs.Cuts.{BeginsFunction, cut}
 use Rattle.trac_step.specs.Frames.{IsFrame}
 use Rattle.trac_step.specs.Calling.{place_of}
 use Rattle.trac_step.specs.Layout.{Neutral, marked, neutral, AreMarks}

@@ -9,8 +9,8 @@ use Rattle.trac_rules.specs.declared.limit.TheConstants.{TEXT_LIMIT, MARK_LIMIT,
 use Rattle.trac_rules.specs.State.{Frame, State}
 use Rattle.trac_rules.specs.Scanning.{gather, begun, comma_in}
 use Rattle.trac_rules.specs.Limits.{text_bytes, marks, is_within_limits}
-use Rattle.trac_step.specs.declared.mark.Mark.{Mark}
-use Rattle.trac_step.specs.Cuts.{function_count}
+use Rattle.trac_prims.specs.declared.mark.Mark.{Mark}
+use Rattle.trac_prims.specs.Cuts.{function_count}
 use Rattle.trac_step.specs.Layout.{Neutral, marked, neutral, AreMarks, Parts, state_of, IsSound}
 use Rattle.trac_step.proofs.Neutral.{bytes-neutral, marks-neutral, longer, neutral-append, neutral-mark, has_frames, length-argument}
 

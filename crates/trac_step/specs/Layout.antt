@@ -8,7 +8,7 @@ use Rattle.trac_rules.specs.declared.limit.TheConstants.{TEXT_LIMIT, MARK_LIMIT,
 use Rattle.trac_rules.specs.State.{Frame, State}
 use Rattle.trac_rules.specs.Scanning.{with_next_argument}
 use Rattle.trac_rules.specs.Codes.{state_code}
-use Rattle.trac_step.specs.declared.mark.Mark.{Mark}
+use Rattle.trac_prims.specs.declared.mark.Mark.{Mark}
 
 -- ---- the neutral text
 

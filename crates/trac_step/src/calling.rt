@@ -5,10 +5,10 @@ ghost use Rattle.trac_rules.specs.Bytes.{argument};
 ghost use Rattle.trac_rules.specs.Scanning.{front_of, scan};
 ghost use Rattle.trac_rules.specs.Performing.{perform};
 ghost use Rattle.trac_rules.specs.Limits.{is_within_limits};
-ghost use Rattle.trac_step.specs.Cuts.{cut, BeginsFunction};
+ghost use Rattle.trac_prims.specs.Cuts.{cut, BeginsFunction};
 ghost use Rattle.trac_step.specs.Layout.{AreMarks};
 ghost use Rattle.trac_step.specs.Calling.{IfCalls, ended_call, place_of, with_value};
-ghost use Rattle.trac_step.specs.Tape.{tape_of};
+ghost use Rattle.trac_prims.specs.Tape.{tape_of};
 
 use crate::args::Args;
 use crate::engine::Core;

@@ -1,6 +1,6 @@
 //! The innermost begun function.
 ghost use Rattle.std.specs.Prelude.{◌≡◌, ◌<◌, ◌+◌, length, drop, take, slice_get, MatchOption};
-ghost use Rattle.trac_step.specs.Cuts.{AreArguments, BeginsFunction, function_count};
+ghost use Rattle.trac_prims.specs.Cuts.{AreArguments, BeginsFunction, function_count};
 
 use crate::mark::Mark;
 

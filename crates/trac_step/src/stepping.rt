@@ -5,7 +5,7 @@ ghost use Rattle.trac_rules.specs.Limits.{is_within_limits};
 ghost use Rattle.trac_rules.specs.Stepping.{step, MayRefuse};
 ghost use Rattle.trac_step.specs.Calling.{IfMoves, IsMove, adds_mark};
 ghost use Rattle.trac_step.specs.Record.{before};
-ghost use Rattle.trac_step.specs.Tape.{tape_of};
+ghost use Rattle.trac_prims.specs.Tape.{tape_of};
 
 use crate::engine::Core;
 use crate::front::front_at;

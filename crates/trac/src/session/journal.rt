@@ -2,7 +2,7 @@
 ghost use Rattle.std.specs.Prelude.{◌≡◌, ◌≤◌, length, Ok, IfErr, OnOk};
 ghost use Rattle.trac_rules.specs.Stepping.{step, MayRefuse};
 ghost use Rattle.trac_step.specs.Record.{before};
-ghost use Rattle.trac_step.specs.Tape.{tape_of};
+ghost use Rattle.trac_prims.specs.Tape.{tape_of};
 ghost use Rattle.trac.specs.Journal.{Remembers};
 
 use std::alloc::Allocator;

@@ -1,6 +1,6 @@
 use Rattle.std.proofs.Common.{sym, subst, length, List}
-use Rattle.trac_step.specs.declared.mark.Mark.{Mark}
-use Rattle.trac_step.specs.Cuts.{AreCuts}
+use Rattle.trac_prims.specs.declared.mark.Mark.{Mark}
+use Rattle.trac_prims.specs.Cuts.{AreCuts}
 use Rattle.trac_step.specs.Calling.{place_of}
 use Rattle.trac_step.proofs.Ending.{cuts_behind}
 use Rattle.trac_step.proofs.Ended.{no_mark, with_text}

@@ -1,5 +1,5 @@
 use Rattle.std.proofs.Common.{◌≡◌, ◌+◌, ◌≤◌, drop}
-use Rattle.trac_step.specs.Cuts.{function_count}
+use Rattle.trac_prims.specs.Cuts.{function_count}
 use Rattle.trac_step.proofs.innermost.frame_count.Given as goal
 
 -- those counted and those to come are all

@@ -1,5 +1,5 @@
 use Rattle.std.proofs.Common.{◌≤◌, length, drop}
-use Rattle.trac_step.specs.Cuts.{AreArguments}
+use Rattle.trac_prims.specs.Cuts.{AreArguments}
 use Rattle.trac_step.proofs.innermost.innermost.Given as goal
 
 -- none of the marks from i on begins a function

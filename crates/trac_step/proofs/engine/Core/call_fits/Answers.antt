@@ -5,8 +5,8 @@ use Rattle.trac_rules.specs.declared.scan.Front.TheVariants.{Closing}
 use Rattle.trac_rules.specs.Bytes.{argument}
 use Rattle.trac_rules.specs.Scanning.{front_of, scan}
 use Rattle.trac_rules.specs.Limits.{is_within_limits}
-use Rattle.trac_step.specs.declared.mark.Mark.{Mark}
-use Rattle.trac_step.specs.Cuts.{BeginsFunction, cut}
+use Rattle.trac_prims.specs.declared.mark.Mark.{Mark}
+use Rattle.trac_prims.specs.Cuts.{BeginsFunction, cut}
 use Rattle.trac_step.specs.Layout.{parts_of, Shown}
 use Rattle.trac_step.specs.Calling.{IfCalls, ended_call, place_of}
 use Rattle.trac_step.proofs.Ended.{call_at}

@@ -1,7 +1,7 @@
 use Rattle.std.proofs.Common.{Some, refl, ap, ◌∙◌}
 use Rattle.std.proofs.lemmas.Result.{err_from_is_err_and}
 use Rattle.trac_step.specs.Calling.{ended_call}
-use Rattle.trac_step.specs.Tape.{tape_of}
+use Rattle.trac_prims.specs.Tape.{tape_of}
 use Rattle.trac_step.proofs.Outcomes.{call_refused, call_beyond, call_lacks, call_taken, refuses_memory}
 use Rattle.trac_step.proofs.engine.Core.call_step.Goals as goal
 

@@ -1,5 +1,5 @@
 use Rattle.std.proofs.Common.{length, ap, ◌∙◌}
-use Rattle.trac_step.specs.Cuts.{function_count}
+use Rattle.trac_prims.specs.Cuts.{function_count}
 use Rattle.trac_step.specs.Layout.{parts_of, Shown}
 use Rattle.trac_step.proofs.Rules.{frames_counted}
 use Rattle.trac_step.proofs.engine.Core.depth.Goals as goal

@@ -2,7 +2,7 @@ use Rattle.std.proofs.Common.{◌≡◌, List, length, sym, ap, ◌∙◌, subst
 use Rattle.std.specs.Prelude.{nat_lt}
 use Rattle.trac_rules.specs.Scanning.{scan}
 use Rattle.trac_rules.specs.Limits.{is_within_limits}
-use Rattle.trac_step.specs.declared.mark.Mark.{Mark}
+use Rattle.trac_prims.specs.declared.mark.Mark.{Mark}
 use Rattle.trac_step.specs.Layout.{parts_of}
 use Rattle.trac_step.specs.Calling.{IfMoves, adds_mark}
 use Rattle.trac_step.proofs.Moving.{move_without_mark, move_with_mark}

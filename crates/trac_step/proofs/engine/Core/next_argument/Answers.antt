@@ -1,7 +1,7 @@
 use Rattle.std.proofs.Common.{◌≡◌, ℕ, ◌++◌, ◌∷◌, [], length, drop, refl, sym, ap, subst, arith}
 use Rattle.std.specs.Prelude.{None}
 use Rattle.trac_gap.specs.Ends.{Ends}
-use Rattle.trac_step.specs.declared.mark.Mark.{Mark}
+use Rattle.trac_prims.specs.declared.mark.Mark.{Mark}
 use Rattle.trac_step.specs.Layout.{parts_of, IsSound}
 use Rattle.trac_step.proofs.Rules.{mark_at}
 use Rattle.trac_step.proofs.Changes.{same_parts, sound_push, marks_of_view, has_marks}

@@ -4,11 +4,11 @@ use Rattle.trac_rules.specs.declared.scan.Front.TheVariants.{Closing}
 use Rattle.trac_rules.specs.Bytes.{argument}
 use Rattle.trac_rules.specs.Scanning.{front_of}
 use Rattle.trac_rules.specs.Performing.{perform, primitive_of}
-use Rattle.trac_step.specs.declared.mark.Mark.{Mark}
-use Rattle.trac_step.specs.Cuts.{BeginsFunction, cut}
+use Rattle.trac_prims.specs.declared.mark.Mark.{Mark}
+use Rattle.trac_prims.specs.Cuts.{BeginsFunction, cut}
 use Rattle.trac_step.specs.Layout.{parts_of, Shown}
 use Rattle.trac_step.specs.Calling.{ended_call, place_of}
-use Rattle.trac_step.specs.Tape.{tape_of}
+use Rattle.trac_prims.specs.Tape.{tape_of}
 use Rattle.trac_step.proofs.Ended.{call_at, scan_called, if_calls, performs_print, performs_nothing, performs_reading}
 use Rattle.trac_step.proofs.engine.Core.planned.Goals as goal
 

@@ -1,6 +1,6 @@
 //! The arguments of a function, borrowed from the neutral text.
 ghost use Rattle.std.specs.Prelude.{◌≡◌, ◌≤◌, ◌-◌, [], length, get_or, take, drop};
-ghost use Rattle.trac_step.specs.Cuts.{AreCuts, cut, start_of, end_of};
+ghost use Rattle.trac_prims.specs.Cuts.{AreCuts, cut, start_of, end_of};
 
 use crate::mark::Mark;
 use std::marker::Model;
@@ -15,7 +15,7 @@ pub struct Args<'a> {
 
 impl<'a> Model for Args<'a> {
     ghost use Rattle.std.specs.Prelude.{ℕ, List, length};
-    ghost use Rattle.trac_step.specs.Cuts.{AreCuts, cut};
+    ghost use Rattle.trac_prims.specs.Cuts.{AreCuts, cut};
 
     ghost Value = { List (List ℕ) };
 

@@ -1,6 +1,6 @@
 -- A text cut into arguments at the places of marks.
 use Rattle.std.specs.Prelude.{◌≡◌, ℕ, zero, suc, ◌+◌, ◌-◌, ◌<◌, ◌≤◌, List, [], ◌∷◌, length, take, drop, get_or, None, IsSome, is_some, if◌then◌else◌}
-use Rattle.trac_step.specs.declared.mark.Mark.{Mark}
+use Rattle.trac_prims.specs.declared.mark.Mark.{Mark}
 
 -- the text from a place on, cut at the places of the marks
 abbrev pub cut : ℕ → List Mark → List ℕ → List (List ℕ)

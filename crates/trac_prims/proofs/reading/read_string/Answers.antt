@@ -1,9 +1,9 @@
 use Rattle.std.proofs.Common.{◌+◌, true, false, [], sym, ap, ◌∙◌, length, List, ◌≡◌, ℕ}
 use Rattle.std.specs.Prelude.{Ok, ◌==◌}
 use Rattle.trac_rules.specs.Performing.{reads}
-use Rattle.trac_step.specs.Tape.{tape_of}
-use Rattle.trac_step.proofs.ReadTexts.{reads_to, reads_later, reads_all}
-use Rattle.trac_step.proofs.reading.read_string.Goals as goal
+use Rattle.trac_prims.specs.Tape.{tape_of}
+use Rattle.trac_prims.proofs.ReadTexts.{reads_to, reads_later, reads_all}
+use Rattle.trac_prims.proofs.reading.read_string.Goals as goal
 
 not_empty : (text : List ℕ) → text ≡ [] → false ≡ (length text == 0) → ⊥
 not_empty text none e = let unset : false ≡ true = e ∙ ap (λ (t : List ℕ). length t == 0) none in cc

@@ -1,8 +1,8 @@
 -- Texts cut into arguments, and where each of them lies.
 use Rattle.std.proofs.Common.{◌≡◌, ℕ, zero, suc, ◌+◌, ◌-◌, ◌<◌, ◌≤◌, ◌≢◌, List, [], ◌∷◌, length, take, drop, get_or, refl, sym, ap, ◌∙◌, arith}
 use Rattle.std.proofs.lemmas.List.{take_rest}
-use Rattle.trac_step.specs.declared.mark.Mark.{Mark}
-use Rattle.trac_step.specs.Cuts.{AreCuts, cut, start_of, end_of}
+use Rattle.trac_prims.specs.declared.mark.Mark.{Mark}
+use Rattle.trac_prims.specs.Cuts.{AreCuts, cut, start_of, end_of}
 
 -- one argument more than there are marks
 pub length-cut : (from : ℕ) (marks : List Mark) (text : List ℕ) → length (cut from marks text) ≡ length marks + 1

@@ -1,8 +1,8 @@
 use Rattle.std.proofs.Common.{◌≡◌, ◌≤◌, [], length, get_or, sym, ap, ◌∙◌, arith}
 use Rattle.std.proofs.lemmas.List.{get_or_past}
-use Rattle.trac_step.specs.Cuts.{cut}
-use Rattle.trac_step.proofs.Cutting.{length-cut, get-cut, start_before_end}
-use Rattle.trac_step.proofs.args.Args.get.Goals as goal
+use Rattle.trac_prims.specs.Cuts.{cut}
+use Rattle.trac_prims.proofs.Cutting.{length-cut, get-cut, start_before_end}
+use Rattle.trac_prims.proofs.args.Args.get.Goals as goal
 
 pub returns-then-i-self : goal.returns-then-i-self
 returns-then-i-self c =

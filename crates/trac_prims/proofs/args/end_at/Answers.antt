@@ -1,6 +1,6 @@
 use Rattle.std.proofs.Common.{sym}
-use Rattle.trac_step.proofs.Cutting.{end_of-mark, end_of-end}
-use Rattle.trac_step.proofs.args.end_at.Goals as goal
+use Rattle.trac_prims.proofs.Cutting.{end_of-mark, end_of-end}
+use Rattle.trac_prims.proofs.args.end_at.Goals as goal
 
 pub returns-then-i-marks : goal.returns-then-i-marks
 returns-then-i-marks c = sym (end_of-mark c.args.end c.args.marks.now c.args.i _ c.if-i-marks.true)

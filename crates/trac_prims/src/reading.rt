@@ -2,7 +2,7 @@
 ghost use Rattle.std.specs.Prelude.{◌≡◌, ◌<◌, ◌≤◌, ◌+◌, ◌==◌, length, position, MatchResult, IfOk, IfSome, Ok, Err, false};
 ghost use Rattle.trac_rules.specs.State.{State};
 ghost use Rattle.trac_rules.specs.Performing.{read_up_to, reads, unread};
-ghost use Rattle.trac_step.specs.Tape.{tape_of};
+ghost use Rattle.trac_prims.specs.Tape.{tape_of};
 
 use crate::calling::Action;
 use crate::tape::Tape;

@@ -1,0 +1,4 @@
+-- Arguments, and what is planned with them.
+pub mod Cuts
+pub mod Tape
+pub mod Effects

@@ -1,0 +1,60 @@
+-- Values made of arguments alone: decisions, decimals and bit strings.
+use Rattle.std.specs.Prelude.{ℕ, ℤ, List, [], Bool, true, false, Option, None, Some}
+use Rattle.std.specs.Str.{bytes_eq}
+use Rattle.trac_rules.specs.declared.primitive.Computation.{Computation}
+use Rattle.trac_rules.specs.declared.primitive.Computation.TheVariants.{Equal, Greater, Calculate, Union, Meet, Complement, Shift, Rotate}
+use Rattle.trac_rules.specs.declared.primitive.Operation.{Operation}
+use Rattle.trac_rules.specs.declared.primitive.Operation.TheVariants.{Add, Subtract, Multiply, Divide}
+use Rattle.trac_rules.specs.Bytes.{argument}
+use Rattle.trac_rules.specs.Number.{calculated, difference_of, is_greater, number_of, numeral_of, product_of, quotient_of, sum_of}
+use Rattle.trac_rules.specs.Octal.{bits_of, complement, meet, octal_tail, rotate, shift, text_of, union}
+
+-- a text, and whether it is forced
+pub record Value : Type 0 where
+  pub text : List ℕ
+  pub forced : Bool
+
+abbrev pub plain : List ℕ → Value
+plain text = record { text = text; forced = false }
+
+-- a result; where there is none the default argument, which is forced
+abbrev pub or_forced : Option (List ℕ) → List ℕ → Value
+or_forced (Some text) other = plain text
+or_forced None other = record { text = other; forced = true }
+
+-- a decision gives the argument behind the two that it looks at, or the one behind that
+abbrev pub chosen : Bool → List (List ℕ) → List ℕ
+chosen true arguments = argument 3 arguments
+chosen false arguments = argument 4 arguments
+
+-- the result of an operation, if it fits
+abbrev pub result_of : Operation → ℤ → ℤ → Option ℤ
+result_of Add a b = sum_of a b
+result_of Subtract a b = difference_of a b
+result_of Multiply a b = product_of a b
+result_of Divide a b = quotient_of a b
+
+-- the bits of the octal string of an argument
+abbrev pub octal_argument : ℕ → List (List ℕ) → List Bool
+octal_argument k arguments = bits_of (octal_tail (argument k arguments))
+
+-- bits moved by a number; null where there is none
+abbrev pub moved : (ℤ → List Bool → List Bool) → Option ℤ → List Bool → List ℕ
+moved by (Some n) bits = text_of (by n bits)
+moved by None bits = []
+
+-- the number of an argument, its prefix dropped, if it fits
+abbrev pub number_argument : ℕ → List (List ℕ) → Option ℤ
+number_argument k arguments = number_of (numeral_of (argument k arguments))
+
+abbrev pub computed : Computation → List (List ℕ) → Value
+computed Equal arguments = plain (chosen (bytes_eq (argument 1 arguments) (argument 2 arguments)) arguments)
+computed Greater arguments = plain (chosen (is_greater (numeral_of (argument 1 arguments)) (numeral_of (argument 2 arguments))) arguments)
+computed (Calculate operation) arguments =
+    or_forced (calculated (result_of operation) (argument 1 arguments) (argument 2 arguments)) (argument 3 arguments)
+computed Union arguments = plain (text_of (union (octal_argument 1 arguments) (octal_argument 2 arguments)))
+computed Meet arguments = plain (text_of (meet (octal_argument 1 arguments) (octal_argument 2 arguments)))
+computed Complement arguments = plain (text_of (complement (octal_argument 1 arguments)))
+-- a number that does not fit gives null (this project's profile)
+computed Shift arguments = plain (moved shift (number_argument 1 arguments) (octal_argument 2 arguments))
+computed Rotate arguments = plain (moved rotate (number_argument 1 arguments) (octal_argument 2 arguments))
