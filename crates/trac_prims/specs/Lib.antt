@@ -2,3 +2,4 @@
 pub mod Cuts
 pub mod Tape
 pub mod Effects
+pub mod Values

@@ -2,9 +2,8 @@
 #![tactic(auto)]
 
 pub mod args;
-mod bits;
+mod calculating;
 mod computing;
-mod deciding;
 pub mod effect;
 pub mod mark;
 mod name;

@@ -2,7 +2,7 @@
 ghost use Rattle.std.specs.Prelude.{◌≡◌};
 ghost use Rattle.trac_rules.specs.Performing.{primitive_of};
 
-use trac_rules::primitive::Primitive;
+use trac_rules::primitive::{Computation, Operation, Primitive};
 
 // What a name stands for, each letter in either case.
 pub(crate) fn primitive_named(name: &[u8]) -> Primitive
@@ -12,6 +12,28 @@ pub(crate) fn primitive_named(name: &[u8]) -> Primitive
         Primitive::PrintString
     } else if name.eq_ignore_ascii_case(b"rs") {
         Primitive::ReadString
+    } else if name.eq_ignore_ascii_case(b"eq") {
+        Primitive::Compute(Computation::Equal)
+    } else if name.eq_ignore_ascii_case(b"gr") {
+        Primitive::Compute(Computation::Greater)
+    } else if name.eq_ignore_ascii_case(b"ad") {
+        Primitive::Compute(Computation::Calculate(Operation::Add))
+    } else if name.eq_ignore_ascii_case(b"su") {
+        Primitive::Compute(Computation::Calculate(Operation::Subtract))
+    } else if name.eq_ignore_ascii_case(b"ml") {
+        Primitive::Compute(Computation::Calculate(Operation::Multiply))
+    } else if name.eq_ignore_ascii_case(b"dv") {
+        Primitive::Compute(Computation::Calculate(Operation::Divide))
+    } else if name.eq_ignore_ascii_case(b"bu") {
+        Primitive::Compute(Computation::Union)
+    } else if name.eq_ignore_ascii_case(b"bi") {
+        Primitive::Compute(Computation::Meet)
+    } else if name.eq_ignore_ascii_case(b"bc") {
+        Primitive::Compute(Computation::Complement)
+    } else if name.eq_ignore_ascii_case(b"bs") {
+        Primitive::Compute(Computation::Shift)
+    } else if name.eq_ignore_ascii_case(b"br") {
+        Primitive::Compute(Computation::Rotate)
     } else {
         Primitive::Unknown
     }

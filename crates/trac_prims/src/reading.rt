@@ -1,11 +1,13 @@
 //! Reading a text of the input.
-ghost use Rattle.std.specs.Prelude.{◌≡◌, ◌<◌, ◌≤◌, ◌+◌, ◌==◌, length, position, MatchResult, IfOk, IfSome, Ok, Err, false};
+ghost use Rattle.std.specs.Prelude.{◌≡◌, ◌<◌, ◌≤◌, ◌==◌, length, position, IfOk, IfSome};
 ghost use Rattle.trac_rules.specs.State.{State};
-ghost use Rattle.trac_rules.specs.Performing.{read_up_to, reads, unread};
+ghost use Rattle.trac_rules.specs.Performing.{read_up_to, unread};
+ghost use Rattle.trac_prims.specs.Effects.{IsPlanned};
 ghost use Rattle.trac_prims.specs.Tape.{tape_of};
 
-use crate::calling::Action;
+use crate::effect::{Effect, Now};
 use crate::tape::Tape;
+use std::alloc::Allocator;
 use trac_rules::refusal::Refusal;
 
 // The first place of a byte.
@@ -17,22 +19,19 @@ fn first_of(wanted: u8, bytes: &[u8]) -> Option<usize>
 }
 
 // The unread input up to the first meta character, or all of it at the end.
-pub(crate) fn read_string<'t>(tape: Tape<'t>, place: usize, meta: u8) -> Result<Action<'t>, Refusal>
-    requires { place ≤ length tape.bytes.now }
-    ensures outcome { (s : State) → s.position ≡ place → s.meta ≡ meta →
-        let tape = tape_of tape.entry in
-        let outcome = read_up_to (position (λ b. b == s.meta) (unread tape s)) tape s in
-        MatchResult result (λ a. outcome ≡ Ok (reads a.value.now a.taken s)) (λ e. outcome ≡ Err e) }
-    ensures silent { IfOk result (λ a. a.prints ≡ false) }
-    ensures within { IfOk result (λ a. place + a.taken ≤ length tape.entry.bytes.now) }
+pub(crate) fn read_string<A: Allocator + Copy>(
+    alloc: A,
+    tape: Tape<'_>,
+    now: Now,
+) -> Result<Effect<A>, Refusal>
+    requires { now.position ≤ length tape.bytes.now }
+    ensures outcome { (s : State) → s.position ≡ now.position → s.meta ≡ now.meta →
+        IsPlanned s (read_up_to (position (λ b. b == s.meta) (unread (tape_of tape.entry) s)) (tape_of tape.entry) s) result }
+    ensures within { IfOk result (λ e. e.position ≤ length tape.entry.bytes.now) }
 {
-    let unread = tape.bytes.split_at(place).1;
-    if let Some(k) = first_of(meta, unread) {
-        return Ok(Action {
-            prints: false,
-            value: unread.split_at(k).0,
-            taken: k + 1,
-        });
+    let unread = tape.bytes.split_at(now.position).1;
+    if let Some(k) = first_of(now.meta, unread) {
+        return Effect::reading(alloc, unread.split_at(k).0, now.position + k + 1);
     }
     if !tape.ended {
         return Err(Refusal::NeedInput);
@@ -40,9 +39,5 @@ pub(crate) fn read_string<'t>(tape: Tape<'t>, place: usize, meta: u8) -> Result<
     if unread.is_empty() {
         return Err(Refusal::Ended);
     }
-    Ok(Action {
-        prints: false,
-        value: unread,
-        taken: unread.len(),
-    })
+    Effect::reading(alloc, unread, tape.bytes.len())
 }

@@ -3,7 +3,7 @@ use Rattle.std.proofs.Common.{◌≡◌, ℕ, ◌-◌, ◌≤◌, Bool, true, fa
 use Rattle.std.proofs.lemmas.List.{take_at}
 use Rattle.std.proofs.lemmas.Bool.{cases_Bool, cond-true, cond-false}
 use Rattle.trac_rules.specs.Bytes.{longest_tail}
-use Rattle.trac_rules.specs.Number.{is_numeral, numeral_of, prefix_of}
+use Rattle.trac_rules.specs.Number.{IsNumeralOrNull, is_numeral, numeral_of, prefix_of}
 
 -- a text that passes is its own longest tail
 pub longest_tail_whole : (passes : List ℕ → Bool) (b : ℕ) (bs : List ℕ) → passes (b ∷ bs) ≡ true → longest_tail passes (b ∷ bs) ≡ b ∷ bs
@@ -57,7 +57,7 @@ prefix_and_numeral text =
     ap (λ p. p ++ longest_tail is_numeral text) front ∙ sym parts.1
 
 -- the numeral is one, or null
-pub numeral_or_null : (text : List ℕ) → (numeral_of text ≡ []) ⊎ (is_numeral (numeral_of text) ≡ true)
+pub numeral_or_null : (text : List ℕ) → IsNumeralOrNull (numeral_of text)
 unfolding numeral_of
 numeral_or_null text = longest_tail_passes is_numeral text
 

@@ -1,5 +1,5 @@
 -- Numbers: the numeral at the end of a text, the whole number that it writes, and arithmetic within the range of numbers.
-use Rattle.std.specs.Prelude.{ℕ, ◌-◌, ◌^◌, ℤ, pos, neg_ℤ, ◌+ℤ◌, ◌-ℤ◌, ◌*ℤ◌, int_lt, int_le, int_div, List, [], ◌∷◌, ◌++◌, length, take, nat_lt, if◌then◌else◌, Bool, ◌&&◌, Option, None, Some}
+use Rattle.std.specs.Prelude.{◌≡◌, ◌⊎◌, ℕ, ◌-◌, ◌^◌, ℤ, pos, neg_ℤ, ◌+ℤ◌, ◌-ℤ◌, ◌*ℤ◌, int_lt, int_le, int_div, List, [], ◌∷◌, ◌++◌, length, take, nat_lt, if◌then◌else◌, Bool, true, ◌&&◌, Option, None, Some}
 use Rattle.std.specs.Fmt.{signed_decimal}
 use Rattle.std.specs.Ordering.{int_eq}
 use Rattle.std.specs.Str.{all_ascii_digits}
@@ -15,6 +15,10 @@ is_numeral text = nat_lt 0 (length (without_leading_sign text)) && all_ascii_dig
 -- the numeral of a text is its longest tail of this form
 unfoldable pub numeral_of : List ℕ → List ℕ
 numeral_of text = longest_tail is_numeral text
+
+-- what a numeral of a text can be: one of this form, or null
+abbrev pub IsNumeralOrNull : List ℕ → Type 0
+IsNumeralOrNull numeral = (numeral ≡ []) ⊎ (is_numeral numeral ≡ true)
 
 -- what stands before the numeral
 unfoldable pub prefix_of : List ℕ → List ℕ

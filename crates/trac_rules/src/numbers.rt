@@ -1,12 +1,12 @@
 //! Numerals and numbers: the law of the longest tail, and worked rows, computed from the definitions.
-ghost use Rattle.std.specs.Prelude.{◌≡◌, ◌≤◌, ◌⊎◌, ◌++◌, [], List, ℕ, length, codes, true, false, None, Some, ℤ, pos, negsuc, neg_ℤ};
-ghost use Rattle.trac_rules.specs.Number.{calculated, difference_of, is_greater, is_numeral, number_of, numeral_of, prefix_of, product_of, quotient_of, sum_of, whole_number};
+ghost use Rattle.std.specs.Prelude.{◌≡◌, ◌≤◌, ◌++◌, [], List, ℕ, length, codes, true, false, None, Some, ℤ, pos, negsuc, neg_ℤ};
+ghost use Rattle.trac_rules.specs.Number.{IsNumeralOrNull, calculated, difference_of, is_greater, is_numeral, number_of, numeral_of, prefix_of, product_of, quotient_of, sum_of, whole_number};
 
 /// The numeral of a text, which is found as the first tail of the form, is its longest one: a tail of the form or null,
 /// with the prefix before it, and no tail of the form is longer.
 pub fn numeral_is_longest()
     ensures parts { (text : List ℕ) → prefix_of text ++ numeral_of text ≡ text }
-    ensures form { (text : List ℕ) → (numeral_of text ≡ []) ⊎ (is_numeral (numeral_of text) ≡ true) }
+    ensures form { (text : List ℕ) → IsNumeralOrNull (numeral_of text) }
     ensures longest { (text front tail : List ℕ) → text ≡ front ++ tail → is_numeral tail ≡ true → length tail ≤ length (numeral_of text) }
 {}
 
