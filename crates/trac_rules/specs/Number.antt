@@ -77,12 +77,13 @@ on_both operation None b = None
 on_both operation (Some a) None = None
 on_both operation (Some a) (Some b) = operation a b
 
--- the prefix of the first text, and then the result of an operation on the numbers of both; none where a number or the result
--- does not fit, or there is no result
+-- a result behind a prefix; none where there is no result
+abbrev pub behind_prefix : List ℕ → Option ℤ → Option (List ℕ)
+behind_prefix prefix (Some n) = Some (prefix ++ number_text n)
+behind_prefix prefix None = None
+
+-- the prefix of the first text, and then the result of an operation on the numbers of both; none where a number does not fit,
+-- or there is no result
 unfoldable pub calculated : (ℤ → ℤ → Option ℤ) → List ℕ → List ℕ → Option (List ℕ)
 calculated operation first second =
-    behind (prefix_of first) (on_both operation (number_of (numeral_of first)) (number_of (numeral_of second)))
-  where
-    behind : List ℕ → Option ℤ → Option (List ℕ)
-    behind prefix (Some n) = Some (prefix ++ number_text n)
-    behind prefix None = None
+    behind_prefix (prefix_of first) (on_both operation (number_of (numeral_of first)) (number_of (numeral_of second)))
