@@ -10,8 +10,12 @@ use Rattle.trac_prims.specs.declared.effect.Effect as code
 abbrev pub effect_on : {A : Type 0} → State → code.Effect A → Effect
 effect_on s e = record { value = e.value.items; forced = e.forced; printed = e.print.items; state = record s { position = e.position } }
 
--- what is planned where this is the outcome of the definitions: its effect, its refusal, or `Memory` in place of an effect
+-- why nothing is planned where this is the outcome of the definitions: its refusal, or `Memory` in place of an effect
+abbrev pub MayFail : Result Effect Refusal → Refusal → Type 0
+MayFail outcome Memory = IsOk outcome
+MayFail outcome refusal = outcome ≡ Err refusal
+
+-- what is planned where this is the outcome of the definitions
 abbrev pub IsPlanned : {A : Type 0} → State → Result Effect Refusal → Result (code.Effect A) Refusal → Type 0
 IsPlanned s outcome (Ok e) = outcome ≡ Ok (effect_on s e)
-IsPlanned s outcome (Err Memory) = IsOk outcome
-IsPlanned s outcome (Err refusal) = outcome ≡ Err refusal
+IsPlanned s outcome (Err refusal) = MayFail outcome refusal

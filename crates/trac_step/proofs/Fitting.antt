@@ -1,5 +1,5 @@
 -- Whether the state after a call is within the limits, on the parts of a machine.
-use Rattle.std.proofs.Common.{◌≡◌, ℕ, ◌+◌, ◌-◌, ◌<◌, ◌≤◌, List, [], ◌++◌, length, take, drop, refl, sym, ap, ◌∙◌, arith, true, false, Bool, cond, ◌&&◌}
+use Rattle.std.proofs.Common.{◌≡◌, ℕ, ◌+◌, ◌-◌, ◌<◌, ◌≤◌, List, ◌++◌, length, take, drop, refl, sym, ap, ◌∙◌, arith, true, false, Bool, ◌&&◌}
 use Rattle.std.specs.Prelude.{Some, nat_le}
 use Rattle.std.proofs.lemmas.Bool.{le-leb, leb-true}
 use Rattle.std.proofs.lemmas.Bool.Decides.{leb_tells}
@@ -10,17 +10,16 @@ use Rattle.trac_rules.specs.declared.kind.Kind.{Kind}
 use Rattle.trac_rules.specs.declared.kind.Kind.TheVariants.{Active, Neutral}
 use Rattle.trac_rules.specs.declared.limit.TheConstants.{TEXT_LIMIT, MARK_LIMIT, OUTPUT_LIMIT}
 use Rattle.trac_rules.specs.declared.scan.Front.TheVariants.{Closing}
-use Rattle.trac_rules.specs.Bytes.{argument}
 use Rattle.trac_rules.specs.State.{State}
 use Rattle.trac_rules.specs.Scanning.{front_of, scan}
 use Rattle.trac_rules.specs.Limits.{text_bytes, marks, is_within_limits}
 use Rattle.trac_rules.proofs.Refusals.{beyond_limits_of_text}
 use Rattle.trac_prims.specs.Cuts.{BeginsFunction}
 use Rattle.trac_step.specs.Layout.{Parts, state_of, IsSound, Shown}
-use Rattle.trac_step.specs.Calling.{IfCalls, ended_call, place_of, with_value}
+use Rattle.trac_step.specs.Calling.{IfCalls, place_of, with_value}
 use Rattle.trac_step.proofs.Rules.{text_bytes-parts, marks-parts}
 use Rattle.trac_step.proofs.Ending.{place_within}
-use Rattle.trac_step.proofs.Ended.{no_mark, call_at, scan_called, if_calls, ended_parts, ended_ordered, ended_length, ended_call-parts}
+use Rattle.trac_step.proofs.Ended.{no_mark, call_at, scan_called, if_calls, ended_by, ended_parts, ended_ordered, ended_length, ended_call-parts}
 
 -- ---- the three limits
 
@@ -72,81 +71,96 @@ module _ (p : Parts) (s : Shown) (k : ℕ) (sound : IsSound p) (view : record { 
   pub kept_length : length p.active - 1 + place_of p.marks k ≤ TEXT_LIMIT
   kept_length = omega (arith, sound.text_limit, place_within p k no_mark sound.ordered begins.within)
 
-  module _ (prints : Bool) (value : List ℕ) (taken : ℕ) where
-    abbrev printed_at : Kind → List ℕ
-    printed_at kind = cond prints (argument 1 (call_at p k kind).arguments) []
-
+  module _ (forced : Bool) (printed value : List ℕ) (position : ℕ) where
     abbrev after_at : Kind → Parts
-    after_at kind = ended_parts p k kind (printed_at kind) value taken
+    after_at kind = ended_parts p k kind forced printed value position
 
     text_after : (kind : Kind) → text_bytes (state_of (after_at kind)) ≡ length value + (length p.active - 1 + place_of p.marks k)
     text_after kind =
-        text_bytes-parts (after_at kind) (ended_ordered p k sound begins.within kind (printed_at kind) value taken)
-        ∙ ended_length p k sound begins.within kind (printed_at kind) value taken
+        text_bytes-parts (after_at kind) (ended_ordered p k sound begins.within kind forced printed value position)
+        ∙ ended_length p k sound begins.within kind forced printed value position
 
     marks_after : (kind : Kind) → marks (state_of (after_at kind)).frames ≤ MARK_LIMIT
-    marks_after kind = rw (marks-parts (after_at kind) (ended_ordered p k sound begins.within kind (printed_at kind) value taken)) (marks_kept kind)
+    marks_after kind = rw (marks-parts (after_at kind) (ended_ordered p k sound begins.within kind forced printed value position)) (marks_kept kind)
       where
-        marks_kept : (kind : Kind) → length (after_at kind).marks ≤ MARK_LIMIT
-        marks_kept Active = omega (arith, sound.mark_limit, begins.within, length-take-le k p.marks (omega (arith, begins.within)))
-        marks_kept Neutral = omega (arith, sound.mark_limit, begins.within, length-take-le k p.marks (omega (arith, begins.within)))
+        front_kept : length (take k p.marks) ≤ MARK_LIMIT
+        front_kept = omega (arith, sound.mark_limit, begins.within, length-take-le k p.marks (omega (arith, begins.within)))
 
-    output_after : (kind : Kind) → (state_of (after_at kind)).output ≡ p.output ++ printed_at kind
-    output_after Active = refl
-    output_after Neutral = refl
+        marks_in : (kind : Kind) (b : Bool) → length (ended_parts p k kind b printed value position).marks ≤ MARK_LIMIT
+        marks_in Active b = front_kept
+        marks_in Neutral true = front_kept
+        marks_in Neutral false = front_kept
+
+        marks_kept : (kind : Kind) → length (after_at kind).marks ≤ MARK_LIMIT
+        marks_kept kind = marks_in kind forced
+
+    output_in : (kind : Kind) (b : Bool) → (state_of (ended_parts p k kind b printed value position)).output ≡ p.output ++ printed
+    output_in Active b = refl
+    output_in Neutral true = refl
+    output_in Neutral false = refl
+
+    output_after : (kind : Kind) → (state_of (after_at kind)).output ≡ p.output ++ printed
+    output_after kind = output_in kind forced
 
     pub call_too_long : TEXT_LIMIT - (length p.active - 1 + place_of p.marks k) < length value →
-        IfCalls (scan s.state) (λ call. false ≡ is_within_limits (ended_call prints value taken call))
+        IfCalls (scan s.state) (λ call. false ≡ is_within_limits (ended_by forced printed value position call))
     call_too_long h =
         let called = scan_called p k sound begins front in
-        if_calls p s (call_at p k called.0) (λ call. false ≡ is_within_limits (ended_call prints value taken call)) view called.2
-        (sym (ap is_within_limits (ended_call-parts p k sound begins.within called.0 prints value taken)
+        if_calls p s (call_at p k called.0) (λ call. false ≡ is_within_limits (ended_by forced printed value position call)) view called.2
+        (sym (ap is_within_limits (ended_call-parts p k sound begins.within called.0 forced printed value position)
         ∙ beyond_limits_of_text (state_of (after_at called.0)) (omega (arith, text_after called.0, kept_length))))
 
-    pub call_limited : (printed : List ℕ) → length value ≤ TEXT_LIMIT - (length p.active - 1 + place_of p.marks k) →
-        ((kind : Kind) → printed ≡ printed_at kind) →
-        IfCalls (scan s.state) (λ call. nat_le (length printed) (OUTPUT_LIMIT - length p.output) ≡ is_within_limits (ended_call prints value taken call))
-    call_limited printed h is =
+    pub call_limited : length value ≤ TEXT_LIMIT - (length p.active - 1 + place_of p.marks k) →
+        IfCalls (scan s.state) (λ call. nat_le (length printed) (OUTPUT_LIMIT - length p.output) ≡ is_within_limits (ended_by forced printed value position call))
+    call_limited h =
         let called = scan_called p k sound begins front in
-        if_calls p s (call_at p k called.0) (λ call. nat_le (length printed) (OUTPUT_LIMIT - length p.output) ≡ is_within_limits (ended_call prints value taken call)) view called.2
+        if_calls p s (call_at p k called.0) (λ call. nat_le (length printed) (OUTPUT_LIMIT - length p.output) ≡ is_within_limits (ended_by forced printed value position call)) view called.2
         (nat_le-minus (length printed) (length p.output) OUTPUT_LIMIT sound.output_limit
         ∙ sym (
-        ap is_within_limits (ended_call-parts p k sound begins.within called.0 prints value taken)
+        ap is_within_limits (ended_call-parts p k sound begins.within called.0 forced printed value position)
         ∙ limits_by_output (state_of (after_at called.0)) (omega (arith, text_after called.0, h, kept_length)) (marks_after called.0)
-        ∙ ap (λ (n : ℕ). nat_le n OUTPUT_LIMIT) (ap length (output_after called.0 ∙ ap (λ (more : List ℕ). p.output ++ more) (sym (is called.0))) ∙ length-append p.output printed)
+        ∙ ap (λ (n : ℕ). nat_le n OUTPUT_LIMIT) (ap length (output_after called.0) ∙ length-append p.output printed)
         ))
 
-    pub sound_after : (kind : Kind) → is_within_limits (ended_call prints value taken (call_at p k kind)) ≡ true → IsSound (after_at kind)
+    pub sound_after : (kind : Kind) → is_within_limits (ended_by forced printed value position (call_at p k kind)) ≡ true → IsSound (after_at kind)
     sound_after kind fits =
-        let kept = limits_kept (state_of (after_at kind)) (sym (ap is_within_limits (ended_call-parts p k sound begins.within kind prints value taken)) ∙ fits) in
+        let kept = limits_kept (state_of (after_at kind)) (sym (ap is_within_limits (ended_call-parts p k sound begins.within kind forced printed value position)) ∙ fits) in
         record {
-          ordered = ended_ordered p k sound begins.within kind (printed_at kind) value taken;
-          text_limit = omega (arith, kept.text, text_bytes-parts (after_at kind) (ended_ordered p k sound begins.within kind (printed_at kind) value taken));
-          mark_limit = omega (arith, kept.marked, marks-parts (after_at kind) (ended_ordered p k sound begins.within kind (printed_at kind) value taken));
+          ordered = ended_ordered p k sound begins.within kind forced printed value position;
+          text_limit = omega (arith, kept.text, text_bytes-parts (after_at kind) (ended_ordered p k sound begins.within kind forced printed value position));
+          mark_limit = omega (arith, kept.marked, marks-parts (after_at kind) (ended_ordered p k sound begins.within kind forced printed value position));
           output_limit = kept.output;
         }
 
 -- ---- the parts after a call, from those of the machine
 
-pub ended_is : (p q : Parts) (k : ℕ) (kind : Kind) (printed value : List ℕ) (taken : ℕ) (e : Ends ℕ) →
+pub ended_is : (p q : Parts) (k : ℕ) (kind : Kind) (forced : Bool) (printed value : List ℕ) (position : ℕ) (e : Ends ℕ) →
     e.left ≡ take (place_of p.marks k) p.text → e.right ≡ drop 1 p.active →
-    q.text ≡ (with_value (Some kind) value e).left → q.active ≡ (with_value (Some kind) value e).right → q.marks ≡ take k p.marks →
-    q.meta ≡ p.meta → q.position ≡ p.position + taken → q.output ≡ p.output ++ printed →
-    q ≡ ended_parts p k kind printed value taken
-ended_is p q k Active printed value taken e left right t a m meta position output i = record {
+    q.text ≡ (with_value (Some kind) forced value e).left → q.active ≡ (with_value (Some kind) forced value e).right → q.marks ≡ take k p.marks →
+    q.meta ≡ p.meta → q.position ≡ position → q.output ≡ p.output ++ printed →
+    q ≡ ended_parts p k kind forced printed value position
+ended_is p q k Active forced printed value position e left right t a m meta at output i = record {
   active = (a ∙ ap (λ (rest : List ℕ). value ++ rest) right) i;
   text = (t ∙ left) i;
   marks = m i;
   meta = meta i;
-  position = position i;
+  position = at i;
   output = output i;
 }
-ended_is p q k Neutral printed value taken e left right t a m meta position output i = record {
+ended_is p q k Neutral true printed value position e left right t a m meta at output i = record {
+  active = (a ∙ ap (λ (rest : List ℕ). value ++ rest) right) i;
+  text = (t ∙ left) i;
+  marks = m i;
+  meta = meta i;
+  position = at i;
+  output = output i;
+}
+ended_is p q k Neutral false printed value position e left right t a m meta at output i = record {
   active = (a ∙ right) i;
   text = (t ∙ ap (λ (front : List ℕ). front ++ value) left) i;
   marks = m i;
   meta = meta i;
-  position = position i;
+  position = at i;
   output = output i;
 }
 

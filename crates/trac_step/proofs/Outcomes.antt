@@ -7,23 +7,15 @@ use Rattle.trac_rules.specs.declared.scan.Front.{Front}
 use Rattle.trac_rules.specs.declared.scan.Front.TheVariants.{Nothing, Opening, Layout, Comma, ActiveCall, NeutralCall, Sharp, Closing, Plain}
 use Rattle.trac_rules.specs.State.{Frame, State, Tape}
 use Rattle.trac_rules.specs.Scanning.{Call, Scanned, Moves, Calls, front_of, scan, scan_at, closing_in, deleted}
-use Rattle.trac_rules.specs.Performing.{perform}
+use Rattle.trac_rules.specs.Bytes.{argument}
+use Rattle.trac_rules.specs.Performing.{Effect, after_call, effect_of, perform, performed_by, primitive_of}
 use Rattle.trac_rules.specs.Limits.{is_within_limits}
 use Rattle.trac_rules.specs.Stepping.{step, limited, carried_out, MayLackMemory, MayRefuse}
-use Rattle.trac_rules.proofs.Refusals.{step_never_Memory}
-use Rattle.trac_step.specs.Calling.{IfCalls, IfMoves, IsMove}
+use Rattle.trac_prims.specs.declared.effect.Effect as code
+use Rattle.trac_prims.specs.Effects.{MayFail, effect_on}
+use Rattle.trac_step.specs.Calling.{IfCalls, IfMoves, IsMove, ended_call}
+use Rattle.trac_step.proofs.Ended.{if_calls_map, performed}
 use Rattle.trac_step.proofs.Ending.{scan_front}
-
--- a refusal that is the outcome's own
-pub may_refuse_own : (outcome : Result State Refusal) (e : Refusal) → outcome ≡ Err e → (e ≡ Memory → ⊥) → MayRefuse outcome e
-may_refuse_own outcome Memory is other = absurd (other refl)
-may_refuse_own outcome TooLong is other = is
-may_refuse_own outcome NeedInput is other = is
-may_refuse_own outcome Ended is other = is
-may_refuse_own outcome JournalFull is other = is
-may_refuse_own outcome AtStart is other = is
-may_refuse_own outcome Closed is other = is
-may_refuse_own outcome NotMet is other = is
 
 -- memory, where it may be refused
 pub refuses_memory : (outcome : Result State Refusal) (e : Refusal) → e ≡ Memory → MayLackMemory outcome → MayRefuse outcome e
@@ -49,6 +41,18 @@ lacks_limited t = lacks_by (is_within_limits t) refl
 
 -- ---- a function is performed
 
+-- why a plan was not made is why the call is refused, or `Memory`
+may_refuse_unplanned : (call : Call) (outcome : Result Effect Refusal) (e : Refusal) → MayFail outcome e → MayRefuse (limited (performed_by call outcome)) e
+may_refuse_unplanned call (Ok effect) Memory h = lacks_limited (after_call call effect)
+may_refuse_unplanned call (Err refusal) Memory h = absurd (let unset : false ≡ true = h in cc)
+may_refuse_unplanned call outcome TooLong h = ap (λ o. limited (performed_by call o)) h
+may_refuse_unplanned call outcome NeedInput h = ap (λ o. limited (performed_by call o)) h
+may_refuse_unplanned call outcome Ended h = ap (λ o. limited (performed_by call o)) h
+may_refuse_unplanned call outcome JournalFull h = ap (λ o. limited (performed_by call o)) h
+may_refuse_unplanned call outcome AtStart h = ap (λ o. limited (performed_by call o)) h
+may_refuse_unplanned call outcome Closed h = ap (λ o. limited (performed_by call o)) h
+may_refuse_unplanned call outcome NotMet h = ap (λ o. limited (performed_by call o)) h
+
 pub calls_of : (s : State) → front_of s.active ≡ Closing → 0 < length s.frames → (call : Call) × (scan s ≡ Calls call)
 calls_of s front inside =
     let called = calls_in s.frames inside in
@@ -62,10 +66,16 @@ module _ (tape : Tape) (s : State) (front : front_of s.active ≡ Closing) (insi
   call_holds : (P : Call → Type 0) → IfCalls (scan s) P → P (calls_of s front inside).0
   call_holds P h = subst (λ x. IfCalls x P) (calls_of s front inside).1 h
 
-  pub call_refused : (e : Refusal) → IfCalls (scan s) (λ call. perform tape call ≡ Err e) → MayRefuse (step tape s) e
-  call_refused e h =
-      let outcome : step tape s ≡ Err e = step_as tape s (Calls (calls_of s front inside).0) (calls_of s front inside).1 ∙ ap limited (call_holds (λ call. perform tape call ≡ Err e) h) in
-      may_refuse_own (step tape s) e outcome (λ is. step_never_Memory tape s (outcome ∙ ap Err is))
+  -- what could not be planned is refused
+  pub call_unplanned : (e : Refusal) →
+      IfCalls (scan s) (λ call. MayFail (effect_of (primitive_of (argument 0 call.arguments)) tape call.arguments call.state) e) → MayRefuse (step tape s) e
+  unfolding perform
+  call_unplanned e h =
+      let call = (calls_of s front inside).0 in
+      let outcome = effect_of (primitive_of (argument 0 call.arguments)) tape call.arguments call.state in
+      subst (λ o. MayRefuse o e) (sym (step_as tape s (Calls call) (calls_of s front inside).1))
+      (may_refuse_unplanned call outcome e
+      (call_holds (λ call. MayFail (effect_of (primitive_of (argument 0 call.arguments)) tape call.arguments call.state) e) h))
 
   module _ (after : Call → State) (performs : IfCalls (scan s) (λ call. perform tape call ≡ Ok (after call))) where
     outcome_of_call : step tape s ≡ limited (Ok (after (calls_of s front inside).0))
@@ -119,3 +129,11 @@ module _ (tape : Tape) (s : State) (moves : IsMove (scan s)) where
 
 pub move_taken : (tape : Tape) (s t : State) → scan s ≡ Moves t → IfMoves (scan s) (λ u. true ≡ is_within_limits u) → step tape s ≡ Ok t
 move_taken tape s t scanned h = step_as tape s (Moves t) scanned ∙ limited_within t (subst (λ x. IfMoves x (λ u. true ≡ is_within_limits u)) scanned h)
+
+-- what is planned is performed
+pub planned_is_performed : {A : Type 0} (tape : Tape) (s : State) (e : code.Effect A) →
+    IfCalls (scan s) (λ call. effect_of (primitive_of (argument 0 call.arguments)) tape call.arguments call.state ≡ Ok (effect_on call.state e)) →
+    IfCalls (scan s) (λ call. perform tape call ≡ Ok (ended_call e call))
+planned_is_performed tape s e h =
+    if_calls_map (scan s) (λ call. effect_of (primitive_of (argument 0 call.arguments)) tape call.arguments call.state ≡ Ok (effect_on call.state e))
+    (λ call. perform tape call ≡ Ok (ended_call e call)) (λ call is. performed tape call (effect_on call.state e) is) h

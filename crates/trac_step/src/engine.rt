@@ -3,7 +3,7 @@ ghost use Rattle.std.specs.Prelude.{◌≡◌, IfOk, IsOkUnless, length};
 ghost use Rattle.trac_rules.specs.State.{initial};
 ghost use Rattle.trac_rules.specs.Session.{settled};
 
-use crate::mark::Mark;
+use trac_prims::Mark;
 use std::alloc::{Allocator, Global};
 use std::marker::Model;
 use trac_gap::{PlainEnds, TwoEnds};

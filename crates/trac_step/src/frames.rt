@@ -3,10 +3,10 @@ ghost use Rattle.std.specs.Prelude.{◌≡◌, ℕ, ◌+◌, ◌<◌, ◌≤◌,
 ghost use Rattle.trac_step.specs.Layout.{AreMarks, neutral};
 ghost use Rattle.trac_step.specs.Frames.{IsFrame, IsWithoutInnermost};
 
-use crate::args::Args;
+use trac_prims::Args;
 use crate::calling::{arguments_behind, called};
 use crate::engine::Core;
-use crate::mark::Mark;
+use trac_prims::Mark;
 use std::alloc::Allocator;
 use trac_gap::TwoEnds;
 use trac_rules::kind::Kind;

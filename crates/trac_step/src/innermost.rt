@@ -2,7 +2,7 @@
 ghost use Rattle.std.specs.Prelude.{◌≡◌, ◌<◌, ◌+◌, length, drop, take, slice_get, MatchOption};
 ghost use Rattle.trac_prims.specs.Cuts.{AreArguments, BeginsFunction, function_count};
 
-use crate::mark::Mark;
+use trac_prims::Mark;
 
 // The last of the marks that begins a function: behind it only arguments begin.
 pub(crate) fn innermost(marks: &[Mark]) -> Option<usize>

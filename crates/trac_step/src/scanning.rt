@@ -6,7 +6,7 @@ ghost use Rattle.trac_rules.specs.Scanning.{protect, deleted, begun, comma_in, g
 ghost use Rattle.trac_rules.specs.Limits.{marks};
 
 use crate::engine::{Core, IDLE_PROGRAM};
-use crate::mark::Mark;
+use trac_prims::Mark;
 use crate::matching::match_in;
 use std::alloc::Allocator;
 use trac_gap::TwoEnds;

@@ -10,7 +10,7 @@ ghost use Rattle.trac_prims.specs.Tape.{tape_of};
 use crate::engine::Core;
 use crate::front::front_at;
 use crate::record::Record;
-use crate::tape::Tape;
+use trac_prims::Tape;
 use std::alloc::Allocator;
 use trac_gap::TwoEnds;
 use trac_rules::kind::Kind;
@@ -95,12 +95,12 @@ impl<E: TwoEnds<u8, A>, A: Allocator + Copy> Core<E, A> {
         ensures taken { IfOk result (λ r. (before r self.new.state ≡ Some self.old.state) × (step (tape_of tape.entry) self.old.state ≡ Ok self.new.state)) }
         ensures refused { IfErr result (λ e. (self.new ≡ self.old) × MayRefuse (step (tape_of tape.entry) self.old.state) e) }
     {
-        let action = self.planned(tape)?;
-        if !self.call_fits(&action) {
+        let effect = self.planned(tape)?;
+        if !self.call_fits(&effect) {
             return Err(Refusal::TooLong);
         }
         let before = self.copy()?;
-        self.end_call(action)?;
+        self.end_call(effect)?;
         Ok(Record::Whole(before))
     }
 
