@@ -1,6 +1,6 @@
-//! Numerals and numbers: the law of the longest tail, and worked rows, computed from the definitions.
-ghost use Rattle.std.specs.Prelude.{◌≡◌, ◌≤◌, ◌++◌, [], List, ℕ, length, codes, true, false, None, Some, ℤ, pos, negsuc, neg_ℤ};
-ghost use Rattle.trac_rules.specs.Number.{IsCutQuotient, IsNumeralOrNull, calculated, difference_of, fits, is_greater, is_numeral, number_of, number_text, numeral_of, prefix_of, product_of, quotient_of, sum_of, whole_number};
+//! Laws of numerals and numbers, each the contract of a function that does nothing, and worked rows, computed from the definitions.
+ghost use Rattle.std.specs.Prelude.{◌≡◌, ◌≤◌, ◌++◌, [], List, ℕ, length, codes, true, false, None, Some, ℤ, pos, neg_ℤ};
+ghost use Rattle.trac_rules.specs.Number.{IsCutQuotient, IsNumeralOrNull, calculated, difference_of, fits, is_greater, is_numeral, number_of, number_text, numeral_of, prefix_of, product_of, quotient_of, sum_of};
 
 /// The numeral of a text, which is found as the first tail of the form, is its longest one: a tail of the form or null,
 /// with the prefix before it, and no tail of the form is longer.
