@@ -36,6 +36,7 @@ fn without_zeros(digits: &[u8]) -> &[u8]
     digits.split_at(place).1
 }
 
+// The digits of a numeral without its sign and its leading zeros: null for 0.
 fn magnitude(numeral: &[u8]) -> &[u8]
     requires { IsNumeralOrNull numeral.now }
     ensures { IsMagnitudeOf numeral.now result.now }

@@ -7,6 +7,8 @@ pub mod error;
 pub mod numeral;
 pub mod print;
 pub mod tail;
+#[cfg(test)]
+mod tests;
 
 pub use arithmetic::{add, div, mul, sub};
 pub use comparison::greater;

@@ -1,4 +1,5 @@
 pub mod Balanced
+pub mod Calculated
 pub mod Numerals
 pub mod Changed
 pub mod Positions

@@ -1,5 +1,5 @@
 -- Numbers: the numeral at the end of a text, the whole number that it writes, and arithmetic within the range of numbers.
-use Rattle.std.specs.Prelude.{◌≡◌, ◌⊎◌, ℕ, ◌-◌, ◌^◌, ℤ, pos, neg_ℤ, ◌+ℤ◌, ◌-ℤ◌, ◌*ℤ◌, int_lt, int_le, int_div, List, [], ◌∷◌, ◌++◌, length, take, nat_lt, if◌then◌else◌, Bool, true, ◌&&◌, Option, None, Some}
+use Rattle.std.specs.Prelude.{◌≡◌, ◌⊎◌, ◌<◌, ◌≤◌, ℕ, ◌-◌, ◌^◌, ℤ, pos, neg_ℤ, ◌+ℤ◌, ◌-ℤ◌, ◌*ℤ◌, int_lt, int_le, int_div, unsigned_abs, List, [], ◌∷◌, ◌++◌, length, take, nat_lt, if◌then◌else◌, Bool, true, ◌&&◌, Option, None, Some}
 use Rattle.std.specs.Fmt.{signed_decimal}
 use Rattle.std.specs.Ordering.{int_eq}
 use Rattle.std.specs.Str.{all_ascii_digits}
@@ -60,6 +60,13 @@ product_of a b = if_fits (a *ℤ b)
 -- cut toward zero (this project's profile); none for a divisor of 0
 unfoldable pub quotient_of : ℤ → ℤ → Option ℤ
 quotient_of a b = if int_eq b (pos 0) then None else if_fits (int_div a b)
+
+-- q is a by b, cut toward zero: what remains of a is smaller than b, and q times b goes no further from zero than a
+pub record IsCutQuotient (a b q : ℤ) : Type 0 where
+  pub remainder : ℤ
+  pub whole : a ≡ q *ℤ b +ℤ remainder
+  pub smaller : unsigned_abs remainder < unsigned_abs b
+  pub within : unsigned_abs (q *ℤ b) ≤ unsigned_abs a
 
 -- the number of the first numeral is the greater one, whether they fit or not (this project's profile)
 unfoldable pub is_greater : List ℕ → List ℕ → Bool

@@ -1,6 +1,6 @@
-//! Numerals and numbers: the law of the longest tail, and worked rows, computed from the definitions.
-ghost use Rattle.std.specs.Prelude.{◌≡◌, ◌≤◌, ◌++◌, [], List, ℕ, length, codes, true, false, None, Some, ℤ, pos, negsuc, neg_ℤ};
-ghost use Rattle.trac_rules.specs.Number.{IsNumeralOrNull, calculated, difference_of, is_greater, is_numeral, number_of, numeral_of, prefix_of, product_of, quotient_of, sum_of, whole_number};
+//! Laws of numerals and numbers, each the contract of a function that does nothing, and worked rows, computed from the definitions.
+ghost use Rattle.std.specs.Prelude.{◌≡◌, ◌≤◌, ◌++◌, [], List, ℕ, length, codes, true, false, None, Some, ℤ, pos, neg_ℤ};
+ghost use Rattle.trac_rules.specs.Number.{IsCutQuotient, IsNumeralOrNull, calculated, difference_of, fits, is_greater, is_numeral, number_of, number_text, numeral_of, prefix_of, product_of, quotient_of, sum_of};
 
 /// The numeral of a text, which is found as the first tail of the form, is its longest one: a tail of the form or null,
 /// with the prefix before it, and no tail of the form is longer.
@@ -8,6 +8,17 @@ pub fn numeral_is_longest()
     ensures parts { (text : List ℕ) → prefix_of text ++ numeral_of text ≡ text }
     ensures form { (text : List ℕ) → IsNumeralOrNull (numeral_of text) }
     ensures longest { (text front tail : List ℕ) → text ≡ front ++ tail → is_numeral tail ≡ true → length tail ≤ length (numeral_of text) }
+{}
+
+/// A quotient is cut toward zero.
+pub fn quotient_is_cut()
+    ensures { (a b q : ℤ) → quotient_of a b ≡ Some q → IsCutQuotient a b q }
+{}
+
+/// A number that is printed is a numeral, and is read back as the same number.
+pub fn printed_is_read_back()
+    ensures form { (n : ℤ) → fits n ≡ true → is_numeral (number_text n) ≡ true }
+    ensures number { (n : ℤ) → fits n ≡ true → number_of (number_text n) ≡ Some n }
 {}
 
 /// What stands at the end of texts, and what is calculated from it.
