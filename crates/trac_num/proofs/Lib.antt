@@ -1,0 +1,7 @@
+mod Pairs
+mod Digits
+mod Bits
+mod EachDigit
+mod Tails
+mod Sliding
+mod Directions
