@@ -1,5 +1,5 @@
 //! Octal texts moved and rotated by places of a bit. Texts hold octal digits alone, and each digit is three bits.
-ghost use Rattle.std.specs.Prelude.{◌≡◌, ◌<◌, ◌≤◌, ◌+◌, ◌-◌, ◌*◌, ◌++◌, ℕ, length, take, drop, IfOk, IsTrue};
+ghost use Rattle.std.specs.Prelude.{◌≡◌, ◌<◌, ◌≤◌, ◌+◌, ◌-◌, ◌*◌, ◌++◌, length, take, drop, IfOk, IsTrue};
 ghost use Rattle.trac_rules.specs.Octal.{IsOctal, bits_of, digit_bits, is_octal_digit, rotate, shift, shifted_left, shifted_right};
 
 use crate::error::NumError;
