@@ -18,14 +18,10 @@ fn union_of_longer<A: Allocator + Copy>(
     ensures octal { IfOk result (λ v. IsOctal v.items) }
 {
     let (left, right) = long.split_at(long.len() - short.len());
-    let mut digits = Vec::with_capacity(alloc, long.len()).map_err(|_| NumError::Memory)?;
-    digits
-        .extend_from_slice(left)
-        .map_err(|_| NumError::Memory)?;
+    let mut digits = Vec::with_capacity(alloc, long.len())?;
+    digits.extend_from_slice(left)?;
     for (i, digit) in short.iter().enumerate() {
-        digits
-            .push(right[i] | *digit)
-            .map_err(|_| NumError::Memory)?;
+        digits.push(right[i] | *digit)?;
     }
     Ok(digits)
 }
@@ -57,11 +53,9 @@ pub fn meet<A: Allocator + Copy>(alloc: A, a: &[u8], b: &[u8]) -> Result<Vec<u8,
     let common = a.len().min(b.len());
     let first = a.split_at(a.len() - common).1;
     let second = b.split_at(b.len() - common).1;
-    let mut digits = Vec::with_capacity(alloc, common).map_err(|_| NumError::Memory)?;
+    let mut digits = Vec::with_capacity(alloc, common)?;
     for (i, digit) in first.iter().enumerate() {
-        digits
-            .push(*digit & second[i])
-            .map_err(|_| NumError::Memory)?;
+        digits.push(*digit & second[i])?;
     }
     Ok(digits)
 }
@@ -74,9 +68,9 @@ pub fn complement<A: Allocator + Copy>(alloc: A, a: &[u8]) -> Result<Vec<u8, A>,
     ensures bits { IfOk result (λ v. bits_of v.items ≡ complement (bits_of a.now)) }
     ensures octal { IfOk result (λ v. IsOctal v.items) }
 {
-    let mut digits = Vec::with_capacity(alloc, a.len()).map_err(|_| NumError::Memory)?;
+    let mut digits = Vec::with_capacity(alloc, a.len())?;
     for digit in a {
-        digits.push(*digit ^ 7).map_err(|_| NumError::Memory)?;
+        digits.push(*digit ^ 7)?;
     }
     Ok(digits)
 }

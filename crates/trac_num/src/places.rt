@@ -40,13 +40,9 @@ fn shifted_left<A: Allocator + Copy>(alloc: A, by: u64, a: &[u8]) -> Result<Vec<
     ensures octal { IfOk result (λ v. IsOctal v.items) }
 {
     let lost = a.len().min((by / 3) as usize);
-    let mut digits = Vec::with_capacity(alloc, a.len() + 1).map_err(|_| NumError::Memory)?;
-    digits
-        .extend_from_slice(a.split_at(lost).1)
-        .map_err(|_| NumError::Memory)?;
-    digits
-        .resize(a.len() + 1, ZERO)
-        .map_err(|_| NumError::Memory)?;
+    let mut digits = Vec::with_capacity(alloc, a.len() + 1)?;
+    digits.extend_from_slice(a.split_at(lost).1)?;
+    digits.resize(a.len() + 1, ZERO)?;
     slide(&mut digits, (by % 3) as u8);
     Ok(digits)
 }
@@ -58,11 +54,9 @@ fn shifted_right<A: Allocator + Copy>(alloc: A, by: u64, a: &[u8]) -> Result<Vec
     ensures octal { IfOk result (λ v. IsOctal v.items) }
 {
     let lost = a.len().min((by / 3) as usize);
-    let mut digits = Vec::with_capacity(alloc, a.len() + 1).map_err(|_| NumError::Memory)?;
-    digits.resize(lost + 1, ZERO).map_err(|_| NumError::Memory)?;
-    digits
-        .extend_from_slice(a.split_at(a.len() - lost).0)
-        .map_err(|_| NumError::Memory)?;
+    let mut digits = Vec::with_capacity(alloc, a.len() + 1)?;
+    digits.resize(lost + 1, ZERO)?;
+    digits.extend_from_slice(a.split_at(a.len() - lost).0)?;
     slide(&mut digits, 3 - (by % 3) as u8);
     Ok(digits)
 }
@@ -80,13 +74,9 @@ fn turned<A: Allocator + Copy>(
     ensures bits { IfOk result (λ v. let k = 3 * start + skipped in bits_of v.items ≡ drop k (bits_of a.now) ++ take k (bits_of a.now)) }
     ensures still_octal { IfOk result (λ v. IsOctal v.items) }
 {
-    let mut digits = Vec::with_capacity(alloc, a.len() + 1).map_err(|_| NumError::Memory)?;
-    digits
-        .extend_from_slice(a.split_at(start).1)
-        .map_err(|_| NumError::Memory)?;
-    digits
-        .extend_from_slice(a.split_at(start + 1).0)
-        .map_err(|_| NumError::Memory)?;
+    let mut digits = Vec::with_capacity(alloc, a.len() + 1)?;
+    digits.extend_from_slice(a.split_at(start).1)?;
+    digits.extend_from_slice(a.split_at(start + 1).0)?;
     slide(&mut digits, skipped);
     Ok(digits)
 }
