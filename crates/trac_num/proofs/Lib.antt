@@ -1,7 +1,14 @@
-pub mod Compared
 pub mod Digits
-pub mod Larger
 pub mod Numerals
 pub mod Parsed
 pub mod Places
 pub mod Range
+pub mod Larger
+pub mod Compared
+mod Pairs
+mod OctalDigits
+mod Bits
+mod EachDigit
+mod Tails
+mod Sliding
+mod Directions

@@ -1,5 +1,8 @@
 //! Why a call on numbers can be refused.
+ghost use Rattle.std.specs.Prelude.{◌≡◌};
+ghost use Rattle.trac_num.specs.declared.error.NumError.TheVariants.{Memory};
 
+use std::alloc::{AllocError, AllocFailed};
 use thiserror::Error;
 
 /// Why a text could not be made.
@@ -8,4 +11,20 @@ pub enum NumError {
     /// The allocator refused the memory.
     #[error("no memory")]
     Memory = 1,
+}
+
+impl From<AllocError> for NumError {
+    ghost from_gives = { λ _ e. e ≡ Memory };
+
+    fn from(_error: AllocError) -> NumError {
+        NumError::Memory
+    }
+}
+
+impl<T: Drop> From<AllocFailed<T>> for NumError {
+    ghost from_gives = { λ _ e. e ≡ Memory };
+
+    fn from(_failed: AllocFailed<T>) -> NumError {
+        NumError::Memory
+    }
 }

@@ -1,18 +1,27 @@
-//! Decimal numbers at the end of texts: reading, arithmetic within the range of numbers, comparison and printing.
+//! Numbers and octal strings at the ends of texts: decimals are read, calculated within the range of numbers, compared and
+//! printed, and the bits of octal strings are joined, turned over, moved and rotated.
 #![tactic(auto)]
 
 pub mod arithmetic;
+pub mod bitwise;
 pub mod comparison;
 pub mod error;
 pub mod numeral;
+pub mod octal;
+#[cfg(test)]
+mod octal_tests;
+pub mod places;
 pub mod print;
 pub mod tail;
 #[cfg(test)]
 mod tests;
 
 pub use arithmetic::{add, div, mul, sub};
+pub use bitwise::{complement, meet, union};
 pub use comparison::greater;
 pub use error::NumError;
 pub use numeral::value;
+pub use octal::octal_tail;
+pub use places::{rotate, shift};
 pub use print::print_into;
 pub use tail::{Tail, read_tail};
