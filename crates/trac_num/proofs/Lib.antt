@@ -1,7 +1,7 @@
 pub mod Digits
 pub mod Numerals
 pub mod Parsed
-pub mod Places
+pub mod NumeralPlaces
 pub mod Range
 pub mod Larger
 pub mod Compared

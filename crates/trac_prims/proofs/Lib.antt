@@ -1,3 +1,4 @@
 pub mod Cutting
 pub mod ReadTexts
 pub mod Calculated
+pub mod OctalResults

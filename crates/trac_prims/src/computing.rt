@@ -6,6 +6,7 @@ ghost use Rattle.trac_rules.specs.Number.{calculated};
 ghost use Rattle.trac_prims.specs.Values.{value_of};
 
 use crate::args::Args;
+use crate::bits::{complement_of, meet_of, rotated, shifted, union_of};
 use crate::calculating::calculated;
 use std::alloc::Allocator;
 use trac_num::{NumError, greater, read_tail};
@@ -93,10 +94,10 @@ pub(crate) fn compute<A: Allocator + Copy>(
             choice(alloc, greater(first, second), args)
         }
         Computation::Calculate(operation) => result_or_default(alloc, operation, args),
-        Computation::Union
-        | Computation::Meet
-        | Computation::Complement
-        | Computation::Shift
-        | Computation::Rotate => Err(Refusal::Memory),
+        Computation::Union => made(union_of(alloc, args)),
+        Computation::Meet => made(meet_of(alloc, args)),
+        Computation::Complement => made(complement_of(alloc, args)),
+        Computation::Shift => made(shifted(alloc, args)),
+        Computation::Rotate => made(rotated(alloc, args)),
     }
 }

@@ -2,6 +2,7 @@
 #![tactic(auto)]
 
 pub mod args;
+mod bits;
 mod calculating;
 mod computing;
 pub mod effect;

@@ -1,43 +1,22 @@
 -- Octal strings: the longest tail, and the text of the bits of a text.
-use Rattle.std.proofs.Common.{◌≡◌, ℕ, ◌+◌, ◌-◌, ◌/◌, ◌<◌, ◌≤◌, Bool, true, false, cond, List, [], ◌∷◌, ◌++◌, length, refl, sym, ap, ◌∙◌, arith}
+use Rattle.std.proofs.Common.{◌≡◌, ℕ, ◌+◌, ◌-◌, ◌/◌, ◌<◌, ◌≤◌, Bool, true, List, [], ◌∷◌, refl, sym, ap, ◌∙◌, arith, ⊎_elim}
 use Rattle.std.specs.Prelude.{◌==◌, nat_le}
-use Rattle.std.proofs.lemmas.List.{length-append}
-use Rattle.std.proofs.lemmas.Bool.{and_parts, cond_both, leb-true, eqb-true, agree_below_at}
+use Rattle.std.proofs.lemmas.Bool.{and_parts, leb-true, eqb-true, agree_below_at}
 use Rattle.trac_rules.specs.declared.octals.TheConstants.{ZERO, SEVEN}
 use Rattle.trac_rules.specs.Octal.{IsOctal, bits_of, digit_of, is_octal, is_octal_digit, is_odd, octal_tail, text_of}
+use Rattle.trac_rules.proofs.Numerals.{longest_tail_passes, longest_tail_whole}
 
 -- ---- the longest tail
 
 -- an octal text is its own octal string
 pub octal_tail-octal : (text : List ℕ) → IsOctal text → octal_tail text ≡ text
 octal_tail-octal [] h = refl
-octal_tail-octal (b ∷ rest) h = rw h refl
-
--- the octal string of a text is a tail of it
-pub octal_tail_is_tail : (text : List ℕ) → (front : List ℕ) × (text ≡ front ++ octal_tail text)
-octal_tail_is_tail [] = ([], refl)
-octal_tail_is_tail (b ∷ rest) =
-    let behind = octal_tail_is_tail rest in
-    elim (is_octal (b ∷ rest)) as (λ t. (front : List ℕ) × (b ∷ rest ≡ front ++ cond t (b ∷ rest) (octal_tail rest))) [
-      | true ↦ ([], refl)
-      | false ↦ (b ∷ behind.0, ap (λ t. b ∷ t) behind.1)
-    ]
+octal_tail-octal (b ∷ rest) h = longest_tail_whole is_octal b rest h
 
 -- it is of octal digits alone
 pub octal_tail_is_octal : (text : List ℕ) → IsOctal (octal_tail text)
-octal_tail_is_octal [] = refl
-octal_tail_is_octal (b ∷ rest) =
-    cond_both (is_octal (b ∷ rest)) (b ∷ rest) (octal_tail rest) IsOctal (λ h. h) (λ _. octal_tail_is_octal rest)
-
--- no tail of octal digits alone is longer
-pub octal_tail_is_longest : (front tail : List ℕ) → IsOctal tail → length tail ≤ length (octal_tail (front ++ tail))
-octal_tail_is_longest [] tail h = rw (octal_tail-octal tail h) (omega arith)
-octal_tail_is_longest (b ∷ front) tail h =
-    let behind : length tail ≤ length (octal_tail (front ++ tail)) = octal_tail_is_longest front tail h in
-    elim (is_octal (b ∷ front ++ tail)) as (λ t. length tail ≤ length (cond t (b ∷ front ++ tail) (octal_tail (front ++ tail)))) [
-      | true ↦ omega (arith, length-append front tail)
-      | false ↦ behind
-    ]
+octal_tail_is_octal text =
+    ⊎_elim (λ (none : octal_tail text ≡ []). rw none refl) (λ (all : is_octal (octal_tail text) ≡ true). all) (longest_tail_passes is_octal text)
 
 -- ---- digits and their bits
 

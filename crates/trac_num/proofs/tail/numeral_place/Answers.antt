@@ -1,5 +1,5 @@
 use Rattle.std.proofs.Common.{arith}
-use Rattle.trac_num.proofs.Places.{whole_or_none, sign_is_numeral, digits_are_numeral}
+use Rattle.trac_num.proofs.NumeralPlaces.{whole_or_none, sign_is_numeral, digits_are_numeral}
 use Rattle.trac_num.proofs.tail.numeral_place.Goals as goal
 
 pub returns-then-digits-eq0-clause-numeral : goal.returns-then-digits-eq0-clause-numeral

@@ -1,5 +1,5 @@
 use Rattle.std.proofs.Common.{◌∙◌}
-use Rattle.trac_num.proofs.Places.{front_is_prefix, tail_is_numeral_or_null}
+use Rattle.trac_num.proofs.NumeralPlaces.{front_is_prefix, tail_is_numeral_or_null}
 use Rattle.trac_num.proofs.tail.read_tail.Goals as goal
 
 pub returns-clause-prefix : goal.returns-clause-prefix
