@@ -3,7 +3,8 @@ use Rattle.std.proofs.Common.{◌≡◌, ℕ, suc, ◌+◌, ◌<◌, sym, ap, su
 use Rattle.std.specs.Prelude.{Some, option_and_then}
 use Rattle.trac_rules.specs.declared.refusal.Refusal.{Refusal}
 use Rattle.trac_rules.specs.declared.refusal.Refusal.TheVariants.{Memory, TooLong, NeedInput, Ended, JournalFull, AtStart, Closed, NotMet}
-use Rattle.trac_rules.specs.declared.reply.Reply.TheVariants.{Refused}
+use Rattle.trac_rules.specs.declared.reply.Reply.{Reply}
+use Rattle.trac_rules.specs.declared.reply.Reply.TheVariants.{Done, Refused}
 use Rattle.trac_rules.specs.Session.{PlainSession, Command, Step, Back, done, refused, answer, accepted_by, Answers, repeated, IsWalk}
 use Rattle.trac_rules.proofs.Replies.{Step_refused, Back_refused}
 
@@ -58,3 +59,8 @@ stopped_Back_walk n k old p q refusal walked l h =
       walked = walked ∙ ap (λ t. Some t) (sym same);
       stopped = (l, subst (λ t. Answers Back t (Refused refusal) q) (sym same) (Back_refused_as p q refusal h));
     }
+
+-- a step back is answered as the plain session says, whatever it answers
+pub Back_answered : (p q : PlainSession) (reply : Reply) → answer Back p ≡ record { reply = reply; session = q } → Answers Back p reply q
+Back_answered p q Done h = h
+Back_answered p q (Refused refusal) h = Back_refused_as p q refusal h

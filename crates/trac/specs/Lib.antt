@@ -1,5 +1,6 @@
 -- What a session keeps, and what a run does.
 pub mod Replies
+pub mod Commands
 pub mod Journal
 pub mod Written
 pub mod Runs

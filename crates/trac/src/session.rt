@@ -4,9 +4,11 @@ ghost use Rattle.trac_rules.specs.declared.reply.Reply.TheVariants.{Done};
 ghost use Rattle.trac_rules.specs.Session.{new_session, Feed, End, Step, Back, Commit, answer, Answers, IsWalk};
 ghost use Rattle.trac.specs.Replies.{reply_of};
 
+mod commands;
 mod journal;
 mod walk;
 
+pub use commands::{Command, Replies, Reply};
 use journal::{Kept, step_kept};
 use std::alloc::{Allocator, Global};
 use std::marker::Model;
