@@ -1,6 +1,8 @@
 //! Worked rows: their values come from the definition of the language, not from this program.
 
+mod commands;
 mod faults;
+mod numbers;
 mod program;
 mod rows;
 mod walks;

@@ -11,6 +11,8 @@ mod name;
 mod planning;
 mod reading;
 pub mod tape;
+#[cfg(test)]
+mod tests;
 
 pub use args::Args;
 pub use effect::{Effect, Now};

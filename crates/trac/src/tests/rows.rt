@@ -11,13 +11,13 @@ use trac_faults::{FaultyReader, FaultyWriter, RepeatingReader};
 use trac_rules::limit::JOURNAL_LIMIT;
 use trac_rules::refusal::Refusal;
 
-const DEFAULTS: Options = Options {
+pub(crate) const DEFAULTS: Options = Options {
     budget: DEFAULT_BUDGET,
     journal: DEFAULT_JOURNAL,
 };
 
 // Runs an input that comes at most so many bytes at a time, and expects this output and ending.
-fn expect_run(
+pub(crate) fn expect_run(
     rt: &impl Abort,
     alloc: Global,
     input: &[u8],
