@@ -1,4 +1,6 @@
 //! Calls and what is planned for them.
+ghost use Rattle.std.specs.Prelude.{◌≡◌, None};
+
 use crate::{Args, Mark, Now, Tape, plan};
 use std::test::*;
 use trac_faults::Refusing;
@@ -15,7 +17,9 @@ const INPUT: Tape<'static> = Tape {
 };
 
 // The mark of an argument.
-const fn behind(place: usize) -> Mark {
+fn behind(place: usize) -> Mark
+    ensures { result ≡ record { place = place; frame = None } }
+{
     Mark { place, frame: None }
 }
 
