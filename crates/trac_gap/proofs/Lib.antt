@@ -2,5 +2,6 @@ mod Copying
 mod Full
 mod Halves
 mod Lending
+mod Parts
 mod Pasted
 mod Rows

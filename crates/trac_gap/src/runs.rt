@@ -4,6 +4,9 @@ ghost use Rattle.trac_gap.specs.Places.{IsFull, run, pasted};
 
 use crate::places::{Origin, Places};
 
+// A longer run moves by so many items at a time.
+const PART: usize = 2048;
+
 impl<T: Copy> Places<T> {
     /// The item in the place `index`, which has one.
     #[inline]
@@ -43,8 +46,57 @@ impl<T: Copy> Places<T> {
         }
     }
 
-    // `shift` to lower places, the first item first.
+    // `shift` to lower places, the first items first.
     fn shift_down(&mut self, origin: Origin<T>, from: usize, to: usize, count: usize)
+        requires { (origin.ptr ≡ self.old.at) × (from + count ≤ length self.old.slots)
+            × (to ≤ from) × (length self.old.slots < 2 ^ 64)
+            × IsFull (run from count self.old.slots) }
+        ensures { (self.new.at ≡ self.old.at)
+            × (self.new.slots ≡ pasted self.old.slots to (run from count self.old.slots)) }
+    {
+        let mut done = 0;
+        while PART <= count - done {
+            self.shift_part::<PART>(origin, from + done, to + done);
+            done += PART;
+        }
+        self.shift_items_down(origin, from + done, to + done, count - done);
+    }
+
+    // `shift` to higher places, the last items first.
+    fn shift_up(&mut self, origin: Origin<T>, from: usize, to: usize, count: usize)
+        requires { (origin.ptr ≡ self.old.at) × (to + count ≤ length self.old.slots)
+            × (from ≤ to) × (length self.old.slots < 2 ^ 64)
+            × IsFull (run from count self.old.slots) }
+        ensures { (self.new.at ≡ self.old.at)
+            × (self.new.slots ≡ pasted self.old.slots to (run from count self.old.slots)) }
+    {
+        let mut left = count;
+        while PART <= left {
+            left -= PART;
+            self.shift_part::<PART>(origin, from + left, to + left);
+        }
+        self.shift_items_up(origin, from, to, left);
+    }
+
+    // `shift` of `N` items. All are read before one is written, so this is one copy of memory
+    // also where the places overlap.
+    #[inline]
+    fn shift_part<const N: usize>(&mut self, origin: Origin<T>, from: usize, to: usize)
+        requires { (origin.ptr ≡ self.old.at) × (from + N ≤ length self.old.slots)
+            × (to + N ≤ length self.old.slots) × (length self.old.slots < 2 ^ 64)
+            × IsFull (run from N self.old.slots) }
+        ensures { (self.new.at ≡ self.old.at)
+            × (self.new.slots ≡ pasted self.old.slots to (run from N self.old.slots)) }
+    {
+        let Some(part) = self.items(origin, from, N).as_array::<N>() else {
+            unreachable!()
+        };
+        let part = *part;
+        self.copy_in(origin, to, &part);
+    }
+
+    // `shift` to lower places, item by item, the first one first.
+    fn shift_items_down(&mut self, origin: Origin<T>, from: usize, to: usize, count: usize)
         requires { (origin.ptr ≡ self.old.at) × (from + count ≤ length self.old.slots)
             × (to ≤ from) × (length self.old.slots < 2 ^ 64)
             × IsFull (run from count self.old.slots) }
@@ -57,8 +109,8 @@ impl<T: Copy> Places<T> {
         }
     }
 
-    // `shift` to higher places, the last item first.
-    fn shift_up(&mut self, origin: Origin<T>, from: usize, to: usize, count: usize)
+    // `shift` to higher places, item by item, the last one first.
+    fn shift_items_up(&mut self, origin: Origin<T>, from: usize, to: usize, count: usize)
         requires { (origin.ptr ≡ self.old.at) × (to + count ≤ length self.old.slots)
             × (from ≤ to) × (length self.old.slots < 2 ^ 64)
             × IsFull (run from count self.old.slots) }
