@@ -1,3 +1,4 @@
+mod Apart
 mod Copying
 mod Full
 mod Halves
@@ -5,3 +6,4 @@ mod Lending
 mod Parts
 mod Pasted
 mod Rows
+mod Shifted

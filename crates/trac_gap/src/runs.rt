@@ -1,6 +1,6 @@
 //! Copies of runs of items into a row of places, and within it.
 ghost use Rattle.std.specs.Prelude.{◌≡◌, ℕ, ◌+◌, ◌-◌, ◌^◌, ◌<◌, ◌≤◌, Some, None, length, map, get_or, IsSome};
-ghost use Rattle.trac_gap.specs.Places.{IsFull, run, pasted};
+ghost use Rattle.trac_gap.specs.Places.{IsFull, IsShifted, run, pasted};
 
 use crate::places::{Origin, Places};
 
@@ -30,16 +30,18 @@ impl<T: Copy> Places<T> {
         }
     }
 
-    /// Copies the `count` items from the place `from` on to the places from `to` on, which may
-    /// overlap them.
+    /// Moves the `count` items from the place `from` on to the places from `to` on, which may
+    /// overlap them. What the other places of both runs hold afterwards is of no use.
     pub(crate) fn shift(&mut self, origin: Origin<T>, from: usize, to: usize, count: usize)
         requires { (origin.ptr ≡ self.old.at) × (from + count ≤ length self.old.slots)
             × (to + count ≤ length self.old.slots) × (length self.old.slots < 2 ^ 64)
             × IsFull (run from count self.old.slots) }
         ensures { (self.new.at ≡ self.old.at)
-            × (self.new.slots ≡ pasted self.old.slots to (run from count self.old.slots)) }
+            × IsShifted self.old.slots from to count self.new.slots }
     {
-        if to <= from {
+        if count <= from.abs_diff(to) {
+            self.move_apart(origin, from, to, count);
+        } else if to <= from {
             self.shift_down(origin, from, to, count);
         } else {
             self.shift_up(origin, from, to, count);
