@@ -67,6 +67,9 @@ module _ {X : Type 0} (old now new : List (Option X)) (from to count : ℕ) (ful
         ∙ pasted_behind old (take i ws) part to (to + i) (omega (arith, copied)) (omega (arith, ap length whole, length-take-le (i + n) ws (omega (arith, long))))
         ∙ ap (pasted old to) (sym whole)
 
+    pub joined_first : (m : ℕ) → n ≤ m → new ≡ pasted now (to + i) (take n (run (from + i) m now)) → new ≡ pasted old to (take (i + n) ws)
+    joined_first m h e = joined_down (e ∙ ap (pasted now (to + i)) (take-take n m (drop (from + i) now) h))
+
   -- to higher places: all from the left-th on are copied, and the part at the place a goes to the place z
   module _ (left a z : ℕ) (ends : left ≡ i + n) (at : a ≡ from + i) (goes : z ≡ to + i) (more : left ≤ count) (fits : to + count ≤ length old) (up : from ≤ to) (before : now ≡ pasted old (to + left) (drop left ws)) where
     long_up : length ws ≡ count
@@ -96,3 +99,8 @@ module _ {X : Type 0} (old now new : List (Option X)) (from to count : ℕ) (ful
         e ∙ (λ k. pasted (before k) z (kept_up k))
         ∙ pasted_before old (drop left ws) part z (to + left) (omega (arith, part_long)) (omega (arith, others))
         ∙ ap (λ l. pasted old z (part ++ l)) behind ∙ ap (pasted old z) (take-append-drop n (drop i ws))
+
+    pub joined_last : new ≡ pasted now z (drop i (run from left now)) → new ≡ pasted old z (drop i ws)
+    joined_last e =
+        let rest : drop i (drop from now) ≡ drop a now = drop-drop i from now ∙ ap (λ k. drop k now) (sym at) in
+        joined_up (e ∙ ap (λ k. pasted now z (drop i (take k (drop from now)))) ends ∙ ap (pasted now z) (drop-take i n (drop from now) ∙ ap (take n) rest))

@@ -1,5 +1,5 @@
 -- A row in which one run, or each of two runs that lie apart, was written anew: what of it is as it was.
-use Rattle.std.proofs.Common.{◌≡◌, ℕ, ◌+◌, ◌-◌, ◌≤◌, ◌++◌, List, length, take, drop, sym, ap, ◌∙◌, append_assoc, arith, length-append, length-drop}
+use Rattle.std.proofs.Common.{◌≡◌, ℕ, ◌+◌, ◌-◌, ◌≤◌, ◌++◌, List, length, take, drop, sym, ap, ◌∙◌, append_assoc, arith, length-drop}
 use Rattle.std.proofs.lemmas.List.{take-append-drop, drop-take, drop-drop}
 use Rattle.std.proofs.Math.Seq.{length-take-le, take-add, take-append_seam}
 use Rattle.trac_gap.specs.Places.{IsShifted, run, pasted}

@@ -1,11 +1,13 @@
 //! Copies of runs of items into a row of places, and within it.
-ghost use Rattle.std.specs.Prelude.{◌≡◌, ℕ, ◌+◌, ◌-◌, ◌^◌, ◌<◌, ◌≤◌, Some, None, length, map, get_or, IsSome};
+ghost use Rattle.std.specs.Prelude.{◌≡◌, ℕ, ◌+◌, ◌-◌, ◌^◌, ◌<◌, ◌≤◌, Some, None, length, take, drop, map, get_or, IsSome};
 ghost use Rattle.trac_gap.specs.Places.{IsFull, IsShifted, run, pasted};
 
 use crate::places::{Origin, Places};
 
-// A longer run moves by so many items at a time.
-const PART: usize = 2048;
+// How many items a run that overlaps its target moves by at a time: first, and then.
+const LONG: usize = 2048;
+
+const SHORT: usize = 32;
 
 impl<T: Copy> Places<T> {
     /// The item in the place `index`, which has one.
@@ -56,12 +58,10 @@ impl<T: Copy> Places<T> {
         ensures { (self.new.at ≡ self.old.at)
             × (self.new.slots ≡ pasted self.old.slots to (run from count self.old.slots)) }
     {
-        let mut done = 0;
-        while PART <= count - done {
-            self.shift_part::<PART>(origin, from + done, to + done);
-            done += PART;
-        }
-        self.shift_items_down(origin, from + done, to + done, count - done);
+        let long = self.parts_down::<LONG>(origin, from, to, count);
+        let more = self.parts_down::<SHORT>(origin, from + long, to + long, count - long);
+        let done = long + more;
+        self.parts_down::<1>(origin, from + done, to + done, count - done);
     }
 
     // `shift` to higher places, the last items first.
@@ -72,12 +72,57 @@ impl<T: Copy> Places<T> {
         ensures { (self.new.at ≡ self.old.at)
             × (self.new.slots ≡ pasted self.old.slots to (run from count self.old.slots)) }
     {
-        let mut left = count;
-        while PART <= left {
-            left -= PART;
-            self.shift_part::<PART>(origin, from + left, to + left);
+        let left = self.parts_up::<LONG>(origin, from, to, count);
+        let few = self.parts_up::<SHORT>(origin, from, to, left);
+        self.parts_up::<1>(origin, from, to, few);
+    }
+
+    // Copies the first items of the run to lower places, `N` at a time while so many are left.
+    // Returns how many it copied.
+    fn parts_down<const N: usize>(
+        &mut self,
+        origin: Origin<T>,
+        from: usize,
+        to: usize,
+        count: usize,
+    ) -> usize
+        requires { (origin.ptr ≡ self.old.at) × (from + count ≤ length self.old.slots)
+            × (to ≤ from) × (length self.old.slots < 2 ^ 64)
+            × IsFull (run from count self.old.slots) × (0 < N) }
+        ensures copied { (self.new.at ≡ self.old.at) × (self.new.slots
+            ≡ pasted self.old.slots to (take result (run from count self.old.slots))) }
+        ensures most { (result ≤ count) × (count < result + N) }
+    {
+        let mut done = 0;
+        while N <= count - done {
+            self.shift_part::<N>(origin, from + done, to + done);
+            done += N;
         }
-        self.shift_items_up(origin, from, to, left);
+        done
+    }
+
+    // Copies the last items of the run to higher places, `N` at a time while so many are left.
+    // Returns how many are left.
+    fn parts_up<const N: usize>(
+        &mut self,
+        origin: Origin<T>,
+        from: usize,
+        to: usize,
+        count: usize,
+    ) -> usize
+        requires { (origin.ptr ≡ self.old.at) × (to + count ≤ length self.old.slots)
+            × (from ≤ to) × (length self.old.slots < 2 ^ 64)
+            × IsFull (run from count self.old.slots) × (0 < N) }
+        ensures copied { (self.new.at ≡ self.old.at) × (self.new.slots
+            ≡ pasted self.old.slots (to + result) (drop result (run from count self.old.slots))) }
+        ensures most { (result ≤ count) × (result < N) }
+    {
+        let mut left = count;
+        while N <= left {
+            left -= N;
+            self.shift_part::<N>(origin, from + left, to + left);
+        }
+        left
     }
 
     // `shift` of `N` items. All are read before one is written, so this is one copy of memory
@@ -95,34 +140,5 @@ impl<T: Copy> Places<T> {
         };
         let part = *part;
         self.copy_in(origin, to, &part);
-    }
-
-    // `shift` to lower places, item by item, the first one first.
-    fn shift_items_down(&mut self, origin: Origin<T>, from: usize, to: usize, count: usize)
-        requires { (origin.ptr ≡ self.old.at) × (from + count ≤ length self.old.slots)
-            × (to ≤ from) × (length self.old.slots < 2 ^ 64)
-            × IsFull (run from count self.old.slots) }
-        ensures { (self.new.at ≡ self.old.at)
-            × (self.new.slots ≡ pasted self.old.slots to (run from count self.old.slots)) }
-    {
-        for i in 0..count {
-            let item = self.item(origin, from + i);
-            self.put(origin, to + i, item);
-        }
-    }
-
-    // `shift` to higher places, item by item, the last one first.
-    fn shift_items_up(&mut self, origin: Origin<T>, from: usize, to: usize, count: usize)
-        requires { (origin.ptr ≡ self.old.at) × (to + count ≤ length self.old.slots)
-            × (from ≤ to) × (length self.old.slots < 2 ^ 64)
-            × IsFull (run from count self.old.slots) }
-        ensures { (self.new.at ≡ self.old.at)
-            × (self.new.slots ≡ pasted self.old.slots to (run from count self.old.slots)) }
-    {
-        for i in 0..count {
-            let at = count - 1 - i;
-            let item = self.item(origin, from + at);
-            self.put(origin, to + at, item);
-        }
     }
 }

@@ -33,7 +33,7 @@ use denote.Memory.{mem, part_at}
 use denote.Param.{layout}
 use denote.RawPtr.{Ptr, in_a_block}
 use denote.Ref.{MutBor, MutRef}
-use denote.Builtin.{RefMutOf, unit, usize}
+use denote.Builtin.{unit, usize}
 use denote.Signature.{plain}
 use denote.Steps.{heard, nothing, opens, closes}
 use denote.Triple.Call.{calls_at_last}

@@ -1,40 +1,25 @@
-use Rattle.std.proofs.Common.{refl, sym, ap, ◌∙◌, ◌≡◌, ◌+◌, ◌-◌, length, drop, [], arith, drop_of_length-le}
-use Rattle.std.proofs.lemmas.List.{length-take}
+use Rattle.std.proofs.Common.{refl, sym, ap, ◌∙◌, ◌≡◌, ◌+◌, ◌-◌, drop, add-zero, arith}
 use Rattle.trac_gap.specs.Places.{run, pasted}
-use Rattle.trac_gap.proofs.Parts.{part_up, joined_up}
-use Rattle.trac_gap.proofs.Pasted.{pasted_none}
+use Rattle.trac_gap.proofs.Parts.{part_up, joined_last}
 use Rattle.trac_gap.proofs.places.Places.shift_up.Goals as goal
 
-pub loop-left-init : goal.loop-left-init
-loop-left-init g c =
-    let old = c.args.self.now.slots in let ws = run c.args.from c.args.count old in
-    let none : drop c.args.count ws ≡ [] = drop_of_length-le ws (omega (arith, length-take c.args.count (drop c.args.from old))) in
-    record { at = refl; slots = sym (ap (pasted old (c.args.to + c.args.count)) none ∙ pasted_none old _); within = omega arith }
+pub parts_up-few-requires : goal.parts_up-few-requires
+parts_up-few-requires g c =
+    let old = c.args.self.now.slots in let s = c.parts_up-left in let now = s.new.self.slots in
+    let next = part_up old now now c.args.from c.args.to c.args.count c.requires.4 0 s.result s.result c.args.from c.args.to (omega arith) (omega arith) (omega arith) s.ensures.most.0 c.requires.1 c.requires.2 s.ensures.copied.1 in
+    (c.requires.0 ∙ sym s.ensures.copied.0, next.1, c.requires.2, omega (arith, next.2, c.requires.3), next.3, omega arith)
 
-pub shift_part-requires : goal.shift_part-requires
-shift_part-requires g c =
-    let s = c.loop-left in let low = s.left - 2048 in
-    let next = part_up c.args.self.now.slots s.self.slots s.self.slots c.args.from c.args.to c.args.count c.requires.4 low 2048 s.left (c.args.from + low) (c.args.to + low) (omega arith) refl refl s.invariant.within c.requires.1 c.requires.2 s.invariant.slots in
-    (c.requires.0 ∙ sym s.invariant.at, next.0, next.1, omega (arith, next.2, c.requires.3), next.3)
-
-pub loop-left-preserved : goal.loop-left-preserved
-loop-left-preserved g c =
-    let s = c.loop-left in let low = s.left - 2048 in
-    record {
-      at = c.shift_part.ensures.0 ∙ s.invariant.at;
-      slots = joined_up c.args.self.now.slots s.self.slots _ c.args.from c.args.to c.args.count c.requires.4 low 2048 s.left (c.args.from + low) (c.args.to + low) (omega arith) refl refl s.invariant.within c.requires.1 c.requires.2 s.invariant.slots c.shift_part.ensures.1;
-      within = omega (arith, s.invariant.within);
-    }
-
-pub shift_items_up-requires : goal.shift_items_up-requires
-shift_items_up-requires g c =
-    let s = c.loop-left in
-    let next = part_up c.args.self.now.slots s.self.slots s.self.slots c.args.from c.args.to c.args.count c.requires.4 0 s.left s.left c.args.from c.args.to (omega arith) (omega arith) (omega arith) s.invariant.within c.requires.1 c.requires.2 s.invariant.slots in
-    (c.requires.0 ∙ sym s.invariant.at, next.1, c.requires.2, omega (arith, next.2, c.requires.3), next.3)
+pub parts_up-requires : goal.parts_up-requires
+parts_up-requires g c =
+    let old = c.args.self.now.slots in let s = c.parts_up-left in let t = c.parts_up-few in let now = t.new.self.slots in let k = t.result in
+    let before = joined_last old s.new.self.slots now c.args.from c.args.to c.args.count c.requires.4 k (s.result - k) s.result (c.args.from + k) (c.args.to + k) (omega (arith, t.ensures.most.0)) refl refl s.ensures.most.0 c.requires.1 c.requires.2 s.ensures.copied.1 t.ensures.copied.1 in
+    let next = part_up old now now c.args.from c.args.to c.args.count c.requires.4 0 k k c.args.from c.args.to (omega arith) (omega arith) (omega arith) (omega (arith, t.ensures.most.0, s.ensures.most.0)) c.requires.1 c.requires.2 before in
+    (c.requires.0 ∙ sym (t.ensures.copied.0 ∙ s.ensures.copied.0), next.1, c.requires.2, omega (arith, next.2, c.requires.3), next.3, omega arith)
 
 pub returns : goal.returns
 returns g c =
-    let s = c.loop-left in (
-      c.shift_items_up.ensures.0 ∙ s.invariant.at,
-      joined_up c.args.self.now.slots s.self.slots _ c.args.from c.args.to c.args.count c.requires.4 0 s.left s.left c.args.from c.args.to (omega arith) (omega arith) (omega arith) s.invariant.within c.requires.1 c.requires.2 s.invariant.slots c.shift_items_up.ensures.1,
-    )
+    let old = c.args.self.now.slots in let s = c.parts_up-left in let t = c.parts_up-few in let u = c.parts_up in let now = t.new.self.slots in let k = t.result in
+    let ws = run c.args.from c.args.count old in let none : u.result ≡ 0 = omega (arith, u.ensures.most.1) in
+    let before = joined_last old s.new.self.slots now c.args.from c.args.to c.args.count c.requires.4 k (s.result - k) s.result (c.args.from + k) (c.args.to + k) (omega (arith, t.ensures.most.0)) refl refl s.ensures.most.0 c.requires.1 c.requires.2 s.ensures.copied.1 t.ensures.copied.1 in
+    let after = joined_last old now u.new.self.slots c.args.from c.args.to c.args.count c.requires.4 u.result (k - u.result) k (c.args.from + u.result) (c.args.to + u.result) (omega (arith, u.ensures.most.0)) refl refl (omega (arith, t.ensures.most.0, s.ensures.most.0)) c.requires.1 c.requires.2 before u.ensures.copied.1 in
+    (u.ensures.copied.0 ∙ t.ensures.copied.0 ∙ s.ensures.copied.0, after ∙ ap (λ j. pasted old (c.args.to + j) (drop j ws)) none ∙ ap (λ j. pasted old j ws) (add-zero c.args.to))

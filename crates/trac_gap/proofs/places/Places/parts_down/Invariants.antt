@@ -1,7 +1,7 @@
 -- The first items of the run are copied.
 use Rattle.std.proofs.Common.{◌≡◌, ◌-◌, ◌≤◌, take}
 use Rattle.trac_gap.specs.Places.{run, pasted}
-use Rattle.trac_gap.proofs.places.Places.shift_down.Given as goal
+use Rattle.trac_gap.proofs.places.Places.parts_down.Given as goal
 
 abbrev pub invariant-loop-done : goal.invariant-loop-done
 invariant-loop-done g l = record {

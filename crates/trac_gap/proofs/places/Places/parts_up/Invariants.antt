@@ -1,7 +1,7 @@
 -- The last items of the run are copied, and the first `left` are not.
 use Rattle.std.proofs.Common.{◌≡◌, ◌+◌, ◌≤◌, drop}
 use Rattle.trac_gap.specs.Places.{run, pasted}
-use Rattle.trac_gap.proofs.places.Places.shift_up.Given as goal
+use Rattle.trac_gap.proofs.places.Places.parts_up.Given as goal
 
 abbrev pub invariant-loop-left : goal.invariant-loop-left
 invariant-loop-left g l = record {
