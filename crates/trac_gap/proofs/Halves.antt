@@ -1,12 +1,12 @@
 -- How the two halves of a block change when one call writes places and moves the ends of the gap.
 use Rattle.std.proofs.Common.{◌≡◌, ℕ, suc, ◌+◌, ◌-◌, ◌≤◌, ◌<◌, ◌++◌, List, [], ◌∷◌, Option, Some, None, IsSome, length, take, drop, get_or, set, map, refl, sym, ap, subst, ◌∙◌, add-one, arith, length-drop, length-set, drop-cons}
-use Rattle.std.proofs.lemmas.List.{length-map, take-take, drop-take, drop-drop, take-set-le, drop-set-lt, drop-set, get_or-take, get_or-drop}
-use Rattle.std.proofs.Math.Seq.{length-take-le, take-suc, take-suc-set}
+use Rattle.std.proofs.lemmas.List.{length-map, take-append-drop, take-take, drop-take, drop-drop, take-set-le, drop-set-lt, drop-set, get_or-take, get_or-drop}
+use Rattle.std.proofs.Math.Seq.{length-take-le, take-add, take-suc, take-suc-set}
 use Rattle.trac_gap.specs.declared.block.Block.TheInside.{Inside}
 use Rattle.trac_gap.specs.declared.places.Places.{Places}
 use Rattle.trac_gap.specs.Ends.{item_count}
 use Rattle.trac_gap.specs.Block.{block_ends, IsBlock}
-use Rattle.trac_gap.specs.Places.{items_of, IsFull, run, pasted}
+use Rattle.trac_gap.specs.Places.{items_of, IsFull, IsShifted, run, pasted}
 use Rattle.trac_gap.proofs.Full.{items_of-map, IsFull-map, length-items_of, full_both, IsFull-take, IsFull-drop, items_of-take, items_of-drop, some_at}
 use Rattle.trac_gap.proofs.Pasted.{length-pasted, take-pasted, drop-pasted, take-pasted_before, drop-pasted_behind}
 
@@ -186,15 +186,13 @@ module _ {T A : Type 0} (b : Inside T A) (ok : IsBlock b) where
       pub next_full : (b.gap_end + n ≤ length cs) × (b.gap_start + n ≤ length cs) × IsFull next
       next_full = (omega (arith, next_within, ok.places_count), omega (arith, next_within, ok.gap, ok.places_count), next_holds.0)
 
-      pub shifted_left : p.slots ≡ pasted cs b.gap_start next → Becomes p (b.gap_start + n) (b.gap_end + n) (L ++ take n R) (drop n R)
-      shifted_left e =
-          let long : length next ≡ n = length-take-le n (drop b.gap_end cs) (omega (arith, length-drop b.gap_end cs, ok.places_count, next_within)) in
-          let fits : b.gap_start + length next ≤ length cs = omega (arith, long, next_full.1) in
-          let front : take (b.gap_start + n) p.slots ≡ take b.gap_start cs ++ next = ap (take (b.gap_start + n)) e ∙ ap (λ k. take (b.gap_start + k) (pasted cs b.gap_start next)) (sym long) ∙ take-pasted cs b.gap_start next fits in
-          let back : drop (b.gap_end + n) p.slots ≡ drop (b.gap_end + n) cs = ap (drop (b.gap_end + n)) e ∙ drop-pasted_behind cs b.gap_start next fits (b.gap_end + n) (omega (arith, long, ok.gap)) in
+      pub shifted_left : IsShifted cs b.gap_end b.gap_start n p.slots → Becomes p (b.gap_start + n) (b.gap_end + n) (L ++ take n R) (drop n R)
+      shifted_left is =
+          let front : take (b.gap_start + n) p.slots ≡ take b.gap_start cs ++ next = take-add b.gap_start n p.slots ∙ (λ k. is.below b.gap_start ok.gap (omega arith) k ++ is.moved k) in
+          let back : drop (b.gap_end + n) p.slots ≡ drop (b.gap_end + n) cs = is.above (b.gap_end + n) (omega arith) (omega (arith, ok.gap)) in
           let both = full_both (take b.gap_start cs) next _ front ok.left_full next_holds.0 in
           let rest = right_part n next_within in let gone = same_row (drop (b.gap_end + n) cs) _ back rest.0 in
-          becomes p (b.gap_start + n) (b.gap_end + n) (L ++ take n R) (drop n R) at (ap length e ∙ length-pasted cs b.gap_start next fits) (omega (arith, ok.gap)) next_within
+          becomes p (b.gap_start + n) (b.gap_end + n) (L ++ take n R) (drop n R) at is.count (omega (arith, ok.gap)) next_within
           (both.0, both.1 ∙ ap (λ ys. L ++ ys) next_holds.1) (gone.0, gone.1 ∙ rest.1)
 
     module _ (h : n ≤ length L) where
@@ -219,16 +217,14 @@ module _ {T A : Type 0} (b : Inside T A) (ok : IsBlock b) where
       pub tail_full : (low + n ≤ length cs) × (b.gap_end - n + n ≤ length cs) × IsFull tail
       tail_full = (omega (arith, low_within, ok.gap, ok.within, ok.places_count), omega (arith, low_within, ok.gap, ok.within, ok.places_count), tail_holds.0)
 
-      pub shifted_right : p.slots ≡ pasted cs (b.gap_end - n) tail → Becomes p low (b.gap_end - n) (take (length L - n) L) (drop (length L - n) L ++ R)
-      shifted_right e =
-          let to = b.gap_end - n in
-          let long : length tail ≡ n = length-take-le n (drop low cs) (omega (arith, length-drop low cs, tail_full.0)) in
-          let fits : to + length tail ≤ length cs = omega (arith, long, tail_full.1) in
-          let behind_it : to + length tail ≡ b.gap_end = omega (arith, long, low_within, ok.gap) in
-          let back : drop to p.slots ≡ tail ++ drop b.gap_end cs = ap (drop to) e ∙ drop-pasted cs to tail fits ∙ ap (λ k. tail ++ drop k cs) behind_it in
-          let front : take low p.slots ≡ take low cs = ap (take low) e ∙ take-pasted_before cs to tail fits low (omega (arith, low_within, ok.gap)) in
+      pub shifted_right : IsShifted cs low (b.gap_end - n) n p.slots → Becomes p low (b.gap_end - n) (take (length L - n) L) (drop (length L - n) L ++ R)
+      shifted_right is =
+          let to = b.gap_end - n in let behind_it : to + n ≡ b.gap_end = omega (arith, low_within, ok.gap) in
+          let next : drop (to + n) p.slots ≡ drop b.gap_end cs = is.above (to + n) (omega (arith, low_within, ok.gap)) (omega arith) ∙ ap (λ k. drop k cs) behind_it in
+          let back : drop to p.slots ≡ tail ++ drop b.gap_end cs = sym (take-append-drop n (drop to p.slots)) ∙ (λ k. is.moved k ++ (drop-drop n to p.slots ∙ next) k) in
+          let front : take low p.slots ≡ take low cs = is.below low (omega arith) (omega (arith, low_within, ok.gap)) in
           let both = full_both tail (drop b.gap_end cs) _ back tail_holds.0 ok.right_full in
           let part = left_part low (omega arith) in let kept = same_row (take low cs) _ front part.0 in
           let same : length L - n ≡ low = ap (λ k. k - n) left_count in
-          becomes p low to (take (length L - n) L) (drop (length L - n) L ++ R) at (ap length e ∙ length-pasted cs to tail fits) (omega (arith, low_within, ok.gap)) (omega (arith, ok.within))
+          becomes p low to (take (length L - n) L) (drop (length L - n) L ++ R) at is.count (omega (arith, low_within, ok.gap)) (omega (arith, ok.within))
           (kept.0, kept.1 ∙ part.1 ∙ ap (λ k. take k L) (sym same)) (both.0, both.1 ∙ ap (λ ys. ys ++ R) tail_holds.1)

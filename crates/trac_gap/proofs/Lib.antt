@@ -1,6 +1,9 @@
+mod Apart
 mod Copying
 mod Full
 mod Halves
 mod Lending
+mod Parts
 mod Pasted
 mod Rows
+mod Shifted

@@ -1,6 +1,6 @@
 -- What a row has before, in and behind the places that were written.
-use Rattle.std.proofs.Common.{◌≡◌, ℕ, suc, ◌+◌, ◌-◌, ◌≤◌, ◌<◌, ◌++◌, List, [], ◌∷◌, length, take, drop, get_or, set, sym, ap, ◌∙◌, append_assoc, add-zero, arith, length-append, length-drop}
-use Rattle.std.proofs.lemmas.List.{take-append-drop, set_split, take-append-le, take-take, get_or-take, get_or-drop}
+use Rattle.std.proofs.Common.{◌≡◌, ℕ, suc, ◌+◌, ◌-◌, ◌≤◌, ◌<◌, ◌++◌, List, [], ◌∷◌, length, take, drop, set, sym, ap, ◌∙◌, append_assoc, add-zero, arith, length-append, length-drop}
+use Rattle.std.proofs.lemmas.List.{take-append-drop, set_split, take-append-le, take-take}
 use Rattle.std.proofs.Math.Seq.{take-append_seam, drop-append_seam, take-append-add, drop-append-add, length-take-le, drop-drop}
 use Rattle.trac_gap.specs.Places.{pasted}
 
@@ -40,16 +40,6 @@ module _ {X : Type 0} (cs : List X) (i : ℕ) (ws : List X) (fits : i + length w
       ap (drop j) (sym (append_assoc (take i cs) ws rest)) ∙ ap (λ k. drop k (A ++ rest)) at ∙ drop-append-add A rest m
       ∙ drop-drop m (i + length ws) cs ∙ ap (λ k. drop k cs) again
 
-  -- a place that was not written
-  pub get_or-pasted_before : (j : ℕ) (d : X) → j < i → get_or (pasted cs i ws) j d ≡ get_or cs j d
-  get_or-pasted_before j d h =
-      sym (get_or-take i (pasted cs i ws) j d h) ∙ ap (λ l. get_or l j d) (take-pasted_before i (omega arith)) ∙ get_or-take i cs j d h
-
-  pub get_or-pasted_behind : (j : ℕ) (d : X) → i + length ws ≤ j → get_or (pasted cs i ws) j d ≡ get_or cs j d
-  get_or-pasted_behind j d h =
-      ap (λ k. get_or (pasted cs i ws) k d) (sym (add-zero j)) ∙ sym (get_or-drop j (pasted cs i ws) 0 d) ∙ ap (λ l. get_or l 0 d) (drop-pasted_behind j h)
-      ∙ get_or-drop j cs 0 d ∙ ap (λ k. get_or cs k d) (add-zero j)
-
 pub pasted_none : {X : Type 0} (cs : List X) (i : ℕ) → pasted cs i [] ≡ cs
 unfolding pasted
 pasted_none cs i = ap (λ k. take i cs ++ drop k cs) (add-zero i) ∙ take-append-drop i cs
@@ -67,13 +57,3 @@ module _ {X : Type 0} (cs : List X) (i : ℕ) (ws : List X) (c : X) where
       set_split (pasted cs i ws) j c (omega arith) ∙ (λ n. front n ++ c ∷ back n)
       ∙ append_assoc (take i cs) ws (c ∷ drop (i + length (ws ++ c ∷ [])) cs)
       ∙ ap (λ l. take i cs ++ l) (sym (append_assoc ws (c ∷ []) (drop (i + length (ws ++ c ∷ [])) cs)))
-
-  -- one more place is written, before those that were
-  pub set-pasted_before : (j : ℕ) → j ≡ suc i → j + length ws ≤ length cs → set (pasted cs j ws) i c ≡ pasted cs i (c ∷ ws)
-  unfolding pasted
-  set-pasted_before j at fits =
-      let same = length-pasted cs j ws fits in
-      let more : j + length ws ≡ i + suc (length ws) = omega arith in
-      let front : take i (pasted cs j ws) ≡ take i cs = take-pasted_before cs j ws fits i (omega arith) in
-      let back : drop (suc i) (pasted cs j ws) ≡ ws ++ drop (i + suc (length ws)) cs = ap (λ k. drop k (pasted cs j ws)) (sym at) ∙ drop-pasted cs j ws fits ∙ ap (λ k. ws ++ drop k cs) more in
-      set_split (pasted cs j ws) i c (omega arith) ∙ (λ n. front n ++ c ∷ back n)

@@ -1,5 +1,5 @@
 -- A row of places, each of which is empty or has an item.
-use Rattle.std.specs.Prelude.{◌≡◌, ℕ, ◌+◌, List, [], ◌∷◌, ◌++◌, map, length, take, drop, Option, Some, None}
+use Rattle.std.specs.Prelude.{◌≡◌, ℕ, ◌+◌, ◌≤◌, List, [], ◌∷◌, ◌++◌, map, length, take, drop, Option, Some, None}
 
 -- the items that are there, in order
 abbrev pub items_of : {X : Type 0} → List (Option X) → List X
@@ -19,3 +19,10 @@ module _ {X : Type 0} where
   -- the row with the places from i on as ws has them
   unfoldable pub pasted : List X → ℕ → List X → List X
   pasted cs i ws = take i cs ++ (ws ++ drop (i + length ws) cs)
+
+  -- the row ds has at the place j what cs has at the place i, n places long, and is as cs below both and above both
+  pub record IsShifted (cs : List X) (i j n : ℕ) (ds : List X) : Type 0 where
+    pub count : length ds ≡ length cs
+    pub moved : run j n ds ≡ run i n cs
+    pub below : (k : ℕ) → k ≤ i → k ≤ j → take k ds ≡ take k cs
+    pub above : (k : ℕ) → i + n ≤ k → j + n ≤ k → drop k ds ≡ drop k cs

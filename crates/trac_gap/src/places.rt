@@ -1,15 +1,16 @@
 //! The block: a row of places, each of which is empty or has an item.
 //! All of this crate's raw pointers are in this file.
-ghost use Rattle.std.specs.Prelude.{◌≡◌, ℕ, ◌+◌, ◌<◌, ◌≤◌, List, Option, Some, None, length, replicate, slice_set, IfOk, ⊤};
+ghost use Rattle.std.specs.Prelude.{◌≡◌, ℕ, ◌+◌, ◌<◌, ◌≤◌, ◌⊎◌, List, Option, Some, None, length, replicate, slice_set, IfOk, ⊤};
 ghost use Rattle.std.specs.Vec.Ownership.{FitsInBlock};
 ghost use base.Fml.{ftrue};
 ghost use denote.RawPtr.{Ptr};
-ghost use Rattle.trac_gap.specs.Places.{items_of, IsFull, run};
+ghost use Rattle.trac_gap.specs.Places.{items_of, IsFull, IsShifted, run};
 ghost use Rattle.trac_gap.specs.Ownership.{places_own, places_lent, lease_owns};
 
 use std::alloc::{AllocError, Allocator};
 use std::marker::{Model, PhantomData};
 use std::mem::{align_of, size_of};
+use std::ptr::copy_nonoverlapping;
 use std::slice;
 
 /// Where a block begins. It owns nothing.
@@ -122,5 +123,19 @@ impl<T> Places<T> {
         ensures { result.now ≡ items_of (run from count self.now.slots) }
     {
         unsafe { slice::from_raw_parts(origin.ptr.add(from), count) }
+    }
+
+    /// Moves the `count` items from the place `from` on to the places from `to` on, which lie apart
+    /// from them, by one copy of memory.
+    #[inline]
+    pub(crate) fn move_apart(&mut self, origin: Origin<T>, from: usize, to: usize, count: usize)
+        requires { (origin.ptr ≡ self.old.at) × (from + count ≤ length self.old.slots)
+            × (to + count ≤ length self.old.slots)
+            × ((from + count ≤ to) ⊎ (to + count ≤ from))
+            × IsFull (run from count self.old.slots) }
+        ensures { (self.new.at ≡ self.old.at)
+            × IsShifted self.old.slots from to count self.new.slots }
+    {
+        unsafe { copy_nonoverlapping(origin.ptr.add(from), origin.ptr.add(to), count) }
     }
 }

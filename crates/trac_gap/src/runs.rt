@@ -1,8 +1,13 @@
 //! Copies of runs of items into a row of places, and within it.
-ghost use Rattle.std.specs.Prelude.{◌≡◌, ℕ, ◌+◌, ◌-◌, ◌^◌, ◌<◌, ◌≤◌, Some, None, length, map, get_or, IsSome};
-ghost use Rattle.trac_gap.specs.Places.{IsFull, run, pasted};
+ghost use Rattle.std.specs.Prelude.{◌≡◌, ℕ, ◌+◌, ◌-◌, ◌^◌, ◌<◌, ◌≤◌, Some, None, length, take, drop, map, get_or, IsSome};
+ghost use Rattle.trac_gap.specs.Places.{IsFull, IsShifted, run, pasted};
 
 use crate::places::{Origin, Places};
+
+// How many items a run that overlaps its target moves by at a time: first, and then.
+const LONG: usize = 2048;
+
+const SHORT: usize = 32;
 
 impl<T: Copy> Places<T> {
     /// The item in the place `index`, which has one.
@@ -27,23 +32,25 @@ impl<T: Copy> Places<T> {
         }
     }
 
-    /// Copies the `count` items from the place `from` on to the places from `to` on, which may
-    /// overlap them.
+    /// Moves the `count` items from the place `from` on to the places from `to` on, which may
+    /// overlap them. What the other places of both runs hold afterwards is of no use.
     pub(crate) fn shift(&mut self, origin: Origin<T>, from: usize, to: usize, count: usize)
         requires { (origin.ptr ≡ self.old.at) × (from + count ≤ length self.old.slots)
             × (to + count ≤ length self.old.slots) × (length self.old.slots < 2 ^ 64)
             × IsFull (run from count self.old.slots) }
         ensures { (self.new.at ≡ self.old.at)
-            × (self.new.slots ≡ pasted self.old.slots to (run from count self.old.slots)) }
+            × IsShifted self.old.slots from to count self.new.slots }
     {
-        if to <= from {
+        if count <= from.abs_diff(to) {
+            self.move_apart(origin, from, to, count);
+        } else if to <= from {
             self.shift_down(origin, from, to, count);
         } else {
             self.shift_up(origin, from, to, count);
         }
     }
 
-    // `shift` to lower places, the first item first.
+    // `shift` to lower places, the first items first.
     fn shift_down(&mut self, origin: Origin<T>, from: usize, to: usize, count: usize)
         requires { (origin.ptr ≡ self.old.at) × (from + count ≤ length self.old.slots)
             × (to ≤ from) × (length self.old.slots < 2 ^ 64)
@@ -51,13 +58,13 @@ impl<T: Copy> Places<T> {
         ensures { (self.new.at ≡ self.old.at)
             × (self.new.slots ≡ pasted self.old.slots to (run from count self.old.slots)) }
     {
-        for i in 0..count {
-            let item = self.item(origin, from + i);
-            self.put(origin, to + i, item);
-        }
+        let long = self.parts_down::<LONG>(origin, from, to, count);
+        let more = self.parts_down::<SHORT>(origin, from + long, to + long, count - long);
+        let done = long + more;
+        self.parts_down::<1>(origin, from + done, to + done, count - done);
     }
 
-    // `shift` to higher places, the last item first.
+    // `shift` to higher places, the last items first.
     fn shift_up(&mut self, origin: Origin<T>, from: usize, to: usize, count: usize)
         requires { (origin.ptr ≡ self.old.at) × (to + count ≤ length self.old.slots)
             × (from ≤ to) × (length self.old.slots < 2 ^ 64)
@@ -65,10 +72,73 @@ impl<T: Copy> Places<T> {
         ensures { (self.new.at ≡ self.old.at)
             × (self.new.slots ≡ pasted self.old.slots to (run from count self.old.slots)) }
     {
-        for i in 0..count {
-            let at = count - 1 - i;
-            let item = self.item(origin, from + at);
-            self.put(origin, to + at, item);
+        let left = self.parts_up::<LONG>(origin, from, to, count);
+        let few = self.parts_up::<SHORT>(origin, from, to, left);
+        self.parts_up::<1>(origin, from, to, few);
+    }
+
+    // Copies the first items of the run to lower places, `N` at a time while so many are left.
+    // Returns how many it copied.
+    fn parts_down<const N: usize>(
+        &mut self,
+        origin: Origin<T>,
+        from: usize,
+        to: usize,
+        count: usize,
+    ) -> usize
+        requires { (origin.ptr ≡ self.old.at) × (from + count ≤ length self.old.slots)
+            × (to ≤ from) × (length self.old.slots < 2 ^ 64)
+            × IsFull (run from count self.old.slots) × (0 < N) }
+        ensures copied { (self.new.at ≡ self.old.at) × (self.new.slots
+            ≡ pasted self.old.slots to (take result (run from count self.old.slots))) }
+        ensures most { (result ≤ count) × (count < result + N) }
+    {
+        let mut done = 0;
+        while N <= count - done {
+            self.shift_part::<N>(origin, from + done, to + done);
+            done += N;
         }
+        done
+    }
+
+    // Copies the last items of the run to higher places, `N` at a time while so many are left.
+    // Returns how many are left.
+    fn parts_up<const N: usize>(
+        &mut self,
+        origin: Origin<T>,
+        from: usize,
+        to: usize,
+        count: usize,
+    ) -> usize
+        requires { (origin.ptr ≡ self.old.at) × (to + count ≤ length self.old.slots)
+            × (from ≤ to) × (length self.old.slots < 2 ^ 64)
+            × IsFull (run from count self.old.slots) × (0 < N) }
+        ensures copied { (self.new.at ≡ self.old.at) × (self.new.slots
+            ≡ pasted self.old.slots (to + result) (drop result (run from count self.old.slots))) }
+        ensures most { (result ≤ count) × (result < N) }
+    {
+        let mut left = count;
+        while N <= left {
+            left -= N;
+            self.shift_part::<N>(origin, from + left, to + left);
+        }
+        left
+    }
+
+    // `shift` of `N` items. All are read before one is written, so this is one copy of memory
+    // also where the places overlap.
+    #[inline]
+    fn shift_part<const N: usize>(&mut self, origin: Origin<T>, from: usize, to: usize)
+        requires { (origin.ptr ≡ self.old.at) × (from + N ≤ length self.old.slots)
+            × (to + N ≤ length self.old.slots) × (length self.old.slots < 2 ^ 64)
+            × IsFull (run from N self.old.slots) }
+        ensures { (self.new.at ≡ self.old.at)
+            × (self.new.slots ≡ pasted self.old.slots to (run from N self.old.slots)) }
+    {
+        let Some(part) = self.items(origin, from, N).as_array::<N>() else {
+            unreachable!()
+        };
+        let part = *part;
+        self.copy_in(origin, to, &part);
     }
 }

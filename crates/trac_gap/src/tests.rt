@@ -95,6 +95,27 @@ fn nearly_full_row<E: TwoEnds<u8, A>, A: Allocator + Copy>(
     Ok(ends)
 }
 
+// Runs of thousands of items, over a gap that on `GapBuf` is one place.
+fn long_row<E: TwoEnds<u8, A>, A: Allocator + Copy>(
+    rt: &impl Abort,
+    alloc: A,
+) -> Result<E, GapError> {
+    let mut ends = E::new(alloc);
+    ends.reserve(5000)?;
+    for i in 0..5000 {
+        if ends.room() > 1 {
+            ends.push_left((drawn(i, 256) & 0xff) as u8);
+        }
+    }
+    let before = ends.copy()?;
+    assert!(rt; before.left().len() >= 4999);
+    ends.shift_right(ends.left().len());
+    shows(rt, &ends, b"", before.left())?;
+    ends.shift_left(ends.right().len());
+    shows(rt, &ends, before.left(), b"")?;
+    Ok(ends)
+}
+
 #[test]
 fn stands_on_the_calls_alone(rt: HostRuntime) -> Result<(), Fail> {
     let plain: PlainEnds<u8> = joined(rt.alloc(), b"ab", b',', b"cd")?;
@@ -117,6 +138,13 @@ fn small_rows(rt: HostRuntime) -> Result<(), Fail> {
 fn nearly_full_rows(rt: HostRuntime) -> Result<(), Fail> {
     let _plain: PlainEnds<u8> = nearly_full_row(&rt, rt.alloc())?;
     let _gap: GapBuf<u8> = nearly_full_row(&rt, rt.alloc())?;
+    Ok(())
+}
+
+#[test]
+fn long_rows(rt: HostRuntime) -> Result<(), Fail> {
+    let _plain: PlainEnds<u8> = long_row(&rt, rt.alloc())?;
+    let _gap: GapBuf<u8> = long_row(&rt, rt.alloc())?;
     Ok(())
 }
 

@@ -1,32 +1,28 @@
-use Rattle.std.proofs.Common.{refl, sym, ap, ◌∙◌, ◌≤◌, length, drop, take_all, arith}
+use Rattle.std.proofs.Common.{sym, ap, ◌∙◌, ◌+◌, ◌-◌, ◌≤◌, length, drop, take_all, arith}
 use Rattle.std.proofs.lemmas.List.{length-take}
 use Rattle.trac_gap.specs.Places.{run, pasted}
-use Rattle.trac_gap.proofs.Copying.{next_down, free_down, copied_down}
-use Rattle.trac_gap.proofs.Pasted.{pasted_none}
+use Rattle.trac_gap.proofs.Parts.{part_down, joined_first}
 use Rattle.trac_gap.proofs.places.Places.shift_down.Goals as goal
 
-pub loop-i-init : goal.loop-i-init
-loop-i-init g c = record { at = refl; slots = sym (pasted_none _ _) }
+pub parts_down-more-requires : goal.parts_down-more-requires
+parts_down-more-requires g c =
+    let old = c.args.self.now.slots in let s = c.parts_down-long in let now = s.new.self.slots in
+    let next = part_down old now now c.args.from c.args.to c.args.count c.requires.4 s.result (c.args.count - s.result) (omega (arith, s.ensures.most)) c.requires.1 c.requires.2 s.ensures.copied.1 in
+    (c.requires.0 ∙ sym s.ensures.copied.0, next.0, omega (arith, c.requires.2), omega (arith, next.2, c.requires.3), next.3, omega arith)
 
-pub item-item-requires : goal.item-item-requires
-item-item-requires g c =
-    let next = next_down c.args.self.now.slots _ c.loop-i.self.slots c.args.from c.args.to c.args.count c.loop-i.i c.requires.4 c.loop-i-test.true c.requires.1 c.requires.2 c.loop-i.invariant.slots in
-    (c.requires.0 ∙ sym c.loop-i.invariant.at, next.0, next.1)
-
-pub put-requires : goal.put-requires
-put-requires g c = (
-  c.requires.0 ∙ sym c.loop-i.invariant.at,
-  free_down c.args.self.now.slots _ c.loop-i.self.slots c.args.from c.args.to c.args.count c.loop-i.i c.requires.4 c.loop-i-test.true c.requires.1 c.requires.2 c.loop-i.invariant.slots,
-)
-
-pub loop-i-preserved : goal.loop-i-preserved
-loop-i-preserved g c = record {
-  at = c.put.ensures.0 ∙ c.loop-i.invariant.at;
-  slots = copied_down _ _ _ c.args.from _ c.args.count _ c.requires.4 c.loop-i-test.true c.requires.1 c.requires.2 c.loop-i.invariant.slots _ c.item-item.ensures c.put.ensures.1;
-}
+pub parts_down-requires : goal.parts_down-requires
+parts_down-requires g c =
+    let old = c.args.self.now.slots in let s = c.parts_down-long in let t = c.parts_down-more in let now = t.new.self.slots in let done = s.result + t.result in
+    let before = joined_first old s.new.self.slots now c.args.from c.args.to c.args.count c.requires.4 s.result t.result (omega (arith, s.ensures.most, t.ensures.most)) c.requires.1 c.requires.2 s.ensures.copied.1 (c.args.count - s.result) t.ensures.most.0 t.ensures.copied.1 in
+    let next = part_down old now now c.args.from c.args.to c.args.count c.requires.4 done (c.args.count - done) (omega (arith, s.ensures.most, t.ensures.most)) c.requires.1 c.requires.2 before in
+    (c.requires.0 ∙ sym (t.ensures.copied.0 ∙ s.ensures.copied.0), next.0, omega (arith, c.requires.2), omega (arith, next.2, c.requires.3), next.3, omega arith)
 
 pub returns : goal.returns
 returns g c =
-    let ws = run c.args.from c.args.count c.args.self.now.slots in
-    let short : length ws ≤ c.loop-i.i = omega (arith, length-take c.args.count (drop c.args.from c.args.self.now.slots)) in
-    (c.loop-i.invariant.at, c.loop-i.invariant.slots ∙ ap (pasted c.args.self.now.slots c.args.to) (take_all c.loop-i.i ws short))
+    let old = c.args.self.now.slots in let s = c.parts_down-long in let t = c.parts_down-more in let u = c.parts_down in let now = t.new.self.slots in let done = s.result + t.result in
+    let ws = run c.args.from c.args.count old in
+    let before = joined_first old s.new.self.slots now c.args.from c.args.to c.args.count c.requires.4 s.result t.result (omega (arith, s.ensures.most, t.ensures.most)) c.requires.1 c.requires.2 s.ensures.copied.1 (c.args.count - s.result) t.ensures.most.0 t.ensures.copied.1 in
+    let after = joined_first old now u.new.self.slots c.args.from c.args.to c.args.count c.requires.4 done u.result (omega (arith, s.ensures.most, t.ensures.most, u.ensures.most)) c.requires.1 c.requires.2 before (c.args.count - done) u.ensures.most.0 u.ensures.copied.1 in
+    let all : c.args.count ≤ done + u.result = omega (arith, u.ensures.most) in
+    let short : length ws ≤ done + u.result = omega (arith, all, length-take c.args.count (drop c.args.from old)) in
+    (u.ensures.copied.0 ∙ t.ensures.copied.0 ∙ s.ensures.copied.0, after ∙ ap (pasted old c.args.to) (take_all (done + u.result) ws short))

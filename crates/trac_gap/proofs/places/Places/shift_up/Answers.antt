@@ -1,36 +1,25 @@
-use Rattle.std.proofs.Common.{refl, sym, ap, ◌∙◌, ◌≡◌, ◌+◌, ◌-◌, ◌≤◌, length, drop, [], arith, add-zero, drop_of_length-le}
-use Rattle.std.proofs.lemmas.List.{length-take}
+use Rattle.std.proofs.Common.{refl, sym, ap, ◌∙◌, ◌≡◌, ◌+◌, ◌-◌, drop, add-zero, arith}
 use Rattle.trac_gap.specs.Places.{run, pasted}
-use Rattle.trac_gap.proofs.Copying.{next_up, free_up, copied_up}
-use Rattle.trac_gap.proofs.Pasted.{pasted_none}
+use Rattle.trac_gap.proofs.Parts.{part_up, joined_last}
 use Rattle.trac_gap.proofs.places.Places.shift_up.Goals as goal
 
-pub loop-i-init : goal.loop-i-init
-loop-i-init g c =
-    let old = c.args.self.now.slots in let ws = run c.args.from c.args.count old in
-    let short : length ws ≤ c.args.count - 0 = omega (arith, length-take c.args.count (drop c.args.from old)) in
-    let none : drop (c.args.count - 0) ws ≡ [] = drop_of_length-le ws short in
-    record { at = refl; slots = sym (ap (pasted old (c.args.to + (c.args.count - 0))) none ∙ pasted_none old _) }
+pub parts_up-few-requires : goal.parts_up-few-requires
+parts_up-few-requires g c =
+    let old = c.args.self.now.slots in let s = c.parts_up-left in let now = s.new.self.slots in
+    let next = part_up old now now c.args.from c.args.to c.args.count c.requires.4 0 s.result s.result c.args.from c.args.to (omega arith) (omega arith) (omega arith) s.ensures.most.0 c.requires.1 c.requires.2 s.ensures.copied.1 in
+    (c.requires.0 ∙ sym s.ensures.copied.0, next.1, c.requires.2, omega (arith, next.2, c.requires.3), next.3, omega arith)
 
-pub item-item-requires : goal.item-item-requires
-item-item-requires g c =
-    let next = next_up c.args.self.now.slots _ c.loop-i.self.slots c.args.from c.args.to c.args.count c.loop-i.i c.requires.4 c.loop-i-test.true c.requires.1 c.requires.2 c.loop-i.invariant.slots _ refl in
-    (c.requires.0 ∙ sym c.loop-i.invariant.at, next.0, next.1)
-
-pub put-requires : goal.put-requires
-put-requires g c = (
-  c.requires.0 ∙ sym c.loop-i.invariant.at,
-  free_up c.args.self.now.slots _ c.loop-i.self.slots c.args.from c.args.to c.args.count c.loop-i.i c.requires.4 c.loop-i-test.true c.requires.1 c.requires.2 c.loop-i.invariant.slots _ refl,
-)
-
-pub loop-i-preserved : goal.loop-i-preserved
-loop-i-preserved g c = record {
-  at = c.put.ensures.0 ∙ c.loop-i.invariant.at;
-  slots = copied_up _ _ _ c.args.from _ c.args.count _ c.requires.4 c.loop-i-test.true c.requires.1 c.requires.2 c.loop-i.invariant.slots _ refl _ c.item-item.ensures c.put.ensures.1;
-}
+pub parts_up-requires : goal.parts_up-requires
+parts_up-requires g c =
+    let old = c.args.self.now.slots in let s = c.parts_up-left in let t = c.parts_up-few in let now = t.new.self.slots in let k = t.result in
+    let before = joined_last old s.new.self.slots now c.args.from c.args.to c.args.count c.requires.4 k (s.result - k) s.result (c.args.from + k) (c.args.to + k) (omega (arith, t.ensures.most.0)) refl refl s.ensures.most.0 c.requires.1 c.requires.2 s.ensures.copied.1 t.ensures.copied.1 in
+    let next = part_up old now now c.args.from c.args.to c.args.count c.requires.4 0 k k c.args.from c.args.to (omega arith) (omega arith) (omega arith) (omega (arith, t.ensures.most.0, s.ensures.most.0)) c.requires.1 c.requires.2 before in
+    (c.requires.0 ∙ sym (t.ensures.copied.0 ∙ s.ensures.copied.0), next.1, c.requires.2, omega (arith, next.2, c.requires.3), next.3, omega arith)
 
 pub returns : goal.returns
 returns g c =
-    let old = c.args.self.now.slots in let ws = run c.args.from c.args.count old in
-    let none : c.args.count - c.loop-i.i ≡ 0 = omega arith in
-    (c.loop-i.invariant.at, c.loop-i.invariant.slots ∙ ap (λ k. pasted old (c.args.to + k) (drop k ws)) none ∙ ap (λ k. pasted old k ws) (add-zero c.args.to))
+    let old = c.args.self.now.slots in let s = c.parts_up-left in let t = c.parts_up-few in let u = c.parts_up in let now = t.new.self.slots in let k = t.result in
+    let ws = run c.args.from c.args.count old in let none : u.result ≡ 0 = omega (arith, u.ensures.most.1) in
+    let before = joined_last old s.new.self.slots now c.args.from c.args.to c.args.count c.requires.4 k (s.result - k) s.result (c.args.from + k) (c.args.to + k) (omega (arith, t.ensures.most.0)) refl refl s.ensures.most.0 c.requires.1 c.requires.2 s.ensures.copied.1 t.ensures.copied.1 in
+    let after = joined_last old now u.new.self.slots c.args.from c.args.to c.args.count c.requires.4 u.result (k - u.result) k (c.args.from + u.result) (c.args.to + u.result) (omega (arith, u.ensures.most.0)) refl refl (omega (arith, t.ensures.most.0, s.ensures.most.0)) c.requires.1 c.requires.2 before u.ensures.copied.1 in
+    (u.ensures.copied.0 ∙ t.ensures.copied.0 ∙ s.ensures.copied.0, after ∙ ap (λ j. pasted old (c.args.to + j) (drop j ws)) none ∙ ap (λ j. pasted old j ws) (add-zero c.args.to))

@@ -1,0 +1,16 @@
+use Rattle.std.proofs.Common.{sym, subst}
+use Rattle.trac_gap.specs.Places.{IsShifted}
+use Rattle.trac_gap.proofs.Shifted.{shifted_over}
+use Rattle.trac_gap.proofs.places.Places.shift.Goals as goal
+
+pub returns-then-to-from : goal.returns-then-to-from
+returns-then-to-from g c = (
+  c.shift_down.ensures.0,
+  subst (IsShifted c.args.self.now.slots c.args.from c.args.to c.args.count) (sym c.shift_down.ensures.1) (shifted_over c.args.self.now.slots c.args.from c.args.to c.args.count c.requires.1 c.requires.2),
+)
+
+pub returns-else-to-from : goal.returns-else-to-from
+returns-else-to-from g c = (
+  c.shift_up.ensures.0,
+  subst (IsShifted c.args.self.now.slots c.args.from c.args.to c.args.count) (sym c.shift_up.ensures.1) (shifted_over c.args.self.now.slots c.args.from c.args.to c.args.count c.requires.1 c.requires.2),
+)
