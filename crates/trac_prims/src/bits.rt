@@ -8,26 +8,38 @@ use crate::calculating::number_at;
 use std::alloc::Allocator;
 use trac_num::{NumError, complement, meet, octal_tail, rotate, shift, union};
 
-pub(crate) fn union_of<A: Allocator + Copy>(alloc: A, args: &Args<'_>) -> Result<Vec<u8, A>, NumError>
+pub(crate) fn union_of<A: Allocator + Copy>(
+    alloc: A,
+    args: &Args<'_>,
+) -> Result<Vec<u8, A>, NumError>
     ensures { IfOk result (λ v. v.items ≡ text_of (union (octal_argument 1 args.now) (octal_argument 2 args.now))) }
 {
     union(alloc, octal_tail(args.get(1)), octal_tail(args.get(2)))
 }
 
-pub(crate) fn meet_of<A: Allocator + Copy>(alloc: A, args: &Args<'_>) -> Result<Vec<u8, A>, NumError>
+pub(crate) fn meet_of<A: Allocator + Copy>(
+    alloc: A,
+    args: &Args<'_>,
+) -> Result<Vec<u8, A>, NumError>
     ensures { IfOk result (λ v. v.items ≡ text_of (meet (octal_argument 1 args.now) (octal_argument 2 args.now))) }
 {
     meet(alloc, octal_tail(args.get(1)), octal_tail(args.get(2)))
 }
 
-pub(crate) fn complement_of<A: Allocator + Copy>(alloc: A, args: &Args<'_>) -> Result<Vec<u8, A>, NumError>
+pub(crate) fn complement_of<A: Allocator + Copy>(
+    alloc: A,
+    args: &Args<'_>,
+) -> Result<Vec<u8, A>, NumError>
     ensures { IfOk result (λ v. v.items ≡ text_of (complement (octal_argument 1 args.now))) }
 {
     complement(alloc, octal_tail(args.get(1)))
 }
 
 // Null where the number does not fit (this project's profile).
-pub(crate) fn shifted<A: Allocator + Copy>(alloc: A, args: &Args<'_>) -> Result<Vec<u8, A>, NumError>
+pub(crate) fn shifted<A: Allocator + Copy>(
+    alloc: A,
+    args: &Args<'_>,
+) -> Result<Vec<u8, A>, NumError>
     ensures { IfOk result (λ v. v.items ≡ moved shift (number_argument 1 args.now) (octal_argument 2 args.now)) }
 {
     match number_at(args, 1) {
@@ -37,7 +49,10 @@ pub(crate) fn shifted<A: Allocator + Copy>(alloc: A, args: &Args<'_>) -> Result<
 }
 
 // Null where the number does not fit (this project's profile).
-pub(crate) fn rotated<A: Allocator + Copy>(alloc: A, args: &Args<'_>) -> Result<Vec<u8, A>, NumError>
+pub(crate) fn rotated<A: Allocator + Copy>(
+    alloc: A,
+    args: &Args<'_>,
+) -> Result<Vec<u8, A>, NumError>
     ensures { IfOk result (λ v. v.items ≡ moved rotate (number_argument 1 args.now) (octal_argument 2 args.now)) }
 {
     match number_at(args, 1) {

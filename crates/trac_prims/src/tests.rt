@@ -77,7 +77,12 @@ fn a_text_is_read(rt: HostRuntime) -> Result<(), Fail> {
         meta: b'\'',
         position: 3,
     };
-    assert!(rt; matches!(plan(rt.alloc(), &args, INPUT, later), Err(Refusal::NeedInput)));
+    assert!(rt;
+        matches!(
+            plan(rt.alloc(), &args, INPUT, later),
+            Err(Refusal::NeedInput)
+        )
+    );
     let ended = Tape {
         bytes: b"AB'C",
         ended: true,
@@ -89,7 +94,12 @@ fn a_text_is_read(rt: HostRuntime) -> Result<(), Fail> {
         meta: b'\'',
         position: 4,
     };
-    assert!(rt; matches!(plan(rt.alloc(), &args, ended, behind_all), Err(Refusal::Ended)));
+    assert!(rt;
+        matches!(
+            plan(rt.alloc(), &args, ended, behind_all),
+            Err(Refusal::Ended)
+        )
+    );
     Ok(())
 }
 

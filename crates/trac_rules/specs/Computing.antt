@@ -38,7 +38,7 @@ result_of Divide a b = quotient_of a b
 abbrev pub octal_argument : ℕ → List (List ℕ) → List Bool
 octal_argument k arguments = bits_of (octal_tail (argument k arguments))
 
--- bits moved by a number; null where there is none
+-- bits moved by a number; null where there is none, since it does not fit (this project's profile)
 abbrev pub moved : (ℤ → List Bool → List Bool) → Option ℤ → List Bool → List ℕ
 moved by (Some n) bits = text_of (by n bits)
 moved by None bits = []
@@ -55,6 +55,5 @@ computed (Calculate operation) arguments =
 computed Union arguments = plain (text_of (union (octal_argument 1 arguments) (octal_argument 2 arguments)))
 computed Meet arguments = plain (text_of (meet (octal_argument 1 arguments) (octal_argument 2 arguments)))
 computed Complement arguments = plain (text_of (complement (octal_argument 1 arguments)))
--- a number that does not fit gives null (this project's profile)
 computed Shift arguments = plain (moved shift (number_argument 1 arguments) (octal_argument 2 arguments))
 computed Rotate arguments = plain (moved rotate (number_argument 1 arguments) (octal_argument 2 arguments))

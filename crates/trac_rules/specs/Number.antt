@@ -1,5 +1,5 @@
 -- Numbers: the numeral at the end of a text, the whole number that it writes, and arithmetic within the range of numbers.
-use Rattle.std.specs.Prelude.{◌≡◌, ◌⊎◌, ◌<◌, ◌≤◌, ℕ, ◌-◌, ◌^◌, ℤ, pos, neg_ℤ, ◌+ℤ◌, ◌-ℤ◌, ◌*ℤ◌, int_lt, int_le, int_div, unsigned_abs, List, [], ◌∷◌, ◌++◌, length, take, nat_lt, if◌then◌else◌, Bool, true, ◌&&◌, Option, None, Some}
+use Rattle.std.specs.Prelude.{◌≡◌, ◌⊎◌, ◌<◌, ◌≤◌, ℕ, ◌-◌, ◌^◌, ℤ, pos, neg_ℤ, ◌+ℤ◌, ◌-ℤ◌, ◌*ℤ◌, int_lt, int_le, int_div, unsigned_abs, List, [], ◌++◌, length, take, nat_lt, if◌then◌else◌, Bool, true, ◌&&◌, Option, None, Some}
 use Rattle.std.specs.Fmt.{signed_decimal}
 use Rattle.std.specs.Ordering.{int_eq}
 use Rattle.std.specs.Str.{all_ascii_digits}
@@ -24,13 +24,13 @@ IsNumeralOrNull numeral = (numeral ≡ []) ⊎ (is_numeral numeral ≡ true)
 unfoldable pub prefix_of : List ℕ → List ℕ
 prefix_of text = take (length text - length (numeral_of text)) text
 
--- the whole number that a numeral writes; a null one writes 0
+-- the whole number that a numeral, or null in place of one, writes; null writes 0
 unfoldable pub whole_number : List ℕ → ℤ
 whole_number numeral = signed_digits_value 10 numeral
 
 -- ---- the range
 
--- the numbers of the range lie from minus this bound up to the bound, which is not among them (this project's profile).
+-- the numbers of the range lie from minus this bound to one below it (this project's profile).
 -- No other definition knows how wide a number is
 abbrev pub number_bound : ℕ
 number_bound = 2 ^ 63
@@ -42,7 +42,7 @@ fits n = int_le (neg_ℤ (pos number_bound)) n && int_lt n (pos number_bound)
 abbrev pub if_fits : ℤ → Option ℤ
 if_fits n = if fits n then Some n else None
 
--- the number that a numeral writes, if it fits
+-- the number that a numeral, or null in place of one, writes, if it fits
 unfoldable pub number_of : List ℕ → Option ℤ
 number_of numeral = if_fits (whole_number numeral)
 
@@ -61,7 +61,7 @@ product_of a b = if_fits (a *ℤ b)
 unfoldable pub quotient_of : ℤ → ℤ → Option ℤ
 quotient_of a b = if int_eq b (pos 0) then None else if_fits (int_div a b)
 
--- q is a by b, cut toward zero: what remains of a is smaller than b, and q times b goes no further from zero than a
+-- q is a by b, cut toward zero, as a law says it of `quotient_of`: what remains of a is smaller in size than b, and q times b goes no further from zero than a
 pub record IsCutQuotient (a b q : ℤ) : Type 0 where
   pub remainder : ℤ
   pub whole : a ≡ q *ℤ b +ℤ remainder

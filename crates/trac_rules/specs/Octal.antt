@@ -44,7 +44,7 @@ text_of bits = []
 
 -- ---- operations on lists of bits
 
--- with so many zeros before it that it has at least n bits
+-- with zeros before it up to n bits; as it is where it has as many
 abbrev pub widened : ℕ → List Bool → List Bool
 widened n bits = replicate (n - length bits) false ++ bits
 
@@ -72,16 +72,16 @@ shifted_left n bits = drop n bits ++ replicate (min n (length bits)) false
 abbrev pub shifted_right : ℕ → List Bool → List Bool
 shifted_right n bits = replicate (min n (length bits)) false ++ take (length bits - n) bits
 
--- moved by so many places, to the left where positive
+-- moved by so many places, to the left where positive: `negsuc n` is -(n + 1)
 abbrev pub shift : ℤ → List Bool → List Bool
 shift (pos n) bits = shifted_left n bits
 shift (negsuc n) bits = shifted_right (suc n) bits
 
--- n places to the left, which are n modulo the length; what leaves at the left comes in at the right
+-- n places to the left, a multiple of the length making no difference; what leaves at the left comes in at the right
 abbrev pub rotated_left : ℕ → List Bool → List Bool
 rotated_left n bits = let k = n % length bits in drop k bits ++ take k bits
 
--- n places to the right, which are n modulo the length; what leaves at the right comes in at the left
+-- n places to the right, a multiple of the length making no difference; what leaves at the right comes in at the left
 abbrev pub rotated_right : ℕ → List Bool → List Bool
 rotated_right n bits = let k = length bits - n % length bits in drop k bits ++ take k bits
 

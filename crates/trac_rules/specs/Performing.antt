@@ -72,7 +72,7 @@ read_rest rest false s = Err NeedInput
 read_rest [] true s = Err Ended
 read_rest (b ∷ rest) true s = Ok (reads (b ∷ rest) (length (b ∷ rest)) s)
 
--- `rs`, with the place of the first meta character in the unread input, which is read and not given
+-- `rs`, with the place of the first meta character in the unread input: that byte is read and not given
 abbrev pub read_up_to : Option ℕ → Tape → State → Result Effect Refusal
 read_up_to (Some k) tape s = Ok (reads (take k (unread tape s)) (k + 1) s)
 read_up_to None tape s = read_rest (unread tape s) tape.ended s

@@ -10,12 +10,12 @@ pub fn numeral_is_longest()
     ensures longest { (text front tail : List ℕ) → text ≡ front ++ tail → is_numeral tail ≡ true → length tail ≤ length (numeral_of text) }
 {}
 
-/// A quotient is cut toward zero.
+/// A quotient is cut toward zero (this project's profile).
 pub fn quotient_is_cut()
     ensures { (a b q : ℤ) → quotient_of a b ≡ Some q → IsCutQuotient a b q }
 {}
 
-/// A number that is printed is a numeral, and is read back as the same number.
+/// A number of the range that is printed is a numeral, and is read back as the same number.
 pub fn printed_is_read_back()
     ensures form { (n : ℤ) → fits n ≡ true → is_numeral (number_text n) ≡ true }
     ensures number { (n : ℤ) → fits n ≡ true → number_of (number_text n) ≡ Some n }
@@ -57,16 +57,16 @@ pub fn worked_numerals()
     ensures behind_a_sign { calculated sum_of (codes "--4") (codes "1") ≡ Some (codes "--3") }
     ensures behind_all { calculated sum_of (codes "5-") (codes "3") ≡ Some (codes "5-3") }
     ensures times_zero { calculated product_of (codes "x") (codes "3") ≡ Some (codes "x0") }
-    // A quotient is cut toward zero.
+    // A quotient is cut toward zero (this project's profile).
     ensures cut { calculated quotient_of (codes "7") (codes "-2") ≡ Some (codes "-3") }
     ensures cut_negative { calculated quotient_of (codes "-7") (codes "2") ≡ Some (codes "-3") }
-    // What does not fit, and a divisor of 0, give the other text.
+    // What does not fit, and a divisor of 0, have no result.
     ensures sum_past { calculated sum_of (codes "9223372036854775807") (codes "1") ≡ None }
     ensures difference_past { calculated difference_of (codes "-9223372036854775808") (codes "1") ≡ None }
     ensures operand_past { calculated sum_of (codes "9223372036854775808") (codes "-1") ≡ None }
     ensures least_turned { calculated quotient_of (codes "-9223372036854775808") (codes "-1") ≡ None }
     ensures by_zero { calculated quotient_of (codes "1") (codes "0") ≡ None }
-    // Whole numbers are compared, of any length.
+    // Whole numbers are compared, of any length (this project's profile).
     ensures minus_zero_first { is_greater (codes "-0") (codes "0") ≡ false }
     ensures minus_zero_second { is_greater (codes "0") (codes "-0") ≡ false }
     ensures longer { is_greater (numeral_of (codes "a10")) (numeral_of (codes "b9")) ≡ true }

@@ -1,4 +1,4 @@
-//! The names of the primitives.
+//! What the names of the primitives stand for.
 
 /// What a name stands for. Each letter of a primitive's name may be in either case (this project's profile).
 #[derive(Clone, Copy, Debug, PartialEq, Eq)]
@@ -9,7 +9,8 @@ pub enum Primitive {
     ReadString,
     /// A primitive that gives a value made of its arguments alone, and does nothing else.
     Compute(Computation),
-    /// Any other name: its value is null, and it does nothing (this project's profile).
+    /// Any other name, and those of primitives that are not there yet: its value is null, and it does nothing (this
+    /// project's profile).
     Unknown,
 }
 
@@ -18,7 +19,7 @@ pub enum Primitive {
 pub enum Computation {
     /// `eq`: a choice by whether two texts are the same.
     Equal,
-    /// `gr`: a choice by whether one number is greater than another.
+    /// `gr`: a choice by whether one number is greater than another, at any length (this project's profile).
     Greater,
     /// `ad`, `su`, `ml`, `dv`: the result of an operation on two numbers.
     Calculate(Operation),

@@ -69,3 +69,22 @@ pub fn worked_rows()
     ensures walk_to_start { IsWalk Back 2 (session_after (Feed (codes "AB'") ∷ replicate 4 Step ++ Commit ∷ Step ∷ []) (new_session 4)) 1 (Some AtStart) (session_after (Feed (codes "AB'") ∷ replicate 4 Step ++ Commit ∷ []) (new_session 4)) }
     ensures walk_to_the_rest { IsWalk Step 8 (session_after (Feed (codes "A") ∷ End ∷ []) (new_session 64)) 8 None (session_after (Feed (codes "A") ∷ End ∷ replicate 8 Step) (new_session 64)) }
 {}
+
+/// What runs print that decide, calculate and work on bits.
+pub fn worked_calls()
+    ensures decimals { output_of (codes "#(ad,9223372036854775807,1,over);'#(dv,7,0,none);'#(ad,apples5,pears3);'#(dv,-7,2);'#(gr,99999999999999999999,5,yes,no)'") 1000000000 ≡ record { bytes = codes "over;none;apples8;-3;yes"; stop = InputEnded } }
+    ensures bit_strings { output_of (codes "#(bu,7,10) #(bi,70,5) #(bc,0) #(bs,-1,4) #(br,1,4)'") 1000000000 ≡ record { bytes = codes "17 0 7 2 1"; stop = InputEnded } }
+    // The value of a neutral function is not scanned, but for its default argument.
+    ensures neutral { output_of (codes "##(ad,5,(#(su,9,10)))'") 1000000000 ≡ record { bytes = codes "5"; stop = InputEnded } }
+    ensures forced { output_of (codes "##(dv,1,0,(#(ad,2,2)))'") 1000000000 ≡ record { bytes = codes "4"; stop = InputEnded } }
+    ensures products { output_of (codes "#(ml,3037000499,3037000499,big);#(ml,3037000500,3037000500,big)'") 1000000000 ≡ record { bytes = codes "9223372030926249001;big"; stop = InputEnded } }
+    ensures far_moves { output_of (codes "#(bs,-9223372036854775808,7);#(br,9223372036854775807,12);#(br,-9223372036854775808,12);#(bs,9223372036854775808,7);'") 1000000000 ≡ record { bytes = codes "0;24;42;;"; stop = InputEnded } }
+    ensures texts { output_of (codes "#(eq,Cat,Cat,y,n)#(EQ,Cat,cat,y,n)#(eq,,,y,n)#(eq,a,ab,y)'") 1000000000 ≡ record { bytes = codes "yny"; stop = InputEnded } }
+    // A result has no `+` and no leading zeros; a product and an operand may not fit; a text without a numeral is 0.
+    ensures results { output_of (codes "#(ad,+0012,0);#(dv,-1,2);#(dv,-7,-2);#(dv,5,x,Z);#(ml,9223372036854775808,0,Z);#(ad,1,9223372036854775808,Z)'") 1000000000 ≡ record { bytes = codes "12;0;3;Z;Z;Z"; stop = InputEnded } }
+    ensures comparisons { output_of (codes "#(gr,-0,0,y,n)#(gr,a10,b9,y,n)#(gr,-1,-2,y,n)#(gr,-2,-1,y,n)'") 1000000000 ≡ record { bytes = codes "nyyn"; stop = InputEnded } }
+    // The prefix of a number of places is dropped, and one that does not fit gives null.
+    ensures places { output_of (codes "#(bs,x3,12);#(bs,9223372036854775808,7);#(br,-9223372036854775809,7);#(bs,-3,8);'") 1000000000 ≡ record { bytes = codes "20;;;;"; stop = InputEnded } }
+    // A name may be in either letter case, and another name gives null.
+    ensures names { output_of (codes "#(AD,1,2)#(aD,1,2)#(Br,1,4)#(adx,1,2)#(,1,2)'") 1000000000 ≡ record { bytes = codes "331"; stop = InputEnded } }
+{}

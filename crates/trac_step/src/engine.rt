@@ -3,10 +3,10 @@ ghost use Rattle.std.specs.Prelude.{◌≡◌, IfOk, IsOkUnless, length};
 ghost use Rattle.trac_rules.specs.State.{initial};
 ghost use Rattle.trac_rules.specs.Session.{settled};
 
-use trac_prims::Mark;
 use std::alloc::{Allocator, Global};
 use std::marker::Model;
 use trac_gap::{PlainEnds, TwoEnds};
+use trac_prims::Mark;
 use trac_rules::byte;
 use trac_rules::refusal::Refusal;
 

@@ -3,12 +3,11 @@ ghost use Rattle.std.specs.Prelude.{◌≡◌, ℕ, ◌+◌, ◌<◌, ◌≤◌,
 ghost use Rattle.trac_step.specs.Layout.{AreMarks, neutral};
 ghost use Rattle.trac_step.specs.Frames.{IsFrame, IsWithoutInnermost};
 
-use trac_prims::Args;
 use crate::calling::{arguments_behind, called};
 use crate::engine::Core;
-use trac_prims::Mark;
 use std::alloc::Allocator;
 use trac_gap::TwoEnds;
+use trac_prims::{Args, Mark};
 use trac_rules::kind::Kind;
 
 // The neutral text and its marks before the innermost function.

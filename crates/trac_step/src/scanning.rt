@@ -6,10 +6,10 @@ ghost use Rattle.trac_rules.specs.Scanning.{protect, deleted, begun, comma_in, g
 ghost use Rattle.trac_rules.specs.Limits.{marks};
 
 use crate::engine::{Core, IDLE_PROGRAM};
-use trac_prims::Mark;
 use crate::matching::match_in;
 use std::alloc::Allocator;
 use trac_gap::TwoEnds;
+use trac_prims::Mark;
 use trac_rules::kind::Kind;
 use trac_rules::limit::MARK_LIMIT;
 use trac_rules::refusal::Refusal;

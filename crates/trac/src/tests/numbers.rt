@@ -33,14 +33,20 @@ const RUNS: [(&[u8], &[u8]); 26] = [
     // Decisions.
     (b"#(gr,-0,0,y,n)'", b"n"),
     (b"#(gr,a10,b9,y,n)'", b"y"),
-    (b"#(eq,Cat,Cat,y,n)#(EQ,Cat,cat,y,n)#(eq,,,y,n)#(eq,a,ab,y)'", b"yny"),
+    (
+        b"#(eq,Cat,Cat,y,n)#(EQ,Cat,cat,y,n)#(eq,,,y,n)#(eq,a,ab,y)'",
+        b"yny",
+    ),
     // Bit strings.
     (b"#(bu,12,x7);#(bu,8,9);'", b"17;;"),
     (b"#(bi,123,7)'", b"3"),
     (b"#(bc,017)'", b"760"),
     (b"#(bs,1,4);#(bs,3,12);#(bs,99,7)'", b"0;20;0"),
     (b"#(br,-1,1);#(br,4,12)'", b"4;42"),
-    (b"#(bu,7,10) #(bi,70,5) #(bc,0) #(bs,-1,4) #(br,1,4)'", b"17 0 7 2 1"),
+    (
+        b"#(bu,7,10) #(bi,70,5) #(bc,0) #(bs,-1,4) #(br,1,4)'",
+        b"17 0 7 2 1",
+    ),
     (
         b"#(bs,-9223372036854775808,7);#(br,9223372036854775807,12);#(br,-9223372036854775808,12);#(bs,9223372036854775808,7);'",
         b"0;24;42;;",
@@ -49,7 +55,10 @@ const RUNS: [(&[u8], &[u8]); 26] = [
     // A name may be in either letter case, and any other name gives null.
     (b"#(Ad,1,2)#(bR,1,4)#(add,1,2)'", b"31"),
     // A value of an active function is scanned.
-    (b"#(eq,a,a,(#(ad,1,1)),0)##(eq,a,a,(#(ad,1,1)),0)'", b"2#(ad,1,1)"),
+    (
+        b"#(eq,a,a,(#(ad,1,1)),0)##(eq,a,a,(#(ad,1,1)),0)'",
+        b"2#(ad,1,1)",
+    ),
 ];
 
 #[test]

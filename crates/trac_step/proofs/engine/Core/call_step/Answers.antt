@@ -26,7 +26,7 @@ returns-in_err-before-clause-refused g c =
       refuses_memory _ p.0 (p.2 ∙ c.in_err-before.ensures.err)
           (call_lacks (tape_of c.args.tape) c.args.self.now.state c.requires.front c.requires.inside
           (ended_call c.in_ok-effect.effect)
-      (planned_is_performed (tape_of c.args.tape) c.args.self.now.state c.in_ok-effect.effect c.in_ok-effect.ensures)),
+          (planned_is_performed (tape_of c.args.tape) c.args.self.now.state c.in_ok-effect.effect c.in_ok-effect.ensures)),
     )
 
 pub returns-in_err-end_call-clause-refused : goal.returns-in_err-end_call-clause-refused
@@ -37,7 +37,7 @@ returns-in_err-end_call-clause-refused g c =
       refuses_memory _ p.0 (p.2 ∙ c.in_err-end_call.ensures.err.0)
           (call_lacks (tape_of c.args.tape) c.args.self.now.state c.requires.front c.requires.inside
           (ended_call c.in_ok-effect.effect)
-      (planned_is_performed (tape_of c.args.tape) c.args.self.now.state c.in_ok-effect.effect c.in_ok-effect.ensures)),
+          (planned_is_performed (tape_of c.args.tape) c.args.self.now.state c.in_ok-effect.effect c.in_ok-effect.ensures)),
     )
 
 pub returns-clause-taken : goal.returns-clause-taken
