@@ -1,9 +1,9 @@
 -- The bits of octal texts that are made of others.
-use Rattle.std.proofs.Common.{◌≡◌, ℕ, zero, suc, ◌+◌, ◌*◌, ◌<◌, true, false, List, [], ◌∷◌, ◌++◌, length, take, drop, get_or, replicate, refl, sym, ap, ◌∙◌, arith}
+use Rattle.std.proofs.Common.{◌≡◌, ℕ, zero, suc, ◌+◌, ◌*◌, false, List, [], ◌∷◌, ◌++◌, length, take, drop, replicate, refl, sym, ap, ◌∙◌, arith}
 use Rattle.std.proofs.lemmas.List.{take-append-drop}
 use Rattle.std.proofs.lemmas.List.Concat.{flat_map-append}
-use Rattle.std.proofs.lemmas.List.Folds.{list_all-append, list_all_at}
-use Rattle.std.proofs.lemmas.Bool.{false≢true, and_parts, and_from, true_from_ne_false}
+use Rattle.std.proofs.lemmas.List.Folds.{list_all-append}
+use Rattle.std.proofs.lemmas.Bool.{and_parts, and_from}
 use Rattle.trac_rules.specs.declared.octals.TheConstants.{ZERO}
 use Rattle.trac_rules.specs.Octal.{IsOctal, bits_of, digit_bits, is_octal, is_octal_digit}
 
@@ -53,8 +53,3 @@ octal-drop n xs h = (octal_parts (take n xs) (drop n xs) (ap is_octal (take-appe
 pub octal-zeros : (n : ℕ) → IsOctal (replicate n ZERO)
 octal-zeros zero = refl
 octal-zeros (suc n) = octal-zeros n
-
--- each digit of an octal text is one
-pub octal_at : (xs : List ℕ) (i d : ℕ) → IsOctal xs → i < length xs → is_octal_digit (get_or xs i d) ≡ true
-octal_at xs i d h l =
-    true_from_ne_false (is_octal_digit (get_or xs i d)) (λ no_digit. false≢true (sym (list_all_at is_octal_digit xs i d l no_digit) ∙ h))

@@ -6,7 +6,7 @@ use Rattle.std.proofs.lemmas.List.{ext_get_or, get_or-take, get_or-drop, get_or_
 use Rattle.std.proofs.lemmas.Nat.{div-add-mod', mod_below, mod-mul-add}
 use Rattle.trac_rules.specs.declared.octals.TheConstants.{ZERO}
 use Rattle.trac_rules.specs.Octal.{IsOctal, bits_of, digit_bits, is_octal, is_octal_digit, shifted_left, shifted_right}
-use Rattle.trac_num.proofs.Bits.{bits_of-append, bits_of-drop, bits_of-take, bits_of-zeros, length-bits_of, octal_at}
+use Rattle.trac_num.proofs.Bits.{bits_of-append, bits_of-drop, bits_of-take, bits_of-zeros, length-bits_of}
 
 -- ---- one digit at a time
 
@@ -75,10 +75,6 @@ slid_more s v k r d h l w digit e =
           ∙ ap (λ n. take n (drop r (bits_of s))) next;
       rest = drop-set-lt (k + 1) v k d (omega arith) ∙ sym (drop-drop 1 k v) ∙ ap (drop 1) h.rest ∙ drop-drop 1 k s;
     }
-
--- before the first
-pub slid_start : (s : List ℕ) (r : ℕ) → IsOctal s → IsSlid s s 0 r
-slid_start s r h = record { same = refl; octal = h; moved = refl; rest = refl }
 
 -- ---- zeros
 
@@ -322,7 +318,3 @@ slid_step s v k r d x y h l w ex ey digit e =
     let first : x ≡ get_or v k 0 = get_or_read v k x (omega (arith, l, h.same)) ex 0 in
     let second : y ≡ get_or v (k + 1) 0 = get_or_read v (k + 1) y (omega (arith, l, h.same)) ey 0 in
     slid_more s v k r d h l w digit (rw (first, second) at e)
-
--- an item of an octal text that was read
-pub octal_read : (v : List ℕ) (k x : ℕ) → IsOctal v → k < length v → x ≡ get_or v k x → is_octal_digit x ≡ true
-octal_read v k x h l e = ap is_octal_digit (get_or_read v k x l e 0) ∙ octal_at v k 0 h l

@@ -1,5 +1,5 @@
 -- Where the octal string of a text begins.
-use Rattle.std.proofs.Common.{◌≡◌, ℕ, ◌+◌, ◌-◌, ◌<◌, ◌≤◌, true, false, List, [], ◌∷◌, ◌++◌, length, take, drop, get_or, refl, sym, ap, ◌∙◌, arith}
+use Rattle.std.proofs.Common.{◌≡◌, ℕ, ◌+◌, ◌-◌, ◌<◌, ◌≤◌, false, List, [], ◌∷◌, ◌++◌, length, take, drop, get_or, refl, sym, ap, ◌∙◌, arith}
 use Rattle.std.proofs.lemmas.List.{drop_more, take-append-drop, get_or_at}
 use Rattle.std.proofs.lemmas.List.Folds.{list_all_at}
 use Rattle.std.proofs.lemmas.List.{length-append}
@@ -21,10 +21,6 @@ pub octal_tail_from : (text : List ℕ) (i : ℕ) → i < length text → is_oct
 octal_tail_from text i l n h =
     ap octal_tail (sym (take-append-drop i text) ∙ ap (λ t. take i text ++ t) (drop_more text i 0 l))
     ∙ octal_tail-behind (take i text) (get_or text i 0) (drop (i + 1) text) n h
-
--- one digit more
-pub octal_more : (text : List ℕ) (i : ℕ) → i < length text → is_octal_digit (get_or text i 0) ≡ true → IsOctal (drop (i + 1) text) → IsOctal (drop i text)
-octal_more text i l d h = ap is_octal (drop_more text i 0 l) ∙ rw d h
 
 -- the same, counted from behind it
 pub octal_tail_behind_place : (text : List ℕ) (n : ℕ) → 0 < n → n ≤ length text → is_octal_digit (get_or text (n - 1) 0) ≡ false → IsOctal (drop n text) → octal_tail text ≡ drop n text
