@@ -1,4 +1,5 @@
 pub mod Balanced
+pub mod Cutting
 pub mod Changed
 pub mod Positions
 pub mod Steps

@@ -1,10 +1,17 @@
 //! Worked rows of the language, computed from the definitions.
 ghost use Rattle.std.specs.Prelude.{◌≡◌, ◌++◌, ◌∷◌, [], codes, replicate, None, Some};
+ghost use Rattle.std.specs.FinMap as map;
+ghost use Rattle.trac_rules.specs.Calling.{called};
+ghost use Rattle.trac_rules.specs.Form.{as_items, defined, pointed_at};
+ghost use Rattle.trac_rules.specs.Listing.{listed};
 ghost use Rattle.trac_rules.specs.Rows.{replies_to, session_after, state_after};
 ghost use Rattle.trac_rules.specs.Running.{BudgetSpent, InputEnded, output_of};
 ghost use Rattle.trac_rules.specs.Session.{Back, Commit, End, Feed, IsWalk, Run, Step, new_session};
+ghost use Rattle.trac_rules.specs.Segmenting.{segmented};
+ghost use Rattle.trac_rules.specs.Showing.{shown};
 ghost use Rattle.trac_rules.specs.State.{initial};
 ghost use Rattle.trac_rules.specs.declared.byte.TheConstants.{CARRIAGE_RETURN, LINE_FEED};
+ghost use Rattle.trac_rules.specs.declared.item.Item.TheVariants.{Byte, Gap};
 ghost use Rattle.trac_rules.specs.declared.kind.Kind.TheVariants.{Active};
 ghost use Rattle.trac_rules.specs.declared.refusal.Refusal.TheVariants.{AtStart, Closed, JournalFull, NeedInput};
 ghost use Rattle.trac_rules.specs.declared.reply.Reply.TheVariants.{Done, Refused};
@@ -68,4 +75,30 @@ pub fn worked_rows()
     ensures walk_full { IsWalk Step 5 (session_after (Feed (codes "AB'") ∷ []) (new_session 4)) 4 (Some JournalFull) (session_after (Feed (codes "AB'") ∷ replicate 4 Step) (new_session 4)) }
     ensures walk_to_start { IsWalk Back 2 (session_after (Feed (codes "AB'") ∷ replicate 4 Step ++ Commit ∷ Step ∷ []) (new_session 4)) 1 (Some AtStart) (session_after (Feed (codes "AB'") ∷ replicate 4 Step ++ Commit ∷ []) (new_session 4)) }
     ensures walk_to_the_rest { IsWalk Step 8 (session_after (Feed (codes "A") ∷ End ∷ []) (new_session 64)) 8 None (session_after (Feed (codes "A") ∷ End ∷ replicate 8 Step) (new_session 64)) }
+{}
+
+/// What forms look like once texts are cut out of them, and what calls of them give.
+pub fn worked_forms()
+    // Each text in turn; the second one only where the first one left bytes.
+    ensures two_texts { shown (segmented (codes "b" ∷ codes "ca" ∷ []) (defined (codes "abcabc"))) ≡ codes "<^>a<1><2><1>c" }
+    ensures two_texts_called { called (codes "-" ∷ codes "+" ∷ []) (segmented (codes "b" ∷ codes "ca" ∷ []) (defined (codes "abcabc"))) ≡ codes "a-+-c" }
+    // A null text cuts nothing, and uses up its number.
+    ensures null_text { shown (segmented ([] ∷ codes "a" ∷ []) (defined (codes "banana"))) ≡ codes "<^>b<2>n<2>n<2>" }
+    // The leftmost occurrence is cut first, and none overlaps another.
+    ensures leftmost { shown (segmented (codes "aa" ∷ []) (defined (codes "aaa"))) ≡ codes "<^><1>a" }
+    // Earlier gaps stay, and numbers begin at 1 again.
+    ensures earlier_gap { shown (segmented (codes "y" ∷ []) (defined (codes "yxb"))) ≡ codes "<^><1>xb" }
+    ensures numbered_again { shown (segmented (codes "x" ∷ []) (segmented (codes "y" ∷ []) (defined (codes "yxb")))) ≡ codes "<^><1><1>b" }
+    // No occurrence crosses a gap.
+    ensures across { shown (segmented (codes "ac" ∷ []) (segmented (codes "b" ∷ []) (defined (codes "abc")))) ≡ codes "<^>a<1>c" }
+    // The pointer goes to the start, also where nothing was cut.
+    ensures pointer_back { shown (segmented [] (pointed_at 2 (as_items (codes "abc")))) ≡ codes "<^>abc" }
+    // A call begins at the pointer, and a text that is missing is null.
+    ensures from_the_pointer { called (codes "X" ∷ codes "Y" ∷ []) (pointed_at 1 (Byte 97 ∷ Gap 1 1 ∷ Byte 98 ∷ Byte 99 ∷ Gap 2 1 ∷ [])) ≡ codes "XbcY" }
+    ensures missing_texts { called [] (pointed_at 1 (Byte 97 ∷ Gap 1 1 ∷ Byte 98 ∷ Byte 99 ∷ Gap 2 1 ∷ [])) ≡ codes "bc" }
+    // The pointer is shown wherever it is.
+    ensures pointer_before_a_gap { shown (pointed_at 1 (Byte 97 ∷ Gap 1 1 ∷ Byte 98 ∷ Byte 99 ∷ Gap 2 1 ∷ [])) ≡ codes "a<^><1>bc<2>" }
+    ensures pointer_at_the_end { shown (pointed_at 5 (Byte 97 ∷ Gap 1 1 ∷ Byte 98 ∷ Byte 99 ∷ Gap 2 1 ∷ [])) ≡ codes "a<1>bc<2><^>" }
+    // Names are listed by their bytes, whatever the order in which their forms were made.
+    ensures names { listed (codes ",") (map.insert (map.insert map.empty (codes "b") (defined (codes "1"))) (codes "a") (defined (codes "2"))) ≡ codes ",a,b" }
 {}
