@@ -1,2 +1,4 @@
 pub mod Extents
 pub mod Going
+pub mod Tables
+pub mod Names

@@ -5,10 +5,13 @@
 pub mod error;
 mod filling;
 pub mod form;
+mod listing;
 mod showing;
+pub mod store;
 pub mod texts;
 
 pub use error::FormError;
 pub use form::Form;
+pub use store::Store;
 pub use texts::Texts;
 pub use trac_rules::item::Item;
