@@ -1,3 +1,4 @@
+pub mod Cuts
 pub mod Extents
 pub mod Going
 pub mod Tables

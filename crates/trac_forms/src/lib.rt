@@ -2,6 +2,7 @@
 //! by their names.
 #![tactic(auto)]
 
+mod cutting;
 pub mod error;
 mod filling;
 pub mod form;

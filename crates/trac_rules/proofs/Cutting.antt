@@ -359,3 +359,20 @@ filled-segmented_from texts earlier (text ∷ later) k items e n =
 
 pub filled-segmented : (texts : List (List ℕ)) (form : Form) → all_filled texts (all_items (segmented texts form)) ≡ all_filled texts (all_items form)
 filled-segmented texts form = filled-segmented_from texts [] texts 1 (all_items form) refl refl
+
+-- ---- null texts
+
+-- two ways to cut that agree on each run give the same
+pub replaced_alike : (cut cut' : List ℕ → List Item) → ((run : List ℕ) → cut run ≡ cut' run) → (r : Runs) → replaced cut r ≡ replaced cut' r
+replaced_alike cut cut' same r =
+    ap (λ f. f ++ flat_map (λ gap. gap.0 ∷ cut gap.1) r.others) (same r.first) ∙ ap (λ f. cut' r.first ++ f) (others r.others)
+  where
+    others : (gaps : List (Item × List ℕ)) → flat_map (λ gap. gap.0 ∷ cut gap.1) gaps ≡ flat_map (λ gap. gap.0 ∷ cut' gap.1) gaps
+    others [] = refl
+    others (gap ∷ gaps) =
+        ap (λ f. gap.0 ∷ (f ++ flat_map (λ g. g.0 ∷ cut g.1) gaps)) (same gap.1) ∙ ap (λ f. gap.0 ∷ (cut' gap.1 ++ f)) (others gaps)
+
+-- a null text leaves all items
+pub cut_out_null : (k : ℕ) (items : List Item) → cut_out k [] items ≡ items
+unfolding cut_out
+cut_out_null k items = replaced_alike (part k []) as_items (part_null k) (runs_of items) ∙ replaced_none items
