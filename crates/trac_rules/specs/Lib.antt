@@ -3,6 +3,10 @@ pub mod Bytes
 pub mod Form
 pub mod State
 pub mod Matching
+pub mod Segmenting
+pub mod Calling
+pub mod Showing
+pub mod Listing
 pub mod Scanning
 pub mod Limits
 pub mod Number

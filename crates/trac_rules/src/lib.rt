@@ -14,3 +14,4 @@ pub mod refusal;
 pub mod reply;
 pub mod rows;
 pub mod scan;
+pub mod segmenting;

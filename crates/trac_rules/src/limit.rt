@@ -6,6 +6,9 @@ pub const TEXT_LIMIT: usize = 16_777_216;
 /// There are at most so many marks: one for each begun function, and one for each of its finished arguments.
 pub const MARK_LIMIT: usize = 1_048_576;
 
+/// A form has at most so many items, and stands for at most so many bytes: its own, and those of the widths of its gaps.
+pub const FORM_LIMIT: usize = 16_777_216;
+
 /// At most so many bytes of output are kept until they are released.
 pub const OUTPUT_LIMIT: usize = 16_777_216;
 

@@ -1,10 +1,17 @@
 //! Worked rows of the language, computed from the definitions.
 ghost use Rattle.std.specs.Prelude.{◌≡◌, ◌++◌, ◌∷◌, [], codes, replicate, None, Some};
+ghost use Rattle.std.specs.FinMap as map;
+ghost use Rattle.trac_rules.specs.Calling.{called};
+ghost use Rattle.trac_rules.specs.Form.{as_items, defined, pointed_at};
+ghost use Rattle.trac_rules.specs.Listing.{listed};
 ghost use Rattle.trac_rules.specs.Rows.{replies_to, session_after, state_after};
 ghost use Rattle.trac_rules.specs.Running.{BudgetSpent, InputEnded, output_of};
 ghost use Rattle.trac_rules.specs.Session.{Back, Commit, End, Feed, IsWalk, Run, Step, new_session};
+ghost use Rattle.trac_rules.specs.Segmenting.{segmented};
+ghost use Rattle.trac_rules.specs.Showing.{shown};
 ghost use Rattle.trac_rules.specs.State.{initial};
 ghost use Rattle.trac_rules.specs.declared.byte.TheConstants.{CARRIAGE_RETURN, LINE_FEED};
+ghost use Rattle.trac_rules.specs.declared.item.Item.TheVariants.{Byte, Gap};
 ghost use Rattle.trac_rules.specs.declared.kind.Kind.TheVariants.{Active};
 ghost use Rattle.trac_rules.specs.declared.refusal.Refusal.TheVariants.{AtStart, Closed, JournalFull, NeedInput};
 ghost use Rattle.trac_rules.specs.declared.reply.Reply.TheVariants.{Done, Refused};
@@ -87,4 +94,30 @@ pub fn worked_calls()
     ensures places { output_of (codes "#(bs,x3,12);#(bs,9223372036854775808,7);#(br,-9223372036854775809,7);#(bs,-3,8);'") 1000000000 ≡ record { bytes = codes "20;;;;"; stop = InputEnded } }
     // A name may be in either letter case, and another name gives null.
     ensures names { output_of (codes "#(AD,1,2)#(aD,1,2)#(Br,1,4)#(adx,1,2)#(,1,2)'") 1000000000 ≡ record { bytes = codes "331"; stop = InputEnded } }
+{}
+
+/// What forms look like once texts are cut out of them, and what calls of them give.
+pub fn worked_forms()
+    // Each text in turn; the second one only where the first one left bytes.
+    ensures two_texts { shown (segmented (codes "b" ∷ codes "ca" ∷ []) (defined (codes "abcabc"))) ≡ codes "<^>a<1><2><1>c" }
+    ensures two_texts_called { called (codes "-" ∷ codes "+" ∷ []) (segmented (codes "b" ∷ codes "ca" ∷ []) (defined (codes "abcabc"))) ≡ codes "a-+-c" }
+    // A null text cuts nothing, and uses up its number.
+    ensures null_text { shown (segmented ([] ∷ codes "a" ∷ []) (defined (codes "banana"))) ≡ codes "<^>b<2>n<2>n<2>" }
+    // The leftmost occurrence is cut first, and none overlaps another.
+    ensures leftmost { shown (segmented (codes "aa" ∷ []) (defined (codes "aaa"))) ≡ codes "<^><1>a" }
+    // Earlier gaps stay, and numbers begin at 1 again.
+    ensures earlier_gap { shown (segmented (codes "y" ∷ []) (defined (codes "yxb"))) ≡ codes "<^><1>xb" }
+    ensures numbered_again { shown (segmented (codes "x" ∷ []) (segmented (codes "y" ∷ []) (defined (codes "yxb")))) ≡ codes "<^><1><1>b" }
+    // No occurrence crosses a gap.
+    ensures across { shown (segmented (codes "ac" ∷ []) (segmented (codes "b" ∷ []) (defined (codes "abc")))) ≡ codes "<^>a<1>c" }
+    // The pointer goes to the start, also where nothing was cut.
+    ensures pointer_back { shown (segmented [] (pointed_at 2 (as_items (codes "abc")))) ≡ codes "<^>abc" }
+    // A call begins at the pointer, and a text that is missing is null.
+    ensures from_the_pointer { called (codes "X" ∷ codes "Y" ∷ []) (pointed_at 1 (Byte 97 ∷ Gap 1 1 ∷ Byte 98 ∷ Byte 99 ∷ Gap 2 1 ∷ [])) ≡ codes "XbcY" }
+    ensures missing_texts { called [] (pointed_at 1 (Byte 97 ∷ Gap 1 1 ∷ Byte 98 ∷ Byte 99 ∷ Gap 2 1 ∷ [])) ≡ codes "bc" }
+    // The pointer is shown wherever it is.
+    ensures pointer_before_a_gap { shown (pointed_at 1 (Byte 97 ∷ Gap 1 1 ∷ Byte 98 ∷ Byte 99 ∷ Gap 2 1 ∷ [])) ≡ codes "a<^><1>bc<2>" }
+    ensures pointer_at_the_end { shown (pointed_at 5 (Byte 97 ∷ Gap 1 1 ∷ Byte 98 ∷ Byte 99 ∷ Gap 2 1 ∷ [])) ≡ codes "a<1>bc<2><^>" }
+    // Names are listed by their bytes, whatever the order in which their forms were made.
+    ensures names { listed (codes ",") (map.insert (map.insert map.empty (codes "b") (defined (codes "1"))) (codes "a") (defined (codes "2"))) ≡ codes ",a,b" }
 {}

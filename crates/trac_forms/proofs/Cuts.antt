@@ -1,0 +1,112 @@
+-- What a search for a text in a run says of the run's parts, and how items are cut one by one.
+use Rattle.std.proofs.Common.{◌≡◌, ℕ, ◌+◌, ◌<◌, ◌≤◌, List, [], ◌∷◌, ◌++◌, length, take, drop, get_or, refl, sym, ap, subst, ◌∙◌, arith, ⊎_elim}
+use Rattle.std.specs.Prelude.{None, Some}
+use Rattle.std.proofs.lemmas.Bool.{cases_lt}
+use Rattle.std.proofs.lemmas.List.{append_assoc, append-nil, drop_all, drop_more, map-append, take-append-drop, length-append, length-take-le, get_or-append-add, get_or_append_left}
+use Rattle.std.proofs.lemmas.List.Prefix.{at_from_reads}
+use Rattle.memchr.specs.Find.{OccursAt, FindsNeedle}
+use Rattle.trac_rules.specs.declared.item.Item.{Item}
+use Rattle.trac_rules.specs.declared.item.Item.TheVariants.{Byte, Gap}
+use Rattle.trac_rules.specs.Form.{as_items}
+use Rattle.trac_rules.specs.Segmenting.{part, cut_out, segmented_from}
+use Rattle.trac_rules.proofs.Cutting.{part_found, part_without, cut_out_gap, cut_out_last, cut_out_null}
+
+-- ---- a run
+
+-- a text occurs behind what is before it
+occurs_behind : (front text back : List ℕ) → OccursAt (front ++ (text ++ back)) text (length front)
+occurs_behind front text back = record {
+  fits = omega (arith, length-append front (text ++ back), length-append text back);
+  reads = λ j l. get_or-append-add front (text ++ back) j 0 ∙ get_or_append_left text back 0 j l;
+}
+
+occurs_in : (run front text back : List ℕ) → run ≡ front ++ (text ++ back) → OccursAt run text (length front)
+occurs_in run front text back e = subst (λ r. OccursAt r text (length front)) (sym e) (occurs_behind front text back)
+
+-- a run splits where a text occurs
+split_at : (run text : List ℕ) (place : ℕ) → OccursAt run text place → run ≡ take place run ++ (text ++ drop (place + length text) run)
+split_at run text place h = sym (take-append-drop place run) ∙ ap (λ r. take place run ++ r) (at_from_reads 0 run text place h.fits h.reads)
+
+-- the first place that a search finds is cut
+pub part_some : (k : ℕ) (text run : List ℕ) (place : ℕ) → 0 < length text → FindsNeedle run text 0 (Some place) →
+    part k text run ≡ as_items (take place run) ++ Gap k (length text) ∷ part k text (drop (place + length text) run)
+part_some k text run place some h =
+    let front = take place run in
+    let back = drop (place + length text) run in
+    let split = split_at run text place h.1 in
+    ap (part k text) split
+    ∙ part_found k text front back (λ (e : text ≡ []). absurd (omega (arith, some, ap length e)))
+    (λ sooner rest e. ⊎_elim
+    (λ (l : length sooner < place). absurd (h.0.before (length sooner) (omega arith) l (occurs_in run sooner text rest (split ∙ e))))
+    (λ (l : place ≤ length sooner). omega (arith, l, length-take-le place run (omega (arith, h.1.fits))))
+    (cases_lt (length sooner) place))
+
+-- where a search finds nothing, the run stays
+pub part_none : (k : ℕ) (text run : List ℕ) → FindsNeedle run text 0 None → part k text run ≡ as_items run
+part_none k text run h =
+    part_without k text run (λ front back e.
+    h (length front) (omega arith) (omega (arith, ap length e, length-append front (text ++ back))) (occurs_in run front text back e))
+
+-- one cut more: what is done so far, then the bytes before the occurrence, its gap, and the rest
+pub cut_more : (k : ℕ) (text rest : List ℕ) (place : ℕ) (done fronted new : List Item) (back : List ℕ) → 0 < length text → FindsNeedle rest text 0 (Some place) →
+    fronted ≡ done ++ as_items (take place rest) → new ≡ fronted ++ Gap k (length text) ∷ [] → back ≡ drop (place + length text) rest →
+    new ++ part k text back ≡ done ++ part k text rest
+cut_more k text rest place done fronted new back some h f n b =
+    ap (λ (xs : List Item). xs ++ part k text back) (n ∙ ap (λ (xs : List Item). xs ++ Gap k (length text) ∷ []) f)
+    ∙ ap (λ (r : List ℕ). ((done ++ as_items (take place rest)) ++ Gap k (length text) ∷ []) ++ part k text r) b
+    ∙ append_assoc (done ++ as_items (take place rest)) (Gap k (length text) ∷ []) (part k text (drop (place + length text) rest))
+    ∙ append_assoc done (as_items (take place rest)) (Gap k (length text) ∷ part k text (drop (place + length text) rest))
+    ∙ ap (λ (xs : List Item). done ++ xs) (sym (part_some k text rest place some h))
+
+-- ---- items: what is cut so far, the run that is read so far, and the items that are left
+
+-- one byte more of a run
+pub byte_read : (k : ℕ) (text run : List ℕ) (done left all : List Item) (b : ℕ) (rest : List Item) (longer : List ℕ) → left ≡ Byte b ∷ rest → longer ≡ run ++ b ∷ [] →
+    done ++ cut_out k text (as_items run ++ left) ≡ all → done ++ cut_out k text (as_items longer ++ rest) ≡ all
+byte_read k text run done left all b rest longer e r so_far =
+    ap (λ (xs : List ℕ). done ++ cut_out k text (as_items xs ++ rest)) r
+    ∙ ap (λ (xs : List Item). done ++ cut_out k text (xs ++ rest)) (map-append Byte run (b ∷ []))
+    ∙ ap (λ (xs : List Item). done ++ cut_out k text xs) (append_assoc (as_items run) (Byte b ∷ []) rest)
+    ∙ ap (λ (xs : List Item). done ++ cut_out k text (as_items run ++ xs)) (sym e)
+    ∙ so_far
+
+-- a gap, which ends the run
+pub gap_read : (k : ℕ) (text run : List ℕ) (done left all : List Item) (gap : Item) (rest cut new : List Item) → left ≡ gap ∷ rest → ((b : ℕ) → gap ≡ Byte b → ⊥) →
+    cut ≡ done ++ part k text run → new ≡ cut ++ gap ∷ [] →
+    done ++ cut_out k text (as_items run ++ left) ≡ all → new ++ cut_out k text rest ≡ all
+gap_read k text run done left all (Byte b) rest cut new e other c n so_far = absurd (other b refl)
+gap_read k text run done left all (Gap ordinal width) rest cut new e other c n so_far =
+    ap (λ (xs : List Item). xs ++ cut_out k text rest) (n ∙ ap (λ (xs : List Item). xs ++ Gap ordinal width ∷ []) c)
+    ∙ append_assoc (done ++ part k text run) (Gap ordinal width ∷ []) (cut_out k text rest)
+    ∙ append_assoc done (part k text run) (Gap ordinal width ∷ cut_out k text rest)
+    ∙ ap (λ (xs : List Item). done ++ xs) (sym (cut_out_gap k ordinal width text run rest))
+    ∙ ap (λ (xs : List Item). done ++ cut_out k text (as_items run ++ xs)) (sym e)
+    ∙ so_far
+
+-- the end, which ends the last run
+pub all_read : (k : ℕ) (text run : List ℕ) (done left all cut : List Item) → left ≡ [] → cut ≡ done ++ part k text run → done ++ cut_out k text (as_items run ++ left) ≡ all → cut ≡ all
+all_read k text run done left all cut e c so_far =
+    c
+    ∙ ap (λ (xs : List Item). done ++ xs) (sym (cut_out_last k text run))
+    ∙ ap (λ (xs : List Item). done ++ cut_out k text xs) (sym (append-nil (as_items run)))
+    ∙ ap (λ (xs : List Item). done ++ cut_out k text (as_items run ++ xs)) (sym e)
+    ∙ so_far
+
+-- ---- texts
+
+-- the next text
+pub text_next : (texts : List (List ℕ)) (i : ℕ) (text : List ℕ) (items new all : List Item) → i < length texts → text ≡ get_or texts i [] → new ≡ cut_out (i + 1) text items →
+    segmented_from (i + 1) (drop i texts) items ≡ all → segmented_from (i + 1 + 1) (drop (i + 1) texts) new ≡ all
+text_next texts i text items new all l e n so_far =
+    ap (λ (xs : List Item). segmented_from (i + 1 + 1) (drop (i + 1) texts) xs) (n ∙ ap (λ (t : List ℕ). cut_out (i + 1) t items) e)
+    ∙ ap (λ (ts : List (List ℕ)). segmented_from (i + 1) ts items) (sym (drop_more texts i [] l))
+    ∙ so_far
+
+-- where it is null nothing changes
+pub text_null : (texts : List (List ℕ)) (i : ℕ) (items all : List Item) → i < length texts → get_or texts i [] ≡ [] → segmented_from (i + 1) (drop i texts) items ≡ all →
+    segmented_from (i + 1 + 1) (drop (i + 1) texts) items ≡ all
+text_null texts i items all l e so_far = text_next texts i [] items items all l (sym e) (sym (cut_out_null (i + 1) items)) so_far
+
+-- after the last text
+pub texts_done : (texts : List (List ℕ)) (i : ℕ) (items all : List Item) → length texts ≤ i → segmented_from (i + 1) (drop i texts) items ≡ all → items ≡ all
+texts_done texts i items all l so_far = ap (λ (ts : List (List ℕ)). segmented_from (i + 1) ts items) (sym (drop_all i texts l)) ∙ so_far

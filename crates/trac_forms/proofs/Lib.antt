@@ -1,0 +1,5 @@
+pub mod Cuts
+pub mod Extents
+pub mod Going
+pub mod Tables
+pub mod Names

@@ -1,0 +1,354 @@
+-- Entries of a table, and the forms and names that they stand for.
+use Rattle.std.proofs.Common.{◌≡◌, ℕ, ◌+◌, ◌-◌, Bool, true, false, cond, ◌||◌, List, [], ◌∷◌, ◌++◌, length, refl, sym, ap, subst, ◌∙◌, arith, ⊎_elim, is_some, filter, IsSome}
+use Rattle.std.specs.Prelude.{Option, None, Some}
+use Rattle.std.specs.Cmp.Lexicographic.{slice_cmp, nat_list_cmp_total, nat_list_eq_equiv}
+use Rattle.std.specs.FinMap as finite
+use Rattle.std.specs.FinSet as set
+use Rattle.std.specs.List.{list_any, IsDistinct, AllByRecursion}
+use Rattle.std.specs.Map.{keys_of, values_of, lookup, set_value}
+use Rattle.std.specs.Option.{option_flatten}
+use Rattle.std.specs.Ordering.{nat_cmp, eq_by_cmp}
+use Rattle.std.specs.Str.{bytes_eq}
+use Rattle.std.proofs.lemmas.Bool.{cases_Bool, cond-true, cond-false}
+use Rattle.std.proofs.lemmas.Map.{lookup-set_value, keys-set_value}
+use Rattle.std.proofs.lemmas.Map.Entries.{lookup-filter-values, option_filter}
+use Rattle.std.proofs.lemmas.Map.Keys.{IsDistinct-head, IsDistinct-tail}
+use Rattle.std.proofs.lemmas.Map.Made.{is_some-lookup}
+use Rattle.std.proofs.lemmas.Map.Text.{is_eq-slice_cmp}
+use Rattle.std.proofs.lemmas.Slice.Eq.{bytes_eq-Decides}
+use Rattle.trac_rules.specs.Form.{Form}
+use Rattle.trac_rules.specs.Listing.{names_of}
+use Rattle.trac_rules.specs.State.{Forms}
+use Rattle.trac_forms.specs.Stored.{Names, Stored, swept}
+use Rattle.trac_forms.specs.Table.{named, with_entry, forms_of, known_of, stored}
+use Rattle.std.proofs.lemmas.List.{append_assoc, length-map, map-append}
+
+-- entries of a table of forms
+abbrev pub Entries : Type 0
+Entries = List (List ℕ × Option Form)
+
+-- only equal names tie
+abbrev exact : finite.IsAntisymmetric (slice_cmp nat_cmp)
+exact = finite.slice_cmp-IsAntisymmetric finite.nat_cmp-IsAntisymmetric
+
+-- ---- look-ups
+
+-- tests that answer alike find the same
+pub lookup_alike : {K V : Type 0} (p q : K → Bool) → ((k : K) → p k ≡ q k) → (es : List (K × V)) → lookup p es ≡ lookup q es
+lookup_alike p q same [] = refl
+lookup_alike p q same (e ∷ es) = ap (λ b. cond b (Some e.1) (lookup p es)) (same e.0) ∙ ap (cond (q e.0) (Some e.1)) (lookup_alike p q same es)
+
+-- and pass alike
+pub list_any_alike : {K : Type 0} (p q : K → Bool) → ((k : K) → p k ≡ q k) → (ks : List K) → list_any p ks ≡ list_any q ks
+list_any_alike p q same [] = refl
+list_any_alike p q same (k ∷ ks) = ap (λ b. b || list_any p ks) (same k) ∙ ap (λ b. q k || b) (list_any_alike p q same ks)
+
+-- the keys read as texts
+pub lookup-named : {K V : Type 0} (name : K → List ℕ) (test : List ℕ → Bool) (es : List (K × V)) → lookup test (named name es) ≡ lookup (λ k. test (name k)) es
+lookup-named name test [] = refl
+lookup-named name test (e ∷ es) = ap (cond (test (name e.0)) (Some e.1)) (lookup-named name test es)
+
+pub set_value-named : {K V : Type 0} (name : K → List ℕ) (test : List ℕ → Bool) (es : List (K × V)) (w : V) →
+    named name (set_value (λ k. test (name k)) es w) ≡ set_value test (named name es) w
+set_value-named name test [] w = refl
+set_value-named name test (e ∷ es) w =
+    ⊎_elim
+    (λ (t : test (name e.0) ≡ true). rw (cond-true (test (name e.0)) ((e.0, w) ∷ es) (e ∷ set_value (λ k. test (name k)) es w) t, cond-true (test (name e.0)) ((name e.0, w) ∷ named name es) ((name e.0, e.1) ∷ set_value test (named name es) w) t) refl)
+    (λ (t : test (name e.0) ≡ false).
+    rw (cond-false (test (name e.0)) ((e.0, w) ∷ es) (e ∷ set_value (λ k. test (name k)) es w) t, cond-false (test (name e.0)) ((name e.0, w) ∷ named name es) ((name e.0, e.1) ∷ set_value test (named name es) w) t)
+    (ap (λ r. (name e.0, e.1) ∷ r) (set_value-named name test es w)))
+    (cases_Bool (test (name e.0)))
+
+pub filter-named : {K V : Type 0} (name : K → List ℕ) (p : V → Bool) (es : List (K × V)) → named name (filter (λ e. p e.1) es) ≡ filter (λ e. p e.1) (named name es)
+filter-named name p [] = refl
+filter-named name p (e ∷ es) =
+    elim (p e.1) as (λ b. named name (cond b (e ∷ filter (λ x. p x.1) es) (filter (λ x. p x.1) es)) ≡ cond b ((name e.0, e.1) ∷ filter (λ x. p x.1) (named name es)) (filter (λ x. p x.1) (named name es))) [
+      | true ↦ ap (λ r. (name e.0, e.1) ∷ r) (filter-named name p es)
+      | false ↦ filter-named name p es
+    ]
+
+-- keys that differ differ as texts
+none-named : {K V : Type 0} (name : K → List ℕ) (k : K) (es : List (K × V)) → AllByRecursion (λ y. bytes_eq (name k) (name y) ≡ false) (keys_of es) →
+    AllByRecursion (λ y. bytes_eq (name k) y ≡ false) (keys_of (named name es))
+none-named name k [] h = tt
+none-named name k (e ∷ es) h = (h.0, none-named name k es h.1)
+
+pub IsDistinct-named : {K V : Type 0} (name : K → List ℕ) (es : List (K × V)) → IsDistinct (λ x y. bytes_eq (name x) (name y)) (keys_of es) → IsDistinct bytes_eq (keys_of (named name es))
+unfolding IsDistinct
+IsDistinct-named name [] h = tt
+IsDistinct-named name (e ∷ es) h = (none-named name e.0 es h.0, IsDistinct-named name es h.1)
+
+-- ---- forms and names of entries
+
+flatten_cond : {X : Type 0} (b : Bool) (x y : Option (Option X)) → option_flatten (cond b x y) ≡ cond b (option_flatten x) (option_flatten y)
+flatten_cond true x y = refl
+flatten_cond false x y = refl
+
+get-with_entry : (name q : List ℕ) (form : Option Form) (forms : Forms) → finite.get (with_entry name form forms) q ≡ cond (bytes_eq q name) form (finite.get forms q)
+get-with_entry name q None forms =
+    finite.get-remove nat_list_cmp_total forms name q ∙ ap (λ b. cond b None (finite.get forms q)) (is_eq-slice_cmp q name)
+get-with_entry name q (Some form) forms =
+    finite.get-insert nat_list_cmp_total forms name form q ∙ ap (λ b. cond b (Some form) (finite.get forms q)) (is_eq-slice_cmp q name)
+
+-- the form of a name is that of its first entry
+pub get-forms_of : (es : Entries) (q : List ℕ) → finite.get (forms_of es) q ≡ option_flatten (lookup (bytes_eq q) es)
+get-forms_of [] q = finite.get-empty (slice_cmp nat_cmp) q
+get-forms_of (e ∷ es) q =
+    get-with_entry e.0 q e.1 (forms_of es)
+    ∙ ap (cond (bytes_eq q e.0) e.1) (get-forms_of es q)
+    ∙ sym (flatten_cond (bytes_eq q e.0) (Some e.1) (lookup (bytes_eq q) es))
+
+-- a name is known where it has an entry
+pub contains-known_of : (es : Entries) (q : List ℕ) → set.contains (known_of es) q ≡ is_some (lookup (bytes_eq q) es)
+contains-known_of es q =
+    set.contains-from_list nat_list_cmp_total (keys_of es) q
+    ∙ list_any_alike (eq_by_cmp (slice_cmp nat_cmp) q) (bytes_eq q) (is_eq-slice_cmp q) (keys_of es)
+    ∙ sym (is_some-lookup (bytes_eq q) es)
+
+-- two tables in which each name has the same form
+forms_alike : (es fs : Entries) → ((q : List ℕ) → option_flatten (lookup (bytes_eq q) es) ≡ option_flatten (lookup (bytes_eq q) fs)) → forms_of es ≡ forms_of fs
+forms_alike es fs same = finite.same_map nat_list_cmp_total exact (forms_of es) (forms_of fs) (λ q. get-forms_of es q ∙ same q ∙ sym (get-forms_of fs q))
+
+-- ---- what the calls do
+
+-- what is written at a name that has an entry
+pub lookup_written : (es : Entries) (name q : List ℕ) (w : Option Form) → IsSome (lookup (bytes_eq name) es) →
+    lookup (bytes_eq q) (set_value (bytes_eq name) es w) ≡ cond (bytes_eq q name) (Some w) (lookup (bytes_eq q) es)
+lookup_written es name q w some =
+    lookup-set_value nat_list_eq_equiv (bytes_eq name) (λ x y t. nat_list_eq_equiv.congr name x y t) q w es some
+    ∙ ap (λ b. cond b (Some w) (lookup (bytes_eq q) es)) (nat_list_eq_equiv.symm name q)
+
+-- an entry's form is put, or taken
+pub forms_written : (es : Entries) (name : List ℕ) (w : Option Form) → IsSome (lookup (bytes_eq name) es) → forms_of (set_value (bytes_eq name) es w) ≡ with_entry name w (forms_of es)
+forms_written es name w some =
+    finite.same_map nat_list_cmp_total exact (forms_of (set_value (bytes_eq name) es w)) (with_entry name w (forms_of es)) (λ q.
+    get-forms_of (set_value (bytes_eq name) es w) q
+    ∙ ap option_flatten (lookup_written es name q w some)
+    ∙ flatten_cond (bytes_eq q name) (Some w) (lookup (bytes_eq q) es)
+    ∙ ap (cond (bytes_eq q name) w) (sym (get-forms_of es q))
+    ∙ sym (get-with_entry name q w (forms_of es)))
+
+-- and the names stay
+pub known_written : (es : Entries) (name : List ℕ) (w : Option Form) → known_of (set_value (bytes_eq name) es w) ≡ known_of es
+known_written es name w = ap (λ (ks : List (List ℕ)). let s : Names = set.from_list ks in s) (keys-set_value (bytes_eq name) es w)
+
+-- a name without an entry has no form to be taken
+pub forms_not_taken : (es : Entries) (name : List ℕ) → lookup (bytes_eq name) es ≡ None → finite.remove (forms_of es) name ≡ forms_of es
+forms_not_taken es name none =
+    finite.same_map nat_list_cmp_total exact (finite.remove (forms_of es) name) (forms_of es) (λ q.
+    get-with_entry name q None (forms_of es)
+    ∙ ⊎_elim
+    (λ (t : bytes_eq q name ≡ true).
+    let same : q ≡ name = (bytes_eq-Decides q name).0 t in
+    cond-true (bytes_eq q name) None (finite.get (forms_of es) q) t
+    ∙ sym (ap (finite.get (forms_of es)) same ∙ get-forms_of es name ∙ ap option_flatten none))
+    (λ (t : bytes_eq q name ≡ false). cond-false (bytes_eq q name) None (finite.get (forms_of es) q) t)
+    (cases_Bool (bytes_eq q name)))
+
+-- a new name without a form leaves the forms
+flatten-new : (es : Entries) (name q : List ℕ) → option_flatten (lookup (bytes_eq q) (es ++ (name, None) ∷ [])) ≡ option_flatten (lookup (bytes_eq q) es)
+flatten-new [] name q = elim (bytes_eq q name) as (λ b. option_flatten {T = Form} (cond b (Some None) None) ≡ None) [ true ↦ refl | false ↦ refl ]
+flatten-new (e ∷ es) name q =
+    flatten_cond (bytes_eq q e.0) (Some e.1) (lookup (bytes_eq q) (es ++ (name, None) ∷ []))
+    ∙ ap (cond (bytes_eq q e.0) e.1) (flatten-new es name q)
+    ∙ sym (flatten_cond (bytes_eq q e.0) (Some e.1) (lookup (bytes_eq q) es))
+
+pub forms_known : (es : Entries) (name : List ℕ) → forms_of (es ++ (name, None) ∷ []) ≡ forms_of es
+forms_known es name = forms_alike (es ++ (name, None) ∷ []) es (flatten-new es name)
+
+keys_push : (es : Entries) (name : List ℕ) (w : Option Form) → keys_of (es ++ (name, w) ∷ []) ≡ keys_of es ++ name ∷ []
+keys_push [] name w = refl
+keys_push (e ∷ es) name w = ap (λ r. e.0 ∷ r) (keys_push es name w)
+
+-- and is known from then on
+pub known_more : (es : Entries) (name : List ℕ) → known_of (es ++ (name, None) ∷ []) ≡ set.insert (known_of es) name
+known_more es name =
+    ap (λ (ks : List (List ℕ)). let s : Names = set.from_list ks in s) (keys_push es name None)
+    ∙ set.from_list_push nat_list_cmp_total exact (keys_of es) name
+
+-- a name that is known already
+pub known_again : (s : Names) (name : List ℕ) → set.contains s name ≡ true → set.insert s name ≡ s
+known_again s name there =
+    set.same_set nat_list_cmp_total exact (set.insert s name) s (λ q.
+    set.contains-insert nat_list_cmp_total s name q
+    ∙ ⊎_elim
+    (λ (t : eq_by_cmp (slice_cmp nat_cmp) q name ≡ true).
+    let same : q ≡ name = (bytes_eq-Decides q name).0 (sym (is_eq-slice_cmp q name) ∙ t) in
+    ap (λ b. b || set.contains s q) t ∙ sym (ap (set.contains s) same ∙ there))
+    (λ (t : eq_by_cmp (slice_cmp nat_cmp) q name ≡ false). ap (λ b. b || set.contains s q) t)
+    (cases_Bool (eq_by_cmp (slice_cmp nat_cmp) q name)))
+
+-- ---- names with forms
+
+flatten_filter : {X : Type 0} (x : Option (Option X)) → option_flatten (option_filter is_some x) ≡ option_flatten x
+flatten_filter None = refl
+flatten_filter (Some None) = refl
+flatten_filter (Some (Some x)) = refl
+
+some_filter : {X : Type 0} (x : Option (Option X)) → is_some (option_filter is_some x) ≡ is_some (option_flatten x)
+some_filter None = refl
+some_filter (Some None) = refl
+some_filter (Some (Some x)) = refl
+
+-- entries without a form are of no use to the forms
+pub forms_swept : (es : Entries) → IsDistinct bytes_eq (keys_of es) → forms_of (filter (λ e. is_some e.1) es) ≡ forms_of es
+forms_swept es apart =
+    forms_alike (filter (λ e. is_some e.1) es) es
+    (λ q. ap option_flatten (lookup-filter-values nat_list_eq_equiv is_some q es apart) ∙ flatten_filter (lookup (bytes_eq q) es))
+
+-- a name has an entry with a form where it names one
+pub lookup_swept : (es : Entries) (q : List ℕ) → IsDistinct bytes_eq (keys_of es) →
+    is_some (lookup (bytes_eq q) (filter (λ e. is_some e.1) es)) ≡ is_some (finite.get (forms_of es) q)
+lookup_swept es q apart =
+    ap is_some (lookup-filter-values nat_list_eq_equiv is_some q es apart)
+    ∙ some_filter (lookup (bytes_eq q) es)
+    ∙ ap is_some (sym (get-forms_of es q))
+
+-- then the names of the forms alone are known
+pub known_swept : (es : Entries) → IsDistinct bytes_eq (keys_of es) → known_of (filter (λ e. is_some e.1) es) ≡ set.from_list (names_of (forms_of es))
+known_swept es apart =
+    set.same_set nat_list_cmp_total exact (known_of (filter (λ e. is_some e.1) es)) (set.from_list (names_of (forms_of es))) (λ q.
+    contains-known_of (filter (λ e. is_some e.1) es) q
+    ∙ lookup_swept es q apart
+    ∙ finite.contains_key-keys (forms_of es) q
+    ∙ sym (set.contains-from_list nat_list_cmp_total (names_of (forms_of es)) q))
+
+-- no entry where no key is equal
+lookup_none : (q : List ℕ) (es : Entries) → AllByRecursion (λ y. bytes_eq q y ≡ false) (keys_of es) → lookup (bytes_eq q) es ≡ None
+lookup_none q [] h = refl
+lookup_none q (e ∷ es) h = cond-false (bytes_eq q e.0) (Some e.1) (lookup (bytes_eq q) es) h.0 ∙ lookup_none q es h.1
+
+len-with_entry : (name : List ℕ) (form : Option Form) (forms : Forms) → finite.get forms name ≡ None → finite.len (with_entry name form forms) ≡ cond (is_some form) (finite.len forms + 1) (finite.len forms)
+len-with_entry name None forms none =
+    finite.len-remove nat_list_cmp_total forms name ∙ ap (λ (o : Option Form). cond (is_some o) (finite.len forms - 1) (finite.len forms)) none
+len-with_entry name (Some form) forms none =
+    finite.len-insert nat_list_cmp_total forms name form ∙ ap (λ (o : Option Form). cond (is_some o) (finite.len forms) (finite.len forms + 1)) none
+
+-- there are as many forms as entries with a form
+pub len-forms_of : (es : Entries) → IsDistinct bytes_eq (keys_of es) → finite.len (forms_of es) ≡ length (filter (λ e. is_some e.1) es)
+len-forms_of [] apart = finite.len-empty (slice_cmp nat_cmp) Form
+len-forms_of (e ∷ es) apart =
+    let none : finite.get (forms_of es) e.0 ≡ None =
+    get-forms_of es e.0 ∙ ap option_flatten (lookup_none e.0 es (IsDistinct-head bytes_eq e.0 (keys_of es) apart)) in
+    let rest : finite.len (forms_of es) ≡ length (filter (λ x. is_some x.1) es) = len-forms_of es (IsDistinct-tail bytes_eq e.0 (keys_of es) apart) in
+    len-with_entry e.0 e.1 (forms_of es) none
+    ∙ elim (is_some e.1) as (λ b. cond b (finite.len (forms_of es) + 1) (finite.len (forms_of es)) ≡ length (cond b (e ∷ filter (λ x. is_some x.1) es) (filter (λ x. is_some x.1) es))) [
+      | true ↦ omega (arith, rest)
+      | false ↦ rest
+    ]
+
+-- as many entries as values pass a test of the values
+pub values_filter : {K V : Type 0} (es : List (K × Option V)) → length (filter (λ e. is_some e.1) es) ≡ length (filter is_some (values_of es))
+values_filter [] = refl
+values_filter (e ∷ es) =
+    elim (is_some e.1) as (λ b. length (cond b (e ∷ filter (λ x. is_some x.1) es) (filter (λ x. is_some x.1) es)) ≡ length (cond b (e.1 ∷ filter is_some (values_of es)) (filter is_some (values_of es)))) [
+      | true ↦ omega (arith, values_filter es)
+      | false ↦ values_filter es
+    ]
+
+-- ---- a store, of which the table's entries and the names of its keys are given
+
+module _ {K : Type 0} (name : K → List ℕ) (es : List (K × Option Form)) (s : Stored) (is : stored (named name es) ≡ s) where
+  -- the form of a name
+  pub form_found : (q : List ℕ) (r : Option (Option Form)) → r ≡ lookup (λ k. bytes_eq q (name k)) es → finite.get s.forms q ≡ option_flatten r
+  form_found q r e =
+      ap (λ (t : Stored). finite.get t.forms q) (sym is)
+      ∙ get-forms_of (named name es) q
+      ∙ ap option_flatten (lookup-named name (bytes_eq q) es ∙ sym e)
+
+  -- whether a name is known
+  pub name_found : (q : List ℕ) → set.contains s.known q ≡ is_some (lookup (λ k. bytes_eq q (name k)) es)
+  name_found q =
+      ap (λ (t : Stored). set.contains t.known q) (sym is)
+      ∙ contains-known_of (named name es) q
+      ∙ ap is_some (lookup-named name (bytes_eq q) es)
+
+  -- what is written at a name that has an entry
+  pub written : (q : List ℕ) (w : Option Form) (new : List (K × Option Form)) → new ≡ set_value (λ k. bytes_eq q (name k)) es w → IsSome (lookup (λ k. bytes_eq q (name k)) es) →
+      stored (named name new) ≡ record s { forms = with_entry q w s.forms }
+  written q w new e some =
+      let same : named name new ≡ set_value (bytes_eq q) (named name es) w = ap (named name) e ∙ set_value-named name (bytes_eq q) es w in
+      let there : IsSome (lookup (bytes_eq q) (named name es)) = ap is_some (lookup-named name (bytes_eq q) es) ∙ some in
+      ap stored same
+      ∙ ap (λ (f : Forms). let t : Stored = record { forms = f; known = known_of (set_value (bytes_eq q) (named name es) w) } in t) (forms_written (named name es) q w there)
+      ∙ ap (λ (n : Names). let t : Stored = record { forms = with_entry q w (forms_of (named name es)); known = n } in t) (known_written (named name es) q w)
+      ∙ ap (λ (t : Stored). let u : Stored = record t { forms = with_entry q w t.forms } in u) is
+
+  -- where a name has no entry, no form is taken
+  pub not_taken : (q : List ℕ) → lookup (λ k. bytes_eq q (name k)) es ≡ None → s ≡ record s { forms = finite.remove s.forms q }
+  not_taken q none =
+      let gone : finite.remove (forms_of (named name es)) q ≡ forms_of (named name es) =
+      forms_not_taken (named name es) q (lookup-named name (bytes_eq q) es ∙ none) in
+      sym is
+      ∙ ap (λ (f : Forms). let t : Stored = record { forms = f; known = known_of (named name es) } in t) (sym gone)
+      ∙ ap (λ (t : Stored). let u : Stored = record t { forms = finite.remove t.forms q } in u) is
+
+  -- a new name, which has no form
+  pub made_known : (k : K) (q : List ℕ) (new : List (K × Option Form)) → name k ≡ q → new ≡ es ++ (k, None) ∷ [] → stored (named name new) ≡ record s { known = set.insert s.known q }
+  made_known k q new called e =
+      let same : named name new ≡ named name es ++ (q, None) ∷ [] = ap (named name) e ∙ pushed es ∙ ap (λ (n : List ℕ). named name es ++ (n, None) ∷ []) called in
+      ap stored same
+      ∙ ap (λ (f : Forms). let t : Stored = record { forms = f; known = known_of (named name es ++ (q, None) ∷ []) } in t) (forms_known (named name es) q)
+      ∙ ap (λ (n : Names). let t : Stored = record { forms = forms_of (named name es); known = n } in t) (known_more (named name es) q)
+      ∙ ap (λ (t : Stored). let u : Stored = record t { known = set.insert t.known q } in u) is
+    where
+      pushed : (xs : List (K × Option Form)) → named name (xs ++ (k, None) ∷ []) ≡ named name xs ++ (name k, None) ∷ []
+      pushed [] = refl
+      pushed (x ∷ xs) = ap (λ r. (name x.0, x.1) ∷ r) (pushed xs)
+
+  -- entries without a form dropped
+  pub emptied : (new : List (K × Option Form)) → new ≡ filter (λ e. is_some e.1) es → IsDistinct (λ x y. bytes_eq (name x) (name y)) (keys_of es) → stored (named name new) ≡ swept s
+  emptied new e apart =
+      let distinct = IsDistinct-named name es apart in
+      ap stored (ap (named name) e ∙ filter-named name is_some es)
+      ∙ ap (λ (f : Forms). let t : Stored = record { forms = f; known = known_of (filter (λ x. is_some x.1) (named name es)) } in t) (forms_swept (named name es) distinct)
+      ∙ ap (λ (n : Names). let t : Stored = record { forms = forms_of (named name es); known = n } in t) (known_swept (named name es) distinct)
+      ∙ ap swept is
+
+  -- how many forms there are
+  pub counted : IsDistinct (λ x y. bytes_eq (name x) (name y)) (keys_of es) → finite.len s.forms ≡ length (filter (λ e. is_some e.1) es)
+  counted apart =
+      ap (λ (t : Stored). finite.len t.forms) (sym is)
+      ∙ len-forms_of (named name es) (IsDistinct-named name es apart)
+      ∙ ap length (sym (filter-named name is_some es))
+      ∙ length-map (filter (λ e. is_some e.1) es) (λ e. (name e.0, e.1))
+
+-- what is not there is none
+pub none_of_false : {X : Type 0} (o : Option X) → is_some o ≡ false → o ≡ None
+none_of_false None h = refl
+none_of_false (Some x) h = absurd (cc)
+
+-- a key that is still to come is not among those before it
+pub not_yet : {V : Type 0} (done rest all : List (List ℕ × V)) (e : List ℕ × V) → done ++ e ∷ rest ≡ all → IsDistinct bytes_eq (keys_of all) → lookup (bytes_eq e.0) done ≡ None
+not_yet [] rest all e is apart = refl
+not_yet {V} (d ∷ done) rest all e is apart =
+    let whole : IsDistinct bytes_eq (d.0 ∷ keys_of (done ++ e ∷ rest)) = subst (λ (xs : List (List ℕ × V)). IsDistinct bytes_eq (keys_of xs)) (sym is) apart in
+    let other : bytes_eq d.0 e.0 ≡ false = among done (IsDistinct-head bytes_eq d.0 (keys_of (done ++ e ∷ rest)) whole) in
+    cond-false (bytes_eq e.0 d.0) (Some d.1) (lookup (bytes_eq e.0) done) (nat_list_eq_equiv.symm e.0 d.0 ∙ other)
+    ∙ not_yet done rest (done ++ e ∷ rest) e refl (IsDistinct-tail bytes_eq d.0 (keys_of (done ++ e ∷ rest)) whole)
+  where
+    among : (xs : List (List ℕ × V)) → AllByRecursion (λ y. bytes_eq d.0 y ≡ false) (keys_of (xs ++ e ∷ rest)) → bytes_eq d.0 e.0 ≡ false
+    among [] h = h.0
+    among (x ∷ xs) h = among xs h.1
+
+-- a table that is copied entry by entry: what is done, what is left, and all of it
+module _ {K V : Type 0} (name : K → List ℕ) (done left rest all : List (K × V)) (k : K) (v : V) (next : left ≡ (k, v) ∷ rest) (so_far : named name done ++ named name left ≡ named name all) where
+  at_next : named name done ++ (name k, v) ∷ named name rest ≡ named name all
+  at_next = ap (λ (xs : List (K × V)). named name done ++ named name xs) (sym next) ∙ so_far
+
+  -- the next key is new
+  pub entry_new : (called : List ℕ) → called ≡ name k → IsDistinct (λ x y. bytes_eq (name x) (name y)) (keys_of all) → lookup (λ y. bytes_eq called (name y)) done ≡ None
+  entry_new called e apart =
+      sym (lookup-named name (bytes_eq called) done)
+      ∙ ap (λ (n : List ℕ). lookup (bytes_eq n) (named name done)) e
+      ∙ not_yet (named name done) (named name rest) (named name all) (name k, v) at_next (IsDistinct-named name all apart)
+
+  -- and once it is added, the rest is left
+  pub entry_added : (added : K) (w : V) (new : List (K × V)) → new ≡ done ++ (added, w) ∷ [] → name added ≡ name k → w ≡ v → named name new ++ named name rest ≡ named name all
+  entry_added added w new e called same =
+      ap (λ (xs : List (K × V)). named name xs ++ named name rest) e
+      ∙ ap (λ (xs : List (List ℕ × V)). xs ++ named name rest) (map-append (λ x. (name x.0, x.1)) done ((added, w) ∷ []))
+      ∙ append_assoc (named name done) ((name added, w) ∷ []) (named name rest)
+      ∙ ap (λ (n : List ℕ). named name done ++ (n, w) ∷ named name rest) called
+      ∙ ap (λ (x : V). named name done ++ (name k, x) ∷ named name rest) same
+      ∙ at_next

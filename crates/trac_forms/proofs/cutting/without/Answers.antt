@@ -1,0 +1,27 @@
+-- A gap ends the run before it.
+use Rattle.std.proofs.Common.{◌+◌, ◌++◌, List, ℕ, length, drop, get_or, ap, ◌∙◌, arith}
+use Rattle.std.proofs.lemmas.List.{drop_more, drop_all}
+use Rattle.trac_rules.specs.declared.item.Item.TheVariants.{Byte}
+use Rattle.trac_rules.specs.Form.{as_items, extent}
+use Rattle.trac_rules.specs.Segmenting.{cut_out, part}
+use Rattle.trac_forms.proofs.Cuts.{gap_read, all_read}
+use Rattle.trac_forms.proofs.cutting.without.Goals as goal
+
+pub loop-item-preserved : goal.loop-item-preserved
+loop-item-preserved g c =
+    let items = c.args.items.now in
+    let i = c.loop-item.item-index in
+    let next = drop_more items i (Byte 0) (omega arith) in (
+      ap (λ (r : List ℕ). c.push_item-in-loop-item.new.out.items ++ cut_out c.args.number c.args.text.now (as_items r ++ drop (i + 1) items)) c.clear.ensures.items
+          ∙ gap_read c.args.number c.args.text.now c.loop-item.run.items c.loop-item.out.items (drop i items) (cut_out c.args.number c.args.text.now items) (get_or items i (Byte 0)) (drop (i + 1) items)
+          c.part_into.new.out.items c.push_item-in-loop-item.new.out.items next c.in_default.not-Byte
+          (c.in_ok-part_into.ensures.ok ∙ ap (λ (r : List ℕ). c.loop-item.out.items ++ part c.args.number c.args.text.now r) c.as_slice.ensures.value) c.in_ok-push_item-2.ensures.ok
+          c.loop-item.invariant.0,
+      omega (arith, ap length c.clear.ensures.items, ap extent next, c.loop-item.invariant.1),
+    )
+
+pub returns-clause-cut : goal.returns-clause-cut
+returns-clause-cut g c =
+    all_read c.args.number c.args.text.now c.loop-item.run.items c.loop-item.out.items (drop c.loop-item.item-index c.args.items.now) (cut_out c.args.number c.args.text.now c.args.items.now)
+    c.part_into-2.new.out.items (drop_all c.loop-item.item-index c.args.items.now (omega arith))
+    (c.in_ok-part_into-2.ensures.ok ∙ ap (λ (r : List ℕ). c.loop-item.out.items ++ part c.args.number c.args.text.now r) c.as_slice-2.ensures.value) c.loop-item.invariant.0

@@ -1,0 +1,5 @@
+pub mod Outcomes
+-- How forms and stores are kept.
+pub mod Layout
+pub mod Stored
+pub mod Table

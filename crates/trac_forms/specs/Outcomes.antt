@@ -1,0 +1,14 @@
+-- What a refused call may answer, and what it leaves.
+use Rattle.std.specs.Prelude.{◌≡◌, ℕ, ◌<◌, List, ◌++◌}
+use Rattle.trac_rules.specs.declared.limit.TheConstants.{FORM_LIMIT}
+use Rattle.trac_forms.specs.declared.error.FormError.{FormError}
+use Rattle.trac_forms.specs.declared.error.FormError.TheVariants.{Memory, TooLong}
+
+-- a form that stands for so many bytes may be refused for memory, and for its length where it passes the limit
+abbrev pub MayRefuse : ℕ → FormError → Type 0
+MayRefuse bytes Memory = Unit {0}
+MayRefuse bytes TooLong = FORM_LIMIT < bytes
+
+-- a text that begins with an earlier one
+abbrev pub GoesOn : List ℕ → List ℕ → Type 0
+GoesOn old new = (more : List ℕ) × (new ≡ old ++ more)

@@ -1,0 +1,31 @@
+-- How a store is kept: a table with an entry for each known name, which has a form or none.
+use Rattle.std.specs.Prelude.{ℕ, List, [], ◌∷◌, map, Option, None, Some, filter, is_some}
+use Rattle.std.specs.FinMap as finite
+use Rattle.std.specs.FinSet as set
+use Rattle.std.specs.Map.{keys_of}
+use Rattle.trac_rules.specs.Form.{Form}
+use Rattle.trac_rules.specs.State.{Forms}
+use Rattle.trac_forms.specs.Stored.{Names, Stored}
+
+-- the entries of a table, its keys read as texts
+abbrev pub named : {K V : Type 0} → (K → List ℕ) → List (K × V) → List (List ℕ × V)
+named name entries = map (λ e. (name e.0, e.1)) entries
+
+-- the names of the entries that have a form
+abbrev pub full_keys : List (List ℕ × Option Form) → List (List ℕ)
+full_keys entries = keys_of (filter (λ e. is_some e.1) entries)
+
+-- forms with an entry before them
+abbrev pub with_entry : List ℕ → Option Form → Forms → Forms
+with_entry name None forms = finite.remove forms name
+with_entry name (Some form) forms = finite.insert forms name form
+
+abbrev pub forms_of : List (List ℕ × Option Form) → Forms
+forms_of [] = finite.empty
+forms_of (e ∷ entries) = with_entry e.0 e.1 (forms_of entries)
+
+abbrev pub known_of : List (List ℕ × Option Form) → Names
+known_of entries = set.from_list (keys_of entries)
+
+abbrev pub stored : List (List ℕ × Option Form) → Stored
+stored entries = record { forms = forms_of entries; known = known_of entries }

@@ -1,0 +1,25 @@
+//! Why a call on forms can be refused.
+ghost use Rattle.std.specs.Prelude.{◌≡◌};
+ghost use Rattle.trac_forms.specs.declared.error.FormError.TheVariants.{Memory};
+
+use std::alloc::AllocError;
+use thiserror::Error;
+
+/// Why a call on a form or on a store was refused. After each the forms, their names and their pointers are as they were.
+#[derive(Clone, Copy, Debug, PartialEq, Eq, Error)]
+pub enum FormError {
+    /// The allocator refused the memory.
+    #[error("no memory")]
+    Memory,
+    /// A form would pass a limit.
+    #[error("a form would be too long")]
+    TooLong,
+}
+
+impl From<AllocError> for FormError {
+    ghost from_gives = { λ _ e. e ≡ Memory };
+
+    fn from(_error: AllocError) -> FormError {
+        FormError::Memory
+    }
+}

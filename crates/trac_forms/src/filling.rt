@@ -1,0 +1,87 @@
+//! Calling a form: its gaps are filled with the call's texts.
+ghost use Rattle.std.specs.Prelude.{◌≡◌, ◌++◌, ◌≤◌, length, OnOk, OnErr, IsOkUnless, SomeIff};
+ghost use Rattle.trac_rules.specs.Calling.{called, filled, text_of};
+ghost use Rattle.trac_forms.specs.Outcomes.{GoesOn};
+
+use crate::error::FormError;
+use crate::form::Form;
+use crate::texts::Texts;
+use std::alloc::Allocator;
+use trac_rules::item::Item;
+use trac_rules::limit::TEXT_LIMIT;
+
+impl<A: Allocator + Copy> Form<A> {
+    /// How many bytes a call with these texts would give, found without building them; `None` where these are more than
+    /// 16,777,216. It takes no memory.
+    pub fn call_len<T: Texts>(&self, args: &T) -> Option<usize>
+        ensures { SomeIff result (length (called (T.texts args.now) self.now) ≤ TEXT_LIMIT) (length (called (T.texts args.now) self.now)) }
+    {
+        let mut total = 0;
+        for item in self.after() {
+            let len = filled_len(*item, args);
+            if len > TEXT_LIMIT - total {
+                return None;
+            }
+            total += len;
+        }
+        Some(total)
+    }
+
+    /// Puts the value of a call with these texts at the end of `out`: the bytes behind the pointer, with each gap replaced
+    /// by the text of its number, which counts from 1. A text that is missing is null. The pointer stays.
+    ///
+    /// Refused with `Memory` where the allocator refuses; then `out` still begins with what it held.
+    pub fn call_into<T: Texts, B: Allocator>(
+        &self,
+        args: &T,
+        out: &mut Vec<u8, B>,
+    ) -> Result<(), FormError>
+        ensures ok { OnOk result (out.new.items ≡ out.old.items ++ called (T.texts args.now) self.now) }
+        ensures left { OnErr result (GoesOn out.old.items out.new.items) }
+        ensures err { IsOkUnless result FormError.Memory }
+    {
+        for item in self.after() {
+            fill_into(*item, args, out)?;
+        }
+        Ok(())
+    }
+}
+
+// How many bytes an item gives in a call.
+fn filled_len<T: Texts>(item: Item, args: &T) -> usize
+    ensures { result ≡ length (filled (T.texts args.now) item) }
+{
+    match item {
+        Item::Byte(_) => 1,
+        Item::Gap { ordinal, width: _ } => text(args, ordinal).len(),
+    }
+}
+
+// Puts what an item gives in a call at the end of `out`.
+fn fill_into<T: Texts, B: Allocator>(
+    item: Item,
+    args: &T,
+    out: &mut Vec<u8, B>,
+) -> Result<(), FormError>
+    ensures ok { OnOk result (out.new.items ≡ out.old.items ++ filled (T.texts args.now) item) }
+    ensures left { OnErr result (out.new.items ≡ out.old.items) }
+    ensures err { IsOkUnless result FormError.Memory }
+{
+    match item {
+        Item::Byte(b) => out.push(b).map_err(|_| FormError::Memory),
+        Item::Gap { ordinal, width: _ } => {
+            out.extend_from_slice(text(args, ordinal))?;
+            Ok(())
+        }
+    }
+}
+
+// The text of this number, the first being number 1; null where it is missing.
+fn text<T: Texts>(texts: &T, number: u32) -> &[u8]
+    ensures { result.now ≡ text_of number (T.texts texts.now) }
+{
+    if number == 0 {
+        return &[];
+    }
+    texts.get(number as usize - 1)
+}

@@ -1,0 +1,167 @@
+//! A form: a text with gaps and a pointer.
+ghost use Rattle.std.specs.Prelude.{◌≡◌, ◌++◌, ◌≤◌, length, slice_get, IfOk, IfErr, OnOk, IsOkUnless, SomeIff};
+ghost use Rattle.std.specs.List.{All};
+ghost use Rattle.trac_rules.specs.Form.{IsWide, all_items, as_items, defined, extent, pointed_at, width_of};
+ghost use Rattle.trac_forms.specs.Outcomes.{MayRefuse};
+
+use crate::error::FormError;
+use std::alloc::{AllocError, Allocator, Global};
+use std::marker::Model;
+use trac_rules::item::Item;
+use trac_rules::limit::FORM_LIMIT;
+
+/// A text in which gaps may stand, with a pointer before one of its items or at its end.
+/// It is seen as the items before and after its pointer. Lengths and places count items.
+#[derive(Drop)]
+pub struct Form<A: Allocator + Copy = Global> {
+    pub(crate) items: Vec<Item, A>,
+    pub(crate) place: usize,
+}
+
+impl<A: Allocator + Copy> Model for Form<A> {
+    ghost use Rattle.trac_rules.specs.Codes.{form_code};
+    ghost use Rattle.trac_rules.specs.Form.{Form as Divided, pointed_at};
+    ghost use Rattle.trac_forms.specs.Layout.{IsKept};
+
+    ghost Value = { Divided };
+
+    ghost coded = { form_code };
+
+    ghost view = { λ f. pointed_at f.place f.items.items };
+
+    ghost invariant = { λ f. IsKept f.items.items f.place };
+}
+
+impl<A: Allocator + Copy> Form<A> {
+    /// A form of the bytes of `text`, with its pointer at the start.
+    ///
+    /// Refused with `TooLong` where `text` has more than 16,777,216 bytes, and with `Memory` where the allocator refuses.
+    pub fn new(alloc: A, text: &[u8]) -> Result<Self, FormError>
+        ensures made { IfOk result (λ f. f ≡ defined text.now) }
+        ensures fits { OnOk result (length text.now ≤ FORM_LIMIT) }
+        ensures err { IfErr result (MayRefuse (length text.now)) }
+    {
+        if text.len() > FORM_LIMIT {
+            return Err(FormError::TooLong);
+        }
+        let items = bytes_of(alloc, text)?;
+        Ok(Form { items, place: 0 })
+    }
+
+    /// A form of these items, with its pointer between the two lists. Each gap has to be at least one byte wide.
+    ///
+    /// Refused with `TooLong` where there are more than 16,777,216 items, or where their bytes and the widths of their gaps
+    /// are more than that together; and with `Memory` where the allocator refuses.
+    pub fn of(alloc: A, before: &[Item], after: &[Item]) -> Result<Self, FormError>
+        requires { All IsWide (before.now ++ after.now) }
+        ensures made { IfOk result (λ f. f ≡ record { before = before.now; after = after.now }) }
+        ensures fits { OnOk result (extent (before.now ++ after.now) ≤ FORM_LIMIT) }
+        ensures err { IfErr result (MayRefuse (extent (before.now ++ after.now))) }
+    {
+        let Some(front) = extent_within(before, FORM_LIMIT) else {
+            return Err(FormError::TooLong);
+        };
+        let Some(_back) = extent_within(after, FORM_LIMIT - front) else {
+            return Err(FormError::TooLong);
+        };
+        let mut items = Vec::from_slice(alloc, before)?;
+        items.extend_from_slice(after)?;
+        Ok(Form {
+            items,
+            place: before.len(),
+        })
+    }
+
+    /// How many items the form has, gaps counted like bytes.
+    pub fn len(&self) -> usize
+        ensures len { result ≡ length (all_items self.now) }
+        ensures within { extent (all_items self.now) ≤ FORM_LIMIT }
+    {
+        self.items.len()
+    }
+
+    /// How many items are before the pointer.
+    pub fn pointer(&self) -> usize
+        ensures { result ≡ length self.now.before }
+    {
+        self.place
+    }
+
+    /// The item at this place, from 0 on; `None` past the last.
+    pub fn item(&self, i: usize) -> Option<Item>
+        ensures { result ≡ slice_get (all_items self.now) i }
+    {
+        self.items.get(i).copied()
+    }
+
+    /// A second form of the same items and with the same pointer, with memory of its own.
+    /// Refused with `Memory` where the allocator refuses.
+    pub fn copy(&self) -> Result<Self, FormError>
+        ensures same { IfOk result (λ f. f ≡ self.now) }
+        ensures err { IsOkUnless result FormError.Memory }
+    {
+        let items = Vec::from_slice(*self.items.allocator(), self.items.as_slice())?;
+        Ok(Form {
+            items,
+            place: self.place,
+        })
+    }
+
+    /// Sets the pointer before the item at this place, or at the end, and answers its old place.
+    /// It takes no memory.
+    pub fn set_pointer(&mut self, place: usize) -> usize
+        requires { place ≤ length (all_items self.old) }
+        ensures old { result ≡ length self.old.before }
+        ensures moved { self.new ≡ pointed_at place (all_items self.old) }
+    {
+        let old = self.place;
+        self.place = place;
+        old
+    }
+
+    // The items before the pointer.
+    pub(crate) fn before(&self) -> &[Item]
+        ensures { result.now ≡ self.now.before }
+    {
+        self.items.as_slice().split_at(self.place).0
+    }
+
+    // The items after the pointer.
+    pub(crate) fn after(&self) -> &[Item]
+        ensures { result.now ≡ self.now.after }
+    {
+        self.items.as_slice().split_at(self.place).1
+    }
+}
+
+// The bytes of a text as items.
+fn bytes_of<A: Allocator>(alloc: A, text: &[u8]) -> Result<Vec<Item, A>, AllocError>
+    ensures { IfOk result (λ items. items.items ≡ as_items text.now) }
+{
+    text.iter().map(|b| Item::Byte(*b)).collect(alloc)
+}
+
+// How many bytes these items stand for, where that is no more than `most`.
+fn extent_within(items: &[Item], most: usize) -> Option<usize>
+    ensures { SomeIff result (extent items.now ≤ most) (extent items.now) }
+{
+    let mut total = 0;
+    for item in items {
+        let width = width(*item);
+        if width > most - total {
+            return None;
+        }
+        total += width;
+    }
+    Some(total)
+}
+
+// How many bytes an item stands for.
+fn width(item: Item) -> usize
+    ensures { result ≡ width_of item }
+{
+    match item {
+        Item::Byte(_) => 1,
+        Item::Gap { ordinal: _, width } => width as usize,
+    }
+}

@@ -1,0 +1,54 @@
+//! Lists of borrowed texts: what a call is given.
+ghost use Rattle.std.specs.Prelude.{◌≡◌, [], length, get_or, map};
+
+use std::alloc::Allocator;
+
+/// A list of texts, such as the arguments of a call. Numbers count from 0 here; a form's gaps count them from 1.
+pub trait Texts {
+    ghost use Rattle.std.specs.Prelude.{ℕ, List};
+
+    ghost texts: { Self → List (List ℕ) };
+
+    /// How many texts there are.
+    fn count(&self) -> usize
+        ensures { result ≡ length (texts self.now) };
+
+    /// The text of this number; null past the last.
+    fn get(&self, i: usize) -> &[u8]
+        ensures { result.now ≡ get_or (texts self.now) i [] };
+}
+
+impl<'t, 'a> Texts for &'t [&'a [u8]] {
+    ghost use Rattle.std.specs.Prelude.{map};
+
+    ghost texts = { λ slices. map (λ text. text.now) slices.now };
+
+    fn count(&self) -> usize {
+        self.len()
+    }
+
+    fn get(&self, i: usize) -> &[u8] {
+        text_at(*self, i)
+    }
+}
+
+impl<'a, A: Allocator> Texts for Vec<&'a [u8], A> {
+    ghost use Rattle.std.specs.Prelude.{map};
+
+    ghost texts = { λ slices. map (λ text. text.now) slices.items };
+
+    fn count(&self) -> usize {
+        self.len()
+    }
+
+    fn get(&self, i: usize) -> &[u8] {
+        text_at(self.as_slice(), i)
+    }
+}
+
+// The text of this number; null past the last.
+fn text_at<'a>(texts: &[&'a [u8]], i: usize) -> &'a [u8]
+    ensures { result.now ≡ get_or (map (λ text. text.now) texts.now) i [] }
+{
+    if i < texts.len() { texts[i] } else { &[] }
+}
