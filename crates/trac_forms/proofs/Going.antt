@@ -3,7 +3,7 @@ use Rattle.std.proofs.Common.{◌≡◌, ℕ, zero, suc, ◌+◌, ◌<◌, ◌�
 use Rattle.std.specs.Prelude.{Result, Ok, Err, OnErr}
 use Rattle.std.specs.List.{flat_map}
 use Rattle.std.proofs.lemmas.List.{append_assoc, length-append, take_more, flat_map_more}
-use Rattle.trac_forms.specs.Outcomes.{GoesOn}
+use Rattle.trac_forms.specs.Outcomes.{BeginsWith}
 
 -- what holds, holds on an error
 pub on_err : {T E P : Type 0} (r : Result T E) → P → OnErr r P
@@ -11,7 +11,7 @@ on_err (Ok x) p = tt
 on_err (Err e) p = p
 
 -- what goes on from a text that went on
-pub goes_on : (old xs middle new : List ℕ) → middle ≡ old ++ xs → GoesOn middle new → GoesOn old new
+pub goes_on : (old xs middle new : List ℕ) → middle ≡ old ++ xs → BeginsWith middle new → BeginsWith old new
 goes_on old xs middle new e h = (xs ++ h.0, h.1 ∙ ap (λ m. m ++ h.0) e ∙ append_assoc old xs h.0)
 
 -- one item more of what each item gives

@@ -5,10 +5,10 @@ use Rattle.trac_forms.specs.declared.error.FormError.{FormError}
 use Rattle.trac_forms.specs.declared.error.FormError.TheVariants.{Memory, TooLong}
 
 -- a form that stands for so many bytes may be refused for memory, and for its length where it passes the limit
-abbrev pub MayRefuse : ℕ → FormError → Type 0
-MayRefuse bytes Memory = Unit {0}
-MayRefuse bytes TooLong = FORM_LIMIT < bytes
+abbrev pub MayRefuseForm : ℕ → FormError → Type 0
+MayRefuseForm bytes Memory = Unit {0}
+MayRefuseForm bytes TooLong = FORM_LIMIT < bytes
 
 -- a text that begins with an earlier one
-abbrev pub GoesOn : List ℕ → List ℕ → Type 0
-GoesOn old new = (more : List ℕ) × (new ≡ old ++ more)
+abbrev pub BeginsWith : List ℕ → List ℕ → Type 0
+BeginsWith old new = (more : List ℕ) × (new ≡ old ++ more)

@@ -9,6 +9,7 @@ use Rattle.trac_rules.specs.Codes.{text_code, forms_code}
 use Rattle.trac_rules.specs.Listing.{names_of}
 use Rattle.trac_rules.specs.State.{Forms}
 
+-- a set of names
 abbrev pub Names : Type 0
 Names = set.FinSet (slice_cmp nat_cmp)
 
@@ -17,6 +18,7 @@ pub record Stored : Type 0 where
   pub forms : Forms
   pub known : Names
 
+-- the code of what a store holds, by which a proof tells two of them apart
 abbrev pub stored_code : Coded Stored
 stored_code =
     code_by (Forms × Names) (coded× forms_code (set.code text_code)) (λ s. (s.forms, s.known)) (λ p. record { forms = p.0; known = p.1 }) (λ _. refl)
@@ -25,6 +27,6 @@ stored_code =
 abbrev pub nothing_stored : Stored
 nothing_stored = record { forms = finite.empty; known = set.empty }
 
--- the names of forms and no others
+-- the same forms, and of the names theirs alone
 abbrev pub swept : Stored → Stored
 swept s = record { forms = s.forms; known = set.from_list (names_of s.forms) }

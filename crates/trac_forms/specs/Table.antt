@@ -15,17 +15,21 @@ named name entries = map (λ e. (name e.0, e.1)) entries
 abbrev pub full_keys : List (List ℕ × Option Form) → List (List ℕ)
 full_keys entries = keys_of (filter (λ e. is_some e.1) entries)
 
--- forms with an entry before them
+-- the forms of a table, with an entry before the others: where a name stands twice its first entry counts, and one without a form
+-- takes the name's form away
 abbrev pub with_entry : List ℕ → Option Form → Forms → Forms
 with_entry name None forms = finite.remove forms name
 with_entry name (Some form) forms = finite.insert forms name form
 
+-- the forms of all entries
 abbrev pub forms_of : List (List ℕ × Option Form) → Forms
 forms_of [] = finite.empty
 forms_of (e ∷ entries) = with_entry e.0 e.1 (forms_of entries)
 
+-- the names of all entries
 abbrev pub known_of : List (List ℕ × Option Form) → Names
 known_of entries = set.from_list (keys_of entries)
 
+-- what a table of these entries holds
 abbrev pub stored : List (List ℕ × Option Form) → Stored
 stored entries = record { forms = forms_of entries; known = known_of entries }

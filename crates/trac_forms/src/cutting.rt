@@ -1,4 +1,4 @@
-//! Segmenting a form: texts are cut out of it, and each occurrence leaves a gap.
+//! Segmenting a form: texts are cut out of it, and what is cut leaves gaps.
 ghost use Rattle.std.specs.Prelude.{◌≡◌, ◌+◌, ◌++◌, ◌<◌, ◌≤◌, ◌∷◌, [], length, IfOk, IsOkUnless, OnOk};
 ghost use Rattle.trac_rules.specs.Form.{as_items, extent};
 ghost use Rattle.trac_rules.specs.Segmenting.{cut_out, part, segmented};
@@ -13,8 +13,9 @@ use trac_rules::limit::{FORM_LIMIT, MARK_LIMIT};
 
 impl<A: Allocator + Copy> Form<A> {
     /// The form with these texts cut out, its pointer at the start. For each text in turn, every run of bytes between gaps
-    /// is searched from the left, and each occurrence becomes a gap of that text's number, which counts from 1. Earlier gaps
-    /// stay. A null text cuts nothing, and uses up its number. There may be at most 1,048,576 texts.
+    /// is searched from the left, and the leftmost occurrences that do not overlap become gaps of that text's number, which
+    /// counts from 1. Earlier gaps stay. A null text cuts nothing, and uses up its number. There may be at most 1,048,576
+    /// texts. All of this is this project's profile.
     ///
     /// Refused with `Memory` where the allocator refuses.
     pub fn segmented<T: Texts>(&self, texts: &T) -> Result<Form<A>, FormError>

@@ -1,7 +1,7 @@
 //! Calling a form: its gaps are filled with the call's texts.
 ghost use Rattle.std.specs.Prelude.{◌≡◌, ◌++◌, ◌≤◌, length, OnOk, OnErr, IsOkUnless, SomeIff};
-ghost use Rattle.trac_rules.specs.Calling.{called, filled, text_of};
-ghost use Rattle.trac_forms.specs.Outcomes.{GoesOn};
+ghost use Rattle.trac_rules.specs.Filling.{called, filled, text_numbered};
+ghost use Rattle.trac_forms.specs.Outcomes.{BeginsWith};
 
 use crate::error::FormError;
 use crate::form::Form;
@@ -37,7 +37,7 @@ impl<A: Allocator + Copy> Form<A> {
         out: &mut Vec<u8, B>,
     ) -> Result<(), FormError>
         ensures ok { OnOk result (out.new.items ≡ out.old.items ++ called (T.texts args.now) self.now) }
-        ensures left { OnErr result (GoesOn out.old.items out.new.items) }
+        ensures left { OnErr result (BeginsWith out.old.items out.new.items) }
         ensures err { IsOkUnless result FormError.Memory }
     {
         for item in self.after() {
@@ -78,7 +78,7 @@ fn fill_into<T: Texts, B: Allocator>(
 
 // The text of this number, the first being number 1; null where it is missing.
 fn text<T: Texts>(texts: &T, number: u32) -> &[u8]
-    ensures { result.now ≡ text_of number (T.texts texts.now) }
+    ensures { result.now ≡ text_numbered number (T.texts texts.now) }
 {
     if number == 0 {
         return &[];

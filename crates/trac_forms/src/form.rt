@@ -2,7 +2,7 @@
 ghost use Rattle.std.specs.Prelude.{◌≡◌, ◌++◌, ◌≤◌, length, slice_get, IfOk, IfErr, OnOk, IsOkUnless, SomeIff};
 ghost use Rattle.std.specs.List.{All};
 ghost use Rattle.trac_rules.specs.Form.{IsWide, all_items, as_items, defined, extent, pointed_at, width_of};
-ghost use Rattle.trac_forms.specs.Outcomes.{MayRefuse};
+ghost use Rattle.trac_forms.specs.Outcomes.{MayRefuseForm};
 
 use crate::error::FormError;
 use std::alloc::{AllocError, Allocator, Global};
@@ -39,7 +39,7 @@ impl<A: Allocator + Copy> Form<A> {
     pub fn new(alloc: A, text: &[u8]) -> Result<Self, FormError>
         ensures made { IfOk result (λ f. f ≡ defined text.now) }
         ensures fits { OnOk result (length text.now ≤ FORM_LIMIT) }
-        ensures err { IfErr result (MayRefuse (length text.now)) }
+        ensures err { IfErr result (MayRefuseForm (length text.now)) }
     {
         if text.len() > FORM_LIMIT {
             return Err(FormError::TooLong);
@@ -56,7 +56,7 @@ impl<A: Allocator + Copy> Form<A> {
         requires { All IsWide (before.now ++ after.now) }
         ensures made { IfOk result (λ f. f ≡ record { before = before.now; after = after.now }) }
         ensures fits { OnOk result (extent (before.now ++ after.now) ≤ FORM_LIMIT) }
-        ensures err { IfErr result (MayRefuse (extent (before.now ++ after.now))) }
+        ensures err { IfErr result (MayRefuseForm (extent (before.now ++ after.now))) }
     {
         let Some(front) = extent_within(before, FORM_LIMIT) else {
             return Err(FormError::TooLong);
@@ -76,18 +76,19 @@ impl<A: Allocator + Copy> Form<A> {
     pub fn len(&self) -> usize
         ensures len { result ≡ length (all_items self.now) }
         ensures within { extent (all_items self.now) ≤ FORM_LIMIT }
+        ensures wide { All IsWide (all_items self.now) }
     {
         self.items.len()
     }
 
-    /// How many items are before the pointer.
+    /// How many items are before the pointer. It takes no memory.
     pub fn pointer(&self) -> usize
         ensures { result ≡ length self.now.before }
     {
         self.place
     }
 
-    /// The item at this place, from 0 on; `None` past the last.
+    /// The item at this place, from 0 on; `None` past the last. It takes no memory.
     pub fn item(&self, i: usize) -> Option<Item>
         ensures { result ≡ slice_get (all_items self.now) i }
     {

@@ -14,7 +14,8 @@ use std::alloc::{Allocator, Global};
 use std::hash::{BuildHasher, BuildHasherDefault, FoldHasher, Hash};
 use std::marker::Model;
 
-/// The table of a store: a name has an entry from the call of `know` on, and a form in it while it names one.
+/// The table of a store: a name has an entry from the call of `know` on until
+/// `sweep`, and a form in it while it names one.
 pub(crate) type Table<A> = IndexMap<Vec<u8, A>, Option<Form<A>>, BuildHasherDefault<FoldHasher>, A>;
 
 /// Forms by their names, which are any bytes. It is seen as the map of its forms and the set of the names that it knows.
@@ -46,14 +47,14 @@ impl<A: Allocator + Copy> Store<A> {
         }
     }
 
-    /// How many forms there are.
+    /// How many forms there are. It takes no memory.
     pub fn form_count(&self) -> usize
         ensures { result ≡ finite.len self.now.forms }
     {
         count_full(&self.table)
     }
 
-    /// The form of this name, if there is one.
+    /// The form of this name, if there is one. It takes no memory.
     pub fn get(&self, name: &[u8]) -> Option<&Form<A>>
         ensures { option_copied result ≡ finite.get self.now.forms name.now }
     {

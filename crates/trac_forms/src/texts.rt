@@ -3,17 +3,17 @@ ghost use Rattle.std.specs.Prelude.{◌≡◌, [], length, get_or, map};
 
 use std::alloc::Allocator;
 
-/// A list of texts, such as the arguments of a call. Numbers count from 0 here; a form's gaps count them from 1.
+/// A list of texts, such as the arguments of a call. Places count from 0; a form's gaps number the texts from 1.
 pub trait Texts {
     ghost use Rattle.std.specs.Prelude.{ℕ, List};
 
     ghost texts: { Self → List (List ℕ) };
 
-    /// How many texts there are.
+    /// How many texts there are. It takes no memory.
     fn count(&self) -> usize
         ensures { result ≡ length (texts self.now) };
 
-    /// The text of this number; null past the last.
+    /// The text at this place; null past the last. It takes no memory.
     fn get(&self, i: usize) -> &[u8]
         ensures { result.now ≡ get_or (texts self.now) i [] };
 }
@@ -46,7 +46,7 @@ impl<'a, A: Allocator> Texts for Vec<&'a [u8], A> {
     }
 }
 
-// The text of this number; null past the last.
+// The text at this place; null past the last.
 fn text_at<'a>(texts: &[&'a [u8]], i: usize) -> &'a [u8]
     ensures { result.now ≡ get_or (map (λ text. text.now) texts.now) i [] }
 {

@@ -9,7 +9,7 @@ use Rattle.std.proofs.lemmas.Slice.Eq.{bytes_eq-Decides}
 use Rattle.trac_rules.specs.declared.item.Item.{Item}
 use Rattle.trac_rules.specs.declared.item.Item.TheVariants.{Byte, Gap}
 use Rattle.trac_rules.specs.Form.{Form, all_items, as_items, width_of, IsWide, extent}
-use Rattle.trac_rules.specs.Calling.{text_of, filled, all_filled}
+use Rattle.trac_rules.specs.Filling.{text_numbered, filled, all_filled}
 use Rattle.trac_rules.specs.Matching.{first_place}
 use Rattle.trac_rules.specs.Segmenting.{stands_at, leftmost, cut_at, cut_up_to, part, Runs, byte_before, runs_of, replaced, cut_out, segmented_from, segmented}
 use Rattle.trac_rules.proofs.Balanced.{first_place_some, first_place_none, first_place_cases}
@@ -302,7 +302,7 @@ pub filled-as_items : (texts : List (List ℕ)) (text : List ℕ) → all_filled
 filled-as_items texts [] = refl
 filled-as_items texts (b ∷ text) = ap (λ r. b ∷ r) (filled-as_items texts text)
 
-filled-cut_at : (texts : List (List ℕ)) (o : Option ℕ) (k : ℕ) (text run : List ℕ) (cut : List ℕ → List Item) → text_of k texts ≡ text → leftmost text run ≡ o →
+filled-cut_at : (texts : List (List ℕ)) (o : Option ℕ) (k : ℕ) (text run : List ℕ) (cut : List ℕ → List Item) → text_numbered k texts ≡ text → leftmost text run ≡ o →
     ((r : List ℕ) → all_filled texts (cut r) ≡ r) → all_filled texts (cut_at o k text run cut) ≡ run
 filled-cut_at texts None k text run cut e h fills = filled-as_items texts run
 filled-cut_at texts (Some place) k text run cut e h fills =
@@ -310,16 +310,16 @@ filled-cut_at texts (Some place) k text run cut e h fills =
     let front = take place run in
     let back = drop (place + length text) run in
     filled-append texts (as_items front) (Gap k (length text) ∷ cut back)
-    ∙ ap (λ f. f ++ (text_of k texts ++ all_filled texts (cut back))) (filled-as_items texts front)
+    ∙ ap (λ f. f ++ (text_numbered k texts ++ all_filled texts (cut back))) (filled-as_items texts front)
     ∙ ap (λ t. front ++ (t ++ all_filled texts (cut back))) e
     ∙ ap (λ r. front ++ (text ++ r)) (fills back)
     ∙ sym (split_at text run place at.2)
 
-filled-cut_up_to : (texts : List (List ℕ)) (n k : ℕ) (text run : List ℕ) → text_of k texts ≡ text → all_filled texts (cut_up_to n k text run) ≡ run
+filled-cut_up_to : (texts : List (List ℕ)) (n k : ℕ) (text run : List ℕ) → text_numbered k texts ≡ text → all_filled texts (cut_up_to n k text run) ≡ run
 filled-cut_up_to texts zero k text run e = filled-as_items texts run
 filled-cut_up_to texts (suc n) k text run e = filled-cut_at texts (leftmost text run) k text run (cut_up_to n k text) e refl (λ r. filled-cut_up_to texts n k text r e)
 
-pub filled-part : (texts : List (List ℕ)) (k : ℕ) (text run : List ℕ) → text_of k texts ≡ text → all_filled texts (part k text run) ≡ run
+pub filled-part : (texts : List (List ℕ)) (k : ℕ) (text run : List ℕ) → text_numbered k texts ≡ text → all_filled texts (part k text run) ≡ run
 unfolding part
 filled-part texts k text run e = filled-cut_up_to texts (length run) k text run e
 
@@ -342,7 +342,7 @@ filled-replaced texts cut cut' same r =
         ∙ sym (filled-append texts (cut' gap.1) (flat_map (λ g. g.0 ∷ cut' g.1) gaps)))
 
 -- filling with the text that was cut out gives what filling gave before
-pub filled-cut_out : (texts : List (List ℕ)) (k : ℕ) (text : List ℕ) (items : List Item) → text_of k texts ≡ text → all_filled texts (cut_out k text items) ≡ all_filled texts items
+pub filled-cut_out : (texts : List (List ℕ)) (k : ℕ) (text : List ℕ) (items : List Item) → text_numbered k texts ≡ text → all_filled texts (cut_out k text items) ≡ all_filled texts items
 unfolding cut_out
 filled-cut_out texts k text items e =
     filled-replaced texts (part k text) as_items (λ run. filled-part texts k text run e ∙ sym (filled-as_items texts run)) (runs_of items)
@@ -353,7 +353,7 @@ pub filled-segmented_from : (texts earlier later : List (List ℕ)) (k : ℕ) (i
     all_filled texts (segmented_from k later items) ≡ all_filled texts items
 filled-segmented_from texts earlier [] k items e n = refl
 filled-segmented_from texts earlier (text ∷ later) k items e n =
-    let here : text_of k texts ≡ text = ap (λ j. text_of j texts) n ∙ ap (λ t. get_or t (length earlier) []) e ∙ get_or_at earlier text later [] (length earlier) refl in
+    let here : text_numbered k texts ≡ text = ap (λ j. text_numbered j texts) n ∙ ap (λ t. get_or t (length earlier) []) e ∙ get_or_at earlier text later [] (length earlier) refl in
     filled-segmented_from texts (earlier ++ text ∷ []) later (k + 1) (cut_out k text items) (e ∙ sym (append_assoc earlier (text ∷ []) later)) (omega (arith, n, length-append earlier (text ∷ [])))
     ∙ filled-cut_out texts k text items here
 

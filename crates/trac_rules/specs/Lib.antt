@@ -4,7 +4,7 @@ pub mod Form
 pub mod State
 pub mod Matching
 pub mod Segmenting
-pub mod Calling
+pub mod Filling
 pub mod Showing
 pub mod Listing
 pub mod Scanning

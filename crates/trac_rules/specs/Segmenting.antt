@@ -1,4 +1,5 @@
--- Segmenting: how texts are cut out of a form, each occurrence leaving a gap.
+-- Segmenting: how texts are cut out of a form, the leftmost occurrences that do not overlap each leaving a gap (all of it is this
+-- project's profile).
 use Rattle.std.specs.Prelude.{ℕ, zero, suc, ◌+◌, List, [], ◌∷◌, ◌++◌, length, take, drop, Bool, Option, None, Some}
 use Rattle.std.specs.List.{flat_map}
 use Rattle.std.specs.Str.{bytes_eq}
@@ -28,7 +29,8 @@ abbrev pub cut_up_to : ℕ → ℕ → List ℕ → List ℕ → List Item
 cut_up_to zero k text run = as_items run
 cut_up_to (suc n) k text run = cut_at (leftmost text run) k text run (cut_up_to n k text)
 
--- a run with each occurrence of the text of number k cut out, the leftmost first: it has no more occurrences than bytes
+-- a run with the leftmost occurrences of the text of number k that do not overlap cut out: no run has more of them than bytes, so that
+-- many rounds are enough, and the law `leftmost_is_cut_first` says the same without rounds
 unfoldable pub part : ℕ → List ℕ → List ℕ → List Item
 part k text run = cut_up_to (length run) k text run
 
@@ -47,6 +49,7 @@ byte_before b r = record { first = b ∷ r.first; others = r.others }
 abbrev pub gap_before : Item → Runs → Runs
 gap_before gap r = record { first = []; others = (gap, r.first) ∷ r.others }
 
+-- items seen so; a run is bounded by gaps alone, and not by a pointer
 abbrev pub runs_of : List Item → Runs
 runs_of [] = record { first = []; others = [] }
 runs_of (Byte b ∷ items) = byte_before b (runs_of items)
@@ -62,7 +65,8 @@ cut_out k text items = replaced (part k text) (runs_of items)
 
 -- ---- all texts
 
--- items with these texts cut out in turn, the first of them having the number k
+-- items with these texts cut out in turn, the first of them having the number k: each text is searched in what those before it left,
+-- and a null text uses up its number
 abbrev pub segmented_from : ℕ → List (List ℕ) → List Item → List Item
 segmented_from k [] items = items
 segmented_from k (text ∷ texts) items = segmented_from (k + 1) texts (cut_out k text items)

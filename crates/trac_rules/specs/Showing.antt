@@ -10,6 +10,7 @@ abbrev pub shown_item : Item → List ℕ
 shown_item (Byte b) = b ∷ []
 shown_item (Gap ordinal width) = codes "<" ++ (decimal ordinal ++ codes ">")
 
+-- each of them, one behind another
 abbrev pub shown_items : List Item → List ℕ
 shown_items items = flat_map shown_item items
 

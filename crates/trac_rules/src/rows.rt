@@ -1,8 +1,8 @@
 //! Worked rows of the language, computed from the definitions.
 ghost use Rattle.std.specs.Prelude.{◌≡◌, ◌++◌, ◌∷◌, [], codes, replicate, None, Some};
 ghost use Rattle.std.specs.FinMap as map;
-ghost use Rattle.trac_rules.specs.Calling.{called};
-ghost use Rattle.trac_rules.specs.Form.{as_items, defined, pointed_at};
+ghost use Rattle.trac_rules.specs.Filling.{called};
+ghost use Rattle.trac_rules.specs.Form.{as_items, at_start, defined, pointed_at};
 ghost use Rattle.trac_rules.specs.Listing.{listed};
 ghost use Rattle.trac_rules.specs.Rows.{replies_to, session_after, state_after};
 ghost use Rattle.trac_rules.specs.Running.{BudgetSpent, InputEnded, output_of};
@@ -105,13 +105,19 @@ pub fn worked_forms()
     ensures null_text { shown (segmented ([] ∷ codes "a" ∷ []) (defined (codes "banana"))) ≡ codes "<^>b<2>n<2>n<2>" }
     // The leftmost occurrence is cut first, and none overlaps another.
     ensures leftmost { shown (segmented (codes "aa" ∷ []) (defined (codes "aaa"))) ≡ codes "<^><1>a" }
+    // The widths of gaps, which are not shown.
+    ensures widths { segmented (codes "y" ∷ []) (defined (codes "yxb")) ≡ at_start (Gap 1 1 ∷ Byte 120 ∷ Byte 98 ∷ []) }
+    ensures wider { segmented (codes "b" ∷ codes "ca" ∷ []) (defined (codes "abcabc")) ≡ at_start (Byte 97 ∷ Gap 1 1 ∷ Gap 2 2 ∷ Gap 1 1 ∷ Byte 99 ∷ []) }
+    ensures one_gap { shown (segmented (codes "y" ∷ []) (defined (codes "yxb"))) ≡ codes "<^><1>xb" }
     // Earlier gaps stay, and numbers begin at 1 again.
-    ensures earlier_gap { shown (segmented (codes "y" ∷ []) (defined (codes "yxb"))) ≡ codes "<^><1>xb" }
     ensures numbered_again { shown (segmented (codes "x" ∷ []) (segmented (codes "y" ∷ []) (defined (codes "yxb")))) ≡ codes "<^><1><1>b" }
     // No occurrence crosses a gap.
     ensures across { shown (segmented (codes "ac" ∷ []) (segmented (codes "b" ∷ []) (defined (codes "abc")))) ≡ codes "<^>a<1>c" }
     // The pointer goes to the start, also where nothing was cut.
     ensures pointer_back { shown (segmented [] (pointed_at 2 (as_items (codes "abc")))) ≡ codes "<^>abc" }
+    ensures pointer_from_behind { shown (segmented (codes "z" ∷ []) (pointed_at 2 (as_items (codes "abc")))) ≡ codes "<^>abc" }
+    // The pointer bounds no run.
+    ensures across_the_pointer { shown (segmented (codes "bc" ∷ []) (pointed_at 2 (as_items (codes "abc")))) ≡ codes "<^>a<1>" }
     // A call begins at the pointer, and a text that is missing is null.
     ensures from_the_pointer { called (codes "X" ∷ codes "Y" ∷ []) (pointed_at 1 (Byte 97 ∷ Gap 1 1 ∷ Byte 98 ∷ Byte 99 ∷ Gap 2 1 ∷ [])) ≡ codes "XbcY" }
     ensures missing_texts { called [] (pointed_at 1 (Byte 97 ∷ Gap 1 1 ∷ Byte 98 ∷ Byte 99 ∷ Gap 2 1 ∷ [])) ≡ codes "bc" }

@@ -1,6 +1,6 @@
 //! Laws of segmenting and calling, each the contract of a function that does nothing.
 ghost use Rattle.std.specs.Prelude.{◌≡◌, ◌++◌, ◌∷◌, ◌≤◌, [], List, ℕ, length};
-ghost use Rattle.trac_rules.specs.Calling.{all_filled};
+ghost use Rattle.trac_rules.specs.Filling.{all_filled};
 ghost use Rattle.trac_rules.specs.Form.{Form, all_items, as_items, extent};
 ghost use Rattle.trac_rules.specs.Segmenting.{cut_out, part, segmented};
 ghost use Rattle.trac_rules.specs.declared.item.Item.{Item};

@@ -28,9 +28,9 @@ pub returns-clause-leftmost : goal.returns-clause-leftmost
 unfolding part cut_out digits
 returns-clause-leftmost c = refl
 
-pub returns-clause-earlier_gap : goal.returns-clause-earlier_gap
+pub returns-clause-one_gap : goal.returns-clause-one_gap
 unfolding part cut_out digits
-returns-clause-earlier_gap c = refl
+returns-clause-one_gap c = refl
 
 pub returns-clause-numbered_again : goal.returns-clause-numbered_again
 unfolding part cut_out digits
@@ -74,3 +74,19 @@ both =
 
 pub returns-clause-names : goal.returns-clause-names
 returns-clause-names c = ap (λ (es : List (List ℕ × Form)). flat_map (λ name. codes "," ++ name) (map (λ e. e.0) es)) both
+
+pub returns-clause-widths : goal.returns-clause-widths
+unfolding part cut_out digits
+returns-clause-widths c = refl
+
+pub returns-clause-wider : goal.returns-clause-wider
+unfolding part cut_out digits
+returns-clause-wider c = refl
+
+pub returns-clause-pointer_from_behind : goal.returns-clause-pointer_from_behind
+unfolding part cut_out digits
+returns-clause-pointer_from_behind c = refl
+
+pub returns-clause-across_the_pointer : goal.returns-clause-across_the_pointer
+unfolding part cut_out digits
+returns-clause-across_the_pointer c = refl

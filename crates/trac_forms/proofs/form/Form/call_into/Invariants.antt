@@ -1,6 +1,6 @@
 -- What was filled so far.
 use Rattle.std.proofs.Common.{◌≡◌, ◌++◌, take}
-use Rattle.trac_rules.specs.Calling.{all_filled}
+use Rattle.trac_rules.specs.Filling.{all_filled}
 use Rattle.trac_forms.proofs.form.Form.call_into.Given as goal
 
 abbrev pub invariant-loop-item : goal.invariant-loop-item

@@ -1,7 +1,7 @@
 -- What the items up to this one give is no longer than what all give.
 use Rattle.std.proofs.Common.{length, ap, arith}
 use Rattle.trac_rules.specs.declared.item.Item.TheVariants.{Byte}
-use Rattle.trac_rules.specs.Calling.{filled, all_filled}
+use Rattle.trac_rules.specs.Filling.{filled, all_filled}
 use Rattle.trac_forms.proofs.Going.{gives_no_more}
 use Rattle.trac_forms.proofs.form.Form.call_len.Goals as goal
 

@@ -1,7 +1,7 @@
 -- What was counted so far.
 use Rattle.std.proofs.Common.{◌≡◌, ◌≤◌, length, take}
 use Rattle.trac_rules.specs.declared.limit.TheConstants.{TEXT_LIMIT}
-use Rattle.trac_rules.specs.Calling.{all_filled}
+use Rattle.trac_rules.specs.Filling.{all_filled}
 use Rattle.trac_forms.proofs.form.Form.call_len.Given as goal
 
 abbrev pub invariant-loop-item : goal.invariant-loop-item

@@ -5,15 +5,15 @@ use Rattle.trac_rules.specs.declared.item.Item.{Item}
 use Rattle.trac_rules.specs.declared.item.Item.TheVariants.{Byte, Gap}
 use Rattle.trac_rules.specs.Form.{Form}
 
--- the text of this number, the first being number 1; null where it is missing
-abbrev pub text_of : ℕ → List (List ℕ) → List ℕ
-text_of zero texts = []
-text_of (suc k) texts = get_or texts k []
+-- the text of this number, the first being number 1; null where it is missing, and for the number 0, which no segmenting gives
+abbrev pub text_numbered : ℕ → List (List ℕ) → List ℕ
+text_numbered zero texts = []
+text_numbered (suc k) texts = get_or texts k []
 
 -- what an item gives in a call with these texts: a byte itself, and a gap the text of its number
 abbrev pub filled : List (List ℕ) → Item → List ℕ
 filled texts (Byte b) = b ∷ []
-filled texts (Gap ordinal width) = text_of ordinal texts
+filled texts (Gap ordinal width) = text_numbered ordinal texts
 
 -- items with their gaps filled
 abbrev pub all_filled : List (List ℕ) → List Item → List ℕ
