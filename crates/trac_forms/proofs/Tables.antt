@@ -1,5 +1,5 @@
 -- Entries of a table, and the forms and names that they stand for.
-use Rattle.std.proofs.Common.{◌≡◌, ℕ, ◌+◌, ◌-◌, Bool, true, false, cond, ◌||◌, List, [], ◌∷◌, ◌++◌, length, refl, sym, ap, subst, ◌∙◌, arith, ⊎_elim, is_some, filter, IsSome}
+use Rattle.std.proofs.Common.{◌≡◌, ℕ, ◌+◌, ◌-◌, Bool, true, false, cond, ◌||◌, List, [], ◌∷◌, ◌++◌, length, refl, sym, ap, subst, ◌∙◌, arith, ⊎_elim, is_some, filter, IsSome, IsTrue}
 use Rattle.std.specs.Prelude.{Option, None, Some}
 use Rattle.std.specs.Cmp.Lexicographic.{slice_cmp, nat_list_cmp_total, nat_list_eq_equiv}
 use Rattle.std.specs.FinMap as finite
@@ -104,6 +104,18 @@ contains-known_of es q =
     set.contains-from_list nat_list_cmp_total (keys_of es) q
     ∙ list_any_alike (eq_by_cmp (slice_cmp nat_cmp) q) (bytes_eq q) (is_eq-slice_cmp q) (keys_of es)
     ∙ sym (is_some-lookup (bytes_eq q) es)
+
+-- the name of a form is known
+pub form_known : (es : Entries) (s : Stored) → stored es ≡ s → (q : List ℕ) → IsTrue (is_some (finite.get s.forms q)) → IsTrue (set.contains s.known q)
+form_known es s view q there =
+    let here : is_some (finite.get (forms_of es) q) ≡ true = subst (λ t. is_some (finite.get t.forms q) ≡ true) (sym view) there in
+    subst (λ t. set.contains t.known q ≡ true) view
+    (contains-known_of es q ∙ some_inside (lookup (bytes_eq q) es) (ap is_some (sym (get-forms_of es q)) ∙ here))
+  where
+    some_inside : (o : Option (Option Form)) → is_some (option_flatten o) ≡ true → is_some o ≡ true
+    some_inside None h = h
+    some_inside (Some x) h = refl
+
 
 -- two tables in which each name has the same form
 forms_alike : (es fs : Entries) → ((q : List ℕ) → option_flatten (lookup (bytes_eq q) es) ≡ option_flatten (lookup (bytes_eq q) fs)) → forms_of es ≡ forms_of fs

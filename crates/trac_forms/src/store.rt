@@ -56,7 +56,10 @@ impl<A: Allocator + Copy> Store<A> {
 
     /// The form of this name, if there is one. It takes no memory.
     pub fn get(&self, name: &[u8]) -> Option<&Form<A>>
-        ensures { option_copied result ≡ finite.get self.now.forms name.now }
+        ensures value { option_copied result ≡ finite.get self.now.forms name.now }
+
+        // The name of a form is known.
+        ensures known { IsTrue (is_some (finite.get self.now.forms name.now)) → IsTrue (set.contains self.now.known name.now) }
     {
         self.table.get(name)?.as_ref()
     }

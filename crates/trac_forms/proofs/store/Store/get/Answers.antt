@@ -2,15 +2,22 @@
 use Rattle.std.proofs.Common.{sym, ap, ◌∙◌}
 use Rattle.std.specs.Prelude.{None}
 use Rattle.std.specs.Option.{option_copied}
-use Rattle.trac_forms.proofs.Tables.{form_found}
+use Rattle.trac_forms.specs.Table.{named}
+use Rattle.trac_forms.proofs.Tables.{form_found, form_known}
 use Rattle.trac_forms.proofs.store.Store.get.Goals as goal
 
-pub returns-in_err-get : goal.returns-in_err-get
-returns-in_err-get g c =
+pub returns-in_err-get-clause-value : goal.returns-in_err-get-clause-value
+returns-in_err-get-clause-value g c =
     ap option_copied c.from_residual.ensures
     ∙ sym (form_found (λ k. k.items) c.self.inside.table.entries c.args.self.now c.self.view_is c.args.name.now None c.in_err-get.ensures.value)
 
-pub returns : goal.returns
-returns g c =
+pub returns-in_err-get-clause-known : goal.returns-in_err-get-clause-known
+returns-in_err-get-clause-known g c = form_known (named (λ k. k.items) c.self.inside.table.entries) c.args.self.now c.self.view_is c.args.name.now
+
+pub returns-clause-value : goal.returns-clause-value
+returns-clause-value g c =
     c.as_ref.ensures.value
     ∙ sym (form_found (λ k. k.items) c.self.inside.table.entries c.args.self.now c.self.view_is c.args.name.now _ c.in_ok-get.ensures.value)
+
+pub returns-clause-known : goal.returns-clause-known
+returns-clause-known g c = form_known (named (λ k. k.items) c.self.inside.table.entries) c.args.self.now c.self.view_is c.args.name.now
