@@ -1,5 +1,5 @@
 //! Lists with two ends over two vectors: the plain program that tests compare with.
-ghost use Rattle.std.specs.Prelude.{◌≡◌, ◌+◌, ◌-◌, ◌<◌, ◌≤◌, [], ◌∷◌, ◌++◌, length, take, drop, IfOk, vec_len, vec_capacity};
+ghost use Rattle.std.specs.Prelude.{◌≡◌, ◌+◌, ◌-◌, ◌<◌, ◌≤◌, ◌++◌, length, drop, vec_len, vec_capacity};
 
 use crate::error::GapError;
 use crate::two_ends::TwoEnds;

@@ -1,5 +1,5 @@
 //! Each request for memory refused in turn, on every type that has the calls.
-ghost use Rattle.std.specs.Prelude.{◌≡◌, ◌+◌, ◌≤◌, length};
+ghost use Rattle.std.specs.Prelude.{◌+◌};
 
 use crate::{GapBuf, PlainEnds, TwoEnds};
 use std::alloc::{Allocator, Global};

@@ -1,5 +1,5 @@
 //! Bit strings: operations on the octal strings of arguments.
-ghost use Rattle.std.specs.Prelude.{◌≡◌, IfOk, IsOkUnless};
+ghost use Rattle.std.specs.Prelude.{◌≡◌, IfOk};
 ghost use Rattle.trac_rules.specs.Computing.{moved, number_argument, octal_argument};
 ghost use Rattle.trac_rules.specs.Octal.{complement, meet, rotate, shift, text_of, union};
 

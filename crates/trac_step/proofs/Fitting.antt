@@ -1,7 +1,7 @@
 -- Whether the state after a call is within the limits, on the parts of a machine.
 use Rattle.std.proofs.Common.{◌≡◌, ℕ, ◌+◌, ◌-◌, ◌<◌, ◌≤◌, List, ◌++◌, length, take, drop, refl, sym, ap, ◌∙◌, arith, true, false, Bool, ◌&&◌}
 use Rattle.std.specs.Prelude.{Some, nat_le}
-use Rattle.std.proofs.lemmas.Bool.{le-leb, leb-true}
+use Rattle.std.proofs.lemmas.Bool.{and_parts, le-leb, leb-true}
 use Rattle.std.proofs.lemmas.Bool.Decides.{leb_tells}
 use Rattle.std.proofs.Common.{inl, inr}
 use Rattle.std.proofs.lemmas.List.{length-append, length-take-le}
@@ -23,11 +23,6 @@ use Rattle.trac_step.proofs.Ended.{no_mark, call_at, scan_called, if_calls, ende
 
 -- ---- the three limits
 
-pub both : (a b : Bool) → (a && b) ≡ true → (a ≡ true) × (b ≡ true)
-both true true e = (refl, refl)
-both true false e = (refl, e)
-both false b e = absurd (let unset : false ≡ true = e in cc)
-
 pub record IsLimited (s : State) : Type 0 where
   pub text : text_bytes s ≤ TEXT_LIMIT
   pub marked : marks s.frames ≤ MARK_LIMIT
@@ -36,8 +31,8 @@ pub record IsLimited (s : State) : Type 0 where
 pub limits_kept : (s : State) → is_within_limits s ≡ true → IsLimited s
 unfolding is_within_limits
 limits_kept s e =
-    let parts = both (nat_le (text_bytes s) TEXT_LIMIT && nat_le (marks s.frames) MARK_LIMIT) (nat_le (length s.output) OUTPUT_LIMIT) e in
-    let texts = both (nat_le (text_bytes s) TEXT_LIMIT) (nat_le (marks s.frames) MARK_LIMIT) parts.0 in
+    let parts = and_parts (nat_le (text_bytes s) TEXT_LIMIT && nat_le (marks s.frames) MARK_LIMIT) (nat_le (length s.output) OUTPUT_LIMIT) e in
+    let texts = and_parts (nat_le (text_bytes s) TEXT_LIMIT) (nat_le (marks s.frames) MARK_LIMIT) parts.0 in
     record { text = leb-true _ _ texts.0; marked = leb-true _ _ texts.1; output = leb-true _ _ parts.1 }
 
 -- where text and marks are within their limits, the output decides

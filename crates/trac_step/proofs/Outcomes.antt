@@ -11,6 +11,7 @@ use Rattle.trac_rules.specs.Bytes.{argument}
 use Rattle.trac_rules.specs.Performing.{Effect, after_call, effect_of, perform, performed_by, primitive_of}
 use Rattle.trac_rules.specs.Limits.{is_within_limits}
 use Rattle.trac_rules.specs.Stepping.{step, limited, carried_out, MayLackMemory, MayRefuse}
+use Rattle.trac_rules.proofs.Changed.{limited_beyond, limited_within}
 use Rattle.trac_prims.specs.declared.effect.Effect as code
 use Rattle.trac_prims.specs.Effects.{MayFail, effect_on}
 use Rattle.trac_step.specs.Calling.{IfCalls, IfMoves, IsMove, ended_call}
@@ -25,19 +26,13 @@ step_as : (tape : Tape) (s : State) (scanned : Scanned) → scan s ≡ scanned �
 unfolding step
 step_as tape s scanned e = ap (λ x. limited (carried_out tape x)) e
 
-limited_within : (t : State) → true ≡ is_within_limits t → limited (Ok t) ≡ Ok t
-limited_within t e = rw (← e) refl
-
-limited_beyond : (t : State) → false ≡ is_within_limits t → limited (Ok t) ≡ Err TooLong
-limited_beyond t e = rw (← e) refl
-
 -- a state is judged by its limits alone, and memory may be refused in either case
 lacks_limited : (t : State) → MayLackMemory (limited (Ok t))
 lacks_limited t = lacks_by (is_within_limits t) refl
   where
     lacks_by : (b : Bool) → b ≡ is_within_limits t → MayLackMemory (limited (Ok t))
-    lacks_by true e = subst MayLackMemory (sym (limited_within t e)) tt
-    lacks_by false e = subst MayLackMemory (sym (limited_beyond t e)) tt
+    lacks_by true e = subst MayLackMemory (sym (limited_within t (sym e))) tt
+    lacks_by false e = subst MayLackMemory (sym (limited_beyond t (sym e))) tt
 
 -- ---- a function is performed
 
@@ -84,14 +79,14 @@ module _ (tape : Tape) (s : State) (front : front_of s.active ≡ Closing) (insi
         ∙ ap limited (call_holds (λ call. perform tape call ≡ Ok (after call)) performs)
 
     pub call_beyond : IfCalls (scan s) (λ call. false ≡ is_within_limits (after call)) → step tape s ≡ Err TooLong
-    call_beyond h = outcome_of_call ∙ limited_beyond (after (calls_of s front inside).0) (call_holds (λ call. false ≡ is_within_limits (after call)) h)
+    call_beyond h = outcome_of_call ∙ limited_beyond (after (calls_of s front inside).0) (sym (call_holds (λ call. false ≡ is_within_limits (after call)) h))
 
     pub call_lacks : MayLackMemory (step tape s)
     call_lacks = subst MayLackMemory (sym outcome_of_call) (lacks_limited (after (calls_of s front inside).0))
 
     pub call_taken : (t : State) → IfCalls (scan s) (λ call. true ≡ is_within_limits (after call)) → IfCalls (scan s) (λ call. t ≡ after call) → step tape s ≡ Ok t
     call_taken t fits is =
-        outcome_of_call ∙ limited_within (after (calls_of s front inside).0) (call_holds (λ call. true ≡ is_within_limits (after call)) fits)
+        outcome_of_call ∙ limited_within (after (calls_of s front inside).0) (sym (call_holds (λ call. true ≡ is_within_limits (after call)) fits))
         ∙ ap Ok (sym (call_holds (λ call. t ≡ after call) is))
 
 -- ---- scanning moves on
@@ -122,13 +117,13 @@ module _ (tape : Tape) (s : State) (moves : IsMove (scan s)) where
   move_holds P h = subst (λ x. IfMoves x P) (moves_of (scan s) moves).1 h
 
   pub move_beyond : IfMoves (scan s) (λ t. false ≡ is_within_limits t) → step tape s ≡ Err TooLong
-  move_beyond h = outcome_of_move ∙ limited_beyond _ (move_holds (λ t. false ≡ is_within_limits t) h)
+  move_beyond h = outcome_of_move ∙ limited_beyond _ (sym (move_holds (λ t. false ≡ is_within_limits t) h))
 
   pub move_lacks : MayLackMemory (step tape s)
   move_lacks = subst MayLackMemory (sym outcome_of_move) (lacks_limited (moves_of (scan s) moves).0)
 
 pub move_taken : (tape : Tape) (s t : State) → scan s ≡ Moves t → IfMoves (scan s) (λ u. true ≡ is_within_limits u) → step tape s ≡ Ok t
-move_taken tape s t scanned h = step_as tape s (Moves t) scanned ∙ limited_within t (subst (λ x. IfMoves x (λ u. true ≡ is_within_limits u)) scanned h)
+move_taken tape s t scanned h = step_as tape s (Moves t) scanned ∙ limited_within t (sym (subst (λ x. IfMoves x (λ u. true ≡ is_within_limits u)) scanned h))
 
 -- what is planned is performed
 pub planned_is_performed : {A : Type 0} (tape : Tape) (s : State) (e : code.Effect A) →

@@ -1,5 +1,5 @@
 //! The innermost begun function.
-ghost use Rattle.std.specs.Prelude.{◌≡◌, ◌<◌, ◌+◌, length, drop, take, slice_get, MatchOption};
+ghost use Rattle.std.specs.Prelude.{◌≡◌, ◌<◌, ◌+◌, MatchOption};
 ghost use Rattle.trac_prims.specs.Cuts.{AreArguments, BeginsFunction, function_count};
 
 use trac_prims::Mark;

@@ -63,6 +63,31 @@ fn eleven_steps_and_back(rt: HostRuntime) -> Result<(), Fail> {
     Ok(())
 }
 
+// A stray `)` ends the idle program's `ps`: what is read behind it goes to the base text.
+#[test]
+fn a_stray_closing(rt: HostRuntime) -> Result<(), Fail> {
+    let mut session = fed(rt.alloc(), JOURNAL_LIMIT, b"a)b,c'")?;
+    assert_eq!(rt; session.forward(14), walk(14, None));
+    assert_eq!(rt; session.pending(), b"a".as_slice());
+    assert_eq!(rt; session.machine().base(), b"bc".as_slice());
+    assert_eq!(rt; session.machine().active(), b"".as_slice());
+    assert_eq!(rt; session.machine().depth(), 0);
+    Ok(())
+}
+
+// A `(` without a match protects all the rest.
+#[test]
+fn an_unmatched_opening(rt: HostRuntime) -> Result<(), Fail> {
+    let mut session = fed(rt.alloc(), JOURNAL_LIMIT, b"((a'")?;
+    assert_eq!(rt; session.forward(9), walk(9, None));
+    assert_eq!(rt; session.machine().active(), b"".as_slice());
+    let Some((_, arguments)) = session.machine().frame(0) else {
+        panic!(rt; "one function is begun");
+    };
+    assert_eq!(rt; arguments.get(1), b"(a)".as_slice());
+    Ok(())
+}
+
 // `rs` has read `AB`: it goes before the active text, and `ps` gathers its second argument.
 fn expect_read(rt: &impl Abort, session: &Session) {
     let machine = session.machine();
