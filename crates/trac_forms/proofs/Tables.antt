@@ -364,3 +364,16 @@ module _ {K V : Type 0} (name : K → List ℕ) (done left rest all : List (K ×
       ∙ ap (λ (n : List ℕ). named name done ++ (n, w) ∷ named name rest) called
       ∙ ap (λ (x : V). named name done ++ (name k, x) ∷ named name rest) same
       ∙ at_next
+
+-- ---- after the calls
+
+itself : (name : List ℕ) → eq_by_cmp (slice_cmp nat_cmp) name name ≡ true
+itself name = is_eq-slice_cmp name name ∙ nat_list_eq_equiv.refl name
+
+-- a name that was made known is known
+pub known_then : (s : Names) (name : List ℕ) → set.contains (set.insert s name) name ≡ true
+known_then s name = set.contains-insert nat_list_cmp_total s name name ∙ ap (λ b. b || set.contains s name) (itself name)
+
+-- a form that was put is there
+pub form_then : (forms : Forms) (name : List ℕ) (form : Form) → finite.get (finite.insert forms name form) name ≡ Some form
+form_then forms name form = finite.get-insert nat_list_cmp_total forms name form name ∙ ap (λ b. cond b (Some form) (finite.get forms name)) (itself name)
