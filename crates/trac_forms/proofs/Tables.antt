@@ -116,7 +116,6 @@ form_known es s view q there =
     some_inside None h = h
     some_inside (Some x) h = refl
 
-
 -- two tables in which each name has the same form
 forms_alike : (es fs : Entries) → ((q : List ℕ) → option_flatten (lookup (bytes_eq q) es) ≡ option_flatten (lookup (bytes_eq q) fs)) → forms_of es ≡ forms_of fs
 forms_alike es fs same = finite.same_map nat_list_cmp_total exact (forms_of es) (forms_of fs) (λ q. get-forms_of es q ∙ same q ∙ sym (get-forms_of fs q))
