@@ -7,7 +7,7 @@ use Rattle.trac_rules.specs.declared.limit.TheConstants.{TEXT_LIMIT, MARK_LIMIT,
 use Rattle.trac_rules.specs.declared.kind.Kind.{Kind}
 use Rattle.trac_rules.specs.declared.kind.Kind.TheVariants.{Active, Neutral}
 use Rattle.trac_rules.specs.declared.primitive.Primitive.{Primitive}
-use Rattle.trac_rules.specs.declared.primitive.Primitive.TheVariants.{PrintString, ReadString, Compute, Unknown}
+use Rattle.trac_rules.specs.declared.primitive.Primitive.TheVariants.{PrintString, ReadString, Compute, Handle, Unknown}
 use Rattle.trac_rules.specs.declared.refusal.Refusal.{Refusal}
 use Rattle.trac_rules.specs.declared.refusal.Refusal.TheVariants.{TooLong}
 use Rattle.trac_rules.specs.declared.scan.Front.{Front}
@@ -17,7 +17,8 @@ use Rattle.trac_rules.specs.State.{Frame, State, Tape}
 use Rattle.trac_rules.specs.Matching.{protected}
 use Rattle.trac_rules.specs.Scanning.{Call, Scanned, Moves, Calls, gathered_in, deleted, comma_in, closing_in, front_of, scan_at, scan}
 use Rattle.trac_rules.specs.Limits.{is_within_limits, text_bytes, marks}
-use Rattle.trac_rules.specs.Performing.{Effect, reads, unread, read_rest, read_up_to, effect_of, primitive_of, trace_line, placed, after_call, performed_by, perform}
+use Rattle.trac_rules.specs.Handling.{Handled, handled}
+use Rattle.trac_rules.specs.Performing.{Effect, handles, reads, unread, read_rest, read_up_to, effect_of, primitive_of, trace_line, placed, after_call, performed_by, perform}
 use Rattle.trac_rules.specs.Stepping.{carried_out, limited}
 
 -- a state with its position and its output changed
@@ -161,6 +162,12 @@ read_up_to-changed f g old new s same (Some k) =
     rw same.unread (ap Ok (reads-changed f g (take k (unread old s)) (k + 1) s (same.moved (k + 1))))
 read_up_to-changed f g old new s same None = rw (same.unread, same.ended) (read_rest-changed f g s same.moved (unread old s) old.ended)
 
+-- what comes of a call on forms is alike
+pub handles-changed : (places : ℕ → ℕ) (texts : List ℕ → List ℕ) (s : State) (outcome : Result Handled Refusal) →
+    handles outcome (changed places texts s) ≡ effect_as (changed places texts) (handles outcome s)
+handles-changed f g s (Ok h) = refl
+handles-changed f g s (Err refusal) = refl
+
 -- each primitive acts alike
 pub effect_of-changed : (places : ℕ → ℕ) (texts : List ℕ → List ℕ) (old new : Tape) (s : State) → GoesUnnoticed places texts old new s →
     (primitive : Primitive) (arguments : List (List ℕ)) →
@@ -171,6 +178,7 @@ effect_of-changed f g old new s same ReadString arguments =
     ap (λ (text : List ℕ). read_up_to (position (λ b. b == s.meta) text) new (changed f g s)) unread_alike
     ∙ read_up_to-changed f g old new s same (position (λ b. b == s.meta) (unread old s))
 effect_of-changed f g old new s same (Compute computation) arguments = refl
+effect_of-changed f g old new s same (Handle action) arguments = handles-changed f g s (handled action arguments s.forms)
 effect_of-changed f g old new s same Unknown arguments = refl
 
 -- a value goes to the same place

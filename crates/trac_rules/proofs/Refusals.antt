@@ -1,20 +1,28 @@
 -- Why a step is refused, and when waiting for input is hopeless.
 use Rattle.std.proofs.Common.{◌≡◌, ℕ, ◌<◌, ◌≤◌, Bool, true, false, List, [], ◌∷◌, ◌++◌, length, drop, refl, sym, ap, ◌∙◌, arith, inl, inr, ⊎_elim}
-use Rattle.std.specs.Prelude.{Option, None, Some, Result, Ok, Err, position, nat_le, ◌==◌, ◌⊎◌, ◌&&◌}
+use Rattle.std.specs.Prelude.{Option, None, Some, Result, Ok, Err, position, nat_le, ◌==◌, ◌⊎◌, ◌&&◌, if◌then◌else◌}
+use Rattle.std.specs.FinMap as map
 use Rattle.std.proofs.lemmas.List.{length-append, length-take-le}
 use Rattle.std.proofs.lemmas.Bool.{and_parts, leb-true, false≢true, false_from_ne_true}
 use Rattle.trac_rules.specs.declared.limit.TheConstants.{TEXT_LIMIT, MARK_LIMIT, OUTPUT_LIMIT}
 use Rattle.trac_rules.specs.declared.kind.Kind.{Kind}
 use Rattle.trac_rules.specs.declared.kind.Kind.TheVariants.{Active, Neutral}
 use Rattle.trac_rules.specs.declared.primitive.Primitive.{Primitive}
-use Rattle.trac_rules.specs.declared.primitive.Primitive.TheVariants.{PrintString, ReadString, Compute, Unknown}
+use Rattle.trac_rules.specs.declared.primitive.Primitive.TheVariants.{PrintString, ReadString, Compute, Handle, Unknown}
+use Rattle.trac_rules.specs.declared.primitive.FormAction.{FormAction}
+use Rattle.trac_rules.specs.declared.primitive.FormAction.TheVariants.{Define, Delete, DeleteAll, Segment, Restore, ListNames, PrintForm, Call as CallForm}
 use Rattle.trac_rules.specs.declared.refusal.Refusal.{Refusal}
 use Rattle.trac_rules.specs.declared.refusal.Refusal.TheVariants.{Memory, TooLong, NeedInput, Ended, JournalFull, AtStart, Closed, NotMet}
 use Rattle.trac_rules.specs.Bytes.{argument}
-use Rattle.trac_rules.specs.State.{Frame, State, Tape}
+use Rattle.trac_rules.specs.Filling.{called}
+use Rattle.trac_rules.specs.Form.{Form, defined}
+use Rattle.trac_rules.specs.Segmenting.{segmented}
+use Rattle.trac_rules.specs.Showing.{shown}
+use Rattle.trac_rules.specs.State.{Forms, Frame, State, Tape}
 use Rattle.trac_rules.specs.Scanning.{Call, Scanned, Moves, Calls, gathered_in, scan}
-use Rattle.trac_rules.specs.Limits.{is_within_limits, text_bytes, marks}
-use Rattle.trac_rules.specs.Performing.{Effect, unread, read_rest, read_up_to, effect_of, primitive_of, trace_line, placed, after_call, performed_by, perform}
+use Rattle.trac_rules.specs.Limits.{is_within_limits, may_be_put, text_bytes, marks}
+use Rattle.trac_rules.specs.Handling.{Handled, handled, leaving, on_form, pointing, printing, putting, valued}
+use Rattle.trac_rules.specs.Performing.{Effect, handles, unread, read_rest, read_up_to, effect_of, primitive_of, trace_line, placed, after_call, performed_by, perform}
 use Rattle.trac_rules.specs.Stepping.{carried_out, limited, step}
 use Rattle.trac_rules.specs.Running.{silent}
 use Rattle.trac_rules.specs.GoingOn.{whole}
@@ -39,10 +47,54 @@ pub read_up_to_refusals : (tape : Tape) (at : Option ℕ) (s : State) (refusal :
 read_up_to_refusals tape (Some k) s r h = absurd (cc)
 read_up_to_refusals tape None s r h = read_rest_refusals tape (unread tape s) s tape.ended refl r h
 
+-- a call is refused for a limit alone, if at all
+abbrev pub IsShort : Result Handled Refusal → Type 0
+IsShort (Ok h) = Unit {0}
+IsShort (Err refusal) = refusal ≡ TooLong
+
+-- putting a form is refused for a limit alone
+pub putting_refusals : (name : List ℕ) (form : Form) (forms : Forms) → IsShort (putting name form forms)
+putting_refusals name form forms = by_fit (may_be_put name form forms)
+  where
+    by_fit : (fits : Bool) → IsShort (if fits then Ok (leaving (map.insert forms name form)) else Err TooLong)
+    by_fit true = tt
+    by_fit false = refl
+
+-- acting upon a form that may be there is refused for what the act is refused for
+pub on_form_refusals : (held : Option Form) (act : Form → Result Handled Refusal) (forms : Forms) → ((form : Form) → IsShort (act form)) → IsShort (on_form held act forms)
+on_form_refusals None act forms h = tt
+on_form_refusals (Some form) act forms h = h form
+
+-- a call on forms is refused for a limit alone
+pub handled_refusals : (action : FormAction) (arguments : List (List ℕ)) (forms : Forms) → IsShort (handled action arguments forms)
+handled_refusals Define arguments forms = putting_refusals (argument 1 arguments) (defined (argument 2 arguments)) forms
+handled_refusals Delete arguments forms = tt
+handled_refusals DeleteAll arguments forms = tt
+handled_refusals Segment arguments forms =
+    on_form_refusals (map.get forms (argument 1 arguments)) (λ form. putting (argument 1 arguments) (segmented (drop 2 arguments) form) forms) forms
+    (λ form. putting_refusals (argument 1 arguments) (segmented (drop 2 arguments) form) forms)
+handled_refusals Restore arguments forms =
+    on_form_refusals (map.get forms (argument 1 arguments)) (λ form. Ok (pointing (argument 1 arguments) 0 form forms)) forms (λ form. tt)
+handled_refusals CallForm arguments forms =
+    on_form_refusals (map.get forms (argument 1 arguments)) (λ form. Ok (valued (called (drop 2 arguments) form) forms)) forms (λ form. tt)
+handled_refusals ListNames arguments forms = tt
+handled_refusals PrintForm arguments forms =
+    on_form_refusals (map.get forms (argument 1 arguments)) (λ form. Ok (printing (shown form) forms)) forms (λ form. tt)
+
+-- what comes of a call on forms is refused for a limit alone
+pub handles_refusals : (outcome : Result Handled Refusal) (s : State) (refusal : Refusal) → IsShort outcome → handles outcome s ≡ Err refusal → refusal ≡ TooLong
+handles_refusals (Ok h) s r short e = absurd (cc)
+handles_refusals (Err why) s r short e = let same : why ≡ r = cc in sym same ∙ short
+
+-- a primitive would pass a limit, or wants input, or finds its end
+abbrev pub MayStop : Tape → Refusal → Type 0
+MayStop tape refusal = (refusal ≡ TooLong) ⊎ MayWant tape refusal
+
 -- why a primitive is refused
-pub effect_refusals : (primitive : Primitive) (tape : Tape) (arguments : List (List ℕ)) (s : State) (refusal : Refusal) → effect_of primitive tape arguments s ≡ Err refusal → MayWant tape refusal
+pub effect_refusals : (primitive : Primitive) (tape : Tape) (arguments : List (List ℕ)) (s : State) (refusal : Refusal) → effect_of primitive tape arguments s ≡ Err refusal → MayStop tape refusal
 effect_refusals PrintString tape arguments s r h = absurd (cc)
-effect_refusals ReadString tape arguments s r h = read_up_to_refusals tape (position (λ b. b == s.meta) (unread tape s)) s r h
+effect_refusals ReadString tape arguments s r h = inr (read_up_to_refusals tape (position (λ b. b == s.meta) (unread tape s)) s r h)
+effect_refusals (Handle action) tape arguments s r h = inl (handles_refusals (handled action arguments s.forms) s r (handled_refusals action arguments s.forms) h)
 effect_refusals (Compute computation) tape arguments s r h = absurd (cc)
 effect_refusals Unknown tape arguments s r h = absurd (cc)
 
@@ -52,14 +104,14 @@ performed_by_Err call (Ok e) r h = absurd (cc)
 performed_by_Err call (Err refusal) r h = let same : refusal ≡ r = cc in ap Err same
 
 -- why a call is refused
-pub perform_refusals : (tape : Tape) (call : Call) (refusal : Refusal) → perform tape call ≡ Err refusal → MayWant tape refusal
+pub perform_refusals : (tape : Tape) (call : Call) (refusal : Refusal) → perform tape call ≡ Err refusal → MayStop tape refusal
 unfolding perform
 perform_refusals tape call r h =
     effect_refusals (primitive_of (argument 0 call.arguments)) tape call.arguments call.state r
     (performed_by_Err call (effect_of (primitive_of (argument 0 call.arguments)) tape call.arguments call.state) r h)
 
 -- why what scanning gives is refused
-pub carried_out_refusals : (tape : Tape) (x : Scanned) (refusal : Refusal) → carried_out tape x ≡ Err refusal → MayWant tape refusal
+pub carried_out_refusals : (tape : Tape) (x : Scanned) (refusal : Refusal) → carried_out tape x ≡ Err refusal → MayStop tape refusal
 carried_out_refusals tape (Moves t) r h = absurd (cc)
 carried_out_refusals tape (Calls call) r h = perform_refusals tape call r h
 
@@ -69,7 +121,7 @@ unfolding step
 step_refusals tape s r h =
     ⊎_elim
     (λ (long : r ≡ TooLong). inl long)
-    (λ (e : carried_out tape (scan s) ≡ Err r). inr (carried_out_refusals tape (scan s) r e))
+    (λ (e : carried_out tape (scan s) ≡ Err r). carried_out_refusals tape (scan s) r e)
     (limited_Err (carried_out tape (scan s)) r h)
 
 -- on a tape that has ended a step is refused for a limit, or at the end
@@ -158,6 +210,9 @@ effect_long ReadString tape more arguments s l some h =
     read_up_to_long tape more s (position (λ b. b == s.meta) (unread (whole tape more) s)) l some
     (λ k e. position-append_None (λ b. b == s.meta) (unread tape s) more k none (ap (position (λ b. b == s.meta)) (sym all) ∙ e))
 effect_long (Compute computation) tape more arguments s l some h = absurd (cc)
+effect_long (Handle action) tape more arguments s l some h =
+    let long : NeedInput ≡ TooLong = handles_refusals (handled action arguments s.forms) s NeedInput (handled_refusals action arguments s.forms) h in
+    absurd (cc)
 effect_long Unknown tape more arguments s l some h = absurd (cc)
 
 -- a gathered text counts among the text bytes

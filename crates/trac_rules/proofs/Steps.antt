@@ -7,14 +7,15 @@ use Rattle.std.proofs.lemmas.List.Quantifiers.{position-Some}
 use Rattle.trac_rules.specs.declared.kind.Kind.{Kind}
 use Rattle.trac_rules.specs.declared.kind.Kind.TheVariants.{Active, Neutral}
 use Rattle.trac_rules.specs.declared.primitive.Primitive.{Primitive}
-use Rattle.trac_rules.specs.declared.primitive.Primitive.TheVariants.{PrintString, ReadString, Compute, Unknown}
+use Rattle.trac_rules.specs.declared.primitive.Primitive.TheVariants.{PrintString, ReadString, Compute, Handle, Unknown}
 use Rattle.trac_rules.specs.declared.refusal.Refusal.{Refusal}
 use Rattle.trac_rules.specs.declared.refusal.Refusal.TheVariants.{TooLong, NeedInput}
 use Rattle.trac_rules.specs.Bytes.{argument}
 use Rattle.trac_rules.specs.State.{Frame, State, Tape}
 use Rattle.trac_rules.specs.Scanning.{Call, Scanned, Moves, Calls, gathered_in, scan}
 use Rattle.trac_rules.specs.Limits.{is_within_limits}
-use Rattle.trac_rules.specs.Performing.{Effect, reads, unread, read_rest, read_up_to, effect_of, primitive_of, trace_line, placed, after_call, performed_by, perform}
+use Rattle.trac_rules.specs.Handling.{Handled, handled}
+use Rattle.trac_rules.specs.Performing.{Effect, handles, reads, unread, read_rest, read_up_to, effect_of, primitive_of, trace_line, placed, after_call, performed_by, perform}
 use Rattle.trac_rules.specs.Stepping.{carried_out, limited, step}
 use Rattle.trac_rules.specs.Running.{Output, silent, going_on, output_from}
 use Rattle.trac_rules.specs.GoingOn.{whole}
@@ -61,12 +62,18 @@ pub read_up_to_further : (tape : Tape) (s : State) (at : Option ℕ) → ((k : �
 read_up_to_further tape s (Some k) inside = reads_further tape s (take k (unread tape s)) (k + 1) (omega (arith, inside k refl))
 read_up_to_further tape s None inside = read_rest_further tape s (unread tape s) tape.ended (omega arith)
 
+-- what comes of a call on forms leaves the state where it is
+pub handles_further : (tape : Tape) (outcome : Result Handled Refusal) (s : State) → EffectGoes tape s (handles outcome s)
+handles_further tape (Ok h) s = is_as_far tape s (record s { forms = h.forms }) refl
+handles_further tape (Err refusal) s = tt
+
 -- each primitive leaves the state further on
 pub effect_further : (primitive : Primitive) (tape : Tape) (arguments : List (List ℕ)) (s : State) → EffectGoes tape s (effect_of primitive tape arguments s)
 effect_further PrintString tape arguments s = is_as_far tape s s refl
 effect_further ReadString tape arguments s =
     read_up_to_further tape s (position (λ b. b == s.meta) (unread tape s)) (λ k e. (position-Some (λ b. b == s.meta) (unread tape s) k 0 e).0)
 effect_further (Compute computation) tape arguments s = is_as_far tape s s refl
+effect_further (Handle action) tape arguments s = handles_further tape (handled action arguments s.forms) s
 effect_further Unknown tape arguments s = is_as_far tape s s refl
 
 -- a gathered text leaves the position as it is
@@ -166,6 +173,7 @@ effect_of-whole ReadString tape more arguments s l unended wanted =
     ))
     wanted
 effect_of-whole (Compute computation) tape more arguments s l unended wanted = refl
+effect_of-whole (Handle action) tape more arguments s l unended wanted = refl
 effect_of-whole Unknown tape more arguments s l unended wanted = refl
 
 -- a call that does not want input is performed alike on a whole tape

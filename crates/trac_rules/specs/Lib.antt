@@ -12,6 +12,7 @@ pub mod Limits
 pub mod Number
 pub mod Octal
 pub mod Computing
+pub mod Handling
 pub mod Performing
 pub mod Stepping
 pub mod Session

@@ -1,7 +1,9 @@
 -- The limits on a state (this project's profile).
-use Rattle.std.specs.Prelude.{ℕ, ◌+◌, ◌&&◌, nat_le, List, [], ◌∷◌, length, Bool}
-use Rattle.trac_rules.specs.declared.limit.TheConstants.{TEXT_LIMIT, MARK_LIMIT, OUTPUT_LIMIT}
-use Rattle.trac_rules.specs.State.{Frame, State}
+use Rattle.std.specs.Prelude.{◌≡◌, ℕ, ◌+◌, ◌≤◌, ◌&&◌, nat_le, List, [], ◌∷◌, length, Bool, true, Some}
+use Rattle.std.specs.FinMap as map
+use Rattle.trac_rules.specs.declared.limit.TheConstants.{TEXT_LIMIT, MARK_LIMIT, FORM_LIMIT, NAME_LIMIT, FORM_COUNT_LIMIT, OUTPUT_LIMIT}
+use Rattle.trac_rules.specs.Form.{Form, all_items, extent}
+use Rattle.trac_rules.specs.State.{Forms, Frame, State}
 
 -- how many bytes the texts hold together
 abbrev pub total_length : List (List ℕ) → ℕ
@@ -25,3 +27,19 @@ text_bytes s = length s.active + length s.base + argument_bytes s.frames
 unfoldable pub is_within_limits : State → Bool
 is_within_limits s =
     nat_le (text_bytes s) TEXT_LIMIT && nat_le (marks s.frames) MARK_LIMIT && nat_le (length s.output) OUTPUT_LIMIT
+
+-- ---- forms
+
+-- whether a form under this name is within the limits: its name, its items, and the bytes that it stands for
+abbrev pub form_fits : List ℕ → Form → Bool
+form_fits name form = nat_le (length name) NAME_LIMIT && nat_le (length (all_items form)) FORM_LIMIT && nat_le (extent (all_items form)) FORM_LIMIT
+
+-- whether the forms stay within the limits when this one is put among them. Where a step changes forms they are judged so, and no form
+-- is judged anew that no step touches: by the law `forms_stay_within_limits` that is the same as judging all forms after each step
+unfoldable pub may_be_put : List ℕ → Form → Forms → Bool
+may_be_put name form forms = form_fits name form && nat_le (map.len (map.insert forms name form)) FORM_COUNT_LIMIT
+
+-- all forms are within the limits: their number, and each of them with its name
+pub record AreWithinLimits (forms : Forms) : Type 0 where
+  pub count : map.len forms ≤ FORM_COUNT_LIMIT
+  pub each : (name : List ℕ) → (form : Form) → map.get forms name ≡ Some form → form_fits name form ≡ true

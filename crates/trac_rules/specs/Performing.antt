@@ -6,13 +6,15 @@ use Rattle.trac_rules.specs.declared.byte.TheConstants.{STAR, CLOSING, LINE_FEED
 use Rattle.trac_rules.specs.declared.kind.Kind.{Kind}
 use Rattle.trac_rules.specs.declared.kind.Kind.TheVariants.{Active, Neutral}
 use Rattle.trac_rules.specs.declared.primitive.Primitive.{Primitive}
-use Rattle.trac_rules.specs.declared.primitive.Primitive.TheVariants.{PrintString, ReadString, Compute, Unknown}
+use Rattle.trac_rules.specs.declared.primitive.Primitive.TheVariants.{PrintString, ReadString, Compute, Handle, Unknown}
 use Rattle.trac_rules.specs.declared.primitive.Computation.TheVariants.{Equal, Greater, Calculate, Union, Meet, Complement, Shift, Rotate}
 use Rattle.trac_rules.specs.declared.primitive.Operation.TheVariants.{Add, Subtract, Multiply, Divide}
+use Rattle.trac_rules.specs.declared.primitive.FormAction.TheVariants.{Define, Delete, DeleteAll, Segment, Restore, ListNames, PrintForm, Call as CallForm}
 use Rattle.trac_rules.specs.declared.refusal.Refusal.{Refusal}
 use Rattle.trac_rules.specs.declared.refusal.Refusal.TheVariants.{NeedInput, Ended}
 use Rattle.trac_rules.specs.Bytes.{argument}
 use Rattle.trac_rules.specs.Computing.{Value, computed}
+use Rattle.trac_rules.specs.Handling.{Handled, handled}
 use Rattle.trac_rules.specs.State.{State, Tape}
 use Rattle.trac_rules.specs.Scanning.{Call, gather}
 
@@ -34,6 +36,14 @@ primitive_of name =
     if str_eq_ignore_ascii_case name (codes "bc") then Compute Complement else
     if str_eq_ignore_ascii_case name (codes "bs") then Compute Shift else
     if str_eq_ignore_ascii_case name (codes "br") then Compute Rotate else
+    if str_eq_ignore_ascii_case name (codes "ds") then Handle Define else
+    if str_eq_ignore_ascii_case name (codes "dd") then Handle Delete else
+    if str_eq_ignore_ascii_case name (codes "da") then Handle DeleteAll else
+    if str_eq_ignore_ascii_case name (codes "ss") then Handle Segment else
+    if str_eq_ignore_ascii_case name (codes "cr") then Handle Restore else
+    if str_eq_ignore_ascii_case name (codes "cl") then Handle CallForm else
+    if str_eq_ignore_ascii_case name (codes "ln") then Handle ListNames else
+    if str_eq_ignore_ascii_case name (codes "pf") then Handle PrintForm else
     Unknown
 
 -- ---- effects
@@ -56,6 +66,11 @@ gives value s = record { value = value.text; forced = value.forced; printed = []
 -- prints a text
 abbrev pub prints : List ℕ → State → Effect
 prints text s = record { value = []; forced = false; printed = text; state = s }
+
+-- what comes of a call that looks at the forms or changes them, unless it is refused
+abbrev pub handles : Result Handled Refusal → State → Result Effect Refusal
+handles (Ok h) s = Ok (record { value = h.value; forced = false; printed = h.printed; state = record s { forms = h.forms } })
+handles (Err refusal) s = Err refusal
 
 -- a value read from the input, which takes n bytes of the tape
 abbrev pub reads : List ℕ → ℕ → State → Effect
@@ -81,6 +96,7 @@ abbrev pub effect_of : Primitive → Tape → List (List ℕ) → State → Resu
 effect_of PrintString tape arguments s = Ok (prints (argument 1 arguments) s)
 effect_of ReadString tape arguments s = read_up_to (position (λ b. b == s.meta) (unread tape s)) tape s
 effect_of (Compute computation) tape arguments s = Ok (gives (computed computation arguments) s)
+effect_of (Handle action) tape arguments s = handles (handled action arguments s.forms) s
 effect_of Unknown tape arguments s = Ok (no_effect s)
 
 -- ---- a call

@@ -9,6 +9,12 @@ pub const MARK_LIMIT: usize = 1_048_576;
 /// A form has at most so many items, and stands for at most so many bytes: its own, and those of the widths of its gaps.
 pub const FORM_LIMIT: usize = 16_777_216;
 
+/// The name of a form has at most so many bytes.
+pub const NAME_LIMIT: usize = 16_777_216;
+
+/// At most so many forms are live.
+pub const FORM_COUNT_LIMIT: usize = 65_536;
+
 /// At most so many bytes of output are kept until they are released.
 pub const OUTPUT_LIMIT: usize = 16_777_216;
 

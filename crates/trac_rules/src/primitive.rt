@@ -9,6 +9,8 @@ pub enum Primitive {
     ReadString,
     /// A primitive that gives a value made of its arguments alone, and does nothing else.
     Compute(Computation),
+    /// A primitive that looks at the forms or changes them.
+    Handle(FormAction),
     /// Any other name, and those of primitives that are not there yet: its value is null, and it does nothing (this
     /// project's profile).
     Unknown,
@@ -46,4 +48,25 @@ pub enum Operation {
     Multiply,
     /// `dv`: the first number by the second, cut toward zero (this project's profile).
     Divide,
+}
+
+/// What a primitive does with forms.
+#[derive(Clone, Copy, Debug, PartialEq, Eq)]
+pub enum FormAction {
+    /// `ds`: a text becomes a form.
+    Define,
+    /// `dd`: the forms of some names are deleted.
+    Delete,
+    /// `da`: all forms are deleted.
+    DeleteAll,
+    /// `ss`: texts are cut out of a form.
+    Segment,
+    /// `cr`: the pointer of a form goes before its first item.
+    Restore,
+    /// `cl`: a form from its pointer on, its gaps filled with texts.
+    Call,
+    /// `ln`: the names of all forms.
+    ListNames,
+    /// `pf`: a form is printed.
+    PrintForm,
 }
