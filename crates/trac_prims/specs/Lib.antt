@@ -2,4 +2,5 @@
 pub mod Cuts
 pub mod Tape
 pub mod Effects
+pub mod Handlings
 pub mod Values

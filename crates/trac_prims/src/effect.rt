@@ -4,6 +4,7 @@ ghost use Rattle.trac_rules.specs.Performing.{prints, reads};
 ghost use Rattle.trac_rules.specs.State.{State};
 ghost use Rattle.trac_prims.specs.Effects.{IsPlanned};
 
+use crate::change::Change;
 use std::alloc::{Allocator, Global};
 use trac_rules::refusal::Refusal;
 
@@ -18,6 +19,8 @@ pub struct Effect<A: Allocator + Copy = Global> {
     pub print: Vec<u8, A>,
     /// How many bytes of the tape are read afterwards.
     pub position: usize,
+    /// What becomes of the forms.
+    pub change: Change<A>,
 }
 
 /// What a call has to know of the machine.
@@ -43,6 +46,7 @@ impl<A: Allocator + Copy> Effect<A> {
             forced: false,
             print,
             position,
+            change: Change::Keep,
         })
     }
 
@@ -59,6 +63,7 @@ impl<A: Allocator + Copy> Effect<A> {
             forced: false,
             print: Vec::new(alloc),
             position,
+            change: Change::Keep,
         })
     }
 }

@@ -4,9 +4,11 @@
 pub mod args;
 mod bits;
 mod calculating;
+pub mod change;
 mod computing;
 pub mod effect;
 pub mod mark;
+mod handling;
 mod name;
 mod planning;
 mod reading;
@@ -15,6 +17,7 @@ pub mod tape;
 mod tests;
 
 pub use args::Args;
+pub use change::Change;
 pub use effect::{Effect, Now};
 pub use mark::Mark;
 pub use planning::plan;

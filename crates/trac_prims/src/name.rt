@@ -2,7 +2,7 @@
 ghost use Rattle.std.specs.Prelude.{◌≡◌};
 ghost use Rattle.trac_rules.specs.Performing.{primitive_of};
 
-use trac_rules::primitive::{Computation, Operation, Primitive};
+use trac_rules::primitive::{Computation, FormAction, Operation, Primitive};
 
 // What a name stands for, each letter in either case.
 pub(crate) fn primitive_named(name: &[u8]) -> Primitive
@@ -34,6 +34,22 @@ pub(crate) fn primitive_named(name: &[u8]) -> Primitive
         Primitive::Compute(Computation::Shift)
     } else if name.eq_ignore_ascii_case(b"br") {
         Primitive::Compute(Computation::Rotate)
+    } else if name.eq_ignore_ascii_case(b"ds") {
+        Primitive::Handle(FormAction::Define)
+    } else if name.eq_ignore_ascii_case(b"dd") {
+        Primitive::Handle(FormAction::Delete)
+    } else if name.eq_ignore_ascii_case(b"da") {
+        Primitive::Handle(FormAction::DeleteAll)
+    } else if name.eq_ignore_ascii_case(b"ss") {
+        Primitive::Handle(FormAction::Segment)
+    } else if name.eq_ignore_ascii_case(b"cr") {
+        Primitive::Handle(FormAction::Restore)
+    } else if name.eq_ignore_ascii_case(b"cl") {
+        Primitive::Handle(FormAction::Call)
+    } else if name.eq_ignore_ascii_case(b"ln") {
+        Primitive::Handle(FormAction::ListNames)
+    } else if name.eq_ignore_ascii_case(b"pf") {
+        Primitive::Handle(FormAction::PrintForm)
     } else {
         Primitive::Unknown
     }

@@ -7,12 +7,15 @@ ghost use Rattle.trac_prims.specs.Effects.{IsPlanned};
 ghost use Rattle.trac_prims.specs.Tape.{tape_of};
 
 use crate::args::Args;
+use crate::change::Change;
 use crate::computing::compute;
 use crate::effect::{Effect, Now};
+use crate::handling::handle;
 use crate::name::primitive_named;
 use crate::reading::read_string;
 use crate::tape::Tape;
 use std::alloc::Allocator;
+use trac_forms::Store;
 use trac_rules::primitive::Primitive;
 use trac_rules::refusal::Refusal;
 
@@ -20,11 +23,12 @@ fn planned<A: Allocator + Copy>(
     alloc: A,
     primitive: Primitive,
     args: &Args<'_>,
+    store: &Store<A>,
     tape: Tape<'_>,
     now: Now,
 ) -> Result<Effect<A>, Refusal>
     requires { now.position ≤ length tape.bytes.now }
-    ensures outcome { (s : State) → s.position ≡ now.position → s.meta ≡ now.meta →
+    ensures outcome { (s : State) → s.position ≡ now.position → s.meta ≡ now.meta → s.forms ≡ store.now.forms →
         IsPlanned s (effect_of primitive (tape_of tape.entry) args.now s) result }
     ensures within { IfOk result (λ e. e.position ≤ length tape.entry.bytes.now) }
 {
@@ -38,6 +42,17 @@ fn planned<A: Allocator + Copy>(
                 forced: value.forced,
                 print: Vec::new(alloc),
                 position: now.position,
+                change: Change::Keep,
+            })
+        }
+        Primitive::Handle(action) => {
+            let handling = handle(alloc, action, args, store)?;
+            Ok(Effect {
+                value: handling.value,
+                forced: false,
+                print: handling.print,
+                position: now.position,
+                change: handling.change,
             })
         }
         Primitive::Unknown => Ok(Effect {
@@ -45,24 +60,28 @@ fn planned<A: Allocator + Copy>(
             forced: false,
             print: Vec::new(alloc),
             position: now.position,
+            change: Change::Keep,
         }),
     }
 }
 
 /// What the call of these arguments will do, the first of them being the name: everything, its pieces already made.
 ///
-/// Refused with `NeedInput` or `Ended` where it reads input that is not there, and with `Memory` where the allocator
-/// refuses. Limits are not looked at here. The tape has to hold at least as many bytes as are read.
+/// Refused with `NeedInput` or `Ended` where it reads input that is not there; with `TooLong` where the forms would pass a
+/// limit, and where a form's value or what it prints would be longer than any state may hold, which is then not built;
+/// and with `Memory` where the allocator refuses. All other limits are judged on the state after the call. The tape has
+/// to hold at least as many bytes as are read.
 pub fn plan<A: Allocator + Copy>(
     alloc: A,
     args: &Args<'_>,
+    store: &Store<A>,
     tape: Tape<'_>,
     now: Now,
 ) -> Result<Effect<A>, Refusal>
     requires { now.position ≤ length tape.bytes.now }
-    ensures outcome { (s : State) → s.position ≡ now.position → s.meta ≡ now.meta →
+    ensures outcome { (s : State) → s.position ≡ now.position → s.meta ≡ now.meta → s.forms ≡ store.now.forms →
         IsPlanned s (effect_of (primitive_of (argument 0 args.now)) (tape_of tape.entry) args.now s) result }
     ensures within { IfOk result (λ e. e.position ≤ length tape.entry.bytes.now) }
 {
-    planned(alloc, primitive_named(args.get(0)), args, tape, now)
+    planned(alloc, primitive_named(args.get(0)), args, store, tape, now)
 }

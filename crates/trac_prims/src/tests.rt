@@ -3,6 +3,7 @@ ghost use Rattle.std.specs.Prelude.{◌≡◌, None};
 
 use crate::{Args, Mark, Now, Tape, plan};
 use std::test::*;
+use trac_forms::Store;
 use trac_faults::Refusing;
 use trac_rules::refusal::Refusal;
 
@@ -38,7 +39,7 @@ fn arguments_lie_one_behind_another(rt: HostRuntime) {
 fn a_sum(rt: HostRuntime) -> Result<(), Fail> {
     let marks = [behind(2), behind(9)];
     let args = Args::new(b"adapples5pears3", &marks, 0);
-    let effect = plan(rt.alloc(), &args, INPUT, NOW)?;
+    let effect = plan(rt.alloc(), &args, &Store::new(rt.alloc()), INPUT, NOW)?;
     assert_eq!(rt; effect.value.as_slice(), b"apples8".as_slice());
     assert!(rt; !effect.forced);
     assert_eq!(rt; effect.print.as_slice(), b"".as_slice());
@@ -51,7 +52,7 @@ fn a_sum(rt: HostRuntime) -> Result<(), Fail> {
 fn a_default_argument(rt: HostRuntime) -> Result<(), Fail> {
     let marks = [behind(2), behind(3), behind(4)];
     let args = Args::new(b"DV10none", &marks, 0);
-    let effect = plan(rt.alloc(), &args, INPUT, NOW)?;
+    let effect = plan(rt.alloc(), &args, &Store::new(rt.alloc()), INPUT, NOW)?;
     assert_eq!(rt; effect.value.as_slice(), b"none".as_slice());
     assert!(rt; effect.forced);
     Ok(())
@@ -61,7 +62,7 @@ fn a_default_argument(rt: HostRuntime) -> Result<(), Fail> {
 fn a_text_is_printed(rt: HostRuntime) -> Result<(), Fail> {
     let marks = [behind(2)];
     let args = Args::new(b"psX", &marks, 0);
-    let effect = plan(rt.alloc(), &args, INPUT, NOW)?;
+    let effect = plan(rt.alloc(), &args, &Store::new(rt.alloc()), INPUT, NOW)?;
     assert_eq!(rt; effect.value.as_slice(), b"".as_slice());
     assert_eq!(rt; effect.print.as_slice(), b"X".as_slice());
     Ok(())
@@ -70,7 +71,7 @@ fn a_text_is_printed(rt: HostRuntime) -> Result<(), Fail> {
 #[test]
 fn a_text_is_read(rt: HostRuntime) -> Result<(), Fail> {
     let args = Args::new(b"rs", &[], 0);
-    let effect = plan(rt.alloc(), &args, INPUT, NOW)?;
+    let effect = plan(rt.alloc(), &args, &Store::new(rt.alloc()), INPUT, NOW)?;
     assert_eq!(rt; effect.value.as_slice(), b"AB".as_slice());
     assert_eq!(rt; effect.position, 3);
     let later = Now {
@@ -79,7 +80,7 @@ fn a_text_is_read(rt: HostRuntime) -> Result<(), Fail> {
     };
     assert!(rt;
         matches!(
-            plan(rt.alloc(), &args, INPUT, later),
+            plan(rt.alloc(), &args, &Store::new(rt.alloc()), INPUT, later),
             Err(Refusal::NeedInput)
         )
     );
@@ -110,11 +111,11 @@ fn each_request(rt: HostRuntime) -> Result<(), Fail> {
     let marks = [behind(2), behind(9)];
     let args = Args::new(b"adapples5pears3", &marks, 0);
     let runs = memory.refuse_each(100, |_| -> Result<(), Fail> {
-        let value = match plan(&memory, &args, INPUT, NOW) {
+        let value = match plan(&memory, &args, &Store::new(rt.alloc()), INPUT, NOW) {
             Ok(effect) => effect.value,
             Err(refusal) => {
                 assert_eq!(rt; refusal, Refusal::Memory);
-                plan(&memory, &args, INPUT, NOW)?.value
+                plan(&memory, &args, &Store::new(rt.alloc()), INPUT, NOW)?.value
             }
         };
         assert_eq!(rt; value.as_slice(), b"apples8".as_slice());
