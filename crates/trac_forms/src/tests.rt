@@ -190,3 +190,17 @@ fn copies_and_sweeps(rt: HostRuntime) -> Result<(), Fail> {
     lists(&rt, &copy, 0, b"a")?;
     Ok(())
 }
+
+#[test]
+fn clears_all_forms(rt: HostRuntime) -> Result<(), Fail> {
+    let mut store = Store::new(rt.alloc());
+    define(rt.alloc(), &mut store, b"a", b"1")?;
+    define(rt.alloc(), &mut store, b"b", b"2")?;
+    store.clear();
+    assert_eq!(rt; store.form_count(), 0);
+    assert!(rt; store.get(b"a").is_none());
+    define(rt.alloc(), &mut store, b"b", b"3")?;
+    assert_eq!(rt; store.form_count(), 1);
+    lists(&rt, &store, 0, b"b")?;
+    Ok(())
+}
