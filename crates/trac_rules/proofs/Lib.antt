@@ -5,6 +5,7 @@ pub mod Cutting
 pub mod Changed
 pub mod Positions
 pub mod Steps
+pub mod FormLimits
 pub mod Refusals
 pub mod Replies
 pub mod GoingOn
