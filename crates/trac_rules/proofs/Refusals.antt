@@ -27,7 +27,7 @@ use Rattle.trac_rules.specs.Stepping.{carried_out, limited, step}
 use Rattle.trac_rules.specs.Running.{silent}
 use Rattle.trac_rules.specs.GoingOn.{whole}
 use Rattle.trac_rules.proofs.Positions.{position-append_None}
-use Rattle.trac_rules.proofs.Changed.{ScanKeeps, scan_keeps, limited_beyond, limited_Err}
+use Rattle.trac_rules.proofs.Changed.{ScanKeeps, gathered_in_keeps, scan_keeps, limited_beyond, limited_Err}
 use Rattle.trac_rules.proofs.Steps.{unread-whole, step-silent_Err}
 
 -- ---- what is refused
@@ -239,6 +239,28 @@ beyond_limits_of_text t l = false_from_ne_true (is_within_limits t) (λ h.
     let outer = and_parts (nat_le (text_bytes t) TEXT_LIMIT && nat_le (marks t.frames) MARK_LIMIT) (nat_le (length t.output) OUTPUT_LIMIT) h in
     let inner = and_parts (nat_le (text_bytes t) TEXT_LIMIT) (nat_le (marks t.frames) MARK_LIMIT) outer.0 in
     absurd (omega (arith, leb-true (text_bytes t) TEXT_LIMIT inner.0)))
+
+-- a state with too much output is beyond the limits
+pub beyond_limits_of_output : (t : State) → OUTPUT_LIMIT < length t.output → is_within_limits t ≡ false
+unfolding is_within_limits
+beyond_limits_of_output t l = false_from_ne_true (is_within_limits t) (λ h.
+    let parts = and_parts (nat_le (text_bytes t) TEXT_LIMIT && nat_le (marks t.frames) MARK_LIMIT) (nat_le (length t.output) OUTPUT_LIMIT) h in
+    absurd (omega (arith, leb-true (length t.output) OUTPUT_LIMIT parts.1)))
+
+-- a placed value leaves the output as it is
+pub output-placed : (kind : Kind) (forced : Bool) (value : List ℕ) (s : State) → (placed kind forced value s).output ≡ s.output
+output-placed Active forced value s = refl
+output-placed Neutral true value s = refl
+output-placed Neutral false value s = (gathered_in_keeps s.frames value s).printed
+
+-- a call that prints too much is refused
+pub printed_long : (call : Call) (e : Effect) → OUTPUT_LIMIT < length e.printed → limited (Ok (after_call call e)) ≡ Err TooLong
+printed_long call e l =
+    let traced = trace_line call.state.trace call.kind call.arguments in
+    let printed : (after_call call e).output ≡ e.state.output ++ (traced ++ e.printed) =
+    output-placed call.kind e.forced e.value (record e.state { output = e.state.output ++ (traced ++ e.printed) }) in
+    limited_beyond (after_call call e) (beyond_limits_of_output (after_call call e)
+    (omega (arith, ap length printed, length-append e.state.output (traced ++ e.printed), length-append traced e.printed)))
 
 -- a call with a value that is too long is refused
 pub performed_long : (call : Call) (n : ℕ) (outcome : Result Effect Refusal) → TEXT_LIMIT < n → IsLong n outcome → limited (performed_by call outcome) ≡ Err TooLong

@@ -24,7 +24,7 @@ pub record Handled : Type 0 where
 abbrev pub leaving : Forms → Handled
 leaving forms = record { value = []; printed = []; forms = forms }
 
--- a form put under a name, in place of an earlier one, unless a limit on forms would be passed
+-- a form put under a name, in place of an earlier one, if there is one, unless a limit on forms would be passed
 abbrev pub putting : List ℕ → Form → Forms → Result Handled Refusal
 putting name form forms = if may_be_put name form forms then Ok (leaving (map.insert forms name form)) else Err TooLong
 
@@ -38,7 +38,7 @@ abbrev pub on_form : Option Form → (Form → Result Handled Refusal) → Forms
 on_form None act forms = Ok (leaving forms)
 on_form (Some form) act forms = act form
 
--- the form of this name with its pointer at a place
+-- a null value, and the forms with this one under its name, its pointer at a place; its items stay, so no limit is looked at
 abbrev pub pointing : List ℕ → ℕ → Form → Forms → Handled
 pointing name place form forms = leaving (map.insert forms name (pointed_at place (all_items form)))
 
@@ -50,8 +50,8 @@ valued value forms = record { value = value; printed = []; forms = forms }
 abbrev pub printing : List ℕ → Forms → Handled
 printing text forms = record { value = []; printed = text; forms = forms }
 
--- a call is given its name first, then the name of a form, and then texts; `dd` is given names alone, and of these only the ones
--- that are there count (this project's profile)
+-- argument 0 is the primitive's own name. `ln` is given a text, `dd` names, and the others but `da` the name of a form, then texts. A missing
+-- argument is null; but `dd` deletes only the names that the call gives (this project's profile)
 abbrev pub handled : FormAction → List (List ℕ) → Forms → Result Handled Refusal
 handled Define arguments forms = putting (argument 1 arguments) (defined (argument 2 arguments)) forms
 handled Delete arguments forms = Ok (leaving (without (drop 1 arguments) forms))

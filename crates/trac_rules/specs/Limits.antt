@@ -24,6 +24,7 @@ marks (f ∷ fs) = 1 + length f.arguments + marks fs
 abbrev pub text_bytes : State → ℕ
 text_bytes s = length s.active + length s.base + argument_bytes s.frames
 
+-- whether texts, marks and output are within the limits; forms are judged where a step changes them, as stated below
 unfoldable pub is_within_limits : State → Bool
 is_within_limits s =
     nat_le (text_bytes s) TEXT_LIMIT && nat_le (marks s.frames) MARK_LIMIT && nat_le (length s.output) OUTPUT_LIMIT
@@ -34,8 +35,9 @@ is_within_limits s =
 abbrev pub form_fits : List ℕ → Form → Bool
 form_fits name form = nat_le (length name) NAME_LIMIT && nat_le (length (all_items form)) FORM_LIMIT && nat_le (extent (all_items form)) FORM_LIMIT
 
--- whether the forms stay within the limits when this one is put among them. Where a step changes forms they are judged so, and no form
--- is judged anew that no step touches: by the law `forms_stay_within_limits` that is the same as judging all forms after each step
+-- whether forms that are within the limits stay so when this one is put among them. `ds` and `ss` are judged so; `cr`, `dd` and `da`
+-- cannot pass a limit. Where the forms are within the limits before a step, that is the same as judging all forms after it (the law
+-- `forms_stay_within_limits`)
 unfoldable pub may_be_put : List ℕ → Form → Forms → Bool
 may_be_put name form forms = form_fits name form && nat_le (map.len (map.insert forms name form)) FORM_COUNT_LIMIT
 

@@ -19,18 +19,18 @@ abbrev pub leftmost : List ℕ → List ℕ → Option ℕ
 leftmost [] run = None
 leftmost (b ∷ text) run = first_place (stands_at (b ∷ text) run) (length run)
 
--- a run with the text of number k cut out at this place, and what is behind it as `cut` leaves it
+-- a run with the text of number k cut out at this place, if there is one, and what is behind it as `cut` leaves it
 abbrev pub cut_at : Option ℕ → ℕ → List ℕ → List ℕ → (List ℕ → List Item) → List Item
 cut_at None k text run cut = as_items run
 cut_at (Some place) k text run cut = as_items (take place run) ++ Gap k (length text) ∷ cut (drop (place + length text) run)
 
--- a run with the text of number k cut out n times, or as often as it stands there, from the left
+-- a run with the text of number k cut out at most n times, from the left
 abbrev pub cut_up_to : ℕ → ℕ → List ℕ → List ℕ → List Item
 cut_up_to zero k text run = as_items run
 cut_up_to (suc n) k text run = cut_at (leftmost text run) k text run (cut_up_to n k text)
 
--- a run with the leftmost occurrences of the text of number k that do not overlap cut out: no run has more of them than bytes, so that
--- many rounds are enough, and the law `leftmost_is_cut_first` says the same without rounds
+-- a run with the leftmost occurrences of the text of number k that do not overlap cut out: a run has no more of
+-- them than bytes, so one round for each byte is enough, and the law `leftmost_is_cut_first` says the same without rounds
 unfoldable pub part : ℕ → List ℕ → List ℕ → List Item
 part k text run = cut_up_to (length run) k text run
 

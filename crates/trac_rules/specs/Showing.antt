@@ -5,12 +5,12 @@ use Rattle.trac_rules.specs.declared.item.Item.{Item}
 use Rattle.trac_rules.specs.declared.item.Item.TheVariants.{Byte, Gap}
 use Rattle.trac_rules.specs.Form.{Form}
 
--- a byte as itself, and a gap by its number
+-- a byte as itself, and a gap of number k as `<k>`
 abbrev pub shown_item : Item → List ℕ
 shown_item (Byte b) = b ∷ []
 shown_item (Gap ordinal width) = codes "<" ++ (decimal ordinal ++ codes ">")
 
--- each of them, one behind another
+-- items, one behind another
 abbrev pub shown_items : List Item → List ℕ
 shown_items items = flat_map shown_item items
 

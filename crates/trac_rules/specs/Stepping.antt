@@ -7,12 +7,12 @@ use Rattle.trac_rules.specs.Scanning.{Scanned, Moves, Calls, scan}
 use Rattle.trac_rules.specs.Performing.{perform}
 use Rattle.trac_rules.specs.Limits.{is_within_limits}
 
--- what scanning and performing say, before limits are looked at
+-- what scanning and performing say, before the limits on texts, marks and output are looked at
 abbrev pub carried_out : Tape → Scanned → Result State Refusal
 carried_out tape (Moves t) = Ok t
 carried_out tape (Calls call) = perform tape call
 
--- only the state after the step is judged
+-- only the state after the step is judged; its forms were judged where the call changed them
 abbrev pub limited : Result State Refusal → Result State Refusal
 limited (Ok t) = if is_within_limits t then Ok t else Err TooLong
 limited (Err refusal) = Err refusal

@@ -65,7 +65,7 @@ pub enum FormAction {
     Restore,
     /// `cl`: a form from its pointer on, its gaps filled with texts.
     Call,
-    /// `ln`: the names of all forms.
+    /// `ln`: the names of all forms, each with a text before it.
     ListNames,
     /// `pf`: a form is printed.
     PrintForm,

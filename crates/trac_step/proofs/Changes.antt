@@ -15,9 +15,9 @@ use Rattle.trac_step.proofs.Neutral.{AreMarks-longer}
 use Rattle.trac_step.proofs.Rules.{mark_at, gathers, ordered_push, marks-parts}
 
 -- parts that differ in nothing but their texts and marks
-pub same_parts : (p q : Parts) {active text : List ℕ} {ms : List Mark} → q.active ≡ active → q.text ≡ text → q.marks ≡ ms → q.meta ≡ p.meta → q.position ≡ p.position → q.output ≡ p.output →
+pub same_parts : (p q : Parts) {active text : List ℕ} {ms : List Mark} → q.active ≡ active → q.text ≡ text → q.marks ≡ ms → q.forms ≡ p.forms → q.meta ≡ p.meta → q.position ≡ p.position → q.output ≡ p.output →
     q ≡ record p { active = active; text = text; marks = ms }
-same_parts p q a t m meta position output i = record { active = a i; text = t i; marks = m i; meta = meta i; position = position i; output = output i }
+same_parts p q a t m forms meta position output i = record { active = a i; text = t i; marks = m i; forms = forms i; meta = meta i; position = position i; output = output i }
 
 -- ---- a mark is put at the end of the text
 

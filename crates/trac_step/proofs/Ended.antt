@@ -1,12 +1,13 @@
 -- A call on the parts of a machine: what scanning asks for, and what stands after it.
 use Rattle.std.proofs.Common.{◌≡◌, ℕ, ◌+◌, ◌-◌, ◌<◌, List, [], ◌∷◌, ◌++◌, length, take, drop, get_or, reverse, refl, sym, ap, ◌∙◌, subst, arith, true, false, Bool}
 use Rattle.std.specs.Prelude.{Option, Some, None, is_some, IsSome, Ok}
+use Rattle.std.specs.FinMap as map
 use Rattle.std.proofs.lemmas.List.{length-take-le, length-drop, length-append}
 use Rattle.trac_rules.specs.declared.kind.Kind.{Kind}
 use Rattle.trac_rules.specs.declared.kind.Kind.TheVariants.{Active, Neutral}
 use Rattle.trac_rules.specs.declared.scan.Front.TheVariants.{Closing}
 use Rattle.trac_rules.specs.Bytes.{argument}
-use Rattle.trac_rules.specs.State.{State, Tape}
+use Rattle.trac_rules.specs.State.{Forms, State, Tape}
 use Rattle.trac_rules.specs.Scanning.{Call, Scanned, Moves, Calls, front_of, scan}
 use Rattle.trac_rules.specs.Performing.{Effect, after_call, effect_of, perform, performed_by, primitive_of}
 use Rattle.trac_prims.specs.declared.mark.Mark.{Mark}
@@ -23,7 +24,7 @@ no_mark = record { place = 0; frame = None }
 
 -- parts of which only the neutral text matters
 abbrev pub with_text : List ℕ → List Mark → Parts
-with_text text marks = record { active = []; text = text; marks = marks; meta = 0; position = 0; output = [] }
+with_text text marks = record { active = []; text = text; marks = marks; forms = map.empty; meta = 0; position = 0; output = [] }
 
 -- ---- the call
 
@@ -74,9 +75,9 @@ unfolding perform
 performed tape call e h = ap (performed_by call) h
 
 -- the state after a call whose effect has these pieces
-abbrev pub ended_by : Bool → List ℕ → List ℕ → ℕ → Call → State
-ended_by forced printed value position call =
-    after_call call (record { value = value; forced = forced; printed = printed; state = record call.state { position = position } })
+abbrev pub ended_by : Bool → List ℕ → List ℕ → ℕ → (Forms → Forms) → Call → State
+ended_by forced printed value position change call =
+    after_call call (record { value = value; forced = forced; printed = printed; state = record call.state { position = position; forms = change call.state.forms } })
 
 -- ---- the parts after a call
 
@@ -87,35 +88,35 @@ parts_with Neutral true value p = record p { active = value ++ p.active }
 parts_with Neutral false value p = record p { text = p.text ++ value }
 
 -- the parts when the call has printed a text, read up to a position and got its value
-abbrev pub ended_parts : Parts → ℕ → Kind → Bool → List ℕ → List ℕ → ℕ → Parts
-ended_parts p k kind forced printed value position =
-    parts_with kind forced value (record (parts_without p k (get_or p.marks k no_mark)) { position = position; output = p.output ++ printed })
+abbrev pub ended_parts : Parts → ℕ → Kind → Bool → List ℕ → List ℕ → ℕ → (Forms → Forms) → Parts
+ended_parts p k kind forced printed value position change =
+    parts_with kind forced value (record (parts_without p k (get_or p.marks k no_mark)) { forms = change p.forms; position = position; output = p.output ++ printed })
 
 module _ (p : Parts) (k : ℕ) (sound : IsSound p) (within : k < length p.marks) where
   kept_marks : AreMarks (length (take (place_of p.marks k) p.text)) (reverse (take k p.marks))
   kept_marks = subst (λ (n : ℕ). AreMarks n (reverse (take k p.marks))) (sym (length-take-le (place_of p.marks k) p.text (place_within p k no_mark sound.ordered within)))
       (marks_in_front p k no_mark sound.ordered within)
 
-  pub ended_ordered : (kind : Kind) (forced : Bool) (printed value : List ℕ) (position : ℕ) →
-      AreMarks (length (ended_parts p k kind forced printed value position).text) (reverse (ended_parts p k kind forced printed value position).marks)
-  ended_ordered Active forced printed value position = kept_marks
-  ended_ordered Neutral true printed value position = kept_marks
-  ended_ordered Neutral false printed value position =
+  pub ended_ordered : (kind : Kind) (forced : Bool) (printed value : List ℕ) (position : ℕ) (change : Forms → Forms) →
+      AreMarks (length (ended_parts p k kind forced printed value position change).text) (reverse (ended_parts p k kind forced printed value position change).marks)
+  ended_ordered Active forced printed value position change = kept_marks
+  ended_ordered Neutral true printed value position change = kept_marks
+  ended_ordered Neutral false printed value position change =
       AreMarks-longer (length (take (place_of p.marks k) p.text)) (length (take (place_of p.marks k) p.text ++ value)) (reverse (take k p.marks))
       (omega (arith, length-append (take (place_of p.marks k) p.text) value)) kept_marks
 
   active_length : (value : List ℕ) → length (value ++ drop 1 p.active) + length (take (place_of p.marks k) p.text) ≡ length value + (length p.active - 1 + place_of p.marks k)
   active_length value = omega (arith, length-append value (drop 1 p.active), length-drop 1 p.active, length-take-le (place_of p.marks k) p.text (place_within p k no_mark sound.ordered within))
 
-  pub ended_length : (kind : Kind) (forced : Bool) (printed value : List ℕ) (position : ℕ) →
-      length (ended_parts p k kind forced printed value position).active + length (ended_parts p k kind forced printed value position).text ≡ length value + (length p.active - 1 + place_of p.marks k)
-  ended_length Active forced printed value position = active_length value
-  ended_length Neutral true printed value position = active_length value
-  ended_length Neutral false printed value position = omega (arith, length-append (take (place_of p.marks k) p.text) value, length-drop 1 p.active, length-take-le (place_of p.marks k) p.text (place_within p k no_mark sound.ordered within))
+  pub ended_length : (kind : Kind) (forced : Bool) (printed value : List ℕ) (position : ℕ) (change : Forms → Forms) →
+      length (ended_parts p k kind forced printed value position change).active + length (ended_parts p k kind forced printed value position change).text ≡ length value + (length p.active - 1 + place_of p.marks k)
+  ended_length Active forced printed value position change = active_length value
+  ended_length Neutral true printed value position change = active_length value
+  ended_length Neutral false printed value position change = omega (arith, length-append (take (place_of p.marks k) p.text) value, length-drop 1 p.active, length-take-le (place_of p.marks k) p.text (place_within p k no_mark sound.ordered within))
 
-  pub ended_call-parts : (kind : Kind) (forced : Bool) (printed value : List ℕ) (position : ℕ) →
-      ended_by forced printed value position (call_at p k kind) ≡ state_of (ended_parts p k kind forced printed value position)
-  ended_call-parts Active forced printed value position = refl
-  ended_call-parts Neutral true printed value position = refl
-  ended_call-parts Neutral false printed value position =
-      sym (gathers (record (parts_without p k (get_or p.marks k no_mark)) { position = position; output = p.output ++ printed }) value kept_marks)
+  pub ended_call-parts : (kind : Kind) (forced : Bool) (printed value : List ℕ) (position : ℕ) (change : Forms → Forms) →
+      ended_by forced printed value position change (call_at p k kind) ≡ state_of (ended_parts p k kind forced printed value position change)
+  ended_call-parts Active forced printed value position change = refl
+  ended_call-parts Neutral true printed value position change = refl
+  ended_call-parts Neutral false printed value position change =
+      sym (gathers (record (parts_without p k (get_or p.marks k no_mark)) { forms = change p.forms; position = position; output = p.output ++ printed }) value kept_marks)

@@ -10,7 +10,7 @@ use Rattle.trac_rules.specs.declared.kind.Kind.{Kind}
 use Rattle.trac_rules.specs.declared.kind.Kind.TheVariants.{Active, Neutral}
 use Rattle.trac_rules.specs.declared.limit.TheConstants.{TEXT_LIMIT, MARK_LIMIT, OUTPUT_LIMIT}
 use Rattle.trac_rules.specs.declared.scan.Front.TheVariants.{Closing}
-use Rattle.trac_rules.specs.State.{State}
+use Rattle.trac_rules.specs.State.{Forms, State}
 use Rattle.trac_rules.specs.Scanning.{front_of, scan}
 use Rattle.trac_rules.specs.Limits.{text_bytes, marks, is_within_limits}
 use Rattle.trac_rules.proofs.Refusals.{beyond_limits_of_text}
@@ -66,22 +66,22 @@ module _ (p : Parts) (s : Shown) (k : ℕ) (sound : IsSound p) (view : record { 
   pub kept_length : length p.active - 1 + place_of p.marks k ≤ TEXT_LIMIT
   kept_length = omega (arith, sound.text_limit, place_within p k no_mark sound.ordered begins.within)
 
-  module _ (forced : Bool) (printed value : List ℕ) (position : ℕ) where
+  module _ (forced : Bool) (printed value : List ℕ) (position : ℕ) (change : Forms → Forms) where
     abbrev after_at : Kind → Parts
-    after_at kind = ended_parts p k kind forced printed value position
+    after_at kind = ended_parts p k kind forced printed value position change
 
     text_after : (kind : Kind) → text_bytes (state_of (after_at kind)) ≡ length value + (length p.active - 1 + place_of p.marks k)
     text_after kind =
-        text_bytes-parts (after_at kind) (ended_ordered p k sound begins.within kind forced printed value position)
-        ∙ ended_length p k sound begins.within kind forced printed value position
+        text_bytes-parts (after_at kind) (ended_ordered p k sound begins.within kind forced printed value position change)
+        ∙ ended_length p k sound begins.within kind forced printed value position change
 
     marks_after : (kind : Kind) → marks (state_of (after_at kind)).frames ≤ MARK_LIMIT
-    marks_after kind = rw (marks-parts (after_at kind) (ended_ordered p k sound begins.within kind forced printed value position)) (marks_kept kind)
+    marks_after kind = rw (marks-parts (after_at kind) (ended_ordered p k sound begins.within kind forced printed value position change)) (marks_kept kind)
       where
         front_kept : length (take k p.marks) ≤ MARK_LIMIT
         front_kept = omega (arith, sound.mark_limit, begins.within, length-take-le k p.marks (omega (arith, begins.within)))
 
-        marks_in : (kind : Kind) (b : Bool) → length (ended_parts p k kind b printed value position).marks ≤ MARK_LIMIT
+        marks_in : (kind : Kind) (b : Bool) → length (ended_parts p k kind b printed value position change).marks ≤ MARK_LIMIT
         marks_in Active b = front_kept
         marks_in Neutral true = front_kept
         marks_in Neutral false = front_kept
@@ -89,7 +89,7 @@ module _ (p : Parts) (s : Shown) (k : ℕ) (sound : IsSound p) (view : record { 
         marks_kept : (kind : Kind) → length (after_at kind).marks ≤ MARK_LIMIT
         marks_kept kind = marks_in kind forced
 
-    output_in : (kind : Kind) (b : Bool) → (state_of (ended_parts p k kind b printed value position)).output ≡ p.output ++ printed
+    output_in : (kind : Kind) (b : Bool) → (state_of (ended_parts p k kind b printed value position change)).output ≡ p.output ++ printed
     output_in Active b = refl
     output_in Neutral true = refl
     output_in Neutral false = refl
@@ -98,62 +98,65 @@ module _ (p : Parts) (s : Shown) (k : ℕ) (sound : IsSound p) (view : record { 
     output_after kind = output_in kind forced
 
     pub call_too_long : TEXT_LIMIT - (length p.active - 1 + place_of p.marks k) < length value →
-        IfCalls (scan s.state) (λ call. false ≡ is_within_limits (ended_by forced printed value position call))
+        IfCalls (scan s.state) (λ call. false ≡ is_within_limits (ended_by forced printed value position change call))
     call_too_long h =
         let called = scan_called p k sound begins front in
-        if_calls p s (call_at p k called.0) (λ call. false ≡ is_within_limits (ended_by forced printed value position call)) view called.2
-        (sym (ap is_within_limits (ended_call-parts p k sound begins.within called.0 forced printed value position)
+        if_calls p s (call_at p k called.0) (λ call. false ≡ is_within_limits (ended_by forced printed value position change call)) view called.2
+        (sym (ap is_within_limits (ended_call-parts p k sound begins.within called.0 forced printed value position change)
         ∙ beyond_limits_of_text (state_of (after_at called.0)) (omega (arith, text_after called.0, kept_length))))
 
     pub call_limited : length value ≤ TEXT_LIMIT - (length p.active - 1 + place_of p.marks k) →
-        IfCalls (scan s.state) (λ call. nat_le (length printed) (OUTPUT_LIMIT - length p.output) ≡ is_within_limits (ended_by forced printed value position call))
+        IfCalls (scan s.state) (λ call. nat_le (length printed) (OUTPUT_LIMIT - length p.output) ≡ is_within_limits (ended_by forced printed value position change call))
     call_limited h =
         let called = scan_called p k sound begins front in
-        if_calls p s (call_at p k called.0) (λ call. nat_le (length printed) (OUTPUT_LIMIT - length p.output) ≡ is_within_limits (ended_by forced printed value position call)) view called.2
+        if_calls p s (call_at p k called.0) (λ call. nat_le (length printed) (OUTPUT_LIMIT - length p.output) ≡ is_within_limits (ended_by forced printed value position change call)) view called.2
         (nat_le-minus (length printed) (length p.output) OUTPUT_LIMIT sound.output_limit
         ∙ sym (
-        ap is_within_limits (ended_call-parts p k sound begins.within called.0 forced printed value position)
+        ap is_within_limits (ended_call-parts p k sound begins.within called.0 forced printed value position change)
         ∙ limits_by_output (state_of (after_at called.0)) (omega (arith, text_after called.0, h, kept_length)) (marks_after called.0)
         ∙ ap (λ (n : ℕ). nat_le n OUTPUT_LIMIT) (ap length (output_after called.0) ∙ length-append p.output printed)
         ))
 
-    pub sound_after : (kind : Kind) → is_within_limits (ended_by forced printed value position (call_at p k kind)) ≡ true → IsSound (after_at kind)
+    pub sound_after : (kind : Kind) → is_within_limits (ended_by forced printed value position change (call_at p k kind)) ≡ true → IsSound (after_at kind)
     sound_after kind fits =
-        let kept = limits_kept (state_of (after_at kind)) (sym (ap is_within_limits (ended_call-parts p k sound begins.within kind forced printed value position)) ∙ fits) in
+        let kept = limits_kept (state_of (after_at kind)) (sym (ap is_within_limits (ended_call-parts p k sound begins.within kind forced printed value position change)) ∙ fits) in
         record {
-          ordered = ended_ordered p k sound begins.within kind forced printed value position;
-          text_limit = omega (arith, kept.text, text_bytes-parts (after_at kind) (ended_ordered p k sound begins.within kind forced printed value position));
-          mark_limit = omega (arith, kept.marked, marks-parts (after_at kind) (ended_ordered p k sound begins.within kind forced printed value position));
+          ordered = ended_ordered p k sound begins.within kind forced printed value position change;
+          text_limit = omega (arith, kept.text, text_bytes-parts (after_at kind) (ended_ordered p k sound begins.within kind forced printed value position change));
+          mark_limit = omega (arith, kept.marked, marks-parts (after_at kind) (ended_ordered p k sound begins.within kind forced printed value position change));
           output_limit = kept.output;
         }
 
 -- ---- the parts after a call, from those of the machine
 
-pub ended_is : (p q : Parts) (k : ℕ) (kind : Kind) (forced : Bool) (printed value : List ℕ) (position : ℕ) (e : Ends ℕ) →
+pub ended_is : (p q : Parts) (k : ℕ) (kind : Kind) (forced : Bool) (printed value : List ℕ) (position : ℕ) (change : Forms → Forms) (e : Ends ℕ) →
     e.left ≡ take (place_of p.marks k) p.text → e.right ≡ drop 1 p.active →
     q.text ≡ (with_value (Some kind) forced value e).left → q.active ≡ (with_value (Some kind) forced value e).right → q.marks ≡ take k p.marks →
-    q.meta ≡ p.meta → q.position ≡ position → q.output ≡ p.output ++ printed →
-    q ≡ ended_parts p k kind forced printed value position
-ended_is p q k Active forced printed value position e left right t a m meta at output i = record {
+    q.meta ≡ p.meta → q.position ≡ position → q.forms ≡ change p.forms → q.output ≡ p.output ++ printed →
+    q ≡ ended_parts p k kind forced printed value position change
+ended_is p q k Active forced printed value position change e left right t a m meta at held output i = record {
   active = (a ∙ ap (λ (rest : List ℕ). value ++ rest) right) i;
   text = (t ∙ left) i;
   marks = m i;
+  forms = held i;
   meta = meta i;
   position = at i;
   output = output i;
 }
-ended_is p q k Neutral true printed value position e left right t a m meta at output i = record {
+ended_is p q k Neutral true printed value position change e left right t a m meta at held output i = record {
   active = (a ∙ ap (λ (rest : List ℕ). value ++ rest) right) i;
   text = (t ∙ left) i;
   marks = m i;
+  forms = held i;
   meta = meta i;
   position = at i;
   output = output i;
 }
-ended_is p q k Neutral false printed value position e left right t a m meta at output i = record {
+ended_is p q k Neutral false printed value position change e left right t a m meta at held output i = record {
   active = (a ∙ right) i;
   text = (t ∙ ap (λ (front : List ℕ). front ++ value) left) i;
   marks = m i;
+  forms = held i;
   meta = meta i;
   position = at i;
   output = output i;

@@ -9,3 +9,4 @@ pub mod Fitting
 pub mod Moving
 pub mod Outcomes
 pub mod Peeling
+pub mod Pointers

@@ -1,5 +1,5 @@
 -- The outcome of a step, from what scanning asks for and what is performed.
-use Rattle.std.proofs.Common.{◌≡◌, ◌<◌, List, [], ◌∷◌, length, refl, sym, ap, ◌∙◌, subst, arith, true, false, Bool}
+use Rattle.std.proofs.Common.{◌≡◌, ◌<◌, List, [], ◌∷◌, length, refl, sym, ap, ◌∙◌, subst, arith, true, false, Bool, inl, inr}
 use Rattle.std.specs.Prelude.{Result, Ok, Err}
 use Rattle.trac_rules.specs.declared.refusal.Refusal.{Refusal}
 use Rattle.trac_rules.specs.declared.refusal.Refusal.TheVariants.{Memory, TooLong, NeedInput, Ended, JournalFull, AtStart, Closed, NotMet}
@@ -12,6 +12,7 @@ use Rattle.trac_rules.specs.Performing.{Effect, after_call, effect_of, perform, 
 use Rattle.trac_rules.specs.Limits.{is_within_limits}
 use Rattle.trac_rules.specs.Stepping.{step, limited, carried_out, MayLackMemory, MayRefuse}
 use Rattle.trac_rules.proofs.Changed.{limited_beyond, limited_within}
+use Rattle.trac_rules.proofs.Refusals.{performed_long, printed_long}
 use Rattle.trac_prims.specs.declared.effect.Effect as code
 use Rattle.trac_prims.specs.Effects.{MayFail, effect_on}
 use Rattle.trac_step.specs.Calling.{IfCalls, IfMoves, IsMove, ended_call}
@@ -39,8 +40,10 @@ lacks_limited t = lacks_by (is_within_limits t) refl
 -- why a plan was not made is why the call is refused, or `Memory`
 may_refuse_unplanned : (call : Call) (outcome : Result Effect Refusal) (e : Refusal) → MayFail outcome e → MayRefuse (limited (performed_by call outcome)) e
 may_refuse_unplanned call (Ok effect) Memory h = lacks_limited (after_call call effect)
-may_refuse_unplanned call (Err refusal) Memory h = absurd (let unset : false ≡ true = h in cc)
-may_refuse_unplanned call outcome TooLong h = ap (λ o. limited (performed_by call o)) h
+may_refuse_unplanned call (Err refusal) Memory h = rw h tt
+may_refuse_unplanned call (Ok effect) TooLong (inl long) = performed_long call (length effect.value) (Ok effect) long (omega arith)
+may_refuse_unplanned call (Ok effect) TooLong (inr long) = printed_long call effect long
+may_refuse_unplanned call (Err refusal) TooLong h = ap Err h
 may_refuse_unplanned call outcome NeedInput h = ap (λ o. limited (performed_by call o)) h
 may_refuse_unplanned call outcome Ended h = ap (λ o. limited (performed_by call o)) h
 may_refuse_unplanned call outcome JournalFull h = ap (λ o. limited (performed_by call o)) h

@@ -1,11 +1,10 @@
 -- How the parts of a machine are read as a state.
 use Rattle.std.specs.Prelude.{◌≡◌, ℕ, ◌<◌, ◌≤◌, ◌+◌, List, [], ◌∷◌, length, take, drop, reverse, Option, None, Some, false, refl}
-use Rattle.std.specs.FinMap as map
 use Rattle.std.specs.Coded.{Coded, code_by}
 use Rattle.trac_gap.specs.Ends.{Ends}
 use Rattle.trac_rules.specs.declared.kind.Kind.{Kind}
 use Rattle.trac_rules.specs.declared.limit.TheConstants.{TEXT_LIMIT, MARK_LIMIT, OUTPUT_LIMIT}
-use Rattle.trac_rules.specs.State.{Frame, State}
+use Rattle.trac_rules.specs.State.{Forms, Frame, State}
 use Rattle.trac_rules.specs.Scanning.{with_next_argument}
 use Rattle.trac_rules.specs.Codes.{state_code}
 use Rattle.trac_prims.specs.declared.mark.Mark.{Mark}
@@ -39,21 +38,23 @@ AreMarks n (m ∷ marks) = (m.place ≤ n) × (m.frame ≡ None → 0 < length m
 
 -- ---- the state
 
--- active text, neutral text, its marks from the first on, and the rest
+-- active text, neutral text, its marks from the first on, the forms, and the rest
 pub record Parts : Type 0 where
   pub active : List ℕ
   pub text : List ℕ
   pub marks : List Mark
+  pub forms : Forms
   pub meta : ℕ
   pub position : ℕ
   pub output : List ℕ
 
 -- the parts as a machine holds them
-abbrev pub parts_of : Ends ℕ → Ends Mark → ℕ → ℕ → List ℕ → Parts
-parts_of text marks meta position output = record {
+abbrev pub parts_of : Ends ℕ → Ends Mark → Forms → ℕ → ℕ → List ℕ → Parts
+parts_of text marks forms meta position output = record {
   active = text.right;
   text = text.left;
   marks = marks.left;
+  forms = forms;
   meta = meta;
   position = position;
   output = output;
@@ -64,7 +65,7 @@ state_of p = record {
   active = p.active;
   base = (neutral p.text (reverse p.marks)).base;
   frames = (neutral p.text (reverse p.marks)).frames;
-  forms = map.empty;
+  forms = p.forms;
   blocks = [];
   meta = p.meta;
   trace = false;

@@ -11,6 +11,7 @@ ghost use Rattle.trac_prims.specs.Tape.{tape_of};
 ghost use Rattle.trac_step.specs.Layout.{AreMarks};
 ghost use Rattle.trac_step.specs.Calling.{IfCalls, ended_call, place_of, with_value};
 
+use crate::changing::{change_forms, make_place};
 use crate::engine::Core;
 use crate::innermost::innermost;
 use std::alloc::Allocator;
@@ -74,7 +75,7 @@ impl<E: TwoEnds<u8, A>, A: Allocator + Copy> Core<E, A> {
             meta: self.meta,
             position: self.position,
         };
-        plan(*self.output.allocator(), &arguments, tape, now)
+        plan(*self.output.allocator(), &arguments, &self.store, tape, now)
     }
 
     // Whether the state after the call is within the limits.
@@ -104,6 +105,7 @@ impl<E: TwoEnds<u8, A>, A: Allocator + Copy> Core<E, A> {
         let Ok(()) = self.text.reserve(effect.value.len()) else {
             return Err(Refusal::Memory);
         };
+        make_place(&mut self.store, &effect.change)?;
         let Ok(()) = self.output.extend_from_slice(effect.print.as_slice()) else {
             return Err(Refusal::Memory);
         };
@@ -116,6 +118,7 @@ impl<E: TwoEnds<u8, A>, A: Allocator + Copy> Core<E, A> {
             effect.forced,
             effect.value.as_slice(),
         );
+        change_forms(&mut self.store, effect.change);
         self.position = effect.position;
         Ok(())
     }

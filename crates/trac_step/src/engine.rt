@@ -5,6 +5,7 @@ ghost use Rattle.trac_rules.specs.Session.{settled};
 
 use std::alloc::{Allocator, Global};
 use std::marker::Model;
+use trac_forms::Store;
 use trac_gap::{PlainEnds, TwoEnds};
 use trac_prims::Mark;
 use trac_rules::byte;
@@ -20,6 +21,7 @@ pub struct Core<E: TwoEnds<u8, A>, A: Allocator + Copy> {
     pub(crate) text: E,
     // on the left, from the first on
     pub(crate) marks: PlainEnds<Mark, A>,
+    pub(crate) store: Store<A>,
     pub(crate) meta: u8,
     pub(crate) position: usize,
     pub(crate) output: Vec<u8, A>,
@@ -35,9 +37,9 @@ impl<E: TwoEnds<u8, A>, A: Allocator + Copy> Model for Core<E, A> {
 
     ghost coded = { shown_code };
 
-    ghost view = { λ m. record { state = state_of (parts_of (E.ends m.text) m.marks m.meta m.position m.output.items) } };
+    ghost view = { λ m. record { state = state_of (parts_of (E.ends m.text) m.marks m.store.forms m.meta m.position m.output.items) } };
 
-    ghost invariant = { λ m. IsSound (parts_of (E.ends m.text) m.marks m.meta m.position m.output.items) };
+    ghost invariant = { λ m. IsSound (parts_of (E.ends m.text) m.marks m.store.forms m.meta m.position m.output.items) };
 }
 
 impl<E: TwoEnds<u8, A>, A: Allocator + Copy> Core<E, A> {
@@ -55,6 +57,7 @@ impl<E: TwoEnds<u8, A>, A: Allocator + Copy> Core<E, A> {
         Ok(Core {
             text,
             marks: PlainEnds::new(alloc),
+            store: Store::new(alloc),
             meta: byte::APOSTROPHE,
             position: 0,
             output: Vec::new(alloc),
@@ -74,12 +77,16 @@ impl<E: TwoEnds<u8, A>, A: Allocator + Copy> Core<E, A> {
         let Ok(marks) = self.marks.copy() else {
             return Err(Refusal::Memory);
         };
+        let Ok(store) = self.store.copy() else {
+            return Err(Refusal::Memory);
+        };
         let Ok(output) = Vec::from_slice(alloc, self.output.as_slice()) else {
             return Err(Refusal::Memory);
         };
         Ok(Core {
             text,
             marks,
+            store,
             meta: self.meta,
             position: self.position,
             output,

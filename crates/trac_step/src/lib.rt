@@ -2,6 +2,7 @@
 #![tactic(auto)]
 
 mod calling;
+mod changing;
 pub mod engine;
 mod frames;
 mod front;
@@ -16,6 +17,7 @@ mod tests;
 
 pub use engine::{Core, Machine};
 pub use record::Record;
+pub use trac_forms::Store;
 pub use trac_prims::{Args, Mark, Tape};
 pub use trac_rules::kind::Kind;
 pub use trac_rules::refusal::Refusal;

@@ -4,6 +4,7 @@ ghost use Rattle.std.specs.Prelude.{◌≡◌, length};
 use crate::engine::Core;
 use crate::innermost::frame_count;
 use std::alloc::Allocator;
+use trac_forms::Store;
 use trac_gap::TwoEnds;
 
 impl<E: TwoEnds<u8, A>, A: Allocator + Copy> Core<E, A> {
@@ -19,6 +20,13 @@ impl<E: TwoEnds<u8, A>, A: Allocator + Copy> Core<E, A> {
         ensures { result ≡ length self.now.state.frames }
     {
         frame_count(self.marks.left())
+    }
+
+    /// The forms by their names.
+    pub fn store(&self) -> &Store<A>
+        ensures { result.now.forms ≡ self.now.state.forms }
+    {
+        &self.store
     }
 
     /// The byte that ends a text of the input.

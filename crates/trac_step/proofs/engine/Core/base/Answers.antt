@@ -14,13 +14,13 @@ not_zero (suc n) e = omega arith
 
 pub split_at-requires : goal.split_at-requires
 split_at-requires g c =
-    let p = parts_of (g.E.TwoEnds.ends c.self.inside.text) c.self.inside.marks c.self.inside.meta c.self.inside.position c.self.inside.output.items in
+    let p = parts_of (g.E.TwoEnds.ends c.self.inside.text) c.self.inside.marks c.self.inside.store.forms c.self.inside.meta c.self.inside.position c.self.inside.output.items in
     let some : 0 < length p.marks = not_zero (length p.marks) (sym c.if-is_empty.false ∙ c.is_empty.ensures ∙ ap (λ (ms : List Mark). length ms == 0) c.left-marks.ensures.left) in
     rw (c.left-marks.ensures.left, c.left-text.ensures.left) (place_within p 0 no_mark c.self.invariant.ordered some)
 
 pub returns : goal.returns
 returns g c =
-    let p = parts_of (g.E.TwoEnds.ends c.self.inside.text) c.self.inside.marks c.self.inside.meta c.self.inside.position c.self.inside.output.items in
+    let p = parts_of (g.E.TwoEnds.ends c.self.inside.text) c.self.inside.marks c.self.inside.store.forms c.self.inside.meta c.self.inside.position c.self.inside.output.items in
     let some : 0 < length p.marks = not_zero (length p.marks) (sym c.if-is_empty.false ∙ c.is_empty.ensures ∙ ap (λ (ms : List Mark). length ms == 0) c.left-marks.ensures.left) in
     c.split_at.ensures.front
     ∙ ap (λ (ms : List Mark). take (place_of ms 0) c.left-text.result.now) c.left-marks.ensures.left

@@ -11,6 +11,6 @@ not_zero (suc n) e = omega arith
 
 pub next_argument-requires-clause-inside : goal.next_argument-requires-clause-inside
 next_argument-requires-clause-inside g c =
-    let p = parts_of (g.E.TwoEnds.ends c.self.inside.text) c.self.inside.marks c.self.inside.meta c.self.inside.position c.self.inside.output.items in
+    let p = parts_of (g.E.TwoEnds.ends c.self.inside.text) c.self.inside.marks c.self.inside.store.forms c.self.inside.meta c.self.inside.position c.self.inside.output.items in
     let some : 0 < length p.marks = not_zero (length p.marks) (sym c.if-is_empty.false ∙ c.is_empty.ensures ∙ ap (λ (ms : List Mark). length ms == 0) c.left.ensures.left) in
     subst (λ (m : Shown). 0 < length m.state.frames) c.self.view_is (has_frames-parts p c.self.invariant.ordered some)

@@ -9,16 +9,16 @@ use Rattle.trac_step.proofs.engine.Core.gather_first.Goals as goal
 pub invariant_of-self : goal.invariant_of-self
 invariant_of-self g c =
     let old = g.E.TwoEnds.ends c.self.inside.text in
-    let p = parts_of old c.self.inside.marks c.self.inside.meta c.self.inside.position c.self.inside.output.items in
-    let moved = λ (e : Ends ℕ). parts_of e c.self.inside.marks c.self.inside.meta c.self.inside.position c.self.inside.output.items in
+    let p = parts_of old c.self.inside.marks c.self.inside.store.forms c.self.inside.meta c.self.inside.position c.self.inside.output.items in
+    let moved = λ (e : Ends ℕ). parts_of e c.self.inside.marks c.self.inside.store.forms c.self.inside.meta c.self.inside.position c.self.inside.output.items in
     subst (λ (e : Ends ℕ). IsSound (moved e)) (sym c.shift_left.ensures)
     (sound_gather p (drop 1 old.right) (take 1 old.right) c.self.invariant (omega (arith, length-take 1 old.right, length-drop 1 old.right)))
 
 pub returns : goal.returns
 returns g c =
     let old = g.E.TwoEnds.ends c.self.inside.text in
-    let p = parts_of old c.self.inside.marks c.self.inside.meta c.self.inside.position c.self.inside.output.items in
-    let moved = λ (e : Ends ℕ). parts_of e c.self.inside.marks c.self.inside.meta c.self.inside.position c.self.inside.output.items in
+    let p = parts_of old c.self.inside.marks c.self.inside.store.forms c.self.inside.meta c.self.inside.position c.self.inside.output.items in
+    let moved = λ (e : Ends ℕ). parts_of e c.self.inside.marks c.self.inside.store.forms c.self.inside.meta c.self.inside.position c.self.inside.output.items in
     ap (λ (e : Ends ℕ). state_of (moved e)) c.shift_left.ensures
     ∙ gather_parts p (drop 1 old.right) (take 1 old.right) c.self.invariant
     ∙ ap (λ (m : Shown). gather_first m.state) c.self.view_is

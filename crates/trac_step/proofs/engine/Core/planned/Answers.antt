@@ -14,7 +14,7 @@ use Rattle.trac_step.proofs.engine.Core.planned.Goals as goal
 
 pub returns : goal.returns
 returns g c =
-    let p = parts_of (g.E.TwoEnds.ends c.self.inside.text) c.self.inside.marks c.self.inside.meta c.self.inside.position c.self.inside.output.items in
+    let p = parts_of (g.E.TwoEnds.ends c.self.inside.text) c.self.inside.marks c.self.inside.store.forms c.self.inside.meta c.self.inside.position c.self.inside.output.items in
     let k = c.called-k.result in
     let front : front_of p.active ≡ Closing = ap (λ (m : Shown). front_of m.state.active) c.self.view_is ∙ c.requires.front in
     let begins : BeginsFunction p.marks k = subst (λ (ms : List Mark). BeginsFunction ms k) c.left-2.ensures.left c.called-k.ensures in
@@ -28,4 +28,4 @@ returns g c =
     (λ call. IsPlanned call.state (effect_of (primitive_of (argument 0 call.arguments)) (tape_of c.args.tape) call.arguments call.state) c.plan.result)
     c.self.view_is called.2
     (subst (λ (texts : List (List ℕ)). IsPlanned s (effect_of (primitive_of (argument 0 texts)) (tape_of c.args.tape) texts s) c.plan.result) arguments_are
-    (c.plan.ensures.outcome s refl refl))
+    (c.plan.ensures.outcome s refl refl refl))
