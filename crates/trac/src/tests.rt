@@ -2,7 +2,9 @@
 
 mod commands;
 mod faults;
+mod forms;
 mod numbers;
 mod program;
 mod rows;
+mod shown;
 mod walks;

@@ -1,68 +1,26 @@
 //! Faults on demand: memory, reads, writes and flushes that are refused, each in turn.
 use crate::running::{Ending, Options, run};
 use crate::session::{Session, Walk};
+use crate::tests::shown::parts_of;
 use std::alloc::{AllocError, Allocator, Global};
 use std::process::Abort;
 use std::test::Fail;
 use trac_faults::{FaultyReader, FaultyWriter, Refusing};
 use trac_rules::limit::JOURNAL_LIMIT;
 use trac_rules::refusal::Refusal;
-use trac_step::{Kind, Machine};
 
 // Both print `AB`, the first in two parts.
 const INPUT: &[u8; 10] = b"#(ps,A)'B'";
 
 const SHORT_INPUT: &[u8; 3] = b"AB'";
 
+// Prints `AB` by calls on a form.
+const FORMS: &[u8; 43] = b"#(ds,a,AxB)'#(ss,a,x)#(cl,a)#(dd,a)#(pf,a)'";
+
 const OPTIONS: Options = Options {
     budget: 1_000,
     journal: 64,
 };
-
-// What a session shows of its last state, and how many steps can be gone back over.
-#[derive(Debug, PartialEq, Drop)]
-struct Shown {
-    active: Vec<u8>,
-    base: Vec<u8>,
-    frames: Vec<(Kind, Vec<Vec<u8>>)>,
-    meta: u8,
-    trace: bool,
-    position: usize,
-    output: Vec<u8>,
-    records: usize,
-}
-
-// The begun functions, the outermost first, with all their arguments.
-fn frames_of<A: Allocator + Copy>(
-    alloc: Global,
-    machine: &Machine<A>,
-) -> Result<Vec<(Kind, Vec<Vec<u8>>)>, AllocError> {
-    let mut frames = Vec::new(alloc);
-    for i in 0..machine.depth() {
-        if let Some((kind, arguments)) = machine.frame(i) {
-            let mut texts = Vec::new(alloc);
-            for k in 0..arguments.count() {
-                texts.push(Vec::from_slice(alloc, arguments.get(k))?)?;
-            }
-            frames.push((kind, texts))?;
-        }
-    }
-    Ok(frames)
-}
-
-fn parts_of<A: Allocator + Copy>(alloc: Global, session: &Session<A>) -> Result<Shown, AllocError> {
-    let machine = session.machine();
-    Ok(Shown {
-        active: Vec::from_slice(alloc, machine.active())?,
-        base: Vec::from_slice(alloc, machine.base())?,
-        frames: frames_of(alloc, machine)?,
-        meta: machine.meta(),
-        trace: machine.trace(),
-        position: machine.position(),
-        output: Vec::from_slice(alloc, session.pending())?,
-        records: session.len(),
-    })
-}
 
 // A session over all of the input, where memory may be refused once: nothing is done then.
 fn fed<A: Allocator + Copy>(
@@ -138,7 +96,7 @@ fn there_and_back(
 
 #[test]
 fn each_request_of_a_session(rt: HostRuntime) -> Result<(), Fail> {
-    for input in [INPUT.as_slice(), SHORT_INPUT.as_slice()] {
+    for input in [INPUT.as_slice(), SHORT_INPUT.as_slice(), FORMS.as_slice()] {
         let steps = steps_to_end(&rt, &mut fed(&rt, rt.alloc(), input)?)?;
         let memory = Refusing::new(rt.alloc());
         let runs = memory.refuse_each(10_000, |_| there_and_back(&rt, &memory, input, steps))?;
