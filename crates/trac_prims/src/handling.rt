@@ -1,4 +1,5 @@
 //! Calls that look at the forms or change them.
+ghost use Rattle.std.specs.Prelude.{◌≤◌, length};
 ghost use Rattle.trac_rules.specs.Handling.{handled};
 ghost use Rattle.trac_prims.specs.Handlings.{IsHandled};
 
@@ -6,6 +7,7 @@ use crate::args::Args;
 use crate::change::Change;
 use std::alloc::Allocator;
 use trac_forms::Store;
+use trac_rules::limit::MARK_LIMIT;
 use trac_rules::primitive::FormAction;
 use trac_rules::refusal::Refusal;
 
@@ -26,6 +28,7 @@ pub(crate) fn handle<A: Allocator + Copy>(
     args: &Args<'_>,
     store: &Store<A>,
 ) -> Result<Handling<A>, Refusal>
+    requires { length args.now ≤ MARK_LIMIT }
     ensures { IsHandled store.now.forms (handled action args.now store.now.forms) result }
 {
     Err(Refusal::Memory)
