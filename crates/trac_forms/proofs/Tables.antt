@@ -1,10 +1,11 @@
 -- Entries of a table, and the forms and names that they stand for.
-use Rattle.std.proofs.Common.{◌≡◌, ℕ, ◌+◌, ◌-◌, Bool, true, false, cond, ◌||◌, List, [], ◌∷◌, ◌++◌, length, refl, sym, ap, subst, ◌∙◌, arith, ⊎_elim, is_some, filter, IsSome, IsTrue}
+use Rattle.std.proofs.Common.{◌≡◌, ℕ, ◌+◌, ◌-◌, Bool, true, false, cond, ◌||◌, List, [], ◌∷◌, ◌++◌, length, map, refl, sym, ap, subst, ◌∙◌, arith, ⊎_elim, is_some, filter, IsSome, IsTrue}
 use Rattle.std.specs.Prelude.{Option, None, Some}
 use Rattle.std.specs.Cmp.Lexicographic.{slice_cmp, nat_list_cmp_total, nat_list_eq_equiv}
 use Rattle.std.specs.FinMap as finite
 use Rattle.std.specs.FinSet as set
 use Rattle.std.specs.List.{list_any, IsDistinct, AllByRecursion}
+use Rattle.std.specs.Map.Calls.{RetainsPairs}
 use Rattle.std.specs.Map.{keys_of, values_of, lookup, set_value}
 use Rattle.std.specs.Option.{option_flatten}
 use Rattle.std.specs.Ordering.{nat_cmp, eq_by_cmp}
@@ -257,6 +258,37 @@ values_filter (e ∷ es) =
       | false ↦ values_filter es
     ]
 
+-- what a map's `retain` leaves, where the closure keeps no state, takes each value away and keeps each entry
+module _ {K X F : Type 0} (T : F → K → Option X → Bool → Option X → F → Type 0) (f : F)
+    (says : (k : K) (v : Option X) (b : Bool) (w : Option X) (g : F) → T f k v b w g → (b ≡ true) × (w ≡ None) × (g ≡ f)) where
+  pub taken-RetainsPairs : (es kept : List (K × Option X)) → RetainsPairs T f es kept → kept ≡ map (λ e. (e.0, None)) es
+  taken-RetainsPairs [] kept h = h
+  taken-RetainsPairs (e ∷ es) kept h =
+      let s = says e.0 e.1 h.0 h.1 h.2 h.4 in
+      let rest = taken-RetainsPairs es h.3 (subst (λ g. RetainsPairs T g es h.3) s.2 h.5) in
+      h.6 ∙ (λ j. cond (s.0 j) ((e.0, s.1 j) ∷ rest j) (rest j))
+
+-- entries whose forms are taken away
+abbrev taken : {K : Type 0} → List (K × Option Form) → List (K × Option Form)
+taken es = map (λ e. (e.0, None)) es
+
+-- give no form
+no_forms : {K : Type 0} (name : K → List ℕ) (es : List (K × Option Form)) → forms_of (named name (taken es)) ≡ finite.empty
+no_forms {K} name es = forms_alike (named name (taken es)) [] (λ q. none_found q es)
+  where
+    none_found : (q : List ℕ) (xs : List (K × Option Form)) → option_flatten (lookup (bytes_eq q) (named name (taken xs))) ≡ None
+    none_found q [] = refl
+    none_found q (x ∷ xs) =
+        elim (bytes_eq q (name x.0)) as (λ b. option_flatten {T = Form} (cond b (Some None) (lookup (bytes_eq q) (named name (taken xs)))) ≡ None) [
+          | true ↦ refl
+          | false ↦ none_found q xs
+        ]
+
+-- and have the same names
+keys-taken : {K : Type 0} (name : K → List ℕ) (es : List (K × Option Form)) → keys_of (named name (taken es)) ≡ keys_of (named name es)
+keys-taken name [] = refl
+keys-taken name (e ∷ es) = ap (λ r. name e.0 ∷ r) (keys-taken name es)
+
 -- ---- a store, of which the table's entries and the names of its keys are given
 
 module _ {K : Type 0} (name : K → List ℕ) (es : List (K × Option Form)) (s : Stored) (is : stored (named name es) ≡ s) where
@@ -315,6 +347,14 @@ module _ {K : Type 0} (name : K → List ℕ) (es : List (K × Option Form)) (s 
       ∙ ap (λ (f : Forms). let t : Stored = record { forms = f; known = known_of (filter (λ x. is_some x.1) (named name es)) } in t) (forms_swept (named name es) distinct)
       ∙ ap (λ (n : Names). let t : Stored = record { forms = forms_of (named name es); known = n } in t) (known_swept (named name es) distinct)
       ∙ ap swept is
+
+  -- all forms taken away
+  pub cleared : (new : List (K × Option Form)) → new ≡ taken es → stored (named name new) ≡ record s { forms = finite.empty }
+  cleared new e =
+      ap (λ xs. stored (named name xs)) e
+      ∙ ap (λ (f : Forms). let t : Stored = record { forms = f; known = known_of (named name (taken es)) } in t) (no_forms name es)
+      ∙ ap (λ (ks : List (List ℕ)). let t : Stored = record { forms = finite.empty; known = set.from_list ks } in t) (keys-taken name es)
+      ∙ ap (λ (t : Stored). let u : Stored = record t { forms = finite.empty } in u) is
 
   -- how many forms there are
   pub counted : IsDistinct (λ x y. bytes_eq (name x) (name y)) (keys_of es) → finite.len s.forms ≡ length (filter (λ e. is_some e.1) es)

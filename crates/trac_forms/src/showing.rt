@@ -1,5 +1,5 @@
 //! How a form is printed.
-ghost use Rattle.std.specs.Prelude.{◌≡◌, ◌++◌, OnOk, OnErr, IsOkUnless, codes, decimal};
+ghost use Rattle.std.specs.Prelude.{◌≡◌, ◌++◌, ◌≤◌, length, OnOk, OnErr, IsOkUnless, SomeIff, codes, decimal};
 ghost use Rattle.trac_rules.specs.Showing.{shown, shown_item, shown_items};
 ghost use Rattle.trac_forms.specs.Outcomes.{BeginsWith};
 
@@ -8,8 +8,20 @@ use crate::form::Form;
 use itoa::Buffer;
 use std::alloc::Allocator;
 use trac_rules::item::Item;
+use trac_rules::limit::OUTPUT_LIMIT;
 
 impl<A: Allocator + Copy> Form<A> {
+    /// How many bytes `show_into` would give, found without building them; `None` where these are more than 16,777,216.
+    /// It takes no memory.
+    pub fn show_len(&self) -> Option<usize>
+        ensures { SomeIff result (length (shown self.now) ≤ OUTPUT_LIMIT) (length (shown self.now)) }
+    {
+        let mark = b"<^>".len();
+        let before = items_len(self.before(), OUTPUT_LIMIT - mark)?;
+        let after = items_len(self.after(), OUTPUT_LIMIT - mark - before)?;
+        Some(before + mark + after)
+    }
+
     /// Puts the form as it is printed at the end of `out`: its bytes, each gap of ordinal k as `<k>`, and `<^>` at the
     /// place of the pointer.
     ///
@@ -23,6 +35,39 @@ impl<A: Allocator + Copy> Form<A> {
         out.extend_from_slice(b"<^>")?;
         items_into(self.after(), out)
     }
+}
+
+// How many bytes these items are printed as, where that is no more than `most`.
+fn items_len(items: &[Item], most: usize) -> Option<usize>
+    ensures { SomeIff result (length (shown_items items.now) ≤ most) (length (shown_items items.now)) }
+{
+    let mut total = 0;
+    for item in items {
+        let len = item_len(*item);
+        if len > most - total {
+            return None;
+        }
+        total += len;
+    }
+    Some(total)
+}
+
+// How many bytes an item is printed as.
+fn item_len(item: Item) -> usize
+    ensures { result ≡ length (shown_item item) }
+{
+    match item {
+        Item::Byte(_) => 1,
+        Item::Gap { ordinal, width: _ } => gap_len(ordinal),
+    }
+}
+
+// How many bytes a gap of this ordinal is printed as.
+fn gap_len(ordinal: u32) -> usize
+    ensures { result ≡ length (codes "<" ++ (decimal ordinal ++ codes ">")) }
+{
+    let mut buffer = Buffer::new();
+    b"<".len() + buffer.format(ordinal).len() + b">".len()
 }
 
 // Puts items as they are printed at the end of `out`.

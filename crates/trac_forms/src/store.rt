@@ -1,5 +1,5 @@
 //! The forms by their names.
-ghost use Rattle.std.specs.Prelude.{◌≡◌, ◌++◌, ◌∷◌, [], filter, is_some, length, IfOk, IsOk, IsOkUnless, IsTrue, OnErr, OnOk};
+ghost use Rattle.std.specs.Prelude.{◌≡◌, ◌++◌, ◌∷◌, [], filter, is_some, length, map, true, IfOk, IsOk, IsOkUnless, IsTrue, OnErr, OnOk};
 ghost use Rattle.std.specs.FinMap as finite;
 ghost use Rattle.std.specs.FinSet as set;
 ghost use Rattle.std.specs.Option.{option_copied};
@@ -104,6 +104,13 @@ impl<A: Allocator + Copy> Store<A> {
         }
     }
 
+    /// Takes all forms away. The names stay known. It takes no memory.
+    pub fn clear(&mut self)
+        ensures { self.new ≡ record self.old { forms = finite.empty } }
+    {
+        take_values(&mut self.table);
+    }
+
     /// Forgets the names without a form. It takes no memory.
     pub fn sweep(&mut self)
         ensures { self.new ≡ swept self.old }
@@ -139,6 +146,22 @@ fn count_full<K: Eq + Hash, V, S: BuildHasher, A: Allocator>(
     // `len` is called for its clause that no key stands twice.
     let _len = table.len();
     table.values().filter(|value| value.is_some()).count()
+}
+
+// Takes the values of all entries away.
+fn take_values<K: Eq + Hash + Drop, V: Drop, S: BuildHasher, A: Allocator>(
+    table: &mut IndexMap<K, Option<V>, S, A>,
+)
+    ensures { table.new.entries ≡ map (λ e. (e.0, None)) table.old.entries }
+{
+    table.retain(
+        |_key: &K, value: &mut Option<V>| -> bool
+            ensures { (result ≡ true) × (value.new ≡ None) }
+        {
+            *value = None;
+            true
+        },
+    );
 }
 
 // Drops the entries without a value.

@@ -9,13 +9,14 @@ use std::alloc::{Allocator, Global};
 use std::process::Abort;
 use std::test::*;
 
-// The form is printed so.
+// The form is printed so, and says the length of this before.
 pub(crate) fn shows<A: Allocator + Copy>(
     rt: &impl Abort,
     alloc: Global,
     form: &Form<A>,
     text: &[u8],
 ) -> Result<(), FormError> {
+    assert_eq!(rt; form.show_len(), Some(text.len()));
     let mut out = Vec::new(alloc);
     form.show_into(&mut out)?;
     assert_eq!(rt; out.as_slice(), text);
@@ -43,6 +44,7 @@ fn cuts_each_text_in_turn(rt: HostRuntime) -> Result<(), Fail> {
     let texts: [&[u8]; 2] = [b"b", b"ca"];
     let cut = form.segmented(&texts.as_slice())?;
     shows(&rt, rt.alloc(), &cut, b"<^>a<1><2><1>c")?;
+    assert_eq!(rt; cut.show_len(), Some(14));
     let fillings: [&[u8]; 2] = [b"-", b"+"];
     gives(&rt, rt.alloc(), &cut, &fillings.as_slice(), b"a-+-c")?;
     gives(&rt, rt.alloc(), &cut, &texts.as_slice(), b"abcabc")?;
@@ -186,5 +188,19 @@ fn copies_and_sweeps(rt: HostRuntime) -> Result<(), Fail> {
     store.sweep();
     assert_eq!(rt; store.form_count(), 0);
     lists(&rt, &copy, 0, b"a")?;
+    Ok(())
+}
+
+#[test]
+fn clears_all_forms(rt: HostRuntime) -> Result<(), Fail> {
+    let mut store = Store::new(rt.alloc());
+    define(rt.alloc(), &mut store, b"a", b"1")?;
+    define(rt.alloc(), &mut store, b"b", b"2")?;
+    store.clear();
+    assert_eq!(rt; store.form_count(), 0);
+    assert!(rt; store.get(b"a").is_none());
+    define(rt.alloc(), &mut store, b"b", b"3")?;
+    assert_eq!(rt; store.form_count(), 1);
+    lists(&rt, &store, 0, b"b")?;
     Ok(())
 }
