@@ -2,3 +2,4 @@ pub mod Cutting
 pub mod ReadTexts
 pub mod Calculated
 pub mod OctalResults
+pub mod Putting
