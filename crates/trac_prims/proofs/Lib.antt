@@ -3,3 +3,4 @@ pub mod ReadTexts
 pub mod Calculated
 pub mod OctalResults
 pub mod Putting
+pub mod Listed

@@ -9,6 +9,7 @@ ghost use Rattle.trac_prims.specs.Handlings.{IsHandled, handled_as};
 
 use crate::args::{Args, Behind};
 use crate::change::Change;
+use crate::listing::list_names;
 use std::alloc::Allocator;
 use trac_forms::{Form, FormError, Store, Texts};
 use trac_rules::limit::{FORM_COUNT_LIMIT, MARK_LIMIT, NAME_LIMIT};
@@ -227,6 +228,6 @@ pub(crate) fn handle<A: Allocator + Copy>(
         FormAction::DeleteAll => Ok(Handling::changing(alloc, Change::Clear)),
         FormAction::Delete => delete(alloc, args, store),
         FormAction::PrintForm => print_form(alloc, args, store),
-        FormAction::ListNames => Err(Refusal::Memory),
+        FormAction::ListNames => list_names(alloc, args, store),
     }
 }

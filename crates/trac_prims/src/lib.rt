@@ -8,6 +8,7 @@ pub mod change;
 mod computing;
 pub mod effect;
 mod handling;
+mod listing;
 pub mod mark;
 mod name;
 mod planning;
