@@ -1,4 +1,5 @@
-use Rattle.std.proofs.Common.{◌≡◌, ℕ, ◌+◌, List, drop, refl, ap, ◌∙◌, subst}
+use Rattle.std.proofs.Common.{◌≡◌, ℕ, ◌+◌, ◌-◌, ◌<◌, List, length, drop, refl, ap, ◌∙◌, subst, arith}
+use Rattle.std.proofs.lemmas.List.{length-drop}
 use Rattle.trac_rules.specs.declared.scan.Front.TheVariants.{Closing}
 use Rattle.trac_rules.specs.Bytes.{argument}
 use Rattle.trac_rules.specs.Scanning.{front_of}
@@ -7,10 +8,21 @@ use Rattle.trac_prims.specs.declared.mark.Mark.{Mark}
 use Rattle.trac_prims.specs.Cuts.{BeginsFunction, cut}
 use Rattle.trac_prims.specs.Effects.{IsPlanned}
 use Rattle.trac_prims.specs.Tape.{tape_of}
+use Rattle.trac_prims.proofs.Cutting.{length-cut}
 use Rattle.trac_step.specs.Layout.{parts_of, Shown}
 use Rattle.trac_step.specs.Calling.{place_of}
 use Rattle.trac_step.proofs.Ended.{call_at, scan_called, if_calls}
 use Rattle.trac_step.proofs.engine.Core.planned.Goals as goal
+
+pub plan-requires-clause-count : goal.plan-requires-clause-count
+plan-requires-clause-count g c =
+    let ms = c.left-4.result.now in
+    let k = c.called-k.result in
+    let behind : length (drop (k + 1) ms) ≡ length ms - (k + 1) = length-drop (k + 1) ms in
+    let counted : length c.arguments_behind-arguments.result ≡ length (drop (k + 1) ms) + 1 =
+    ap length c.arguments_behind-arguments.ensures ∙ length-cut (place_of ms k) (drop (k + 1) ms) c.left-3.result.now in
+    let above : k < length c.self.inside.marks.left = rw (← c.left-2.ensures.left) c.called-k.ensures.within in
+    omega (arith, counted, behind, above, ap length c.left-4.ensures.left, c.self.invariant.mark_limit)
 
 pub returns : goal.returns
 returns g c =
