@@ -94,8 +94,8 @@ fn there_and_back(
     }
     assert_eq!(rt; why, Some(Refusal::Ended));
     assert_eq!(rt; session.pending(), output);
-    while let Some(state) = states.pop() {
-        assert_eq!(rt; parts_of(rt.alloc(), &session)?, state);
+    for state in states.iter().rev() {
+        assert_eq!(rt; &parts_of(rt.alloc(), &session)?, state);
         let _walk = session.back(1);
     }
     assert_eq!(rt;
