@@ -6,6 +6,7 @@ pub mod Changed
 pub mod Positions
 pub mod Steps
 pub mod FormLimits
+pub mod FormCalls
 pub mod Refusals
 pub mod Replies
 pub mod GoingOn

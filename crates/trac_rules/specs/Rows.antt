@@ -1,8 +1,16 @@
--- Words for the worked rows: what a session is, and has replied, after a list of commands.
-use Rattle.std.specs.Prelude.{List, [], ◌∷◌}
+-- Words for the worked rows: what a session is, and has replied, after a list of commands, and what a call does with forms.
+use Rattle.std.specs.Prelude.{◌≡◌, ℕ, ◌==◌, List, [], ◌∷◌, false, Ok}
+use Rattle.std.specs.FinMap as map
+use Rattle.std.specs.List.{slice_split}
+use Rattle.trac_rules.specs.declared.byte.TheConstants.{COMMA}
 use Rattle.trac_rules.specs.declared.reply.Reply.{Reply}
-use Rattle.trac_rules.specs.State.{State}
+use Rattle.trac_rules.specs.Bytes.{argument}
+use Rattle.trac_rules.specs.Form.{Form}
+use Rattle.trac_rules.specs.Performing.{effect_of, primitive_of}
+use Rattle.trac_rules.specs.State.{State, Tape}
 use Rattle.trac_rules.specs.Session.{PlainSession, Command, answer}
+
+-- ---- sessions
 
 -- the session after these commands, refused ones included
 abbrev pub session_after : List Command → PlainSession → PlainSession
@@ -17,3 +25,37 @@ replies_to (command ∷ commands) p = (answer command p).reply ∷ replies_to co
 -- the last state after these commands
 abbrev pub state_after : List Command → PlainSession → State
 state_after commands p = (session_after commands p).last
+
+-- ---- calls on forms
+
+-- forms with their names, in any order and no name twice
+abbrev pub Named : Type 0
+Named = List (List ℕ × Form)
+
+-- a state with these forms in place of its own
+abbrev pub with_forms : Named → State → State
+with_forms forms s = record s { forms = map.from_entries forms }
+
+-- a text cut at its commas: a call's name and arguments, where none of them is protected
+abbrev pub texts_of : List ℕ → List (List ℕ)
+texts_of text = slice_split (λ b. b == COMMA) text
+
+-- what a call does in every state with the forms `before`: its value, which is not forced, what it prints, and the forms after it;
+-- nothing else changes
+abbrev pub Does : List (List ℕ) → Named → List ℕ → List ℕ → Named → Type 0
+Does arguments before value printed after =
+    (tape : Tape) → (s : State) →
+    effect_of (primitive_of (argument 0 arguments)) tape arguments (with_forms before s)
+    ≡ Ok (record { value = value; forced = false; printed = printed; state = with_forms after s })
+
+-- a call with a null value that prints nothing turns these forms into those
+abbrev pub Leaves : List (List ℕ) → Named → Named → Type 0
+Leaves arguments before after = Does arguments before [] [] after
+
+-- a call gives this value and changes nothing
+abbrev pub Gives : List (List ℕ) → Named → List ℕ → Type 0
+Gives arguments forms value = Does arguments forms value [] forms
+
+-- a call with a null value prints this and changes nothing
+abbrev pub Prints : List (List ℕ) → Named → List ℕ → Type 0
+Prints arguments forms text = Does arguments forms [] text forms

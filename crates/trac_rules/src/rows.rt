@@ -4,7 +4,8 @@ ghost use Rattle.std.specs.FinMap as map;
 ghost use Rattle.trac_rules.specs.Filling.{called};
 ghost use Rattle.trac_rules.specs.Form.{as_items, at_start, defined, pointed_at};
 ghost use Rattle.trac_rules.specs.Listing.{listed};
-ghost use Rattle.trac_rules.specs.Rows.{replies_to, session_after, state_after};
+ghost use Rattle.trac_rules.specs.Performing.{primitive_of};
+ghost use Rattle.trac_rules.specs.Rows.{Gives, Leaves, Prints, replies_to, session_after, state_after, texts_of};
 ghost use Rattle.trac_rules.specs.Running.{BudgetSpent, InputEnded, output_of};
 ghost use Rattle.trac_rules.specs.Session.{Back, Commit, End, Feed, IsWalk, Run, Step, new_session};
 ghost use Rattle.trac_rules.specs.Segmenting.{segmented};
@@ -13,6 +14,8 @@ ghost use Rattle.trac_rules.specs.State.{initial};
 ghost use Rattle.trac_rules.specs.declared.byte.TheConstants.{CARRIAGE_RETURN, LINE_FEED};
 ghost use Rattle.trac_rules.specs.declared.item.Item.TheVariants.{Byte, Gap};
 ghost use Rattle.trac_rules.specs.declared.kind.Kind.TheVariants.{Active};
+ghost use Rattle.trac_rules.specs.declared.primitive.FormAction.TheVariants.{Call, Define, Delete, DeleteAll, ListNames, PrintForm, Restore, Segment};
+ghost use Rattle.trac_rules.specs.declared.primitive.Primitive.TheVariants.{Handle};
 ghost use Rattle.trac_rules.specs.declared.refusal.Refusal.TheVariants.{AtStart, Closed, JournalFull, NeedInput};
 ghost use Rattle.trac_rules.specs.declared.reply.Reply.TheVariants.{Done, Refused};
 
@@ -126,4 +129,85 @@ pub fn worked_forms()
     ensures pointer_at_the_end { shown (pointed_at 5 (Byte 97 ∷ Gap 1 1 ∷ Byte 98 ∷ Byte 99 ∷ Gap 2 1 ∷ [])) ≡ codes "a<1>bc<2><^>" }
     // Names are listed by their bytes, whatever the order in which their forms were made.
     ensures names { listed (codes ",") (map.insert (map.insert map.empty (codes "b") (defined (codes "1"))) (codes "a") (defined (codes "2"))) ≡ codes ",a,b" }
+{}
+
+/// What each call on forms gives, prints and leaves, from its name on; no value is forced.
+pub fn worked_form_calls()
+    // A name may be in either letter case.
+    ensures define { primitive_of (codes "ds") ≡ Handle Define }
+    ensures delete { primitive_of (codes "dd") ≡ Handle Delete }
+    ensures delete_all { primitive_of (codes "da") ≡ Handle DeleteAll }
+    ensures segment { primitive_of (codes "ss") ≡ Handle Segment }
+    ensures restore { primitive_of (codes "cr") ≡ Handle Restore }
+    ensures call { primitive_of (codes "cl") ≡ Handle Call }
+    ensures list_names { primitive_of (codes "ln") ≡ Handle ListNames }
+    ensures print_form { primitive_of (codes "pf") ≡ Handle PrintForm }
+    ensures mixed_case { primitive_of (codes "Cl") ≡ Handle Call }
+    // A text becomes a form, its pointer at the start; an earlier form is replaced, and its gaps and its pointer with it.
+    ensures defined_first { Leaves (texts_of (codes "ds,F,abcabc")) [] ((codes "F", at_start (as_items (codes "abcabc"))) ∷ []) }
+    ensures defined_again { Leaves (texts_of (codes "ds,F,abcabc")) ((codes "F", pointed_at 2 (Byte 97 ∷ Gap 1 1 ∷ Byte 98 ∷ [])) ∷ []) ((codes "F", at_start (as_items (codes "abcabc"))) ∷ []) }
+    ensures defined_beside { Leaves (texts_of (codes "ds,a,2")) ((codes "b", pointed_at 1 (as_items (codes "1"))) ∷ []) ((codes "a", at_start (as_items (codes "2"))) ∷ (codes "b", pointed_at 1 (as_items (codes "1"))) ∷ []) }
+    // A text that is missing is null, and so is a name that is missing; surplus texts are ignored.
+    ensures without_text { Leaves (texts_of (codes "ds,F")) ((codes "F", at_start (as_items (codes "abcabc"))) ∷ []) ((codes "F", at_start []) ∷ []) }
+    ensures without_name { Leaves (texts_of (codes "ds")) [] (([], at_start []) ∷ []) }
+    ensures surplus_text { Leaves (texts_of (codes "ds,F,a,b")) [] ((codes "F", at_start (as_items (codes "a"))) ∷ []) }
+    ensures null_name { Leaves (texts_of (codes "ds,,x")) [] (([], at_start (as_items (codes "x"))) ∷ []) }
+    ensures null_name_called { Gives (texts_of (codes "cl,")) (([], at_start (as_items (codes "x"))) ∷ []) (codes "x") }
+    // Each text is cut out in turn; what is left is printed with its gaps, and called with texts in their place.
+    ensures cut { Leaves (texts_of (codes "ss,F,b,ca")) ((codes "F", at_start (as_items (codes "abcabc"))) ∷ []) ((codes "F", at_start (Byte 97 ∷ Gap 1 1 ∷ Gap 2 2 ∷ Gap 1 1 ∷ Byte 99 ∷ [])) ∷ []) }
+    ensures cut_printed { Prints (texts_of (codes "pf,F")) ((codes "F", at_start (Byte 97 ∷ Gap 1 1 ∷ Gap 2 2 ∷ Gap 1 1 ∷ Byte 99 ∷ [])) ∷ []) (codes "<^>a<1><2><1>c") }
+    ensures cut_called { Gives (texts_of (codes "cl,F,-,+")) ((codes "F", at_start (Byte 97 ∷ Gap 1 1 ∷ Gap 2 2 ∷ Gap 1 1 ∷ Byte 99 ∷ [])) ∷ []) (codes "a-+-c") }
+    ensures cut_called_without_texts { Gives (texts_of (codes "cl,F")) ((codes "F", at_start (Byte 97 ∷ Gap 1 1 ∷ Gap 2 2 ∷ Gap 1 1 ∷ Byte 99 ∷ [])) ∷ []) (codes "ac") }
+    ensures cut_called_with_one_text { Gives (texts_of (codes "cl,F,-")) ((codes "F", at_start (Byte 97 ∷ Gap 1 1 ∷ Gap 2 2 ∷ Gap 1 1 ∷ Byte 99 ∷ [])) ∷ []) (codes "a--c") }
+    ensures cut_called_with_a_surplus_text { Gives (texts_of (codes "cl,F,-,+,*")) ((codes "F", at_start (Byte 97 ∷ Gap 1 1 ∷ Gap 2 2 ∷ Gap 1 1 ∷ Byte 99 ∷ [])) ∷ []) (codes "a-+-c") }
+    // A null text cuts nothing, and uses up its number.
+    ensures null_text { Leaves (texts_of (codes "ss,F,,a")) ((codes "F", at_start (as_items (codes "banana"))) ∷ []) ((codes "F", at_start (Byte 98 ∷ Gap 2 1 ∷ Byte 110 ∷ Gap 2 1 ∷ Byte 110 ∷ Gap 2 1 ∷ [])) ∷ []) }
+    ensures null_text_printed { Prints (texts_of (codes "pf,F")) ((codes "F", at_start (Byte 98 ∷ Gap 2 1 ∷ Byte 110 ∷ Gap 2 1 ∷ Byte 110 ∷ Gap 2 1 ∷ [])) ∷ []) (codes "<^>b<2>n<2>n<2>") }
+    // The leftmost occurrence is cut first, and none overlaps another.
+    ensures leftmost { Leaves (texts_of (codes "ss,F,aa")) ((codes "F", at_start (as_items (codes "aaa"))) ∷ []) ((codes "F", at_start (Gap 1 2 ∷ Byte 97 ∷ [])) ∷ []) }
+    ensures leftmost_printed { Prints (texts_of (codes "pf,F")) ((codes "F", at_start (Gap 1 2 ∷ Byte 97 ∷ [])) ∷ []) (codes "<^><1>a") }
+    // Earlier gaps stay, and numbers begin at 1 again.
+    ensures first_cut { Leaves (texts_of (codes "ss,F,y")) ((codes "F", at_start (as_items (codes "yxb"))) ∷ []) ((codes "F", at_start (Gap 1 1 ∷ Byte 120 ∷ Byte 98 ∷ [])) ∷ []) }
+    ensures first_cut_printed { Prints (texts_of (codes "pf,F")) ((codes "F", at_start (Gap 1 1 ∷ Byte 120 ∷ Byte 98 ∷ [])) ∷ []) (codes "<^><1>xb") }
+    ensures second_cut { Leaves (texts_of (codes "ss,F,x")) ((codes "F", at_start (Gap 1 1 ∷ Byte 120 ∷ Byte 98 ∷ [])) ∷ []) ((codes "F", at_start (Gap 1 1 ∷ Gap 1 1 ∷ Byte 98 ∷ [])) ∷ []) }
+    ensures second_cut_printed { Prints (texts_of (codes "pf,F")) ((codes "F", at_start (Gap 1 1 ∷ Gap 1 1 ∷ Byte 98 ∷ [])) ∷ []) (codes "<^><1><1>b") }
+    // The pointer goes to the start, also where nothing was cut; other forms stay as they are.
+    ensures no_texts { Leaves (texts_of (codes "ss,F")) ((codes "F", pointed_at 2 (as_items (codes "abc"))) ∷ []) ((codes "F", at_start (as_items (codes "abc"))) ∷ []) }
+    ensures text_nowhere { Leaves (texts_of (codes "ss,F,z")) ((codes "F", pointed_at 2 (as_items (codes "abc"))) ∷ []) ((codes "F", at_start (as_items (codes "abc"))) ∷ []) }
+    ensures beside_another { Leaves (texts_of (codes "ss,F,b")) ((codes "F", pointed_at 2 (as_items (codes "abc"))) ∷ (codes "G", pointed_at 2 (as_items (codes "abc"))) ∷ []) ((codes "F", at_start (Byte 97 ∷ Gap 1 1 ∷ Byte 99 ∷ [])) ∷ (codes "G", pointed_at 2 (as_items (codes "abc"))) ∷ []) }
+    // A call begins at the pointer and leaves it there; a restored form has it before its first item.
+    ensures from_the_pointer { Gives (texts_of (codes "cl,F,X,Y")) ((codes "F", pointed_at 1 (Byte 97 ∷ Gap 1 1 ∷ Byte 98 ∷ Byte 99 ∷ Gap 2 1 ∷ [])) ∷ []) (codes "XbcY") }
+    ensures from_the_end { Gives (texts_of (codes "cl,F,X,Y")) ((codes "F", pointed_at 5 (Byte 97 ∷ Gap 1 1 ∷ Byte 98 ∷ Byte 99 ∷ Gap 2 1 ∷ [])) ∷ []) [] }
+    ensures restored { Leaves (texts_of (codes "cr,F")) ((codes "F", pointed_at 1 (Byte 97 ∷ Gap 1 1 ∷ Byte 98 ∷ Byte 99 ∷ Gap 2 1 ∷ [])) ∷ []) ((codes "F", at_start (Byte 97 ∷ Gap 1 1 ∷ Byte 98 ∷ Byte 99 ∷ Gap 2 1 ∷ [])) ∷ []) }
+    ensures restored_beside_another { Leaves (texts_of (codes "cr,F")) ((codes "F", pointed_at 3 (as_items (codes "abc"))) ∷ (codes "G", pointed_at 2 (as_items (codes "abc"))) ∷ []) ((codes "F", at_start (as_items (codes "abc"))) ∷ (codes "G", pointed_at 2 (as_items (codes "abc"))) ∷ []) }
+    ensures restored_and_called { Gives (texts_of (codes "cl,F,X,Y")) ((codes "F", at_start (Byte 97 ∷ Gap 1 1 ∷ Byte 98 ∷ Byte 99 ∷ Gap 2 1 ∷ [])) ∷ []) (codes "aXbcY") }
+    ensures pointer_printed { Prints (texts_of (codes "pf,F")) ((codes "F", pointed_at 1 (Byte 97 ∷ Gap 1 1 ∷ Byte 98 ∷ Byte 99 ∷ Gap 2 1 ∷ [])) ∷ []) (codes "a<^><1>bc<2>") }
+    // A name without a form gives null and changes nothing. Names are compared byte by byte.
+    ensures no_form_called { Gives (texts_of (codes "cl,f,X")) ((codes "F", at_start (as_items (codes "abcabc"))) ∷ []) [] }
+    ensures no_form_segmented { Gives (texts_of (codes "ss,f,a")) ((codes "F", at_start (as_items (codes "abcabc"))) ∷ []) [] }
+    ensures no_form_restored { Gives (texts_of (codes "cr,f")) ((codes "F", pointed_at 2 (as_items (codes "abc"))) ∷ []) [] }
+    ensures no_form_printed { Gives (texts_of (codes "pf,f")) ((codes "F", at_start (as_items (codes "abcabc"))) ∷ []) [] }
+    ensures no_name_called { Gives (texts_of (codes "cl")) ((codes "F", at_start (as_items (codes "abcabc"))) ∷ []) [] }
+    ensures shorter_name_called { Gives (texts_of (codes "cl,F")) ((codes "FF", at_start (as_items (codes "abc"))) ∷ []) [] }
+    ensures other_case_defined { Leaves (texts_of (codes "ds,f,1")) ((codes "F", at_start (as_items (codes "2"))) ∷ []) ((codes "F", at_start (as_items (codes "2"))) ∷ (codes "f", at_start (as_items (codes "1"))) ∷ []) }
+    // Only the names that the call gives are deleted, and those without a form are passed over.
+    ensures no_names_deleted { Leaves (texts_of (codes "dd")) (([], at_start (as_items (codes "x"))) ∷ (codes "a", at_start (as_items (codes "1"))) ∷ []) (([], at_start (as_items (codes "x"))) ∷ (codes "a", at_start (as_items (codes "1"))) ∷ []) }
+    ensures null_name_deleted { Leaves (texts_of (codes "dd,")) (([], at_start (as_items (codes "x"))) ∷ (codes "a", at_start (as_items (codes "1"))) ∷ []) ((codes "a", at_start (as_items (codes "1"))) ∷ []) }
+    ensures some_deleted { Leaves (texts_of (codes "dd,a,c")) ((codes "a", at_start (as_items (codes "1"))) ∷ (codes "b", pointed_at 1 (as_items (codes "2"))) ∷ []) ((codes "b", pointed_at 1 (as_items (codes "2"))) ∷ []) }
+    ensures two_deleted { Leaves (texts_of (codes "dd,b,a")) ((codes "a", at_start (as_items (codes "1"))) ∷ (codes "b", at_start (as_items (codes "2"))) ∷ (codes "c", at_start (as_items (codes "3"))) ∷ []) ((codes "c", at_start (as_items (codes "3"))) ∷ []) }
+    ensures twice_deleted { Leaves (texts_of (codes "dd,a,a")) ((codes "a", at_start (as_items (codes "1"))) ∷ (codes "b", at_start (as_items (codes "2"))) ∷ []) ((codes "b", at_start (as_items (codes "2"))) ∷ []) }
+    ensures other_case_deleted { Leaves (texts_of (codes "dd,f")) ((codes "F", at_start (as_items (codes "abcabc"))) ∷ []) ((codes "F", at_start (as_items (codes "abcabc"))) ∷ []) }
+    ensures defined_after_deleting { Leaves (texts_of (codes "ds,a,2")) [] ((codes "a", at_start (as_items (codes "2"))) ∷ []) }
+    ensures all_deleted { Leaves (texts_of (codes "da")) (([], at_start (as_items (codes "x"))) ∷ (codes "a", at_start (as_items (codes "1"))) ∷ []) [] }
+    ensures all_deleted_whatever_is_named { Leaves (texts_of (codes "da,a")) (([], at_start (as_items (codes "x"))) ∷ (codes "a", at_start (as_items (codes "1"))) ∷ []) [] }
+    // Names are listed by their bytes, each behind the text; no names give null.
+    ensures names { Gives (codes "ln" ∷ codes "," ∷ []) ((codes "b", at_start (as_items (codes "1"))) ∷ (codes "a", at_start (as_items (codes "2"))) ∷ []) (codes ",a,b") }
+    ensures names_without_text { Gives (texts_of (codes "ln")) ((codes "b", at_start (as_items (codes "1"))) ∷ (codes "a", at_start (as_items (codes "2"))) ∷ []) (codes "ab") }
+    ensures names_by_bytes { Gives (texts_of (codes "ln,;")) ((codes "ab", at_start (as_items (codes "1"))) ∷ (codes "b", at_start (as_items (codes "2"))) ∷ (codes "a", at_start (as_items (codes "3"))) ∷ (codes "B", at_start (as_items (codes "4"))) ∷ ([], at_start (as_items (codes "5"))) ∷ []) (codes ";;B;a;ab;b") }
+    ensures names_of_none { Gives (texts_of (codes "ln,;")) [] [] }
+    // Forms that hold calls.
+    ensures text_of_a_call { Leaves (codes "ds" ∷ codes "BB" ∷ codes "#(cl,AA)" ∷ []) ((codes "AA", at_start (as_items (codes "Cat"))) ∷ []) ((codes "AA", at_start (as_items (codes "Cat"))) ∷ (codes "BB", at_start (as_items (codes "#(cl,AA)"))) ∷ []) }
+    ensures call_given { Gives (texts_of (codes "cl,BB")) ((codes "AA", at_start (as_items (codes "Cat"))) ∷ (codes "BB", at_start (as_items (codes "#(cl,AA)"))) ∷ []) (codes "#(cl,AA)") }
+    ensures procedure_segmented { Leaves (texts_of (codes "ss,Factorial,X")) ((codes "Factorial", at_start (as_items (codes "#(eq,X,1,1,(#(ml,X,#(cl,Factorial,#(su,X,1)))))"))) ∷ []) ((codes "Factorial", at_start (as_items (codes "#(eq,") ++ Gap 1 1 ∷ as_items (codes ",1,1,(#(ml,") ++ Gap 1 1 ∷ as_items (codes ",#(cl,Factorial,#(su,") ++ Gap 1 1 ∷ as_items (codes ",1)))))"))) ∷ []) }
+    ensures procedure_called { Gives (texts_of (codes "cl,Factorial,5")) ((codes "Factorial", at_start (as_items (codes "#(eq,") ++ Gap 1 1 ∷ as_items (codes ",1,1,(#(ml,") ++ Gap 1 1 ∷ as_items (codes ",#(cl,Factorial,#(su,") ++ Gap 1 1 ∷ as_items (codes ",1)))))"))) ∷ []) (codes "#(eq,5,1,1,(#(ml,5,#(cl,Factorial,#(su,5,1)))))") }
 {}
