@@ -2,7 +2,7 @@
 use Rattle.std.proofs.Common.{◌≡◌, ℕ, suc, ◌+◌, ◌-◌, ◌<◌, ◌≤◌, Bool, true, false, List, [], ◌∷◌, ◌++◌, length, take, drop, reverse, refl, sym, ap, subst, ◌∙◌, arith}
 use Rattle.std.specs.Prelude.{Option, Some, IsSome, Result, Ok, Err, OnOk, IfErr}
 use Rattle.std.proofs.Math.Seq.{take-length}
-use Rattle.std.proofs.lemmas.List.{reverse-append, length-append, length-reverse, length-drop, take-append-le}
+use Rattle.std.proofs.lemmas.List.{length-append, length-reverse, length-drop, take-append-le}
 use Rattle.trac_rules.specs.declared.limit.TheConstants.{TAPE_LIMIT}
 use Rattle.trac_rules.specs.declared.refusal.Refusal.{Refusal}
 use Rattle.trac_rules.specs.declared.refusal.Refusal.TheVariants.{Memory, TooLong, NeedInput, Ended, JournalFull, AtStart, Closed, NotMet}
@@ -12,14 +12,11 @@ use Rattle.trac_rules.specs.Stepping.{step, MayLackMemory, MayRefuse}
 use Rattle.trac_rules.specs.Session.{PlainSession, Feed, End, Step, Back, Commit, done, refused, settled, stepped_to, answer, MayRunOut, Answers}
 use Rattle.trac_rules.proofs.Steps.{step_within}
 use Rattle.trac_rules.proofs.Replies.{answer_Step, answer_Step_Ok, answer_Step_Err, answer_Step_full, answer_Feed_closed, answer_Feed_long, answer_Feed_room, answer_End, answer_Commit, answer_Back_start, answer_Back_from}
+use Rattle.trac_step.proofs.Rules.{reverse_push}
 use Rattle.trac.specs.Journal.{led_on, earlier_of, AreRecords, Remembers, plain_of, IsSound}
 use Rattle.trac.specs.Replies.{reply_of}
 
 -- ---- lists of records
-
--- the newest record comes first
-pub reverse-push : {R : Type 0} → (records : List R) (r : R) → reverse (records ++ r ∷ []) ≡ r ∷ reverse records
-reverse-push records r = reverse-append records (r ∷ [])
 
 -- a record says the state that it says
 pub led_on-Some : (x : Option State) (s : State) (rest : State → List State) → x ≡ Some s → led_on x rest ≡ s ∷ rest s
@@ -38,14 +35,14 @@ pub earlier_of-more : {R : Type 0} → (before : R → State → Option State) (
     earlier_of before (reverse new) t ≡ s ∷ earlier_of before (reverse old) s
 earlier_of-more before old new s t kept =
     ap (λ records. earlier_of before (reverse records) t) kept.1
-    ∙ ap (λ records. earlier_of before records t) (reverse-push old kept.0)
+    ∙ ap (λ records. earlier_of before records t) (reverse_push old kept.0)
     ∙ led_on-Some (before kept.0 t) s (λ u. earlier_of before (reverse old) u) kept.2
 
 -- and each record still says a state before
 pub AreRecords-more : {R : Type 0} → (before : R → State → Option State) (n : ℕ) (old new : List R) (s t : State) → Remembers before old new s t → s.position ≤ n →
     AreRecords before n (reverse old) s → AreRecords before n (reverse new) t
 AreRecords-more before n old new s t kept on_tape all =
-    subst (λ records. AreRecords before n records t) (sym (ap reverse kept.1 ∙ reverse-push old kept.0)) (s, kept.2, on_tape, all)
+    subst (λ records. AreRecords before n records t) (sym (ap reverse kept.1 ∙ reverse_push old kept.0)) (s, kept.2, on_tape, all)
 
 -- on a longer tape too
 pub AreRecords-longer : {R : Type 0} → (before : R → State → Option State) (n k : ℕ) (records : List R) (t : State) → n ≤ k → AreRecords before n records t → AreRecords before k records t
@@ -60,7 +57,7 @@ length-more before old new s t kept = ap length kept.1 ∙ length-append old (ke
 pub newest_says : {R : Type 0} → (before : R → State → Option State) (n : ℕ) (old new : List R) (r : R) (t : State) → old ≡ new ++ r ∷ [] → AreRecords before n (reverse old) t →
     (s : State) × (before r t ≡ Some s) × (s.position ≤ n) × AreRecords before n (reverse new) s
 newest_says before n old new r t e all =
-    subst (λ records. AreRecords before n records t) (ap reverse e ∙ reverse-push new r) all
+    subst (λ records. AreRecords before n records t) (ap reverse e ∙ reverse_push new r) all
 
 -- so there is a state before
 pub newest_says_some : {R : Type 0} → (before : R → State → Option State) (n : ℕ) (old new : List R) (r : R) (t : State) → old ≡ new ++ r ∷ [] → AreRecords before n (reverse old) t →

@@ -3,7 +3,6 @@ use Rattle.std.proofs.Common.{◌≡◌, ℕ, zero, suc, ◌+◌, ◌-◌, ◌<�
 use Rattle.std.specs.Prelude.{Option, None, Some, MatchOption, Result, Ok, Err, OnOk, IfErr, if◌then◌else◌, ◌⊎◌, ◌==◌}
 use Rattle.std.specs.Io.KnownBytes.{Appends, IsAtEnd}
 use Rattle.std.proofs.lemmas.Bool.Decides.{nat_tests}
-use Rattle.trac_rules.specs.declared.limit.TheConstants.{TAPE_LIMIT}
 use Rattle.trac_rules.specs.declared.refusal.Refusal.{Refusal}
 use Rattle.trac_rules.specs.declared.refusal.Refusal.TheVariants as refusals
 use Rattle.trac_rules.specs.declared.reply.Reply.TheVariants.{Refused}
@@ -212,10 +211,6 @@ released_fresh p m k q r (Ok u) after h =
     }
 
 -- ---- the turns
-
--- what the tape and its end may still add to the turns
-abbrev tape_turns : PlainSession → ℕ
-tape_turns p = (TAPE_LIMIT - length p.tape.bytes) + (if p.tape.ended then 0 else 1)
 
 -- the end adds at most one
 pub end_turns : (b : Bool) → (if b then 0 else 1) ≤ 1

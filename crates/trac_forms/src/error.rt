@@ -10,10 +10,10 @@ use thiserror::Error;
 pub enum FormError {
     /// The allocator refused the memory.
     #[error("no memory")]
-    Memory,
+    Memory = 1,
     /// A form would pass a limit.
     #[error("a form would be too long")]
-    TooLong,
+    TooLong = 2,
 }
 
 impl From<AllocError> for FormError {

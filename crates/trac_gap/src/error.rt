@@ -10,7 +10,7 @@ use std::fmt;
 #[derive(Clone, Copy, Debug, PartialEq, Eq)]
 pub enum GapError {
     /// The allocator refused the memory.
-    Memory,
+    Memory = 1,
 }
 
 impl From<AllocError> for GapError {

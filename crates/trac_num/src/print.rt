@@ -16,7 +16,6 @@ pub fn print_into<A: Allocator + Copy>(n: i64, out: &mut Vec<u8, A>) -> Result<(
     ensures full { OnErr result (vec_capacity out.old < length out.old.items + length (number_text n)) }
 {
     let mut buffer = Buffer::new();
-    out.extend_from_slice(buffer.format(n).as_bytes())
-        .map_err(|_| NumError::Memory)?;
+    out.extend_from_slice(buffer.format(n).as_bytes())?;
     Ok(())
 }

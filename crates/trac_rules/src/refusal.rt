@@ -8,26 +8,26 @@ use thiserror::Error;
 pub enum Refusal {
     /// A growth was refused memory.
     #[error("no memory")]
-    Memory,
+    Memory = 1,
     /// A limit would be passed.
     #[error("a limit would be passed")]
-    TooLong,
+    TooLong = 2,
     /// More input has to be fed first.
     #[error("more input is needed")]
-    NeedInput,
+    NeedInput = 3,
     /// The input has ended and is all read, or the program halts.
     #[error("the input has ended")]
-    Ended,
+    Ended = 4,
     /// The journal holds as many records as it may.
     #[error("the journal is full")]
-    JournalFull,
+    JournalFull = 5,
     /// There is no record to go back over.
     #[error("this is the first state")]
-    AtStart,
+    AtStart = 6,
     /// Something was fed behind the end of the input.
     #[error("the input was closed")]
-    Closed,
+    Closed = 7,
     /// The name that was looked for was not met.
     #[error("the name was not met")]
-    NotMet,
+    NotMet = 8,
 }

@@ -1,5 +1,4 @@
-use Rattle.std.proofs.Common.{◌≡◌, ◌++◌, List, ◌∷◌, [], subst, sym, arith}
-use Rattle.trac_rules.specs.Session.{Run}
+use Rattle.std.proofs.Common.{arith}
 use Rattle.trac.specs.Commands.{command_of}
 use Rattle.trac.proofs.Performed.{Run-further}
 use Rattle.trac.proofs.session.Session.perform.Goals as goal
