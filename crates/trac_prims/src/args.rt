@@ -4,6 +4,7 @@ ghost use Rattle.trac_prims.specs.Cuts.{AreCuts, cut, start_of, end_of};
 
 use crate::mark::Mark;
 use std::marker::Model;
+use trac_forms::Texts;
 
 /// Arguments that lie one behind another in a text: seen as the list of these texts.
 #[derive(Drop)]
@@ -51,6 +52,60 @@ impl<'a> Args<'a> {
         let start = start_at(self.from, self.marks, i);
         let end = end_at(self.text.len(), self.marks, i);
         part(self.text, start, end)
+    }
+
+    /// All arguments but the first n; none where there are no more than n. Nothing is copied.
+    pub fn behind(&self, n: usize) -> Behind<'_>
+        ensures { result ≡ drop n self.now }
+    {
+        Behind {
+            args: self,
+            passed: n,
+        }
+    }
+}
+
+impl<'a> Texts for Args<'a> {
+    ghost texts = { λ args. args };
+
+    fn count(&self) -> usize {
+        self.count()
+    }
+
+    fn get(&self, i: usize) -> &[u8] {
+        self.get(i)
+    }
+}
+
+/// Arguments without the first of them: seen as the list of those that are left.
+#[derive(Drop)]
+pub struct Behind<'a> {
+    args: &'a Args<'a>,
+    passed: usize,
+}
+
+impl<'a> Model for Behind<'a> {
+    ghost use Rattle.std.specs.Prelude.{ℕ, List, drop};
+
+    ghost Value = { List (List ℕ) };
+
+    ghost view = { λ b. drop b.passed b.args.now };
+}
+
+impl<'a> Texts for Behind<'a> {
+    ghost texts = { λ behind. behind };
+
+    fn count(&self) -> usize {
+        self.args.count().saturating_sub(self.passed)
+    }
+
+    fn get(&self, i: usize) -> &[u8] {
+        let left = self.args.count().saturating_sub(self.passed);
+        if i < left {
+            self.args.get(self.passed + i)
+        } else {
+            &[]
+        }
     }
 }
 

@@ -16,6 +16,7 @@ use crate::reading::read_string;
 use crate::tape::Tape;
 use std::alloc::Allocator;
 use trac_forms::Store;
+use trac_rules::limit::MARK_LIMIT;
 use trac_rules::primitive::Primitive;
 use trac_rules::refusal::Refusal;
 
@@ -27,7 +28,8 @@ fn planned<A: Allocator + Copy>(
     tape: Tape<'_>,
     now: Now,
 ) -> Result<Effect<A>, Refusal>
-    requires { now.position ≤ length tape.bytes.now }
+    requires position { now.position ≤ length tape.bytes.now }
+    requires count { length args.now ≤ MARK_LIMIT }
     ensures outcome { (s : State) → s.position ≡ now.position → s.meta ≡ now.meta → s.forms ≡ store.now.forms →
         IsPlanned s (effect_of primitive (tape_of tape.entry) args.now s) result }
     ensures within { IfOk result (λ e. e.position ≤ length tape.entry.bytes.now) }
@@ -70,7 +72,7 @@ fn planned<A: Allocator + Copy>(
 /// Refused with `NeedInput` or `Ended` where it reads input that is not there; with `TooLong` where the forms would pass a
 /// limit, and where a form's value or what it prints would be longer than any state may hold, which is then not built;
 /// and with `Memory` where the allocator refuses. All other limits are judged on the state after the call. The tape has
-/// to hold at least as many bytes as are read.
+/// to hold at least as many bytes as are read, and there may be at most 1,048,576 arguments.
 pub fn plan<A: Allocator + Copy>(
     alloc: A,
     args: &Args<'_>,
@@ -78,7 +80,8 @@ pub fn plan<A: Allocator + Copy>(
     tape: Tape<'_>,
     now: Now,
 ) -> Result<Effect<A>, Refusal>
-    requires { now.position ≤ length tape.bytes.now }
+    requires position { now.position ≤ length tape.bytes.now }
+    requires count { length args.now ≤ MARK_LIMIT }
     ensures outcome { (s : State) → s.position ≡ now.position → s.meta ≡ now.meta → s.forms ≡ store.now.forms →
         IsPlanned s (effect_of (primitive_of (argument 0 args.now)) (tape_of tape.entry) args.now s) result }
     ensures within { IfOk result (λ e. e.position ≤ length tape.entry.bytes.now) }

@@ -3,8 +3,8 @@ ghost use Rattle.std.specs.Prelude.{◌≡◌, None};
 
 use crate::{Args, Mark, Now, Tape, plan};
 use std::test::*;
-use trac_forms::Store;
 use trac_faults::Refusing;
+use trac_forms::Store;
 use trac_rules::refusal::Refusal;
 
 const NOW: Now = Now {
