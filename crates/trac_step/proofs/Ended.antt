@@ -40,11 +40,26 @@ call_at p k kind = record {
   state = state_of (parts_without p k (get_or p.marks k no_mark));
 }
 
-pub scan_called : (p : Parts) (k : ℕ) → IsSound p → BeginsFunction p.marks k → front_of p.active ≡ Closing →
+-- what is known of the parts where the function that begins at the mark of this number is to be performed
+pub record IsCalling (p : Parts) (s : Shown) (k : ℕ) : Type 0 where
+  pub sound : IsSound p
+  pub view : record { state = state_of p } ≡ s
+  pub begins : BeginsFunction p.marks k
+  pub front : front_of p.active ≡ Closing
+
+pub is_calling : (p : Parts) (s : Shown) (k : ℕ) (ms : List Mark) → IsSound p → record { state = state_of p } ≡ s → front_of s.state.active ≡ Closing → ms ≡ p.marks → BeginsFunction ms k → IsCalling p s k
+is_calling p s k ms sound view front same begins = record {
+  sound = sound;
+  view = view;
+  begins = subst (λ (xs : List Mark). BeginsFunction xs k) same begins;
+  front = ap (λ (m : Shown). front_of m.state.active) view ∙ front;
+}
+
+pub scan_called : (p : Parts) (s : Shown) (k : ℕ) → IsCalling p s k →
     (kind : Kind) × ((get_or p.marks k no_mark).frame ≡ Some kind) × (scan (state_of p) ≡ Calls (call_at p k kind))
-scan_called p k sound begins front =
-    let kind = IsSome-value (get_or p.marks k no_mark).frame begins.begins in
-    (kind.0, kind.1, scan_closing p k no_mark sound.ordered begins.within kind.0 kind.1 begins.behind front)
+scan_called p s k at =
+    let kind = IsSome-value (get_or p.marks k no_mark).frame at.begins.begins in
+    (kind.0, kind.1, scan_closing p k no_mark at.sound.ordered at.begins.within kind.0 kind.1 at.begins.behind at.front)
 
 pub if_calls : (p : Parts) (s : Shown) (call : Call) (P : Call → Type 0) → record { state = state_of p } ≡ s → scan (state_of p) ≡ Calls call → P call → IfCalls (scan s.state) P
 if_calls p s call P view scanned holds =

@@ -19,7 +19,7 @@ use Rattle.trac_step.specs.Layout.{Parts, state_of, IsSound, Shown}
 use Rattle.trac_step.specs.Calling.{IfCalls, place_of, with_value}
 use Rattle.trac_step.proofs.Rules.{text_bytes-parts, marks-parts}
 use Rattle.trac_step.proofs.Ending.{place_within}
-use Rattle.trac_step.proofs.Ended.{no_mark, call_at, scan_called, if_calls, ended_by, ended_parts, ended_ordered, ended_length, ended_call-parts}
+use Rattle.trac_step.proofs.Ended.{no_mark, call_at, IsCalling, scan_called, if_calls, ended_by, ended_parts, ended_ordered, ended_length, ended_call-parts}
 
 -- ---- the three limits
 
@@ -62,9 +62,9 @@ nat_le-minus a b n h = elim (leb_tells (b + a) n) as (λ _. nat_le a (n - b) ≡
 
 -- ---- a call at the mark of this number
 
-module _ (p : Parts) (s : Shown) (k : ℕ) (sound : IsSound p) (view : record { state = state_of p } ≡ s) (begins : BeginsFunction p.marks k) (front : front_of p.active ≡ Closing) where
+module _ (p : Parts) (s : Shown) (k : ℕ) (at : IsCalling p s k) where
   pub kept_length : length p.active - 1 + place_of p.marks k ≤ TEXT_LIMIT
-  kept_length = omega (arith, sound.text_limit, place_within p k no_mark sound.ordered begins.within)
+  kept_length = omega (arith, at.sound.text_limit, place_within p k no_mark at.sound.ordered at.begins.within)
 
   module _ (forced : Bool) (printed value : List ℕ) (position : ℕ) (change : Forms → Forms) where
     abbrev after_at : Kind → Parts
@@ -72,14 +72,14 @@ module _ (p : Parts) (s : Shown) (k : ℕ) (sound : IsSound p) (view : record { 
 
     text_after : (kind : Kind) → text_bytes (state_of (after_at kind)) ≡ length value + (length p.active - 1 + place_of p.marks k)
     text_after kind =
-        text_bytes-parts (after_at kind) (ended_ordered p k sound begins.within kind forced printed value position change)
-        ∙ ended_length p k sound begins.within kind forced printed value position change
+        text_bytes-parts (after_at kind) (ended_ordered p k at.sound at.begins.within kind forced printed value position change)
+        ∙ ended_length p k at.sound at.begins.within kind forced printed value position change
 
     marks_after : (kind : Kind) → marks (state_of (after_at kind)).frames ≤ MARK_LIMIT
-    marks_after kind = rw (marks-parts (after_at kind) (ended_ordered p k sound begins.within kind forced printed value position change)) (marks_kept kind)
+    marks_after kind = rw (marks-parts (after_at kind) (ended_ordered p k at.sound at.begins.within kind forced printed value position change)) (marks_kept kind)
       where
         front_kept : length (take k p.marks) ≤ MARK_LIMIT
-        front_kept = omega (arith, sound.mark_limit, begins.within, length-take-le k p.marks (omega (arith, begins.within)))
+        front_kept = omega (arith, at.sound.mark_limit, at.begins.within, length-take-le k p.marks (omega (arith, at.begins.within)))
 
         marks_in : (kind : Kind) (b : Bool) → length (ended_parts p k kind b printed value position change).marks ≤ MARK_LIMIT
         marks_in Active b = front_kept
@@ -100,30 +100,30 @@ module _ (p : Parts) (s : Shown) (k : ℕ) (sound : IsSound p) (view : record { 
     pub call_too_long : TEXT_LIMIT - (length p.active - 1 + place_of p.marks k) < length value →
         IfCalls (scan s.state) (λ call. false ≡ is_within_limits (ended_by forced printed value position change call))
     call_too_long h =
-        let called = scan_called p k sound begins front in
-        if_calls p s (call_at p k called.0) (λ call. false ≡ is_within_limits (ended_by forced printed value position change call)) view called.2
-        (sym (ap is_within_limits (ended_call-parts p k sound begins.within called.0 forced printed value position change)
+        let called = scan_called p s k at in
+        if_calls p s (call_at p k called.0) (λ call. false ≡ is_within_limits (ended_by forced printed value position change call)) at.view called.2
+        (sym (ap is_within_limits (ended_call-parts p k at.sound at.begins.within called.0 forced printed value position change)
         ∙ beyond_limits_of_text (state_of (after_at called.0)) (omega (arith, text_after called.0, kept_length))))
 
     pub call_limited : length value ≤ TEXT_LIMIT - (length p.active - 1 + place_of p.marks k) →
         IfCalls (scan s.state) (λ call. nat_le (length printed) (OUTPUT_LIMIT - length p.output) ≡ is_within_limits (ended_by forced printed value position change call))
     call_limited h =
-        let called = scan_called p k sound begins front in
-        if_calls p s (call_at p k called.0) (λ call. nat_le (length printed) (OUTPUT_LIMIT - length p.output) ≡ is_within_limits (ended_by forced printed value position change call)) view called.2
-        (nat_le-minus (length printed) (length p.output) OUTPUT_LIMIT sound.output_limit
+        let called = scan_called p s k at in
+        if_calls p s (call_at p k called.0) (λ call. nat_le (length printed) (OUTPUT_LIMIT - length p.output) ≡ is_within_limits (ended_by forced printed value position change call)) at.view called.2
+        (nat_le-minus (length printed) (length p.output) OUTPUT_LIMIT at.sound.output_limit
         ∙ sym (
-        ap is_within_limits (ended_call-parts p k sound begins.within called.0 forced printed value position change)
+        ap is_within_limits (ended_call-parts p k at.sound at.begins.within called.0 forced printed value position change)
         ∙ limits_by_output (state_of (after_at called.0)) (omega (arith, text_after called.0, h, kept_length)) (marks_after called.0)
         ∙ ap (λ (n : ℕ). nat_le n OUTPUT_LIMIT) (ap length (output_after called.0) ∙ length-append p.output printed)
         ))
 
     pub sound_after : (kind : Kind) → is_within_limits (ended_by forced printed value position change (call_at p k kind)) ≡ true → IsSound (after_at kind)
     sound_after kind fits =
-        let kept = limits_kept (state_of (after_at kind)) (sym (ap is_within_limits (ended_call-parts p k sound begins.within kind forced printed value position change)) ∙ fits) in
+        let kept = limits_kept (state_of (after_at kind)) (sym (ap is_within_limits (ended_call-parts p k at.sound at.begins.within kind forced printed value position change)) ∙ fits) in
         record {
-          ordered = ended_ordered p k sound begins.within kind forced printed value position change;
-          text_limit = omega (arith, kept.text, text_bytes-parts (after_at kind) (ended_ordered p k sound begins.within kind forced printed value position change));
-          mark_limit = omega (arith, kept.marked, marks-parts (after_at kind) (ended_ordered p k sound begins.within kind forced printed value position change));
+          ordered = ended_ordered p k at.sound at.begins.within kind forced printed value position change;
+          text_limit = omega (arith, kept.text, text_bytes-parts (after_at kind) (ended_ordered p k at.sound at.begins.within kind forced printed value position change));
+          mark_limit = omega (arith, kept.marked, marks-parts (after_at kind) (ended_ordered p k at.sound at.begins.within kind forced printed value position change));
           output_limit = kept.output;
         }
 

@@ -9,4 +9,5 @@ pub mod Fitting
 pub mod Moving
 pub mod Outcomes
 pub mod Peeling
+pub mod Performed
 pub mod Pointers

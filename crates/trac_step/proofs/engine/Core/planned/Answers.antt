@@ -11,7 +11,7 @@ use Rattle.trac_prims.specs.Tape.{tape_of}
 use Rattle.trac_prims.proofs.Cutting.{length-cut}
 use Rattle.trac_step.specs.Layout.{parts_of, Shown}
 use Rattle.trac_step.specs.Calling.{place_of}
-use Rattle.trac_step.proofs.Ended.{call_at, scan_called, if_calls}
+use Rattle.trac_step.proofs.Ended.{call_at, is_calling, scan_called, if_calls}
 use Rattle.trac_step.proofs.engine.Core.planned.Goals as goal
 
 pub plan-requires-clause-count : goal.plan-requires-clause-count
@@ -28,9 +28,8 @@ pub returns : goal.returns
 returns g c =
     let p = parts_of (g.E.TwoEnds.ends c.self.inside.text) c.self.inside.marks c.self.inside.store.forms c.self.inside.meta c.self.inside.position c.self.inside.output.items in
     let k = c.called-k.result in
-    let front : front_of p.active ≡ Closing = ap (λ (m : Shown). front_of m.state.active) c.self.view_is ∙ c.requires.front in
-    let begins : BeginsFunction p.marks k = subst (λ (ms : List Mark). BeginsFunction ms k) c.left-2.ensures.left c.called-k.ensures in
-    let called = scan_called p k c.self.invariant begins front in
+    let at = is_calling p c.args.self.now k c.left-2.result.now c.self.invariant c.self.view_is c.requires.front c.left-2.ensures.left c.called-k.ensures in
+    let called = scan_called p c.args.self.now k at in
     let s = (call_at p k called.0).state in
     let arguments_are : c.arguments_behind-arguments.result ≡ cut (place_of p.marks k) (drop (k + 1) p.marks) p.text =
     c.arguments_behind-arguments.ensures
