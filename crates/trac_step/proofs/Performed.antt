@@ -41,6 +41,10 @@ front_kept p s k at ms text cut shorter same is left shorter_is =
     ∙ take_kept p.text (place_of p.marks k) (length text - place_of ms k) (place_within p k no_mark at.sound.ordered at.begins.within)
     (ap (λ (xs : List ℕ). length xs - place_of ms k) (is ∙ left) ∙ ap (λ (xs : List Mark). length p.text - place_of xs k) same)
 
+-- what is printed stands behind the output, for which room was made
+pub printed_behind : (old reserved printed output : List ℕ) → output ≡ reserved ++ printed → reserved ≡ old → output ≡ old ++ printed
+printed_behind old reserved printed output is same = is ∙ ap (λ (xs : List ℕ). xs ++ printed) same
+
 -- the marks when those of the function are cut off
 marks_kept : (p : Parts) (s : Shown) (k : ℕ) → IsCalling p s k → (ns : List Mark) (all kept : Ends Mark) →
     all.left ≡ p.marks → ns ≡ all.left → kept ≡ record all { left = take (length all.left - (length ns - k)) all.left } →

@@ -105,9 +105,13 @@ impl<E: TwoEnds<u8, A>, A: Allocator + Copy> Core<E, A> {
         let Ok(()) = self.text.reserve(effect.value.len()) else {
             return Err(Refusal::Memory);
         };
-        make_place(&mut self.store, &effect.change)?;
-        let Ok(()) = self.output.extend_from_slice(effect.print.as_slice()) else {
+        let Ok(()) = self.output.reserve(effect.print.len()) else {
             return Err(Refusal::Memory);
+        };
+        make_place(&mut self.store, &effect.change)?;
+        // All room is there now, and nothing below can be refused.
+        let Ok(()) = self.output.extend_from_slice(effect.print.as_slice()) else {
+            unreachable!();
         };
         self.text.cut_right(1);
         self.text.cut_left(self.text.left().len() - mark.place);

@@ -1,7 +1,7 @@
 use Rattle.std.proofs.Common.{refl}
 use Rattle.trac_step.specs.Layout.{parts_of}
 use Rattle.trac_step.proofs.Ended.{is_calling}
-use Rattle.trac_step.proofs.Performed.{place_in, performed_parts}
+use Rattle.trac_step.proofs.Performed.{place_in, performed_parts, printed_behind}
 use Rattle.trac_step.proofs.engine.Core.end_call.Goals as goal
 
 pub overflow_sub-left : goal.overflow_sub-left
@@ -22,7 +22,8 @@ invariant_of-self-2 g c =
     c.self.inside.marks c.cut_left-2.new.self c.make_place.new.store.forms c.change_forms.new.store.forms
     c.left-3.result.now c.left-5.result.now c.left-4.result.now c.as_slice-2.result.now c.as_slice.result.now c.extend_from_slice.new.self.items
     c.reserve.ensures.left c.reserve.ensures.right c.cut_right.ensures c.left-3.ensures.left c.left-4.ensures.left c.cut_left.ensures c.as_slice-2.ensures.value c.put_value.ensures
-    refl c.left-5.ensures.left c.cut_left-2.ensures c.make_place.ensures.kept c.change_forms.ensures c.as_slice.ensures.value c.in-Ok-extend_from_slice.ensures.items in
+    refl c.left-5.ensures.left c.cut_left-2.ensures c.make_place.ensures.kept c.change_forms.ensures c.as_slice.ensures.value
+    (printed_behind c.self.inside.output.items c.reserve-2.new.self.items c.as_slice.result.now c.extend_from_slice.new.self.items c.in-Ok-extend_from_slice.ensures.items c.reserve-2.ensures.items) in
     performed.sound
 
 pub returns-clause-ok : goal.returns-clause-ok
@@ -35,5 +36,6 @@ returns-clause-ok g c =
     c.self.inside.marks c.cut_left-2.new.self c.make_place.new.store.forms c.change_forms.new.store.forms
     c.left-3.result.now c.left-5.result.now c.left-4.result.now c.as_slice-2.result.now c.as_slice.result.now c.extend_from_slice.new.self.items
     c.reserve.ensures.left c.reserve.ensures.right c.cut_right.ensures c.left-3.ensures.left c.left-4.ensures.left c.cut_left.ensures c.as_slice-2.ensures.value c.put_value.ensures
-    refl c.left-5.ensures.left c.cut_left-2.ensures c.make_place.ensures.kept c.change_forms.ensures c.as_slice.ensures.value c.in-Ok-extend_from_slice.ensures.items in
+    refl c.left-5.ensures.left c.cut_left-2.ensures c.make_place.ensures.kept c.change_forms.ensures c.as_slice.ensures.value
+    (printed_behind c.self.inside.output.items c.reserve-2.new.self.items c.as_slice.result.now c.extend_from_slice.new.self.items c.in-Ok-extend_from_slice.ensures.items c.reserve-2.ensures.items) in
     performed.shows
