@@ -4,3 +4,4 @@ pub mod Calculated
 pub mod OctalResults
 pub mod Putting
 pub mod Listed
+pub mod Called

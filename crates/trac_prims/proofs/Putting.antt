@@ -1,5 +1,5 @@
 -- Whether a form may be put among others.
-use Rattle.std.proofs.Common.{◌≡◌, ℕ, suc, ◌+◌, ◌<◌, ◌≤◌, Bool, true, false, List, length, refl, sym, ap, subst, ◌∙◌, arith, drop, inl}
+use Rattle.std.proofs.Common.{◌≡◌, ℕ, suc, ◌+◌, ◌<◌, ◌≤◌, Bool, true, false, List, length, sym, ap, ◌∙◌, arith}
 use Rattle.std.specs.Prelude.{Option, None, Some, Err, ◌&&◌, nat_le, nat_lt, is_some, cond, Ok, if◌then◌else◌}
 use Rattle.std.specs.Borrow.{Bor}
 use Rattle.std.specs.Cmp.Lexicographic.{nat_list_cmp_total}
@@ -9,17 +9,13 @@ use Rattle.std.specs.Option.{option_copied}
 use Rattle.std.proofs.lemmas.Bool.{le-leb, lt-leb, and_left, and_right}
 use Rattle.std.proofs.lemmas.List.{length-map}
 use Rattle.trac_rules.specs.declared.item.Item.TheVariants.{Byte}
-use Rattle.trac_rules.specs.declared.limit.TheConstants.{FORM_LIMIT, FORM_COUNT_LIMIT, NAME_LIMIT, TEXT_LIMIT}
-use Rattle.trac_rules.specs.declared.primitive.FormAction.TheVariants.{Call as CallForm}
+use Rattle.trac_rules.specs.declared.limit.TheConstants.{FORM_LIMIT, FORM_COUNT_LIMIT, NAME_LIMIT}
 use Rattle.trac_rules.specs.declared.refusal.Refusal.TheVariants.{TooLong}
 use Rattle.trac_rules.specs.Form.{Form, IsWide, all_items, defined, extent}
-use Rattle.trac_rules.specs.Bytes.{argument}
-use Rattle.trac_rules.specs.Filling.{called}
-use Rattle.trac_rules.specs.Handling.{handled, leaving, on_form, putting, valued}
+use Rattle.trac_rules.specs.Handling.{leaving, putting}
 use Rattle.trac_rules.specs.Limits.{form_fits, may_be_put}
 use Rattle.trac_rules.specs.State.{Forms}
 use Rattle.trac_rules.proofs.Cutting.{count_within_extent}
-use Rattle.trac_prims.specs.Handlings.{IsBeyond}
 
 -- what a reference is made of is there where the reference is
 pub there_behind : {X : Type 0} (found : Option (Bor X)) (held : Option X) → option_copied found ≡ held → is_some found ≡ is_some held
@@ -70,14 +66,6 @@ long_text name text forms l =
     (and_right (nat_le (length name) NAME_LIMIT) (nat_le (length (all_items (defined text))) FORM_LIMIT) over) in
     and_left (form_fits name (defined text)) (nat_le (map.len (map.insert forms name (defined text))) FORM_COUNT_LIMIT) fitting
 
+-- what may not be put is refused
 pub not_put : (name : List ℕ) (form : Form) (forms : Forms) → may_be_put name form forms ≡ false → putting name form forms ≡ Err TooLong
 not_put name form forms e = ap (λ b. if b then Ok (leaving (map.insert forms name form)) else Err TooLong) e
-
--- what is given of a form that is there, where it is too long
-pub call_beyond : (arguments texts : List (List ℕ)) (name : List ℕ) (form : Form) (forms : Forms) → Some form ≡ map.get forms name → name ≡ argument 1 arguments → texts ≡ drop 2 arguments →
-    TEXT_LIMIT < length (called texts form) → IsBeyond (handled CallForm arguments forms)
-call_beyond arguments texts name form forms there named given l =
-    subst IsBeyond
-    (ap (λ (ts : List (List ℕ)). Ok (valued (called ts form) forms)) given
-    ∙ ap (λ (held : Option Form). on_form held (λ form. Ok (valued (called (drop 2 arguments) form) forms)) forms) (there ∙ ap (map.get forms) named))
-    (inl l)

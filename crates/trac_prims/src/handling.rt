@@ -1,6 +1,6 @@
 //! Calls that look at the forms or change them.
 ghost use Rattle.std.specs.Prelude.{◌≡◌, ◌≤◌, ◌+◌, length, Ok, IfOk, IsOkUnless};
-ghost use Rattle.trac_rules.specs.Handling.{handled, leaving, putting};
+ghost use Rattle.trac_rules.specs.Handling.{handled, leaving, printing, putting, valued};
 ghost use Rattle.trac_rules.specs.Limits.{may_be_put};
 ghost use Rattle.trac_rules.specs.State.{Forms};
 ghost use Rattle.trac_rules.specs.declared.primitive.FormAction.TheVariants.{Define, Delete, DeleteAll, PrintForm, Restore, Segment, Call as CallForm};
@@ -33,6 +33,28 @@ impl<A: Allocator + Copy> Handling<A> {
             value: Vec::new(alloc),
             print: Vec::new(alloc),
             change,
+        }
+    }
+
+    // A value, and the forms as they are.
+    pub(crate) fn valued(alloc: A, value: Vec<u8, A>) -> Self
+        ensures { (forms : Forms) → handled_as forms result ≡ valued value.items forms }
+    {
+        Handling {
+            value,
+            print: Vec::new(alloc),
+            change: Change::Keep,
+        }
+    }
+
+    // A printed text, and the forms as they are.
+    pub(crate) fn printing(alloc: A, print: Vec<u8, A>) -> Self
+        ensures { (forms : Forms) → handled_as forms result ≡ printing print.items forms }
+    {
+        Handling {
+            value: Vec::new(alloc),
+            print,
+            change: Change::Keep,
         }
     }
 }
@@ -145,11 +167,7 @@ fn call<A: Allocator + Copy>(
     let Ok(()) = form.call_into(&texts, &mut value) else {
         return Err(Refusal::Memory);
     };
-    Ok(Handling {
-        value,
-        print: Vec::new(alloc),
-        change: Change::Keep,
-    })
+    Ok(Handling::valued(alloc, value))
 }
 
 // `pf`: a form is printed.
@@ -172,11 +190,7 @@ fn print_form<A: Allocator + Copy>(
     let Ok(()) = form.show_into(&mut print) else {
         return Err(Refusal::Memory);
     };
-    Ok(Handling {
-        value: Vec::new(alloc),
-        print,
-        change: Change::Keep,
-    })
+    Ok(Handling::printing(alloc, print))
 }
 
 // Texts with memory of their own.
@@ -197,12 +211,8 @@ fn copies<A: Allocator + Copy>(alloc: A, texts: &Behind<'_>) -> Result<Vec<Vec<u
 }
 
 // `dd`: the forms of some names are deleted.
-fn delete<A: Allocator + Copy>(
-    alloc: A,
-    args: &Args<'_>,
-    store: &Store<A>,
-) -> Result<Handling<A>, Refusal>
-    ensures { IsHandled store.now.forms (handled Delete args.now store.now.forms) result }
+fn delete<A: Allocator + Copy>(alloc: A, args: &Args<'_>) -> Result<Handling<A>, Refusal>
+    ensures { (forms : Forms) → IsHandled forms (handled Delete args.now forms) result }
 {
     let names = copies(alloc, &args.behind(1))?;
     Ok(Handling::changing(alloc, Change::Remove(names)))
@@ -210,7 +220,7 @@ fn delete<A: Allocator + Copy>(
 
 /// What a call of these arguments does with the forms, its pieces already made.
 /// Refused with `TooLong` where the forms would pass a limit, or a piece would be longer than any state may hold, and with
-/// `Memory` where the allocator refuses.
+/// `Memory` where the allocator refuses. There may be at most 1,048,576 arguments.
 pub(crate) fn handle<A: Allocator + Copy>(
     alloc: A,
     action: FormAction,
@@ -222,12 +232,12 @@ pub(crate) fn handle<A: Allocator + Copy>(
 {
     match action {
         FormAction::Define => define(alloc, args, store),
+        FormAction::Delete => delete(alloc, args),
+        FormAction::DeleteAll => Ok(Handling::changing(alloc, Change::Clear)),
         FormAction::Segment => segment(alloc, args, store),
         FormAction::Restore => restore(alloc, args, store),
         FormAction::Call => call(alloc, args, store),
-        FormAction::DeleteAll => Ok(Handling::changing(alloc, Change::Clear)),
-        FormAction::Delete => delete(alloc, args, store),
-        FormAction::PrintForm => print_form(alloc, args, store),
         FormAction::ListNames => list_names(alloc, args, store),
+        FormAction::PrintForm => print_form(alloc, args, store),
     }
 }

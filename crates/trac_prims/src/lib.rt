@@ -13,6 +13,8 @@ pub mod mark;
 mod name;
 mod planning;
 mod reading;
+#[cfg(test)]
+mod refusals;
 pub mod tape;
 #[cfg(test)]
 mod tests;

@@ -5,7 +5,6 @@ ghost use Rattle.trac_rules.specs.declared.primitive.FormAction.TheVariants.{Lis
 ghost use Rattle.trac_prims.specs.Handlings.{IsHandled};
 
 use crate::args::Args;
-use crate::change::Change;
 use crate::handling::Handling;
 use std::alloc::Allocator;
 use trac_forms::Store;
@@ -66,9 +65,6 @@ pub(crate) fn list_names<A: Allocator + Copy>(
     let Some(len) = list_len(text, names.as_slice()) else {
         return Err(Refusal::TooLong);
     };
-    Ok(Handling {
-        value: list(alloc, text, names.as_slice(), len)?,
-        print: Vec::new(alloc),
-        change: Change::Keep,
-    })
+    let value = list(alloc, text, names.as_slice(), len)?;
+    Ok(Handling::valued(alloc, value))
 }

@@ -1,5 +1,5 @@
 use Rattle.std.proofs.Common.{refl, inr, arith}
-use Rattle.trac_prims.proofs.Putting.{call_beyond}
+use Rattle.trac_prims.proofs.Called.{call_beyond}
 use Rattle.trac_prims.proofs.handling.call.Goals as goal
 
 pub returns-in_default-call_len : goal.returns-in_default-call_len

@@ -1,4 +1,4 @@
-use Rattle.std.proofs.Common.{◌≡◌, ◌<◌, refl, inr, sym, subst, ap, length, arith}
+use Rattle.std.proofs.Common.{◌<◌, refl, inr, sym, subst, ap, length, arith}
 use Rattle.trac_rules.specs.declared.limit.TheConstants.{FORM_LIMIT}
 use Rattle.trac_rules.specs.Bytes.{argument}
 use Rattle.trac_rules.specs.Form.{defined}

@@ -1,5 +1,6 @@
-use Rattle.std.proofs.Common.{◌≡◌, ℕ, List, ◌++◌, flat_map, length, refl, inl, inr, ap, ◌∙◌, arith}
+use Rattle.std.proofs.Common.{◌≡◌, ℕ, List, ◌++◌, flat_map, length, Ok, refl, inl, inr, sym, ap, ◌∙◌, arith}
 use Rattle.trac_rules.specs.Bytes.{argument}
+use Rattle.trac_rules.specs.Handling.{valued}
 use Rattle.trac_rules.specs.Listing.{listed}
 use Rattle.trac_prims.proofs.Listed.{listed_names}
 use Rattle.trac_prims.proofs.listing.list_names.Goals as goal
@@ -13,8 +14,8 @@ returns-in_default-list_len g c =
 
 pub returns : goal.returns
 returns g c =
-    let same : c.in_ok-list.field-0.items ≡ listed (argument 1 c.args.args.now) c.args.store.now.forms =
-    c.in_ok-list.ensures.made
+    let same : c.in_ok-value.value.items ≡ listed (argument 1 c.args.args.now) c.args.store.now.forms =
+    c.in_ok-value.ensures.made
     ∙ listed_names c.get-text.result.now c.in-Ok.names.items c.as_slice-2.result.now c.args.store.now.forms c.in-Ok.ensures.names c.as_slice-2.ensures.value
     ∙ ap (λ (text : List ℕ). listed text c.args.store.now.forms) c.get-text.ensures in
-    rw (same, c.new.ensures.items) refl
+    ap Ok (sym (c.valued.ensures c.args.store.now.forms ∙ ap (λ (v : List ℕ). valued v c.args.store.now.forms) same))
