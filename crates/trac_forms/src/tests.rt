@@ -175,6 +175,8 @@ fn replaces_the_form_of_a_name(rt: HostRuntime) -> Result<(), Fail> {
     assert_eq!(rt; store.form_count(), 1);
     let found = store.get(b"").ok_or("no form")?;
     shows(&rt, rt.alloc(), found, b"<^>2")?;
+    let taken = store.take(b"").ok_or("no form to take")?;
+    shows(&rt, rt.alloc(), &taken, b"<^>2")?;
     Ok(())
 }
 

@@ -38,7 +38,7 @@ impl<'a, A: Allocator> Texts for Vec<&'a [u8], A> {
     ghost texts = { λ slices. map (λ text. text.now) slices.items };
 
     fn count(&self) -> usize {
-        self.len()
+        self.as_slice().len()
     }
 
     fn get(&self, i: usize) -> &[u8] {
