@@ -95,6 +95,7 @@ fn without_memory(rt: &impl Abort, plain: Global, memory: Memory<'_>) -> Result<
     assert!(rt; form.len() >= 2);
     assert_eq!(rt; form.set_pointer(2), 0);
     assert_eq!(rt; form.call_len(&TEXTS.as_slice()), Some(1));
+    assert_eq!(rt; form.show_len(), Some(6));
     memory.accept_all();
     store.know(b"a")?;
     memory.refuse_all();
@@ -103,6 +104,8 @@ fn without_memory(rt: &impl Abort, plain: Global, memory: Memory<'_>) -> Result<
     store.sweep();
     let found = store.get(b"a").ok_or(FormError::Memory)?;
     shows(rt, plain, found, b"xy<^>z")?;
+    store.clear();
+    assert_eq!(rt; store.form_count(), 0);
     memory.accept_all();
     Ok(())
 }
