@@ -1,14 +1,9 @@
-use Rattle.std.proofs.Common.{◌≡◌, ℕ, ◌+◌, List, drop, refl, ap, ◌∙◌, subst}
-use Rattle.trac_rules.specs.declared.scan.Front.TheVariants.{Closing}
+use Rattle.std.proofs.Common.{ℕ, List, refl, subst}
 use Rattle.trac_rules.specs.Bytes.{argument}
-use Rattle.trac_rules.specs.Scanning.{front_of}
 use Rattle.trac_rules.specs.Performing.{effect_of, primitive_of}
-use Rattle.trac_prims.specs.declared.mark.Mark.{Mark}
-use Rattle.trac_prims.specs.Cuts.{BeginsFunction, cut}
 use Rattle.trac_prims.specs.Effects.{IsPlanned}
 use Rattle.trac_prims.specs.Tape.{tape_of}
-use Rattle.trac_step.specs.Layout.{parts_of, Shown}
-use Rattle.trac_step.specs.Calling.{place_of}
+use Rattle.trac_step.specs.Layout.{parts_of}
 use Rattle.trac_step.proofs.Ended.{call_at, is_calling, scan_called, arguments_at, arguments_limited, if_calls}
 use Rattle.trac_step.proofs.engine.Core.planned.Goals as goal
 
