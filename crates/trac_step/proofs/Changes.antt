@@ -1,6 +1,6 @@
 -- What each rule does to the parts of a machine: they stay sound, and show the state that the rule names.
-use Rattle.std.proofs.Common.{◌≡◌, ℕ, zero, suc, ◌+◌, ◌<◌, ◌≤◌, List, [], ◌∷◌, ◌++◌, length, take, drop, reverse, refl, sym, ap, ◌∙◌, arith}
-use Rattle.std.specs.Prelude.{Option, Some, None}
+use Rattle.std.proofs.Common.{◌≡◌, ℕ, zero, suc, ◌+◌, ◌<◌, ◌≤◌, List, [], ◌∷◌, ◌++◌, length, take, drop, reverse, refl, sym, ap, ◌∙◌, subst, arith, true, false, Bool}
+use Rattle.std.specs.Prelude.{Option, Some, None, ◌==◌}
 use Rattle.std.proofs.lemmas.List.{length-append, length-drop, drop-drop, take_all, drop_all}
 use Rattle.trac_gap.specs.Ends.{Ends}
 use Rattle.trac_rules.specs.declared.kind.Kind.{Kind}
@@ -10,7 +10,7 @@ use Rattle.trac_rules.specs.Matching.{match_of, protected, protected_up_to}
 use Rattle.trac_rules.specs.Scanning.{gather, protect}
 use Rattle.trac_rules.specs.Limits.{marks}
 use Rattle.trac_prims.specs.declared.mark.Mark.{Mark}
-use Rattle.trac_step.specs.Layout.{Parts, state_of, IsSound, Shown}
+use Rattle.trac_step.specs.Layout.{Parts, parts_of, state_of, IsSound, Shown}
 use Rattle.trac_step.proofs.Neutral.{AreMarks-longer}
 use Rattle.trac_step.proofs.Rules.{mark_at, gathers, ordered_push, marks-parts}
 
@@ -29,6 +29,19 @@ sound_push p n o sound room above = record {
   mark_limit = omega (arith, length-append p.marks (mark_at (length p.text) o ∷ []));
   output_limit = sound.output_limit;
 }
+
+-- the front of the active text is gone, and a mark stands behind all others, at the end of the text
+pub sound_marked : (p : Parts) (n : ℕ) (o : Option Kind) (old cut : Ends ℕ) (reserved kept : Ends Mark) (text : List ℕ) → IsSound p → length p.marks < MARK_LIMIT → (o ≡ None → 0 < length p.marks) →
+    old.left ≡ p.text → old.right ≡ p.active → cut ≡ record old { right = drop n old.right } → text ≡ cut.left →
+    reserved.left ≡ p.marks → kept ≡ record reserved { left = reserved.left ++ mark_at (length text) o ∷ [] } →
+    IsSound (parts_of cut kept p.forms p.meta p.position p.output)
+sound_marked p n o old cut reserved kept text sound room above left right cut_is text_is reserved_is kept_is =
+    let left_is : cut.left ≡ p.text = ap (λ (e : Ends ℕ). e.left) cut_is ∙ left in
+    let right_is : cut.right ≡ drop n p.active = ap (λ (e : Ends ℕ). e.right) cut_is ∙ ap (λ (xs : List ℕ). drop n xs) right in
+    let marked : kept.left ≡ p.marks ++ mark_at (length p.text) o ∷ [] =
+    ap (λ (e : Ends Mark). e.left) kept_is ∙ ap (λ (ms : List Mark). ms ++ mark_at (length text) o ∷ []) reserved_is
+    ∙ ap (λ (xs : List ℕ). p.marks ++ mark_at (length xs) o ∷ []) (text_is ∙ left_is) in
+    subst IsSound (sym (same_parts p (parts_of cut kept p.forms p.meta p.position p.output) right_is left_is marked refl refl refl refl)) (sound_push p n o sound room above)
 
 -- ---- the front of the active text goes to the current text
 
@@ -75,6 +88,14 @@ has_marks p s sound view h = has_marks_by (length p.marks) (marks_of_view p s so
     has_marks_by : (n : ℕ) → marks s.state.frames ≡ n → 0 < n
     has_marks_by zero e = absurd (omega (arith, no_marks s.state.frames e))
     has_marks_by (suc n) e = omega arith
+
+-- where a test for no marks fails, there are some
+pub some_marks : (ms all : List Mark) (b : Bool) → b ≡ (length ms == 0) → b ≡ false → ms ≡ all → 0 < length all
+some_marks ms all b is unset same = some_by (length all) (sym unset ∙ is ∙ ap (λ (xs : List Mark). length xs == 0) same)
+  where
+    some_by : (n : ℕ) → false ≡ (n == 0) → 0 < n
+    some_by zero e = absurd (let unset : false ≡ true = e in cc)
+    some_by (suc n) e = omega arith
 
 -- ---- the texts after a protected one
 

@@ -1,10 +1,11 @@
 -- A call on the parts of a machine: what scanning asks for, and what stands after it.
-use Rattle.std.proofs.Common.{◌≡◌, ℕ, ◌+◌, ◌-◌, ◌<◌, List, [], ◌∷◌, ◌++◌, length, take, drop, get_or, reverse, refl, sym, ap, ◌∙◌, subst, arith, true, false, Bool}
+use Rattle.std.proofs.Common.{◌≡◌, ℕ, ◌+◌, ◌-◌, ◌<◌, ◌≤◌, List, [], ◌∷◌, ◌++◌, length, take, drop, get_or, reverse, refl, sym, ap, ◌∙◌, subst, arith, true, false, Bool}
 use Rattle.std.specs.Prelude.{Option, Some, None, is_some, IsSome, Ok}
 use Rattle.std.specs.FinMap as map
 use Rattle.std.proofs.lemmas.List.{length-take-le, length-drop, length-append}
 use Rattle.trac_rules.specs.declared.kind.Kind.{Kind}
 use Rattle.trac_rules.specs.declared.kind.Kind.TheVariants.{Active, Neutral}
+use Rattle.trac_rules.specs.declared.limit.TheConstants.{MARK_LIMIT}
 use Rattle.trac_rules.specs.declared.scan.Front.TheVariants.{Closing}
 use Rattle.trac_rules.specs.Bytes.{argument}
 use Rattle.trac_rules.specs.State.{Forms, State, Tape}
@@ -12,6 +13,7 @@ use Rattle.trac_rules.specs.Scanning.{Call, Scanned, Moves, Calls, front_of, sca
 use Rattle.trac_rules.specs.Performing.{Effect, after_call, effect_of, perform, performed_by, primitive_of}
 use Rattle.trac_prims.specs.declared.mark.Mark.{Mark}
 use Rattle.trac_prims.specs.Cuts.{AreArguments, BeginsFunction, cut}
+use Rattle.trac_prims.proofs.Cutting.{length-cut}
 use Rattle.trac_step.specs.Layout.{AreMarks, Parts, state_of, IsSound, Shown}
 use Rattle.trac_step.specs.Calling.{IfCalls, place_of}
 use Rattle.trac_step.proofs.Neutral.{AreMarks-longer}
@@ -60,6 +62,19 @@ pub scan_called : (p : Parts) (s : Shown) (k : ℕ) → IsCalling p s k →
 scan_called p s k at =
     let kind = IsSome-value (get_or p.marks k no_mark).frame at.begins.begins in
     (kind.0, kind.1, scan_closing p k no_mark at.sound.ordered at.begins.within kind.0 kind.1 at.begins.behind at.front)
+
+-- the arguments, cut out of a text and marks that are those of the parts
+pub arguments_at : (p : Parts) (k : ℕ) (texts : List (List ℕ)) (ms : List Mark) (text : List ℕ) → texts ≡ cut (place_of ms k) (drop (k + 1) ms) text → ms ≡ p.marks → text ≡ p.text →
+    texts ≡ cut (place_of p.marks k) (drop (k + 1) p.marks) p.text
+arguments_at p k texts ms text is marks_are text_is =
+    is ∙ ap (λ (xs : List Mark). cut (place_of xs k) (drop (k + 1) xs) text) marks_are ∙ ap (λ (xs : List ℕ). cut (place_of p.marks k) (drop (k + 1) p.marks) xs) text_is
+
+-- a call has no more arguments than there may be marks
+pub arguments_limited : (p : Parts) (s : Shown) (k : ℕ) → IsCalling p s k → (texts : List (List ℕ)) (ms : List Mark) (text : List ℕ) → texts ≡ cut (place_of ms k) (drop (k + 1) ms) text → ms ≡ p.marks → length texts ≤ MARK_LIMIT
+arguments_limited p s k at texts ms text is marks_are =
+    let counted : length texts ≡ length (drop (k + 1) ms) + 1 = ap length is ∙ length-cut (place_of ms k) (drop (k + 1) ms) text in
+    let same : length ms ≡ length p.marks = ap length marks_are in
+    omega (arith, counted, same, length-drop (k + 1) ms, at.begins.within, at.sound.mark_limit)
 
 pub if_calls : (p : Parts) (s : Shown) (call : Call) (P : Call → Type 0) → record { state = state_of p } ≡ s → scan (state_of p) ≡ Calls call → P call → IfCalls (scan s.state) P
 if_calls p s call P view scanned holds =

@@ -9,12 +9,10 @@ use Rattle.trac_gap.specs.Ends.{Ends}
 use Rattle.trac_rules.specs.declared.kind.Kind.{Kind}
 use Rattle.trac_rules.specs.declared.kind.Kind.TheVariants.{Active, Neutral}
 use Rattle.trac_rules.specs.declared.limit.TheConstants.{TEXT_LIMIT, MARK_LIMIT, OUTPUT_LIMIT}
-use Rattle.trac_rules.specs.declared.scan.Front.TheVariants.{Closing}
 use Rattle.trac_rules.specs.State.{Forms, State}
-use Rattle.trac_rules.specs.Scanning.{front_of, scan}
+use Rattle.trac_rules.specs.Scanning.{scan}
 use Rattle.trac_rules.specs.Limits.{text_bytes, marks, is_within_limits}
 use Rattle.trac_rules.proofs.Refusals.{beyond_limits_of_text}
-use Rattle.trac_prims.specs.Cuts.{BeginsFunction}
 use Rattle.trac_step.specs.Layout.{Parts, state_of, IsSound, Shown}
 use Rattle.trac_step.specs.Calling.{IfCalls, place_of, with_value}
 use Rattle.trac_step.proofs.Rules.{text_bytes-parts, marks-parts}

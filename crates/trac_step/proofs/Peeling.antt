@@ -8,7 +8,7 @@ use Rattle.trac_prims.specs.declared.mark.Mark.{Mark}
 use Rattle.trac_prims.specs.Cuts.{BeginsFunction, cut}
 use Rattle.trac_step.specs.Frames.{IsFrame}
 use Rattle.trac_step.specs.Calling.{place_of}
-use Rattle.trac_step.specs.Layout.{Neutral, marked, neutral, AreMarks}
+use Rattle.trac_step.specs.Layout.{Neutral, marked, neutral, AreMarks, Parts, state_of, IsSound, Shown}
 use Rattle.trac_step.proofs.Closing.{reverse_first, IsInnermost}
 use Rattle.trac_step.proofs.Ending.{innermost_at, marks_in_front, place_within}
 use Rattle.trac_step.proofs.Ended.{no_mark, with_text, IsSome-value}
@@ -95,3 +95,14 @@ base_of text m marks a =
 pub base_at : (text : List ℕ) (marks : List Mark) → AreMarks (length text) (reverse marks) → 0 < length marks → (neutral text (reverse marks)).base ≡ take (place_of marks 0) text
 base_at text [] a h = absurd (omega arith)
 base_at text (m ∷ marks) a h = base_of text m marks a
+
+-- the first mark is within the text, both as the code reads them
+pub first_within : (p : Parts) (ms : List Mark) (text : List ℕ) → IsSound p → 0 < length p.marks → ms ≡ p.marks → text ≡ p.text → place_of ms 0 ≤ length text
+first_within p ms text sound some marks_are text_is = rw (marks_are, text_is) (place_within p 0 no_mark sound.ordered some)
+
+-- the text before the first mark is the base text
+pub base_is : (p : Parts) (s : Shown) (ms : List Mark) (text front : List ℕ) → IsSound p → record { state = state_of p } ≡ s → 0 < length p.marks →
+    front ≡ take (place_of ms 0) text → ms ≡ p.marks → text ≡ p.text → front ≡ s.state.base
+base_is p s ms text front sound view some is marks_are text_is =
+    is ∙ ap (λ (xs : List Mark). take (place_of xs 0) text) marks_are ∙ ap (λ (xs : List ℕ). take (place_of p.marks 0) xs) text_is
+    ∙ sym (base_at p.text p.marks sound.ordered some) ∙ ap (λ (m : Shown). m.state.base) view

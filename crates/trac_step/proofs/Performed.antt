@@ -82,7 +82,7 @@ performed_parts p s k e at fits reserved cut shorter put all kept known forms ms
     refl refl (forms_are ∙ ap change known_are) (output_is ∙ ap (λ (more : List ℕ). p.output ++ more) printed_is) in
     record {
       sound = subst IsSound (sym q_is) (sound_after p s k at e.forced e.print.items e.value.items e.position change kind
-      (of_calls p s (call_at p k kind) (λ call. is_within_limits (ended_call e call) ≡ true) at.view called.2 fits));
+          (of_calls p s (call_at p k kind) (λ call. is_within_limits (ended_call e call) ≡ true) at.view called.2 fits));
       shows = if_calls p s (call_at p k kind) (λ call. state_of q ≡ ended_call e call) at.view called.2
-      (ap state_of q_is ∙ sym (ended_call-parts p k at.sound at.begins.within kind e.forced e.print.items e.value.items e.position change));
+          (ap state_of q_is ∙ sym (ended_call-parts p k at.sound at.begins.within kind e.forced e.print.items e.value.items e.position change));
     }

@@ -1,13 +1,10 @@
-use Rattle.std.proofs.Common.{◌≡◌, ℕ, ◌+◌, ◌-◌, ◌≤◌, List, length, sym, ap, ◌∙◌, subst, arith}
+use Rattle.std.proofs.Common.{◌≡◌, ℕ, ◌+◌, ◌-◌, ◌≤◌, length, sym, ap, ◌∙◌, subst, arith}
 use Rattle.std.specs.Prelude.{nat_le}
-use Rattle.trac_rules.specs.declared.scan.Front.TheVariants.{Closing}
 use Rattle.trac_rules.specs.declared.limit.TheConstants.{TEXT_LIMIT, OUTPUT_LIMIT}
-use Rattle.trac_rules.specs.Scanning.{front_of, scan}
+use Rattle.trac_rules.specs.Scanning.{scan}
 use Rattle.trac_rules.specs.Limits.{is_within_limits}
-use Rattle.trac_prims.specs.declared.mark.Mark.{Mark}
-use Rattle.trac_prims.specs.Cuts.{BeginsFunction}
 use Rattle.trac_prims.specs.Effects.{changed_by}
-use Rattle.trac_step.specs.Layout.{parts_of, Shown}
+use Rattle.trac_step.specs.Layout.{parts_of}
 use Rattle.trac_step.specs.Calling.{IfCalls, ended_call, place_of}
 use Rattle.trac_step.proofs.Ended.{is_calling}
 use Rattle.trac_step.proofs.Fitting.{kept_length, call_too_long, call_limited}
