@@ -8,6 +8,10 @@ ghost use Rattle.trac_rules.specs.State.{Forms, State, Tape, initial};
 ghost use Rattle.trac_rules.specs.Stepping.{step};
 
 use crate::byte::CLOSING;
+use crate::limit::{
+    FORM_COUNT_LIMIT, FORM_LIMIT, JOURNAL_LIMIT, MARK_LIMIT, NAME_LIMIT, OUTPUT_LIMIT, TAPE_LIMIT,
+    TEXT_LIMIT,
+};
 
 /// The match of a protecting `(`, which is found as the first place that fits, is the one of balanced texts:
 /// what is protected is the text before a `)` that has as many `(` as `)`, and no front of it has more `)` than `(`.
@@ -29,4 +33,17 @@ pub fn forms_stay_within_limits()
         AreWithinLimits (map.insert forms name form) }
     ensures necessary { (name : List ℕ) (form : Form) (forms : Forms) → AreWithinLimits (map.insert forms name form) →
         may_be_put name form forms ≡ true }
+{}
+
+/// The limits are those of this project's profile: bytes of texts, marks, bytes of a form, of a name and of the output, live
+/// forms, bytes of a tape, and records of a journal.
+pub fn limits_are_as_stated()
+    ensures texts { TEXT_LIMIT ≡ 16777216 }
+    ensures marks { MARK_LIMIT ≡ 1048576 }
+    ensures form { FORM_LIMIT ≡ 16777216 }
+    ensures name { NAME_LIMIT ≡ 16777216 }
+    ensures live_forms { FORM_COUNT_LIMIT ≡ 65536 }
+    ensures output { OUTPUT_LIMIT ≡ 16777216 }
+    ensures tape { TAPE_LIMIT ≡ 33554432 }
+    ensures journal { JOURNAL_LIMIT ≡ 1048576 }
 {}

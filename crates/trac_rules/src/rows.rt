@@ -159,6 +159,7 @@ pub fn worked_form_calls()
     ensures cut_called { Gives (texts_of (codes "cl,F,-,+")) ((codes "F", at_start (Byte 97 ∷ Gap 1 1 ∷ Gap 2 2 ∷ Gap 1 1 ∷ Byte 99 ∷ [])) ∷ []) (codes "a-+-c") }
     ensures cut_called_without_texts { Gives (texts_of (codes "cl,F")) ((codes "F", at_start (Byte 97 ∷ Gap 1 1 ∷ Gap 2 2 ∷ Gap 1 1 ∷ Byte 99 ∷ [])) ∷ []) (codes "ac") }
     ensures cut_called_with_one_text { Gives (texts_of (codes "cl,F,-")) ((codes "F", at_start (Byte 97 ∷ Gap 1 1 ∷ Gap 2 2 ∷ Gap 1 1 ∷ Byte 99 ∷ [])) ∷ []) (codes "a--c") }
+    ensures cut_called_with_a_null_text { Gives (texts_of (codes "cl,F,,+")) ((codes "F", at_start (Byte 97 ∷ Gap 1 1 ∷ Gap 2 2 ∷ Gap 1 1 ∷ Byte 99 ∷ [])) ∷ []) (codes "a+c") }
     ensures cut_called_with_a_surplus_text { Gives (texts_of (codes "cl,F,-,+,*")) ((codes "F", at_start (Byte 97 ∷ Gap 1 1 ∷ Gap 2 2 ∷ Gap 1 1 ∷ Byte 99 ∷ [])) ∷ []) (codes "a-+-c") }
     // A null text cuts nothing, and uses up its number.
     ensures null_text { Leaves (texts_of (codes "ss,F,,a")) ((codes "F", at_start (as_items (codes "banana"))) ∷ []) ((codes "F", at_start (Byte 98 ∷ Gap 2 1 ∷ Byte 110 ∷ Gap 2 1 ∷ Byte 110 ∷ Gap 2 1 ∷ [])) ∷ []) }

@@ -1,5 +1,5 @@
 //! Changing the forms as a call planned it.
-ghost use Rattle.std.specs.Prelude.{◌≡◌, IsOkUnless, OnOk};
+ghost use Rattle.std.specs.Prelude.{◌≡◌, IsOkUnless, OnErr, OnOk};
 ghost use Rattle.std.specs.FinMap as finite;
 ghost use Rattle.trac_rules.specs.Handling.{without};
 ghost use Rattle.trac_prims.specs.Effects.{changed_by, texts_of, with_pointer};
@@ -17,6 +17,7 @@ pub(crate) fn make_place<A: Allocator + Copy>(
 ) -> Result<(), Refusal>
     ensures place { OnOk result (HasPlace change.now store.new.known) }
     ensures kept { store.new.forms ≡ store.old.forms }
+    ensures unchanged { OnErr result (store.new ≡ store.old) }
     ensures err { IsOkUnless result Refusal.Memory }
 {
     match change {

@@ -88,6 +88,10 @@ pub returns-clause-cut_called_with_one_text : goal.returns-clause-cut_called_wit
 unfolding part cut_out digits
 returns-clause-cut_called_with_one_text c = row Call (texts_of (codes "cl,F,-")) ((codes "F", at_start (Byte 97 ∷ Gap 1 1 ∷ Gap 2 2 ∷ Gap 1 1 ∷ Byte 99 ∷ [])) ∷ []) ((codes "F", at_start (Byte 97 ∷ Gap 1 1 ∷ Gap 2 2 ∷ Gap 1 1 ∷ Byte 99 ∷ [])) ∷ []) (codes "a--c") [] refl (refl, (refl, refl))
 
+pub returns-clause-cut_called_with_a_null_text : goal.returns-clause-cut_called_with_a_null_text
+unfolding part cut_out digits
+returns-clause-cut_called_with_a_null_text c = row Call (texts_of (codes "cl,F,,+")) ((codes "F", at_start (Byte 97 ∷ Gap 1 1 ∷ Gap 2 2 ∷ Gap 1 1 ∷ Byte 99 ∷ [])) ∷ []) ((codes "F", at_start (Byte 97 ∷ Gap 1 1 ∷ Gap 2 2 ∷ Gap 1 1 ∷ Byte 99 ∷ [])) ∷ []) (codes "a+c") [] refl (refl, (refl, refl))
+
 pub returns-clause-cut_called_with_a_surplus_text : goal.returns-clause-cut_called_with_a_surplus_text
 unfolding part cut_out digits
 returns-clause-cut_called_with_a_surplus_text c = row Call (texts_of (codes "cl,F,-,+,*")) ((codes "F", at_start (Byte 97 ∷ Gap 1 1 ∷ Gap 2 2 ∷ Gap 1 1 ∷ Byte 99 ∷ [])) ∷ []) ((codes "F", at_start (Byte 97 ∷ Gap 1 1 ∷ Gap 2 2 ∷ Gap 1 1 ∷ Byte 99 ∷ [])) ∷ []) (codes "a-+-c") [] refl (refl, (refl, refl))
