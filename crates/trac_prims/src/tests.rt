@@ -361,3 +361,28 @@ fn a_value_that_is_too_long(rt: HostRuntime) -> Result<(), Fail> {
     assert!(rt; matches!(called_with(rt.alloc(), 4_097)?, Err(Refusal::TooLong)));
     Ok(())
 }
+
+// There may be 65,536 forms and no more; at that number a form can still be replaced.
+#[test]
+fn a_form_too_many(rt: HostRuntime) -> Result<(), Fail> {
+    let mut store = Store::new(rt.alloc());
+    for i in 0..65_535_u16 {
+        store_form(&mut store, &i.to_be_bytes(), Form::new(rt.alloc(), b"")?)?;
+    }
+    let marks = [behind(2), behind(3)];
+    let last = Args::new(b"dsAx", &marks, 0);
+    let effect = plan(rt.alloc(), &last, &store, INPUT, NOW)?;
+    puts(&rt, rt.alloc(), &effect, b"A", b"<^>x")?;
+    store_form(&mut store, b"A", Form::new(rt.alloc(), b"x")?)?;
+    let further = Args::new(b"dsBx", &marks, 0);
+    assert!(rt;
+        matches!(
+            plan(rt.alloc(), &further, &store, INPUT, NOW),
+            Err(Refusal::TooLong)
+        )
+    );
+    let again = Args::new(b"dsAy", &marks, 0);
+    let effect = plan(rt.alloc(), &again, &store, INPUT, NOW)?;
+    puts(&rt, rt.alloc(), &effect, b"A", b"<^>y")?;
+    Ok(())
+}
