@@ -1,8 +1,8 @@
 //! Each request for memory of a call refused in turn: the answer is `Memory`, and the next try is planned.
 ghost use Rattle.std.specs.Prelude.{◌≤◌, length};
 
-use crate::tests::{INPUT, NOW, behind, divided, with_form};
-use crate::{Args, Effect, plan};
+use crate::tests::{INPUT, NOW, behind, call_with, divided, with_form, with_gaps};
+use crate::{Args, Change, Effect, plan};
 use std::alloc::Global;
 use std::process::Abort;
 use std::test::*;
@@ -146,5 +146,45 @@ fn a_calculation(rt: HostRuntime) -> Result<(), Fail> {
     let args = Args::new(b"adapples5pears3", &marks, 0);
     let runs = memory.refuse_each(100, |_| survives(&rt, &memory, &args, b"apples8", b""))?;
     assert!(rt; runs > store_runs(&memory)?, "{runs:?} runs");
+    Ok(())
+}
+
+// It makes no request.
+#[test]
+fn a_deletion_of_all(rt: HostRuntime) -> Result<(), Fail> {
+    let memory = Refusing::new(rt.alloc());
+    let store = divided_store(&memory)?;
+    let args = Args::new(b"da", &[], 0);
+    memory.refuse_all();
+    let effect = plan(&memory, &args, &store, INPUT, NOW)?;
+    assert!(rt; matches!(effect.change, Change::Clear));
+    assert_eq!(rt; effect.value.as_slice(), b"".as_slice());
+    assert_eq!(rt; effect.print.as_slice(), b"".as_slice());
+    Ok(())
+}
+
+// A value of 16,781,312 bytes is refused as too long before a request for it is made; one of 16,777,216 is requested.
+#[test]
+fn a_value_that_is_too_long(rt: HostRuntime) -> Result<(), Fail> {
+    let memory = Refusing::new(rt.alloc());
+    let store = with_gaps(&memory)?;
+    let longer = call_with(&memory, 4_097)?;
+    let most = call_with(&memory, 4_096)?;
+    let marks = [behind(2), behind(3)];
+    memory.refuse_all();
+    let args = Args::new(longer.as_slice(), &marks, 0);
+    assert!(rt;
+        matches!(
+            plan(&memory, &args, &store, INPUT, NOW),
+            Err(Refusal::TooLong)
+        )
+    );
+    let args = Args::new(most.as_slice(), &marks, 0);
+    assert!(rt;
+        matches!(
+            plan(&memory, &args, &store, INPUT, NOW),
+            Err(Refusal::Memory)
+        )
+    );
     Ok(())
 }

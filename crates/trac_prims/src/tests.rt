@@ -1,5 +1,5 @@
 //! Calls and what is planned for them.
-ghost use Rattle.std.specs.Prelude.{◌≡◌, length, IfOk, None};
+ghost use Rattle.std.specs.Prelude.{◌≡◌, ◌+◌, length, IfOk, None};
 
 use crate::{Args, Change, Effect, Mark, Now, Tape, plan};
 use std::alloc::{AllocError, Allocator, Global};
@@ -316,7 +316,7 @@ fn all_forms_are_deleted(rt: HostRuntime) -> Result<(), Fail> {
 }
 
 // A text of this many letters.
-fn letters(alloc: Global, count: usize) -> Result<Vec<u8>, AllocError>
+fn letters<A: Allocator + Copy>(alloc: A, count: usize) -> Result<Vec<u8, A>, AllocError>
     ensures { IfOk result (λ text. length text.items ≡ count) }
 {
     let mut text = Vec::with_capacity(alloc, count)?;
@@ -325,18 +325,29 @@ fn letters(alloc: Global, count: usize) -> Result<Vec<u8>, AllocError>
 }
 
 // A store with a form of 4,096 gaps of number 1 under the name `F`.
-fn with_gaps(alloc: Global) -> Result<Store, FormError> {
+pub(crate) fn with_gaps<A: Allocator + Copy>(alloc: A) -> Result<Store<A>, FormError> {
     let row = letters(alloc, 4_096)?;
     let letter: [&[u8]; 1] = [b"x"];
     let form = Form::new(alloc, row.as_slice())?;
     with_form(alloc, form.segmented(&letter.as_slice())?)
 }
 
-// What a call of that form with a text of this many letters gives, which is 4,096 times as long.
-fn called_with(alloc: Global, count: usize) -> Result<Result<Effect, Refusal>, FormError> {
-    let store = with_gaps(alloc)?;
+// The texts of a call of that form, with a text of this many letters.
+pub(crate) fn call_with<A: Allocator + Copy>(
+    alloc: A,
+    count: usize,
+) -> Result<Vec<u8, A>, AllocError>
+    ensures { IfOk result (λ text. length text.items ≡ 3 + count) }
+{
     let mut text = Vec::from_slice(alloc, b"clF")?;
     text.extend_from_slice(letters(alloc, count)?.as_slice())?;
+    Ok(text)
+}
+
+// What that call gives, which is 4,096 times as long as its text.
+fn called_with(alloc: Global, count: usize) -> Result<Result<Effect, Refusal>, FormError> {
+    let store = with_gaps(alloc)?;
+    let text = call_with(alloc, count)?;
     let marks = [behind(2), behind(3)];
     let args = Args::new(text.as_slice(), &marks, 0);
     Ok(plan(alloc, &args, &store, INPUT, NOW))
@@ -348,5 +359,30 @@ fn a_value_that_is_too_long(rt: HostRuntime) -> Result<(), Fail> {
     let most = called_with(rt.alloc(), 4_096)??;
     assert_eq!(rt; most.value.len(), 16_777_216);
     assert!(rt; matches!(called_with(rt.alloc(), 4_097)?, Err(Refusal::TooLong)));
+    Ok(())
+}
+
+// There may be 65,536 forms and no more; at that number a form can still be replaced.
+#[test]
+fn a_form_too_many(rt: HostRuntime) -> Result<(), Fail> {
+    let mut store = Store::new(rt.alloc());
+    for i in 0..65_535_u16 {
+        store_form(&mut store, &i.to_be_bytes(), Form::new(rt.alloc(), b"")?)?;
+    }
+    let marks = [behind(2), behind(3)];
+    let last = Args::new(b"dsAx", &marks, 0);
+    let effect = plan(rt.alloc(), &last, &store, INPUT, NOW)?;
+    puts(&rt, rt.alloc(), &effect, b"A", b"<^>x")?;
+    store_form(&mut store, b"A", Form::new(rt.alloc(), b"x")?)?;
+    let further = Args::new(b"dsBx", &marks, 0);
+    assert!(rt;
+        matches!(
+            plan(rt.alloc(), &further, &store, INPUT, NOW),
+            Err(Refusal::TooLong)
+        )
+    );
+    let again = Args::new(b"dsAy", &marks, 0);
+    let effect = plan(rt.alloc(), &again, &store, INPUT, NOW)?;
+    puts(&rt, rt.alloc(), &effect, b"A", b"<^>y")?;
     Ok(())
 }
