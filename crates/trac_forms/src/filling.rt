@@ -12,7 +12,7 @@ use trac_rules::limit::TEXT_LIMIT;
 
 impl<A: Allocator + Copy> Form<A> {
     /// How many bytes a call with these texts would give, found without building them; `None` where these are more than
-    /// 16,777,216. It takes no memory.
+    /// 16,777,216 (this project's profile). It takes no memory.
     pub fn call_len<T: Texts>(&self, args: &T) -> Option<usize>
         ensures { SomeIff result (length (called (T.texts args.now) self.now) ≤ TEXT_LIMIT) (length (called (T.texts args.now) self.now)) }
     {
@@ -29,6 +29,7 @@ impl<A: Allocator + Copy> Form<A> {
 
     /// Puts the value of a call with these texts at the end of `out`: the bytes behind the pointer, with each gap replaced
     /// by the text of its number, which counts from 1. A text that is missing is null. The pointer stays.
+    /// This is the rule of `cl`; that it starts at the pointer is this project's profile.
     ///
     /// Refused with `Memory` where the allocator refuses; then `out` still begins with what it held.
     pub fn call_into<T: Texts, B: Allocator>(

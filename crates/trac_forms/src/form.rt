@@ -35,7 +35,8 @@ impl<A: Allocator + Copy> Model for Form<A> {
 impl<A: Allocator + Copy> Form<A> {
     /// A form of the bytes of `text`, with its pointer at the start.
     ///
-    /// Refused with `TooLong` where `text` has more than 16,777,216 bytes, and with `Memory` where the allocator refuses.
+    /// Refused with `TooLong` where `text` has more than 16,777,216 bytes (this project's profile), and with `Memory` where the
+    /// allocator refuses.
     pub fn new(alloc: A, text: &[u8]) -> Result<Self, FormError>
         ensures made { IfOk result (λ f. f ≡ defined text.now) }
         ensures fits { OnOk result (length text.now ≤ FORM_LIMIT) }
@@ -51,7 +52,7 @@ impl<A: Allocator + Copy> Form<A> {
     /// A form of these items, with its pointer between the two lists. Each gap has to be at least one byte wide.
     ///
     /// Refused with `TooLong` where there are more than 16,777,216 items, or where their bytes and the widths of their gaps
-    /// are more than that together; and with `Memory` where the allocator refuses.
+    /// are more than that together (this project's profile); and with `Memory` where the allocator refuses.
     pub fn of(alloc: A, before: &[Item], after: &[Item]) -> Result<Self, FormError>
         requires { All IsWide (before.now ++ after.now) }
         ensures made { IfOk result (λ f. f ≡ record { before = before.now; after = after.now }) }
@@ -72,7 +73,7 @@ impl<A: Allocator + Copy> Form<A> {
         })
     }
 
-    /// How many items the form has, gaps counted like bytes.
+    /// How many items the form has, gaps counted like bytes. It takes no memory.
     pub fn len(&self) -> usize
         ensures len { result ≡ length (all_items self.now) }
         ensures within { extent (all_items self.now) ≤ FORM_LIMIT }

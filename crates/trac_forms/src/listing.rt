@@ -12,7 +12,7 @@ use indexmap::IndexMap;
 use std::alloc::Allocator;
 
 impl<A: Allocator + Copy> Store<A> {
-    /// The names of the forms, rising by their bytes. Names without a form are not among them.
+    /// The names of the forms, rising by their bytes (this project's profile). Names without a form are not among them.
     /// Refused with `Memory` where the allocator refuses.
     pub fn names(&self) -> Result<Vec<&[u8], A>, FormError>
         ensures names { IfOk result (λ names. map (λ name. name.now) names.items ≡ names_of self.now.forms) }

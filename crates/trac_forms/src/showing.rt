@@ -11,7 +11,8 @@ use trac_rules::item::Item;
 use trac_rules::limit::OUTPUT_LIMIT;
 
 impl<A: Allocator + Copy> Form<A> {
-    /// How many bytes `show_into` would give, found without building them; `None` where these are more than 16,777,216.
+    /// How many bytes `show_into` would give, found without building them; `None` where these are more than 16,777,216
+    /// (this project's profile).
     /// It takes no memory.
     pub fn show_len(&self) -> Option<usize>
         ensures { SomeIff result (length (shown self.now) ≤ OUTPUT_LIMIT) (length (shown self.now)) }
@@ -23,7 +24,7 @@ impl<A: Allocator + Copy> Form<A> {
     }
 
     /// Puts the form as it is printed at the end of `out`: its bytes, each gap of ordinal k as `<k>`, and `<^>` at the
-    /// place of the pointer.
+    /// place of the pointer, also at an end. This is the rule of `pf`, in this project's profile.
     ///
     /// Refused with `Memory` where the allocator refuses; then `out` still begins with what it held.
     pub fn show_into<B: Allocator>(&self, out: &mut Vec<u8, B>) -> Result<(), FormError>

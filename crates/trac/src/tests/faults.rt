@@ -15,7 +15,8 @@ const INPUT: &[u8; 10] = b"#(ps,A)'B'";
 const SHORT_INPUT: &[u8; 3] = b"AB'";
 
 // Prints `AB` by calls on a form.
-const FORMS: &[u8; 43] = b"#(ds,a,AxB)'#(ss,a,x)#(cl,a)#(dd,a)#(pf,a)'";
+const FORMS: &[u8; 73] =
+    b"#(ds,a,AxB)'#(ss,a,x)#(cl,a)#(cr,a)#(eq,#(ln,),a,,no)#(dd,a)#(pf,a)#(da)'";
 
 const OPTIONS: Options = Options {
     budget: 1_000,

@@ -16,7 +16,7 @@ const SEGMENTED_TWICE: &[u8; 48] = b"#(ds,F,yxb)'#(ss,F,y)'#(pf,F)'#(ss,F,x)'#(p
 const DEFINED_AGAIN: &[u8; 36] = b"#(ds,a,1)'#(dd,a)'#(ds,a,2)'#(cl,a)'";
 
 // What each input prints.
-const RUNS: [(&[u8], &[u8]); 19] = [
+const RUNS: [(&[u8], &[u8]); 20] = [
     (
         b"#(ds,AA,Cat)'#(ds,BB,(#(cl,AA)))'#(ps,(#(cl,BB)))'#(ps,##(cl,BB))'#(ps,#(cl,BB))'",
         b"#(cl,BB)#(cl,AA)Cat",
@@ -37,6 +37,8 @@ const RUNS: [(&[u8], &[u8]); 19] = [
     (b"#(ds,F,axb)#(ss,F,x)#(ss,F,ab)#(pf,F)'", b"<^>a<1>b"),
     // A missing text is null, and a further one plays no part.
     (b"#(ds,F,abc)#(ss,F,a,c)#(cl,F,1)#(cl,F,1,2,3)'", b"1b1b2"),
+    // A null text before another leaves each gap its own.
+    (b"#(ds,F,abcabc)#(ss,F,b,ca)#(cl,F,,+)'", b"a+c"),
     // Names rise by their bytes, each with the text before it.
     (b"#(ds,b,1)#(ds,a,2)##(ln,(,))'", b",a,b"),
     (b"#(ds,ab,1)#(ds,B,2)#(ds,a,3)##(ln,;)'", b";B;a;ab"),
