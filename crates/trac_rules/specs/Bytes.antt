@@ -1,5 +1,5 @@
 -- Texts are lists of bytes, each a number below 256. Null is the empty list.
-use Rattle.std.specs.Prelude.{ℕ, ◌==◌, List, [], ◌∷◌, suc, if◌then◌else◌, Bool, get_or, codes}
+use Rattle.std.specs.Prelude.{ℕ, zero, suc, ◌==◌, List, [], ◌∷◌, if◌then◌else◌, Bool, cond, Option, None, Some, codes}
 
 -- how often a byte stands in a text
 abbrev pub count_of : ℕ → List ℕ → ℕ
@@ -11,9 +11,14 @@ abbrev pub longest_tail : (List ℕ → Bool) → List ℕ → List ℕ
 longest_tail passes [] = []
 longest_tail passes (b ∷ bs) = if passes (b ∷ bs) then b ∷ bs else longest_tail passes bs
 
--- the argument of this number, the name being number 0; null where it is missing
-abbrev pub argument : ℕ → List (List ℕ) → List ℕ
-argument k arguments = get_or arguments k []
+-- the first of the places below n that passes the test
+abbrev pub first_place : (ℕ → Bool) → ℕ → Option ℕ
+first_place passes zero = None
+first_place passes (suc n) = or_next (first_place passes n) (cond (passes n) (Some n) None)
+  where
+    or_next : Option ℕ → Option ℕ → Option ℕ
+    or_next None next = next
+    or_next (Some k) next = Some k
 
 -- what a processor with nothing to do runs: it reads a text of the input, scans it, and prints what that leaves
 abbrev pub idle_program : List ℕ

@@ -5,22 +5,10 @@ use Rattle.trac_rules.specs.declared.primitive.Computation.{Computation}
 use Rattle.trac_rules.specs.declared.primitive.Computation.TheVariants.{Equal, Greater, Calculate, Union, Meet, Complement, Shift, Rotate}
 use Rattle.trac_rules.specs.declared.primitive.Operation.{Operation}
 use Rattle.trac_rules.specs.declared.primitive.Operation.TheVariants.{Add, Subtract, Multiply, Divide}
-use Rattle.trac_rules.specs.Bytes.{argument}
+use Rattle.trac_rules.specs.State.{Storage}
+use Rattle.trac_rules.specs.Effect.{Effect, argument, gives, gives_or_forces}
 use Rattle.trac_rules.specs.Number.{calculated, difference_of, is_greater, number_of, numeral_of, product_of, quotient_of, sum_of}
 use Rattle.trac_rules.specs.Octal.{bits_of, complement, meet, octal_tail, rotate, shift, text_of, union}
-
--- a text, and whether it is forced
-pub record Value : Type 0 where
-  pub text : List ℕ
-  pub forced : Bool
-
-abbrev pub plain : List ℕ → Value
-plain text = record { text = text; forced = false }
-
--- a result; where there is none the default argument, which is forced
-abbrev pub or_forced : Option (List ℕ) → List ℕ → Value
-or_forced (Some text) other = plain text
-or_forced None other = record { text = other; forced = true }
 
 -- a decision gives the argument behind the two that it looks at, or the one behind that
 abbrev pub chosen : Bool → List (List ℕ) → List ℕ
@@ -47,13 +35,14 @@ moved by None bits = []
 abbrev pub number_argument : ℕ → List (List ℕ) → Option ℤ
 number_argument k arguments = number_of (numeral_of (argument k arguments))
 
-abbrev pub computed : Computation → List (List ℕ) → Value
-computed Equal arguments = plain (chosen (bytes_eq (argument 1 arguments) (argument 2 arguments)) arguments)
-computed Greater arguments = plain (chosen (is_greater (numeral_of (argument 1 arguments)) (numeral_of (argument 2 arguments))) arguments)
+-- the value of a computation of these arguments; nothing else changes
+abbrev pub computed : Computation → List (List ℕ) → Storage → Effect
+computed Equal arguments = gives (chosen (bytes_eq (argument 1 arguments) (argument 2 arguments)) arguments)
+computed Greater arguments = gives (chosen (is_greater (numeral_of (argument 1 arguments)) (numeral_of (argument 2 arguments))) arguments)
 computed (Calculate operation) arguments =
-    or_forced (calculated (result_of operation) (argument 1 arguments) (argument 2 arguments)) (argument 3 arguments)
-computed Union arguments = plain (text_of (union (octal_argument 1 arguments) (octal_argument 2 arguments)))
-computed Meet arguments = plain (text_of (meet (octal_argument 1 arguments) (octal_argument 2 arguments)))
-computed Complement arguments = plain (text_of (complement (octal_argument 1 arguments)))
-computed Shift arguments = plain (moved shift (number_argument 1 arguments) (octal_argument 2 arguments))
-computed Rotate arguments = plain (moved rotate (number_argument 1 arguments) (octal_argument 2 arguments))
+    gives_or_forces (calculated (result_of operation) (argument 1 arguments) (argument 2 arguments)) (argument 3 arguments)
+computed Union arguments = gives (text_of (union (octal_argument 1 arguments) (octal_argument 2 arguments)))
+computed Meet arguments = gives (text_of (meet (octal_argument 1 arguments) (octal_argument 2 arguments)))
+computed Complement arguments = gives (text_of (complement (octal_argument 1 arguments)))
+computed Shift arguments = gives (moved shift (number_argument 1 arguments) (octal_argument 2 arguments))
+computed Rotate arguments = gives (moved rotate (number_argument 1 arguments) (octal_argument 2 arguments))

@@ -1,7 +1,7 @@
 -- What a run still writes from a session, however its input goes on.
 use Rattle.std.specs.Prelude.{ℕ, List, ◌++◌, true}
 use Rattle.trac_rules.specs.State.{Tape}
-use Rattle.trac_rules.specs.Session.{PlainSession}
+use Rattle.trac_rules.specs.Session.{PlainSession, over}
 use Rattle.trac_rules.specs.Running.{Output, output_from}
 
 -- the tape once this much more is fed, and the end
@@ -14,4 +14,4 @@ prepended text o = record { bytes = text ++ o.bytes; stop = o.stop }
 
 -- what a run of at most n more steps still writes from here, its pending output first
 abbrev pub going_on_from : PlainSession → List ℕ → ℕ → Output
-going_on_from p more n = prepended p.last.output (output_from n (whole p.tape more) p.last)
+going_on_from p more n = prepended p.last.output (output_from n (over (whole p.tape more)) p.last)

@@ -9,10 +9,14 @@ pub mod Showing
 pub mod Listing
 pub mod Scanning
 pub mod Limits
+pub mod Proper
 pub mod Number
 pub mod Octal
+pub mod Effect
+pub mod Reading
 pub mod Computing
 pub mod Handling
+pub mod Outcomes
 pub mod Performing
 pub mod Stepping
 pub mod Session

@@ -1,5 +1,5 @@
 -- The limits on a state (this project's profile).
-use Rattle.std.specs.Prelude.{◌≡◌, ℕ, ◌+◌, ◌≤◌, ◌&&◌, nat_le, List, [], ◌∷◌, length, Bool, true, Some}
+use Rattle.std.specs.Prelude.{ℕ, ◌+◌, ◌&&◌, nat_le, List, [], ◌∷◌, length, Bool}
 use Rattle.std.specs.FinMap as map
 use Rattle.trac_rules.specs.declared.limit.TheConstants.{TEXT_LIMIT, MARK_LIMIT, FORM_LIMIT, NAME_LIMIT, FORM_COUNT_LIMIT, OUTPUT_LIMIT}
 use Rattle.trac_rules.specs.Form.{Form, all_items, extent}
@@ -25,8 +25,8 @@ abbrev pub text_bytes : State → ℕ
 text_bytes s = length s.active + length s.base + argument_bytes s.frames
 
 -- whether texts, marks and output are within the limits; forms are judged where a step changes them, as stated below
-unfoldable pub is_within_limits : State → Bool
-is_within_limits s =
+unfoldable pub texts_fit : State → Bool
+texts_fit s =
     nat_le (text_bytes s) TEXT_LIMIT && nat_le (marks s.frames) MARK_LIMIT && nat_le (length s.output) OUTPUT_LIMIT
 
 -- ---- forms
@@ -36,12 +36,7 @@ abbrev pub form_fits : List ℕ → Form → Bool
 form_fits name form = nat_le (length name) NAME_LIMIT && nat_le (length (all_items form)) FORM_LIMIT && nat_le (extent (all_items form)) FORM_LIMIT
 
 -- whether forms that are within the limits stay so when this one is put among them. `ds` and `ss` are judged so; `cr`, `dd` and `da`
--- cannot pass a limit. Where the forms are within the limits before a step, that is the same as judging all forms after it (the law
--- `forms_stay_within_limits`)
+-- cannot pass a limit. Where a state is proper before a step, that is the same as judging all of it afterwards (the law
+-- `states_stay_proper`)
 unfoldable pub may_be_put : List ℕ → Form → Forms → Bool
 may_be_put name form forms = form_fits name form && nat_le (map.len (map.insert forms name form)) FORM_COUNT_LIMIT
-
--- all forms are within the limits: their number, and each of them with its name
-pub record AreWithinLimits (forms : Forms) : Type 0 where
-  pub count : map.len forms ≤ FORM_COUNT_LIMIT
-  pub each : (name : List ℕ) → (form : Form) → map.get forms name ≡ Some form → form_fits name form ≡ true

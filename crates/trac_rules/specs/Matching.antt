@@ -1,16 +1,7 @@
 -- Which `)` matches a protecting `(`. Every `(` and `)` is counted, and nothing else.
-use Rattle.std.specs.Prelude.{◌≡◌, ℕ, zero, suc, ◌+◌, ◌≤◌, ◌==◌, ◌&&◌, List, [], length, take, drop, slice_index, Bool, cond, Option, None, Some}
+use Rattle.std.specs.Prelude.{◌≡◌, ℕ, ◌+◌, ◌≤◌, ◌==◌, ◌&&◌, List, [], length, take, drop, slice_index, Bool, Option, None, Some}
 use Rattle.trac_rules.specs.declared.byte.TheConstants.{OPENING, CLOSING}
-use Rattle.trac_rules.specs.Bytes.{count_of}
-
--- the first of the places below n that passes the test
-abbrev pub first_place : (ℕ → Bool) → ℕ → Option ℕ
-first_place passes zero = None
-first_place passes (suc n) = or_next (first_place passes n) (cond (passes n) (Some n) None)
-  where
-    or_next : Option ℕ → Option ℕ → Option ℕ
-    or_next None next = next
-    or_next (Some k) next = Some k
+use Rattle.trac_rules.specs.Bytes.{count_of, first_place}
 
 -- at this place stands a `)`, and before it there are as many `(` as `)`
 abbrev pub closes_at : List ℕ → ℕ → Bool

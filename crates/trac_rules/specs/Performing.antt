@@ -1,103 +1,48 @@
 -- What the primitives do, and where their values go.
-use Rattle.std.specs.Prelude.{ℕ, ◌+◌, ◌==◌, List, [], ◌∷◌, ◌++◌, length, take, drop, if◌then◌else◌, Bool, true, false, Option, None, Some, Result, Ok, Err, codes, position}
+use Rattle.std.specs.Prelude.{ℕ, ◌+◌, List, [], ◌∷◌, ◌++◌, find, Bool, true, false, Option, None, Some, Result, Ok, codes}
 use Rattle.std.specs.List.{join_with_byte}
+use Rattle.std.specs.Option.{unwrap_or}
 use Rattle.std.specs.Str.{str_eq_ignore_ascii_case}
 use Rattle.trac_rules.specs.declared.byte.TheConstants.{STAR, CLOSING, LINE_FEED}
 use Rattle.trac_rules.specs.declared.kind.Kind.{Kind}
 use Rattle.trac_rules.specs.declared.kind.Kind.TheVariants.{Active, Neutral}
 use Rattle.trac_rules.specs.declared.primitive.Primitive.{Primitive}
 use Rattle.trac_rules.specs.declared.primitive.Primitive.TheVariants.{PrintString, ReadString, Compute, Handle, Unknown}
-use Rattle.trac_rules.specs.declared.primitive.Computation.TheVariants.{Equal, Greater, Calculate, Union, Meet, Complement, Shift, Rotate}
-use Rattle.trac_rules.specs.declared.primitive.Operation.TheVariants.{Add, Subtract, Multiply, Divide}
-use Rattle.trac_rules.specs.declared.primitive.FormAction.TheVariants.{Define, Delete, DeleteAll, Segment, Restore, ListNames, PrintForm, Call as CallForm}
+use Rattle.trac_rules.specs.declared.primitive.Named.{Named}
+use Rattle.trac_rules.specs.declared.primitive.TheConstants.{NAMES}
 use Rattle.trac_rules.specs.declared.refusal.Refusal.{Refusal}
-use Rattle.trac_rules.specs.declared.refusal.Refusal.TheVariants.{NeedInput, Ended}
-use Rattle.trac_rules.specs.Bytes.{argument}
-use Rattle.trac_rules.specs.Computing.{Value, computed}
-use Rattle.trac_rules.specs.Handling.{Handled, handled}
-use Rattle.trac_rules.specs.State.{State, Tape}
+use Rattle.trac_rules.specs.Computing.{computed}
+use Rattle.trac_rules.specs.Effect.{Effect, argument, leaves, prints}
+use Rattle.trac_rules.specs.Handling.{handled}
+use Rattle.trac_rules.specs.Outcomes.{seen_as}
+use Rattle.trac_rules.specs.Reading.{string_read, unread}
 use Rattle.trac_rules.specs.Scanning.{Call, gather}
+use Rattle.trac_rules.specs.State.{Environment, State, storage_of}
 
 -- ---- names
 
--- what a name stands for, each letter in either case (this project's profile)
+-- what an entry of a table of names stands for, if there is one
+abbrev pub named_primitive : Option Named → Primitive
+named_primitive None = Unknown
+named_primitive (Some entry) = entry.primitive
+
+-- what a name stands for by a table: the first entry of these letters, each in either case (this project's profile)
+abbrev pub looked_up : List Named → List ℕ → Primitive
+looked_up table name = named_primitive (find (λ entry. str_eq_ignore_ascii_case name entry.letters) table)
+
+-- what a name stands for; an unknown name is no primitive's (this project's profile)
 abbrev pub primitive_of : List ℕ → Primitive
-primitive_of name =
-    if str_eq_ignore_ascii_case name (codes "ps") then PrintString else
-    if str_eq_ignore_ascii_case name (codes "rs") then ReadString else
-    if str_eq_ignore_ascii_case name (codes "eq") then Compute Equal else
-    if str_eq_ignore_ascii_case name (codes "gr") then Compute Greater else
-    if str_eq_ignore_ascii_case name (codes "ad") then Compute (Calculate Add) else
-    if str_eq_ignore_ascii_case name (codes "su") then Compute (Calculate Subtract) else
-    if str_eq_ignore_ascii_case name (codes "ml") then Compute (Calculate Multiply) else
-    if str_eq_ignore_ascii_case name (codes "dv") then Compute (Calculate Divide) else
-    if str_eq_ignore_ascii_case name (codes "bu") then Compute Union else
-    if str_eq_ignore_ascii_case name (codes "bi") then Compute Meet else
-    if str_eq_ignore_ascii_case name (codes "bc") then Compute Complement else
-    if str_eq_ignore_ascii_case name (codes "bs") then Compute Shift else
-    if str_eq_ignore_ascii_case name (codes "br") then Compute Rotate else
-    if str_eq_ignore_ascii_case name (codes "ds") then Handle Define else
-    if str_eq_ignore_ascii_case name (codes "dd") then Handle Delete else
-    if str_eq_ignore_ascii_case name (codes "da") then Handle DeleteAll else
-    if str_eq_ignore_ascii_case name (codes "ss") then Handle Segment else
-    if str_eq_ignore_ascii_case name (codes "cr") then Handle Restore else
-    if str_eq_ignore_ascii_case name (codes "cl") then Handle CallForm else
-    if str_eq_ignore_ascii_case name (codes "ln") then Handle ListNames else
-    if str_eq_ignore_ascii_case name (codes "pf") then Handle PrintForm else
-    Unknown
+primitive_of name = looked_up NAMES name
 
--- ---- effects
+-- ---- primitives
 
--- what a primitive does: its value, whether the value is forced, what it prints, and the state with its other changes
-pub record Effect : Type 0 where
-  pub value : List ℕ
-  pub forced : Bool
-  pub printed : List ℕ
-  pub state : State
-
--- a null value and nothing else
-abbrev pub no_effect : State → Effect
-no_effect s = record { value = []; forced = false; printed = []; state = s }
-
--- a value and nothing else
-abbrev pub gives : Value → State → Effect
-gives value s = record { value = value.text; forced = value.forced; printed = []; state = s }
-
--- prints a text
-abbrev pub prints : List ℕ → State → Effect
-prints text s = record { value = []; forced = false; printed = text; state = s }
-
--- what comes of a call that looks at the forms or changes them, unless it is refused
-abbrev pub handles : Result Handled Refusal → State → Result Effect Refusal
-handles (Ok h) s = Ok (record { value = h.value; forced = false; printed = h.printed; state = record s { forms = h.forms } })
-handles (Err refusal) s = Err refusal
-
--- a value read from the input, which takes n bytes of the tape
-abbrev pub reads : List ℕ → ℕ → State → Effect
-reads value n s = record { value = value; forced = false; printed = []; state = record s { position = s.position + n } }
-
--- the input that is not read yet
-abbrev pub unread : Tape → State → List ℕ
-unread tape s = drop s.position tape.bytes
-
--- `rs` where no meta character stands in the rest of the input, with whether the input has ended:
--- then the whole rest is given if it is not null (this project's profile)
-abbrev pub read_rest : List ℕ → Bool → State → Result Effect Refusal
-read_rest rest false s = Err NeedInput
-read_rest [] true s = Err Ended
-read_rest (b ∷ rest) true s = Ok (reads (b ∷ rest) (length (b ∷ rest)) s)
-
--- `rs`, with the place of the first meta character in the unread input: that byte is read and not given
-abbrev pub read_up_to : Option ℕ → Tape → State → Result Effect Refusal
-read_up_to (Some k) tape s = Ok (reads (take k (unread tape s)) (k + 1) s)
-read_up_to None tape s = read_rest (unread tape s) tape.ended s
-
-abbrev pub effect_of : Primitive → Tape → List (List ℕ) → State → Result Effect Refusal
-effect_of PrintString tape arguments s = Ok (prints (argument 1 arguments) s)
-effect_of ReadString tape arguments s = read_up_to (position (λ b. b == s.meta) (unread tape s)) tape s
-effect_of (Compute computation) tape arguments s = Ok (gives (computed computation arguments) s)
-effect_of (Handle action) tape arguments s = handles (handled action arguments s.forms) s
-effect_of Unknown tape arguments s = Ok (no_effect s)
+-- what a primitive does with these arguments, its name being the first, in this state: it sees no texts
+abbrev pub effect_of : Primitive → Environment → List (List ℕ) → State → Result Effect Refusal
+effect_of PrintString environment arguments s = Ok (prints (argument 1 arguments) (storage_of s))
+effect_of ReadString environment arguments s = string_read (unread environment.tape s) environment.tape.ended s.meta (storage_of s)
+effect_of (Compute computation) environment arguments s = Ok (computed computation arguments (storage_of s))
+effect_of (Handle action) environment arguments s = handled action arguments (storage_of s)
+effect_of Unknown environment arguments s = Ok (leaves (storage_of s))
 
 -- ---- a call
 
@@ -112,6 +57,16 @@ abbrev pub trace_line : Bool → Kind → List (List ℕ) → List ℕ
 trace_line false kind arguments = []
 trace_line true kind arguments = beginning_of kind ++ join_with_byte STAR arguments ++ CLOSING ∷ LINE_FEED ∷ []
 
+-- an effect with a text printed before all else
+abbrev pub printed_behind : List ℕ → Effect → Effect
+printed_behind line e = record e { printed = line ++ e.printed }
+
+-- what a call does: its primitive's effect, with the line of the trace printed first; the flag before the call decides
+unfoldable pub performed : Environment → Call → Result Effect Refusal
+performed environment call =
+    seen_as (printed_behind (trace_line call.state.trace call.kind call.arguments))
+    (effect_of (primitive_of (argument 0 call.arguments)) environment call.arguments call.state)
+
 -- where the value goes: that of an active function and every forced one before the active text, and any other to the current text;
 -- that a neutral function's value may be forced is this project's profile
 abbrev pub placed : Kind → Bool → List ℕ → State → State
@@ -119,17 +74,17 @@ placed Active forced value s = record s { active = value ++ s.active }
 placed Neutral true value s = record s { active = value ++ s.active }
 placed Neutral false value s = gather value s
 
--- the state after a call: the line of the trace is printed first, and the flag before the call decides
+-- the state with all that an effect changes, but for its value
+abbrev pub changed_by : Effect → State → State
+changed_by e s = record s {
+  forms = e.storage.forms;
+  blocks = e.storage.blocks;
+  meta = unwrap_or e.meta s.meta;
+  trace = unwrap_or e.trace s.trace;
+  position = s.position + e.read;
+  output = s.output ++ e.printed;
+}
+
+-- the state after a call with this effect
 abbrev pub after_call : Call → Effect → State
-after_call call e =
-    placed call.kind e.forced e.value (record e.state {
-      output = e.state.output ++ (trace_line call.state.trace call.kind call.arguments ++ e.printed);
-    })
-
-abbrev pub performed_by : Call → Result Effect Refusal → Result State Refusal
-performed_by call (Ok e) = Ok (after_call call e)
-performed_by call (Err refusal) = Err refusal
-
--- the state after a call, or why it is refused
-unfoldable pub perform : Tape → Call → Result State Refusal
-perform tape call = performed_by call (effect_of (primitive_of (argument 0 call.arguments)) tape call.arguments call.state)
+after_call call e = placed call.kind e.forced e.value (changed_by e call.state)

@@ -1,13 +1,13 @@
 -- Words for the worked rows: what a session is, and has replied, after a list of commands, and what a call does with forms.
-use Rattle.std.specs.Prelude.{◌≡◌, ℕ, ◌==◌, List, [], ◌∷◌, false, Ok}
+use Rattle.std.specs.Prelude.{◌≡◌, ℕ, ◌==◌, List, [], ◌∷◌, Ok}
 use Rattle.std.specs.FinMap as map
 use Rattle.std.specs.List.{slice_split}
 use Rattle.trac_rules.specs.declared.byte.TheConstants.{COMMA}
 use Rattle.trac_rules.specs.declared.reply.Reply.{Reply}
-use Rattle.trac_rules.specs.Bytes.{argument}
+use Rattle.trac_rules.specs.Effect.{argument, leaves}
 use Rattle.trac_rules.specs.Form.{Form}
 use Rattle.trac_rules.specs.Performing.{effect_of, primitive_of}
-use Rattle.trac_rules.specs.State.{State, Tape}
+use Rattle.trac_rules.specs.State.{Environment, State, storage_of}
 use Rattle.trac_rules.specs.Session.{PlainSession, Command, answer}
 
 -- ---- sessions
@@ -44,9 +44,9 @@ texts_of text = slice_split (λ b. b == COMMA) text
 -- nothing else changes
 abbrev pub Does : List (List ℕ) → Named → List ℕ → List ℕ → Named → Type 0
 Does arguments before value printed after =
-    (tape : Tape) → (s : State) →
-    effect_of (primitive_of (argument 0 arguments)) tape arguments (with_forms before s)
-    ≡ Ok (record { value = value; forced = false; printed = printed; state = with_forms after s })
+    (environment : Environment) → (s : State) →
+    effect_of (primitive_of (argument 0 arguments)) environment arguments (with_forms before s)
+    ≡ Ok (record (leaves (storage_of (with_forms after s))) { value = value; printed = printed })
 
 -- a call with a null value that prints nothing turns these forms into those
 abbrev pub Leaves : List (List ℕ) → Named → Named → Type 0

@@ -2,7 +2,7 @@
 use Rattle.std.specs.Prelude.{ℕ, zero, suc, List, [], ◌++◌, Result, Ok, Err, true}
 use Rattle.trac_rules.specs.declared.refusal.Refusal.{Refusal}
 use Rattle.trac_rules.specs.declared.refusal.Refusal.TheVariants.{TooLong, Ended}
-use Rattle.trac_rules.specs.State.{State, Tape, initial}
+use Rattle.trac_rules.specs.State.{Environment, State, initial}
 use Rattle.trac_rules.specs.Stepping.{step}
 
 -- how a run ends: the budget of steps is spent, the input has ended (or the program halts), or a limit would be passed
@@ -30,10 +30,10 @@ going_on (Ok t) rest = record { bytes = t.output ++ (rest t).bytes; stop = (rest
 going_on (Err refusal) rest = record { bytes = []; stop = stop_of refusal }
 
 -- a run of at most so many steps from a state: the output is emptied before each step
-unfoldable pub output_from : ℕ → Tape → State → Output
-output_from zero tape s = record { bytes = []; stop = BudgetSpent }
-output_from (suc n) tape s = going_on (step tape (silent s)) (λ t. output_from n tape t)
+unfoldable pub output_from : ℕ → Environment → State → Output
+output_from zero environment s = record { bytes = []; stop = BudgetSpent }
+output_from (suc n) environment s = going_on (step environment (silent s)) (λ t. output_from n environment t)
 
 -- a run over the whole input, within a budget of steps
 abbrev pub output_of : List ℕ → ℕ → Output
-output_of input budget = output_from budget (record { bytes = input; ended = true }) initial
+output_of input budget = output_from budget (record { tape = record { bytes = input; ended = true } }) initial

@@ -6,7 +6,7 @@ use Rattle.std.specs.Str.{bytes_eq}
 use Rattle.trac_rules.specs.declared.item.Item.{Item}
 use Rattle.trac_rules.specs.declared.item.Item.TheVariants.{Byte, Gap}
 use Rattle.trac_rules.specs.Form.{Form, all_items, at_start, as_items}
-use Rattle.trac_rules.specs.Matching.{first_place}
+use Rattle.trac_rules.specs.Bytes.{first_place}
 
 -- ---- one text in one run of bytes
 
@@ -14,10 +14,9 @@ use Rattle.trac_rules.specs.Matching.{first_place}
 abbrev pub stands_at : List ℕ → List ℕ → ℕ → Bool
 stands_at text run place = bytes_eq (take (length text) (drop place run)) text
 
--- the leftmost place at which a text stands in a run; a null text stands nowhere (this project's profile)
+-- the leftmost place at which a text stands in a run; a null text stands at its start
 abbrev pub leftmost : List ℕ → List ℕ → Option ℕ
-leftmost [] run = None
-leftmost (b ∷ text) run = first_place (stands_at (b ∷ text) run) (length run)
+leftmost text run = first_place (stands_at text run) (length run + 1)
 
 -- a run with the text of number k cut out at this place, if there is one, and what is behind it as `cut` leaves it
 abbrev pub cut_at : Option ℕ → ℕ → List ℕ → List ℕ → (List ℕ → List Item) → List Item
@@ -29,10 +28,11 @@ abbrev pub cut_up_to : ℕ → ℕ → List ℕ → List ℕ → List Item
 cut_up_to zero k text run = as_items run
 cut_up_to (suc n) k text run = cut_at (leftmost text run) k text run (cut_up_to n k text)
 
--- a run with the leftmost occurrences of the text of number k that do not overlap cut out: a run has no more of
--- them than bytes, so one round for each byte is enough, and the law `leftmost_is_cut_first` says the same without rounds
+-- a run with the leftmost occurrences of the text of number k that do not overlap cut out, of a null text none: a run has no more
+-- of them than bytes, so one round for each byte is enough, and the law `leftmost_is_cut_first` says the same without rounds
 unfoldable pub part : ℕ → List ℕ → List ℕ → List Item
-part k text run = cut_up_to (length run) k text run
+part k [] run = as_items run
+part k (b ∷ text) run = cut_up_to (length run) k (b ∷ text) run
 
 -- ---- one text in a form: no occurrence crosses a gap (this project's profile)
 

@@ -1,11 +1,12 @@
 -- The plain session: a limit, a tape, and a list of states that is never empty.
-use Rattle.std.specs.Prelude.{◌≡◌, ℕ, zero, suc, ◌+◌, ◌<◌, ◌≤◌, nat_lt, nat_le, List, [], ◌∷◌, ◌++◌, length, drop, if◌then◌else◌, true, false, Option, None, Some, Result, Ok, Err, MatchOption, option_and_then}
+use Rattle.std.specs.Prelude.{◌≡◌, ◌⊎◌, ℕ, zero, suc, ◌+◌, ◌-◌, ◌<◌, ◌≤◌, nat_lt, nat_le, List, [], ◌∷◌, ◌++◌, length, drop, if◌then◌else◌, Bool, true, false, Option, None, Some, Result, Ok, Err, MatchOption, option_and_then}
 use Rattle.trac_rules.specs.declared.limit.TheConstants.{TAPE_LIMIT}
 use Rattle.trac_rules.specs.declared.refusal.Refusal.{Refusal}
-use Rattle.trac_rules.specs.declared.refusal.Refusal.TheVariants.{Memory, TooLong, JournalFull, AtStart, Closed}
+use Rattle.trac_rules.specs.declared.refusal.Refusal.TheVariants.{TooLong, JournalFull, AtStart, Closed}
 use Rattle.trac_rules.specs.declared.reply.Reply.{Reply}
 use Rattle.trac_rules.specs.declared.reply.Reply.TheVariants.{Done, Refused}
-use Rattle.trac_rules.specs.State.{State, Tape, initial}
+use Rattle.trac_rules.specs.State.{Environment, State, Tape, initial}
+use Rattle.trac_rules.specs.Outcomes.{OrMemory}
 use Rattle.trac_rules.specs.Stepping.{step}
 
 pub record PlainSession : Type 0 where
@@ -55,14 +56,22 @@ abbrev pub backed_to : List State → PlainSession → Answer
 backed_to [] p = refused AtStart p
 backed_to (s ∷ earlier) p = done (record p { earlier = earlier; last = s })
 
--- the state with its output released, over a tape that has lost what is read
+-- what a step is given over this tape
+abbrev pub over : Tape → Environment
+over tape = record { tape = tape }
+
+-- the state with so many bytes off the front of its output, over a tape that has lost so many bytes
+abbrev pub released : ℕ → ℕ → State → State
+released output position s = record s { output = drop output s.output; position = s.position - position }
+
+-- the state with all its output released, over a tape that has lost what is read
 abbrev pub settled : State → State
-settled s = record s { output = []; position = 0 }
+settled s = released (length s.output) s.position s
 
 unfoldable pub answer : Command → PlainSession → Answer
 answer (Feed bytes) p = fed bytes p
 answer End p = done (record p { tape = record p.tape { ended = true } })
-answer Step p = if nat_lt (length p.earlier) p.limit then stepped_to (step p.tape p.last) p else refused JournalFull p
+answer Step p = if nat_lt (length p.earlier) p.limit then stepped_to (step (over p.tape) p.last) p else refused JournalFull p
 answer Back p = backed_to p.earlier p
 -- the last state alone stays, settled; the tape loses what is read
 answer Commit p = done (record p {
@@ -71,8 +80,9 @@ answer Commit p = done (record p {
   last = settled p.last;
 })
 
--- ---- the one free choice: memory may be refused in place of a feed's `Done` and of a step's `Done` or `TooLong`, and of nothing else
+-- ---- the one free choice: memory
 
+-- memory may be refused in place of a feed's `Done` and of a step's `Done` or `TooLong`, and of nothing else
 abbrev pub MayRunOut : Command → Reply → Type 0
 MayRunOut (Feed bytes) Done = Unit {0}
 MayRunOut Step Done = Unit {0}
@@ -81,8 +91,9 @@ MayRunOut command reply = ⊥
 
 -- from the session `old` the command may be answered so, and leave the session `new`
 abbrev pub Answers : Command → PlainSession → Reply → PlainSession → Type 0
-Answers command old (Refused Memory) new = MayRunOut command (answer command old).reply × (new ≡ old)
-Answers command old reply new = answer command old ≡ record { reply = reply; session = new }
+Answers command old Done new = answer command old ≡ done new
+Answers command old (Refused refusal) new =
+    OrMemory (MayRunOut command (answer command old).reply × (new ≡ old)) (λ said. answer command old ≡ refused said new) refusal
 
 -- ---- walks
 
@@ -99,11 +110,26 @@ abbrev pub repeated : Command → ℕ → PlainSession → Option PlainSession
 repeated command zero p = Some p
 repeated command (suc n) p = option_and_then (λ q. accepted_by (answer command q)) (repeated command n p)
 
--- a walk of at most n steps forward or back: `steps` of them were accepted, and a refusal ended it where that is fewer than n
-pub record IsWalk (command : Command) (n : ℕ) (old : PlainSession) (steps : ℕ) (why : Option Refusal) (new : PlainSession) : Type 0 where
+-- a goal of a walk: whether it is met at a state
+abbrev pub Goal : Type 0
+Goal = State → Bool
+
+-- the goal that is never met
+abbrev pub no_goal : Goal
+no_goal s = false
+
+-- a walk is over: all its steps were accepted, or it took one at least and its goal is met
+abbrev pub IsOver : Goal → ℕ → ℕ → PlainSession → Type 0
+IsOver goal n steps new = (steps ≡ n) ⊎ ((0 < steps) × (goal new.last ≡ true))
+
+-- a walk of at most n steps forward or back, to a goal: `steps` of them were accepted, the goal was not met before the last of
+-- them, and where the walk is not over then, a refusal ended it
+pub record IsWalk (command : Command) (goal : Goal) (n : ℕ) (old : PlainSession) (steps : ℕ) (why : Option Refusal) (new : PlainSession) : Type 0 where
   pub within : steps ≤ n
   pub walked : repeated command steps old ≡ Some new
-  pub stopped : MatchOption why (steps ≡ n) (λ refusal. (steps < n) × Answers command new (Refused refusal) new)
+  pub unmet : (k : ℕ) → (p : PlainSession) → 0 < k → k < steps → repeated command k old ≡ Some p → goal p.last ≡ false
+  pub stopped : MatchOption why (IsOver goal n steps new) (λ refusal.
+      (steps < n) × (0 < steps → goal new.last ≡ false) × Answers command new (Refused refusal) new)
 
 -- ---- lists of commands
 

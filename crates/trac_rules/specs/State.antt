@@ -23,6 +23,11 @@ Forms = FinMap (slice_cmp nat_cmp) Form
 abbrev pub Block : Type 0
 Block = Option (List (List ℕ × Form))
 
+-- form storage and block storage
+pub record Storage : Type 0 where
+  pub forms : Forms
+  pub blocks : List Block
+
 pub record State : Type 0 where
   -- what is not scanned yet
   pub active : List ℕ
@@ -41,10 +46,18 @@ pub record State : Type 0 where
   -- what is printed and not released yet
   pub output : List ℕ
 
+-- the storage of a state
+abbrev pub storage_of : State → Storage
+storage_of s = record { forms = s.forms; blocks = s.blocks }
+
 -- the input as far as it is known, and whether it ends there
 pub record Tape : Type 0 where
   pub bytes : List ℕ
   pub ended : Bool
+
+-- what a step is given beside the state
+pub record Environment : Type 0 where
+  pub tape : Tape
 
 -- the state in which a processor begins
 abbrev pub initial : State

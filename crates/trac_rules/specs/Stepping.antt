@@ -1,35 +1,30 @@
 -- One step.
-use Rattle.std.specs.Prelude.{◌≡◌, if◌then◌else◌, Result, Ok, Err}
+use Rattle.std.specs.Prelude.{List, ℕ, Option, None, Some, Result, Ok, Err}
 use Rattle.trac_rules.specs.declared.refusal.Refusal.{Refusal}
-use Rattle.trac_rules.specs.declared.refusal.Refusal.TheVariants.{Memory, TooLong}
-use Rattle.trac_rules.specs.State.{State, Tape}
+use Rattle.trac_rules.specs.State.{Environment, State}
 use Rattle.trac_rules.specs.Scanning.{Scanned, Moves, Calls, scan}
-use Rattle.trac_rules.specs.Performing.{perform}
-use Rattle.trac_rules.specs.Limits.{is_within_limits}
+use Rattle.trac_rules.specs.Effect.{argument}
+use Rattle.trac_rules.specs.Performing.{after_call, performed}
+use Rattle.trac_rules.specs.Limits.{texts_fit}
+use Rattle.trac_rules.specs.Outcomes.{limited, seen_as}
 
 -- what scanning and performing say, before the limits on texts, marks and output are looked at
-abbrev pub carried_out : Tape → Scanned → Result State Refusal
-carried_out tape (Moves t) = Ok t
-carried_out tape (Calls call) = perform tape call
+abbrev pub carried_out : Environment → Scanned → Result State Refusal
+carried_out environment (Moves t) = Ok t
+carried_out environment (Calls call) = seen_as (after_call call) (performed environment call)
 
--- only the state after the step is judged; its forms were judged where the call changed them
-abbrev pub limited : Result State Refusal → Result State Refusal
-limited (Ok t) = if is_within_limits t then Ok t else Err TooLong
-limited (Err refusal) = Err refusal
+-- the state after a step, or why it is refused: only the state after the step is judged; its forms were judged where the call
+-- changed them
+unfoldable pub step : Environment → State → Result State Refusal
+step environment s = limited texts_fit (carried_out environment (scan s))
 
--- the state after a step, or why it is refused
-unfoldable pub step : Tape → State → Result State Refusal
-step tape s = limited (carried_out tape (scan s))
+-- ---- the call at which a state stands
 
--- ---- the one free choice: memory
+-- the name of the function that scanning asks for, where it asks for one
+abbrev pub name_called : Scanned → Option (List ℕ)
+name_called (Moves t) = None
+name_called (Calls call) = Some (argument 0 call.arguments)
 
--- memory may be refused where the outcome is a state, or `TooLong`, and nowhere else
-abbrev pub MayLackMemory : Result State Refusal → Type 0
-MayLackMemory (Ok t) = Unit {0}
-MayLackMemory (Err TooLong) = Unit {0}
-MayLackMemory (Err refusal) = ⊥
-
--- where this is the outcome of the definitions, a machine may answer this refusal
-abbrev pub MayRefuse : Result State Refusal → Refusal → Type 0
-MayRefuse outcome Memory = MayLackMemory outcome
-MayRefuse outcome refusal = outcome ≡ Err refusal
+-- the name of the function that the next step would perform, where it would perform one
+abbrev pub call_at : State → Option (List ℕ)
+call_at s = name_called (scan s)

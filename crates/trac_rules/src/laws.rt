@@ -1,16 +1,18 @@
 //! Laws of the definitions, each the contract of a function that does nothing.
-ghost use Rattle.std.specs.FinMap as map;
+ghost use Rattle.std.specs.FinMap as finite;
+ghost use Rattle.std.specs.List.{All};
 ghost use Rattle.std.specs.Prelude.{◌≡◌, ◌++◌, ◌∷◌, [], List, Ok, true, ℕ};
-ghost use Rattle.trac_rules.specs.Form.{Form};
-ghost use Rattle.trac_rules.specs.Limits.{AreWithinLimits, may_be_put};
+ghost use Rattle.trac_rules.specs.Form.{Form, IsWide, all_items};
+ghost use Rattle.trac_rules.specs.Limits.{may_be_put};
 ghost use Rattle.trac_rules.specs.Matching.{protected, IsBalanced};
-ghost use Rattle.trac_rules.specs.State.{Forms, State, Tape, initial};
+ghost use Rattle.trac_rules.specs.Proper.{AreProperForms, IsProper, is_proper};
+ghost use Rattle.trac_rules.specs.State.{Environment, Forms, State, initial};
 ghost use Rattle.trac_rules.specs.Stepping.{step};
 
 use crate::byte::CLOSING;
 use crate::limit::{
-    FORM_COUNT_LIMIT, FORM_LIMIT, JOURNAL_LIMIT, MARK_LIMIT, NAME_LIMIT, OUTPUT_LIMIT, TAPE_LIMIT,
-    TEXT_LIMIT,
+    BLOCK_LIMIT, FORM_COUNT_LIMIT, FORM_LIMIT, JOURNAL_LIMIT, MARK_LIMIT, NAME_LIMIT, OUTPUT_LIMIT,
+    TAPE_LIMIT, TEXT_LIMIT,
 };
 
 /// The match of a protecting `(`, which is found as the first place that fits, is the one of balanced texts:
@@ -23,26 +25,34 @@ pub fn match_is_balanced()
         protected text ≡ record { inner = text; rest = [] } }
 {}
 
-/// Judging a form where it is put is the same as judging all forms of the state after the step.
-/// At the start all forms are within the limits, and each step leaves them so. Where they are, a form that may be put among them
-/// leaves them so; and a form that leaves them so may be put.
-pub fn forms_stay_within_limits()
-    ensures start { AreWithinLimits initial.forms }
-    ensures each_step { (tape : Tape) (s t : State) → AreWithinLimits s.forms → step tape s ≡ Ok t → AreWithinLimits t.forms }
-    ensures sufficient { (name : List ℕ) (form : Form) (forms : Forms) → AreWithinLimits forms → may_be_put name form forms ≡ true →
-        AreWithinLimits (map.insert forms name form) }
-    ensures necessary { (name : List ℕ) (form : Form) (forms : Forms) → AreWithinLimits (map.insert forms name form) →
+/// Judging a form where it is put is the same as judging the whole state after the step.
+/// The state at the start is proper, and each step leads from a proper state to a proper one: so a step whose new state would pass
+/// any limit is refused. A form that may be put among proper forms, its gaps wide, leaves them proper; and a form that leaves
+/// them proper may be put.
+pub fn states_stay_proper()
+    ensures start { IsProper initial }
+    ensures each_step { (environment : Environment) (s t : State) → IsProper s → step environment s ≡ Ok t → IsProper t }
+    ensures sufficient { (name : List ℕ) (form : Form) (forms : Forms) → AreProperForms forms → All IsWide (all_items form) →
+        may_be_put name form forms ≡ true → AreProperForms (finite.insert forms name form) }
+    ensures necessary { (name : List ℕ) (form : Form) (forms : Forms) → AreProperForms (finite.insert forms name form) →
         may_be_put name form forms ≡ true }
 {}
 
+/// Whether a state is proper is decided by `is_proper`.
+pub fn properness_is_decided()
+    ensures sufficient { (s : State) → is_proper s ≡ true → IsProper s }
+    ensures necessary { (s : State) → IsProper s → is_proper s ≡ true }
+{}
+
 /// The limits are those of this project's profile: bytes of texts, marks, bytes of a form, of a name and of the output, live
-/// forms, bytes of a tape, and records of a journal.
+/// forms, blocks, bytes of a tape, and records of a journal.
 pub fn limits_are_as_stated()
     ensures texts { TEXT_LIMIT ≡ 16777216 }
     ensures marks { MARK_LIMIT ≡ 1048576 }
     ensures form { FORM_LIMIT ≡ 16777216 }
     ensures name { NAME_LIMIT ≡ 16777216 }
     ensures live_forms { FORM_COUNT_LIMIT ≡ 65536 }
+    ensures blocks { BLOCK_LIMIT ≡ 65536 }
     ensures output { OUTPUT_LIMIT ≡ 16777216 }
     ensures tape { TAPE_LIMIT ≡ 33554432 }
     ensures journal { JOURNAL_LIMIT ≡ 1048576 }

@@ -15,6 +15,9 @@ pub const NAME_LIMIT: usize = 16_777_216;
 /// At most so many forms are live.
 pub const FORM_COUNT_LIMIT: usize = 65_536;
 
+/// There are at most so many blocks, erased ones counted, and each holds no more forms than may be live.
+pub const BLOCK_LIMIT: usize = 65_536;
+
 /// At most so many bytes of output are kept until they are released.
 pub const OUTPUT_LIMIT: usize = 16_777_216;
 

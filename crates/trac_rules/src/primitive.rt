@@ -1,4 +1,10 @@
 //! What the names of the primitives stand for.
+ghost use Rattle.std.specs.Prelude.{◌≡◌, [], codes};
+ghost use Rattle.trac_rules.specs.Performing.{primitive_of};
+ghost use Rattle.trac_rules.specs.declared.primitive.Computation.TheVariants.{Calculate, Complement, Equal, Greater, Meet, Rotate, Shift, Union};
+ghost use Rattle.trac_rules.specs.declared.primitive.FormAction.TheVariants.{Call, Define, Delete, DeleteAll, ListNames, PrintForm, Restore, Segment};
+ghost use Rattle.trac_rules.specs.declared.primitive.Operation.TheVariants.{Add, Divide, Multiply, Subtract};
+ghost use Rattle.trac_rules.specs.declared.primitive.Primitive.TheVariants.{Compute, Handle, PrintString, ReadString, Unknown};
 
 /// What a name stands for. Each letter of a primitive's name may be in either case (this project's profile).
 #[derive(Clone, Copy, Debug, PartialEq, Eq)]
@@ -70,3 +76,134 @@ pub enum FormAction {
     /// `pf`: a form is printed.
     PrintForm,
 }
+
+/// A primitive with its name.
+#[derive(Clone, Copy, Debug, PartialEq, Eq)]
+pub struct Named {
+    /// The two letters of the name, as lowercase.
+    pub letters: [u8; 2],
+    /// What the name stands for.
+    pub primitive: Primitive,
+}
+
+/// The names of the primitives. Any other name is unknown.
+pub const NAMES: [Named; 21] = [
+    Named {
+        letters: *b"ps",
+        primitive: Primitive::PrintString,
+    },
+    Named {
+        letters: *b"rs",
+        primitive: Primitive::ReadString,
+    },
+    Named {
+        letters: *b"eq",
+        primitive: Primitive::Compute(Computation::Equal),
+    },
+    Named {
+        letters: *b"gr",
+        primitive: Primitive::Compute(Computation::Greater),
+    },
+    Named {
+        letters: *b"ad",
+        primitive: Primitive::Compute(Computation::Calculate(Operation::Add)),
+    },
+    Named {
+        letters: *b"su",
+        primitive: Primitive::Compute(Computation::Calculate(Operation::Subtract)),
+    },
+    Named {
+        letters: *b"ml",
+        primitive: Primitive::Compute(Computation::Calculate(Operation::Multiply)),
+    },
+    Named {
+        letters: *b"dv",
+        primitive: Primitive::Compute(Computation::Calculate(Operation::Divide)),
+    },
+    Named {
+        letters: *b"bu",
+        primitive: Primitive::Compute(Computation::Union),
+    },
+    Named {
+        letters: *b"bi",
+        primitive: Primitive::Compute(Computation::Meet),
+    },
+    Named {
+        letters: *b"bc",
+        primitive: Primitive::Compute(Computation::Complement),
+    },
+    Named {
+        letters: *b"bs",
+        primitive: Primitive::Compute(Computation::Shift),
+    },
+    Named {
+        letters: *b"br",
+        primitive: Primitive::Compute(Computation::Rotate),
+    },
+    Named {
+        letters: *b"ds",
+        primitive: Primitive::Handle(FormAction::Define),
+    },
+    Named {
+        letters: *b"dd",
+        primitive: Primitive::Handle(FormAction::Delete),
+    },
+    Named {
+        letters: *b"da",
+        primitive: Primitive::Handle(FormAction::DeleteAll),
+    },
+    Named {
+        letters: *b"ss",
+        primitive: Primitive::Handle(FormAction::Segment),
+    },
+    Named {
+        letters: *b"cr",
+        primitive: Primitive::Handle(FormAction::Restore),
+    },
+    Named {
+        letters: *b"cl",
+        primitive: Primitive::Handle(FormAction::Call),
+    },
+    Named {
+        letters: *b"ln",
+        primitive: Primitive::Handle(FormAction::ListNames),
+    },
+    Named {
+        letters: *b"pf",
+        primitive: Primitive::Handle(FormAction::PrintForm),
+    },
+];
+
+/// What each name stands for: the table, read by the definitions.
+pub fn names_stand_for()
+    ensures print_string { primitive_of (codes "ps") ≡ PrintString }
+    ensures read_string { primitive_of (codes "rs") ≡ ReadString }
+    ensures equal { primitive_of (codes "eq") ≡ Compute Equal }
+    ensures greater { primitive_of (codes "gr") ≡ Compute Greater }
+    ensures add { primitive_of (codes "ad") ≡ Compute (Calculate Add) }
+    ensures subtract { primitive_of (codes "su") ≡ Compute (Calculate Subtract) }
+    ensures multiply { primitive_of (codes "ml") ≡ Compute (Calculate Multiply) }
+    ensures divide { primitive_of (codes "dv") ≡ Compute (Calculate Divide) }
+    ensures union { primitive_of (codes "bu") ≡ Compute Union }
+    ensures meet { primitive_of (codes "bi") ≡ Compute Meet }
+    ensures complement { primitive_of (codes "bc") ≡ Compute Complement }
+    ensures shift { primitive_of (codes "bs") ≡ Compute Shift }
+    ensures rotate { primitive_of (codes "br") ≡ Compute Rotate }
+    ensures define { primitive_of (codes "ds") ≡ Handle Define }
+    ensures delete { primitive_of (codes "dd") ≡ Handle Delete }
+    ensures delete_all { primitive_of (codes "da") ≡ Handle DeleteAll }
+    ensures segment { primitive_of (codes "ss") ≡ Handle Segment }
+    ensures restore { primitive_of (codes "cr") ≡ Handle Restore }
+    ensures call { primitive_of (codes "cl") ≡ Handle Call }
+    ensures list_names { primitive_of (codes "ln") ≡ Handle ListNames }
+    ensures print_form { primitive_of (codes "pf") ≡ Handle PrintForm }
+    // Each letter may be in either case (this project's profile).
+    ensures first_capital { primitive_of (codes "Ps") ≡ PrintString }
+    ensures second_capital { primitive_of (codes "pS") ≡ PrintString }
+    // A name is just two letters long.
+    ensures null { primitive_of [] ≡ Unknown }
+    ensures one_letter { primitive_of (codes "p") ≡ Unknown }
+    ensures blank_before { primitive_of (codes " ps") ≡ Unknown }
+    ensures blank_behind { primitive_of (codes "ps ") ≡ Unknown }
+    ensures other { primitive_of (codes "zz") ≡ Unknown }
+{}

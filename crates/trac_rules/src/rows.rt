@@ -7,7 +7,7 @@ ghost use Rattle.trac_rules.specs.Listing.{listed};
 ghost use Rattle.trac_rules.specs.Performing.{primitive_of};
 ghost use Rattle.trac_rules.specs.Rows.{Gives, Leaves, Prints, replies_to, session_after, state_after, texts_of};
 ghost use Rattle.trac_rules.specs.Running.{BudgetSpent, InputEnded, output_of};
-ghost use Rattle.trac_rules.specs.Session.{Back, Commit, End, Feed, IsWalk, Run, Step, new_session};
+ghost use Rattle.trac_rules.specs.Session.{Back, Commit, End, Feed, IsWalk, Run, Step, new_session, no_goal};
 ghost use Rattle.trac_rules.specs.Segmenting.{segmented};
 ghost use Rattle.trac_rules.specs.Showing.{shown};
 ghost use Rattle.trac_rules.specs.State.{initial};
@@ -71,13 +71,13 @@ pub fn worked_rows()
     ensures all_kinds_active { (state_after (Feed (codes "AB'") ∷ replicate 5 Step ++ Back ∷ End ∷ Feed (codes "C") ∷ Commit ∷ Back ∷ []) (new_session 4)).active ≡ codes ",#(rs))" }
     ensures all_kinds_run { Run (Feed (codes "AB'") ∷ replicate 5 Step ++ Back ∷ End ∷ Feed (codes "C") ∷ Commit ∷ Back ∷ []) (replicate 5 Done ++ Refused JournalFull ∷ Done ∷ Done ∷ Refused Closed ∷ Done ∷ Refused AtStart ∷ []) (new_session 4) (session_after (Feed (codes "AB'") ∷ replicate 5 Step ++ Back ∷ End ∷ Feed (codes "C") ∷ Commit ∷ Back ∷ []) (new_session 4)) }
     // The same as walks, whose length and ending are told.
-    ensures walk_there { IsWalk Step 11 (session_after (Feed (codes "AB'") ∷ []) (new_session 64)) 11 None (session_after (Feed (codes "AB'") ∷ replicate 11 Step) (new_session 64)) }
-    ensures walk_back { IsWalk Back 10 (session_after (Feed (codes "AB'") ∷ replicate 11 Step ++ Back ∷ []) (new_session 64)) 10 None (session_after (Feed (codes "AB'") ∷ []) (new_session 64)) }
-    ensures walk_at_start { IsWalk Back 1 (session_after (Feed (codes "AB'") ∷ []) (new_session 64)) 0 (Some AtStart) (session_after (Feed (codes "AB'") ∷ []) (new_session 64)) }
-    ensures walk_waiting { IsWalk Step 8 (session_after (Feed (codes "AB") ∷ []) (new_session 64)) 7 (Some NeedInput) (session_after (Feed (codes "AB") ∷ replicate 7 Step) (new_session 64)) }
-    ensures walk_full { IsWalk Step 5 (session_after (Feed (codes "AB'") ∷ []) (new_session 4)) 4 (Some JournalFull) (session_after (Feed (codes "AB'") ∷ replicate 4 Step) (new_session 4)) }
-    ensures walk_to_start { IsWalk Back 2 (session_after (Feed (codes "AB'") ∷ replicate 4 Step ++ Commit ∷ Step ∷ []) (new_session 4)) 1 (Some AtStart) (session_after (Feed (codes "AB'") ∷ replicate 4 Step ++ Commit ∷ []) (new_session 4)) }
-    ensures walk_to_the_rest { IsWalk Step 8 (session_after (Feed (codes "A") ∷ End ∷ []) (new_session 64)) 8 None (session_after (Feed (codes "A") ∷ End ∷ replicate 8 Step) (new_session 64)) }
+    ensures walk_there { IsWalk Step no_goal 11 (session_after (Feed (codes "AB'") ∷ []) (new_session 64)) 11 None (session_after (Feed (codes "AB'") ∷ replicate 11 Step) (new_session 64)) }
+    ensures walk_back { IsWalk Back no_goal 10 (session_after (Feed (codes "AB'") ∷ replicate 11 Step ++ Back ∷ []) (new_session 64)) 10 None (session_after (Feed (codes "AB'") ∷ []) (new_session 64)) }
+    ensures walk_at_start { IsWalk Back no_goal 1 (session_after (Feed (codes "AB'") ∷ []) (new_session 64)) 0 (Some AtStart) (session_after (Feed (codes "AB'") ∷ []) (new_session 64)) }
+    ensures walk_waiting { IsWalk Step no_goal 8 (session_after (Feed (codes "AB") ∷ []) (new_session 64)) 7 (Some NeedInput) (session_after (Feed (codes "AB") ∷ replicate 7 Step) (new_session 64)) }
+    ensures walk_full { IsWalk Step no_goal 5 (session_after (Feed (codes "AB'") ∷ []) (new_session 4)) 4 (Some JournalFull) (session_after (Feed (codes "AB'") ∷ replicate 4 Step) (new_session 4)) }
+    ensures walk_to_start { IsWalk Back no_goal 2 (session_after (Feed (codes "AB'") ∷ replicate 4 Step ++ Commit ∷ Step ∷ []) (new_session 4)) 1 (Some AtStart) (session_after (Feed (codes "AB'") ∷ replicate 4 Step ++ Commit ∷ []) (new_session 4)) }
+    ensures walk_to_the_rest { IsWalk Step no_goal 8 (session_after (Feed (codes "A") ∷ End ∷ []) (new_session 64)) 8 None (session_after (Feed (codes "A") ∷ End ∷ replicate 8 Step) (new_session 64)) }
 {}
 
 /// What runs print that decide, calculate and work on bits.

@@ -1,0 +1,46 @@
+-- What a call does: no texts and no begun functions are in it, so no primitive changes these.
+use Rattle.std.specs.Prelude.{ℕ, List, [], get_or, Bool, true, false, Option, None, Some}
+use Rattle.trac_rules.specs.State.{Storage}
+
+-- the argument of this number, the name being number 0; null where it is missing
+abbrev pub argument : ℕ → List (List ℕ) → List ℕ
+argument k arguments = get_or arguments k []
+
+pub record Effect : Type 0 where
+  pub value : List ℕ
+  -- whether the value is scanned though the function may be neutral
+  pub forced : Bool
+  pub printed : List ℕ
+  -- how many bytes of the tape are read
+  pub read : ℕ
+  -- the meta character, where it is set
+  pub meta : Option ℕ
+  -- whether each call is printed from now on, where that is set
+  pub trace : Option Bool
+  -- forms and blocks afterwards
+  pub storage : Storage
+
+-- a null value, and nothing else but this storage
+abbrev pub leaves : Storage → Effect
+leaves storage = record { value = []; forced = false; printed = []; read = 0; meta = None; trace = None; storage = storage }
+
+-- a value, which is not forced
+abbrev pub gives : List ℕ → Storage → Effect
+gives value storage = record (leaves storage) { value = value }
+
+-- a value that is forced
+abbrev pub forces : List ℕ → Storage → Effect
+forces value storage = record (leaves storage) { value = value; forced = true }
+
+-- a printed text
+abbrev pub prints : List ℕ → Storage → Effect
+prints text storage = record (leaves storage) { printed = text }
+
+-- a value that takes n bytes of the tape
+abbrev pub reads : List ℕ → ℕ → Storage → Effect
+reads value n storage = record (leaves storage) { value = value; read = n }
+
+-- a value; where there is none the default argument, which is forced
+abbrev pub gives_or_forces : Option (List ℕ) → List ℕ → Storage → Effect
+gives_or_forces (Some value) other storage = gives value storage
+gives_or_forces None other storage = forces other storage

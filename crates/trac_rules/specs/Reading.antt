@@ -1,0 +1,26 @@
+-- Reading the input.
+use Rattle.std.specs.Prelude.{ℕ, ◌+◌, ◌==◌, List, [], ◌∷◌, length, take, drop, Bool, true, false, Option, None, Some, Result, Ok, Err, position}
+use Rattle.trac_rules.specs.declared.refusal.Refusal.{Refusal}
+use Rattle.trac_rules.specs.declared.refusal.Refusal.TheVariants.{NeedInput, Ended}
+use Rattle.trac_rules.specs.State.{State, Storage, Tape, storage_of}
+use Rattle.trac_rules.specs.Effect.{Effect, reads}
+
+-- the input that is not read yet
+abbrev pub unread : Tape → State → List ℕ
+unread tape s = drop s.position tape.bytes
+
+-- the rest of the input, where no meta character stands in it, with whether the input has ended: then the whole rest is
+-- given if it is not null (this project's profile)
+abbrev pub rest_read : List ℕ → Bool → Storage → Result Effect Refusal
+rest_read rest false storage = Err NeedInput
+rest_read [] true storage = Err Ended
+rest_read (b ∷ rest) true storage = Ok (reads (b ∷ rest) (length (b ∷ rest)) storage)
+
+-- unread input up to the place of its first meta character: that byte is read and not given
+abbrev pub read_up_to : Option ℕ → List ℕ → Bool → Storage → Result Effect Refusal
+read_up_to (Some k) text ended storage = Ok (reads (take k text) (k + 1) storage)
+read_up_to None text ended storage = rest_read text ended storage
+
+-- `rs`: unread input, whether the input has ended behind it, and the meta character
+abbrev pub string_read : List ℕ → Bool → ℕ → Storage → Result Effect Refusal
+string_read text ended meta storage = read_up_to (position (λ b. b == meta) text) text ended storage
