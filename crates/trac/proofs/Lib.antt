@@ -1,7 +1,4 @@
-pub mod Journaled
-pub mod Walked
 pub mod Known
 pub mod Turned
 pub mod Taken
 pub mod Ran
-pub mod Performed

@@ -1,9 +1,4 @@
--- What a session keeps, and what a run does.
-pub mod Replies
-pub mod Commands
-pub mod Journal
+-- What a run reads and writes, and what a command line asks for.
 pub mod Written
 pub mod Runs
 pub mod Words
--- How proofs store these values.
-pub mod Codes

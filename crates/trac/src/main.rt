@@ -2,7 +2,6 @@
 #![tactic(auto)]
 
 pub mod running;
-pub mod session;
 #[cfg(test)]
 mod tests;
 pub mod words;

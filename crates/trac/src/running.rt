@@ -9,12 +9,12 @@ ghost use Rattle.trac.specs.Runs.{Runs, ending_of_feed as ending_of, IsFresh, Go
 mod ending;
 mod writing;
 
-use crate::session::Session;
 pub use ending::Ending;
 use std::alloc::Allocator;
 use std::io::{Read, Write};
 use trac_rules::limit::{JOURNAL_LIMIT, TEXT_LIMIT};
 use trac_rules::refusal::Refusal;
+use trac_session::Session;
 use writing::{finish, flush, write_whole};
 
 /// How many bytes one read may give (this project's profile).

@@ -1,9 +1,9 @@
 //! Lists of commands to a session.
 
-use crate::session::{Command, Reply, Session};
 use std::test::Fail;
 use trac_faults::Refusing;
 use trac_rules::refusal::Refusal;
+use trac_session::{Command, Reply, Session};
 
 const COMMANDS: [Command<'static>; 11] = [
     Command::Feed(b"AB'"),

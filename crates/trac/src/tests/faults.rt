@@ -1,6 +1,5 @@
 //! Faults on demand: memory, reads, writes and flushes that are refused, each in turn.
 use crate::running::{Ending, Options, run};
-use crate::session::{Session, Walk};
 use crate::tests::shown::parts_of;
 use std::alloc::{AllocError, Allocator, Global};
 use std::process::Abort;
@@ -8,6 +7,7 @@ use std::test::Fail;
 use trac_faults::{FaultyReader, FaultyWriter, Refusing};
 use trac_rules::limit::JOURNAL_LIMIT;
 use trac_rules::refusal::Refusal;
+use trac_session::{Session, Walk};
 
 // Both print `AB`, the first in two parts.
 const INPUT: &[u8; 10] = b"#(ps,A)'B'";

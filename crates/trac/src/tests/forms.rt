@@ -1,12 +1,12 @@
 //! Forms: what whole runs print, and the whole way back over three programs.
 use crate::running::Ending;
-use crate::session::{Session, Walk};
 use crate::tests::rows::{DEFAULTS, expect_run};
 use crate::tests::shown::{Shown, parts_of};
 use std::process::Abort;
 use std::test::Fail;
 use trac_rules::limit::JOURNAL_LIMIT;
 use trac_rules::refusal::Refusal;
+use trac_session::{Session, Walk};
 
 const FACTORIAL: &[u8; 102] =
     b"#(ds,Factorial,(#(eq,X,1,1,(#(ml,X,#(cl,Factorial,#(su,X,1)))))))'#(ss,Factorial,X)'#(cl,Factorial,5)'";

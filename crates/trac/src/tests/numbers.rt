@@ -1,10 +1,10 @@
 //! Decisions, decimals and bit strings, as whole runs.
 
 use crate::running::Ending;
-use crate::session::Session;
 use crate::tests::rows::{DEFAULTS, expect_run};
 use std::test::Fail;
 use trac_rules::limit::JOURNAL_LIMIT;
+use trac_session::Session;
 
 // What each input prints.
 const RUNS: [(&[u8], &[u8]); 26] = [

@@ -2,7 +2,6 @@
 ghost use Rattle.trac.specs.Words.{AreWithin};
 
 use crate::running::{Ending, Options, run};
-use crate::session::{Session, Walk};
 use crate::words::{DEFAULT_BUDGET, DEFAULT_JOURNAL};
 use std::alloc::Global;
 use std::process::Abort;
@@ -10,6 +9,7 @@ use std::test::Fail;
 use trac_faults::{FaultyReader, FaultyWriter, RepeatingReader};
 use trac_rules::limit::JOURNAL_LIMIT;
 use trac_rules::refusal::Refusal;
+use trac_session::{Session, Walk};
 
 pub(crate) const DEFAULTS: Options = Options {
     budget: DEFAULT_BUDGET,

@@ -1,7 +1,7 @@
 //! All that a session shows of its last state.
-use crate::session::Session;
 use std::alloc::{AllocError, Allocator, Global};
 use trac_forms::{Form, Item, Store};
+use trac_session::Session;
 use trac_step::{Kind, Machine};
 
 // Names under which the programs of these tests keep forms.

@@ -1,12 +1,12 @@
 //! Sessions that go forwards and backwards.
 ghost use Rattle.std.specs.Prelude.{◌≤◌};
 
-use crate::session::{Session, Walk};
 use std::alloc::{Allocator, Global};
 use std::process::Abort;
 use std::test::Fail;
 use trac_rules::limit::JOURNAL_LIMIT;
 use trac_rules::refusal::Refusal;
+use trac_session::{Session, Walk};
 use trac_step::Kind;
 
 fn walk(done: u64, why: Option<Refusal>) -> Walk {

@@ -1,6 +1,0 @@
-use Rattle.trac_step.specs.Record.{before}
-use Rattle.trac.proofs.Journaled.{End_of_fields}
-use Rattle.trac.proofs.session.Session.end.Goals as goal
-
-pub returns : goal.returns
-returns g c = End_of_fields before _ _ _ c.self.inside.journal.items _ _ c.self.view_is

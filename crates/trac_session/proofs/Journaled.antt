@@ -1,0 +1,240 @@
+-- Sessions as their fields show them, and what the calls make of the fields.
+use Rattle.std.proofs.Common.{◌≡◌, ℕ, suc, ◌+◌, ◌-◌, ◌<◌, ◌≤◌, Bool, true, false, List, [], ◌∷◌, ◌++◌, length, take, drop, reverse, refl, sym, ap, subst, ◌∙◌, arith}
+use Rattle.std.specs.Prelude.{Option, Some, IsSome, Result, Ok, Err, OnOk, IfErr}
+use Rattle.std.proofs.Math.Seq.{take-length}
+use Rattle.std.proofs.lemmas.List.{length-append, length-reverse, length-drop, take-append-le}
+use Rattle.trac_rules.specs.declared.limit.TheConstants.{TAPE_LIMIT}
+use Rattle.trac_rules.specs.declared.refusal.Refusal.{Refusal}
+use Rattle.trac_rules.specs.declared.refusal.Refusal.TheVariants.{Memory, TooLong, NeedInput, Ended, JournalFull, AtStart, Closed, NotMet}
+use Rattle.trac_rules.specs.declared.reply.Reply.TheVariants.{Done, Refused}
+use Rattle.trac_rules.specs.State.{State}
+use Rattle.trac_rules.specs.Stepping.{step, MayLackMemory, MayRefuse}
+use Rattle.trac_rules.specs.Session.{PlainSession, Feed, End, Step, Back, Commit, done, refused, settled, stepped_to, answer, MayRunOut, Answers}
+use Rattle.trac_rules.proofs.Steps.{step_within}
+use Rattle.trac_rules.proofs.Replies.{answer_Step, answer_Step_Ok, answer_Step_Err, answer_Step_full, answer_Feed_closed, answer_Feed_long, answer_Feed_room, answer_End, answer_Commit, answer_Back_start, answer_Back_from}
+use Rattle.trac_step.proofs.Rules.{reverse_push}
+use Rattle.trac_session.specs.Journal.{led_on, earlier_of, AreRecords, Remembers, plain_of, IsSound}
+use Rattle.trac_session.specs.Replies.{reply_of}
+
+-- ---- lists of records
+
+-- a record says the state that it says
+pub led_on-Some : (x : Option State) (s : State) (rest : State → List State) → x ≡ Some s → led_on x rest ≡ s ∷ rest s
+led_on-Some x s rest e = ap (λ y. led_on y rest) e
+
+-- there are as many earlier states as records
+pub length-earlier_of : {R : Type 0} → (before : R → State → Option State) (n : ℕ) (records : List R) (t : State) → AreRecords before n records t →
+    length (earlier_of before records t) ≡ length records
+length-earlier_of before n [] t all = refl
+length-earlier_of before n (r ∷ records) t all =
+    ap length (led_on-Some (before r t) all.0 (λ s. earlier_of before records s) all.1)
+    ∙ ap (λ (k : ℕ). suc k) (length-earlier_of before n records all.0 all.3)
+
+-- with one record more there is one earlier state more
+pub earlier_of-more : {R : Type 0} → (before : R → State → Option State) (old new : List R) (s t : State) → Remembers before old new s t →
+    earlier_of before (reverse new) t ≡ s ∷ earlier_of before (reverse old) s
+earlier_of-more before old new s t kept =
+    ap (λ records. earlier_of before (reverse records) t) kept.1
+    ∙ ap (λ records. earlier_of before records t) (reverse_push old kept.0)
+    ∙ led_on-Some (before kept.0 t) s (λ u. earlier_of before (reverse old) u) kept.2
+
+-- and each record still says a state before
+pub AreRecords-more : {R : Type 0} → (before : R → State → Option State) (n : ℕ) (old new : List R) (s t : State) → Remembers before old new s t → s.position ≤ n →
+    AreRecords before n (reverse old) s → AreRecords before n (reverse new) t
+AreRecords-more before n old new s t kept on_tape all =
+    subst (λ records. AreRecords before n records t) (sym (ap reverse kept.1 ∙ reverse_push old kept.0)) (s, kept.2, on_tape, all)
+
+-- on a longer tape too
+pub AreRecords-longer : {R : Type 0} → (before : R → State → Option State) (n k : ℕ) (records : List R) (t : State) → n ≤ k → AreRecords before n records t → AreRecords before k records t
+AreRecords-longer before n k [] t l all = tt
+AreRecords-longer before n k (r ∷ records) t l all = (all.0, all.1, omega (arith, all.2), AreRecords-longer before n k records all.0 l all.3)
+
+-- a journal with one record more is longer by one
+pub length-more : {R : Type 0} → (before : R → State → Option State) (old new : List R) (s t : State) → Remembers before old new s t → length new ≡ length old + 1
+length-more before old new s t kept = ap length kept.1 ∙ length-append old (kept.0 ∷ [])
+
+-- the newest record says a state before, and the others go on from it
+pub newest_says : {R : Type 0} → (before : R → State → Option State) (n : ℕ) (old new : List R) (r : R) (t : State) → old ≡ new ++ r ∷ [] → AreRecords before n (reverse old) t →
+    (s : State) × (before r t ≡ Some s) × (s.position ≤ n) × AreRecords before n (reverse new) s
+newest_says before n old new r t e all =
+    subst (λ records. AreRecords before n records t) (ap reverse e ∙ reverse_push new r) all
+
+-- so there is a state before
+pub newest_says_some : {R : Type 0} → (before : R → State → Option State) (n : ℕ) (old new : List R) (r : R) (t : State) → old ≡ new ++ r ∷ [] → AreRecords before n (reverse old) t →
+    IsSome (before r t)
+newest_says_some before n old new r t e all = let said = newest_says before n old new r t e all in rw said.1 refl
+
+-- it stands on the tape, and the others go on from it
+pub newest_says_this : {R : Type 0} → (before : R → State → Option State) (n : ℕ) (old new : List R) (r : R) (t u : State) → old ≡ new ++ r ∷ [] → AreRecords before n (reverse old) t →
+    before r t ≡ Some u → (u.position ≤ n) × AreRecords before n (reverse new) u
+newest_says_this before n old new r t u e all says =
+    let said = newest_says before n old new r t e all in
+    let same : said.0 ≡ u = cc in
+    subst (λ (s : State). (s.position ≤ n) × AreRecords before n (reverse new) s) same (said.2, said.3)
+
+-- ---- what calls make of the fields
+
+-- there are as many earlier states as the journal has records
+pub length-earlier : {R : Type 0} → (before : R → State → Option State) (limit : ℕ) (bytes : List ℕ) (ended : Bool) (journal : List R) (last : State) (p : PlainSession) →
+    plain_of before limit bytes ended journal last ≡ p → AreRecords before (length bytes) (reverse journal) last → length p.earlier ≡ length journal
+length-earlier before limit bytes ended journal last p view all =
+    sym (ap (λ (q : PlainSession). length q.earlier) view) ∙ length-earlier_of before (length bytes) (reverse journal) last all ∙ length-reverse journal
+
+-- the end of the input
+pub End_of_fields : {R : Type 0} → (before : R → State → Option State) (limit : ℕ) (bytes : List ℕ) (ended : Bool) (journal : List R) (last : State) (p : PlainSession) →
+    plain_of before limit bytes ended journal last ≡ p → answer End p ≡ done (plain_of before limit bytes true journal last)
+End_of_fields before limit bytes ended journal last p view =
+    ap (answer End) (sym view) ∙ answer_End (plain_of before limit bytes ended journal last)
+
+-- a commit: the tape from the position on, no record, the settled state
+pub Commit_of_fields : {R : Type 0} → (before : R → State → Option State) (limit : ℕ) (bytes rest : List ℕ) (ended : Bool) (journal none : List R) (last settled_last : State) (p : PlainSession) →
+    plain_of before limit bytes ended journal last ≡ p → rest ≡ drop last.position bytes → none ≡ [] → settled_last ≡ settled last →
+    answer Commit p ≡ done (plain_of before limit rest ended none settled_last)
+Commit_of_fields before limit bytes rest ended journal none last settled_last p view cut empty at =
+    rw (cut, empty, at) (ap (answer Commit) (sym view) ∙ answer_Commit (plain_of before limit bytes ended journal last))
+
+-- the tape from the position on, as it is made: turned round, and cut
+pub turned_and_cut : (bytes turned rest : List ℕ) (k n : ℕ) → k ≤ length bytes → turned ≡ drop k bytes ++ take k bytes → n ≡ length bytes - k → rest ≡ take n turned → rest ≡ drop k bytes
+turned_and_cut bytes turned rest k n l turned_is n_is rest_is =
+    let whole : n ≡ length (drop k bytes) = omega (arith, length-drop k bytes) in
+    let fits : n ≤ length (drop k bytes) = omega arith in
+    rest_is ∙ ap (take n) turned_is ∙ take-append-le n (drop k bytes) (take k bytes) fits ∙ ap (λ m. take m (drop k bytes)) whole ∙ take-length (drop k bytes)
+
+-- a feed behind the end
+pub Feed_closed_of_fields : {R : Type 0} → (before : R → State → Option State) (limit : ℕ) (bytes : List ℕ) (ended : Bool) (journal : List R) (last : State) (p : PlainSession) (more : List ℕ) →
+    plain_of before limit bytes ended journal last ≡ p → ended ≡ true → answer (Feed more) p ≡ refused Closed p
+Feed_closed_of_fields before limit bytes ended journal last p more view over =
+    answer_Feed_closed more p (sym (ap (λ (q : PlainSession). q.tape.ended) view) ∙ over)
+
+-- a feed that is too long
+pub Feed_long_of_fields : {R : Type 0} → (before : R → State → Option State) (limit : ℕ) (bytes : List ℕ) (ended : Bool) (journal : List R) (last : State) (p : PlainSession) (more : List ℕ) →
+    plain_of before limit bytes ended journal last ≡ p → ended ≡ false → TAPE_LIMIT < length bytes + length more → answer (Feed more) p ≡ refused TooLong p
+Feed_long_of_fields before limit bytes ended journal last p more view open_ long =
+    let same : length p.tape.bytes ≡ length bytes = sym (ap (λ (q : PlainSession). length q.tape.bytes) view) in
+    answer_Feed_long more p (sym (ap (λ (q : PlainSession). q.tape.ended) view) ∙ open_) (omega arith)
+
+-- a feed that there is room for
+pub Feed_room_of_fields : {R : Type 0} → (before : R → State → Option State) (limit : ℕ) (bytes longer : List ℕ) (ended : Bool) (journal : List R) (last : State) (p : PlainSession) (more : List ℕ) →
+    plain_of before limit bytes ended journal last ≡ p → ended ≡ false → length bytes + length more ≤ TAPE_LIMIT → longer ≡ bytes ++ more →
+    answer (Feed more) p ≡ done (plain_of before limit longer ended journal last)
+Feed_room_of_fields before limit bytes longer ended journal last p more view open_ room longer_is =
+    rw longer_is (ap (answer (Feed more)) (sym view) ∙ answer_Feed_room more (plain_of before limit bytes ended journal last) open_ room)
+
+-- there memory may be refused, with nothing changed
+pub Feed_memory_of_fields : {R : Type 0} → (before : R → State → Option State) (limit : ℕ) (bytes same : List ℕ) (ended : Bool) (journal : List R) (last : State) (p : PlainSession) (more : List ℕ) →
+    plain_of before limit bytes ended journal last ≡ p → ended ≡ false → length bytes + length more ≤ TAPE_LIMIT → same ≡ bytes →
+    MayRunOut (Feed more) (answer (Feed more) p).reply × (plain_of before limit same ended journal last ≡ p)
+Feed_memory_of_fields before limit bytes same ended journal last p more view open_ room same_is =
+    let would : (answer (Feed more) p).reply ≡ Done =
+    ap (λ q. (answer (Feed more) q).reply) (sym view) ∙ ap (λ a. a.reply) (answer_Feed_room more (plain_of before limit bytes ended journal last) open_ room) in
+    (rw would tt, ap (λ (b : List ℕ). plain_of before limit b ended journal last) same_is ∙ view)
+
+-- ---- steps
+
+-- memory may be lacking for a command where it may for its reply
+pub MayRunOut_of_step : (x : Result State Refusal) (p : PlainSession) → MayLackMemory x → MayRunOut Step (stepped_to x p).reply
+MayRunOut_of_step (Ok t) p may = tt
+MayRunOut_of_step (Err TooLong) p may = tt
+MayRunOut_of_step (Err Memory) p may = absurd may
+MayRunOut_of_step (Err NeedInput) p may = absurd may
+MayRunOut_of_step (Err Ended) p may = absurd may
+MayRunOut_of_step (Err JournalFull) p may = absurd may
+MayRunOut_of_step (Err AtStart) p may = absurd may
+MayRunOut_of_step (Err Closed) p may = absurd may
+MayRunOut_of_step (Err NotMet) p may = absurd may
+
+-- what a step may be refused for, the session may be
+pub Step_refused_as : (p q : PlainSession) (refusal : Refusal) → length p.earlier < p.limit → MayRefuse (step p.tape p.last) refusal → q ≡ p → Answers Step p (Refused refusal) q
+Step_refused_as p q Memory l may same = (rw (answer_Step p l) (MayRunOut_of_step (step p.tape p.last) p may), same)
+Step_refused_as p q TooLong l may same = rw same (answer_Step_Err p TooLong l may)
+Step_refused_as p q NeedInput l may same = rw same (answer_Step_Err p NeedInput l may)
+Step_refused_as p q Ended l may same = rw same (answer_Step_Err p Ended l may)
+Step_refused_as p q JournalFull l may same = rw same (answer_Step_Err p JournalFull l may)
+Step_refused_as p q AtStart l may same = rw same (answer_Step_Err p AtStart l may)
+Step_refused_as p q Closed l may same = rw same (answer_Step_Err p Closed l may)
+Step_refused_as p q NotMet l may same = rw same (answer_Step_Err p NotMet l may)
+
+-- a step that was taken, or refused, with a place in the journal
+pub Step_of_fields : {R : Type 0} → (before : R → State → Option State) (limit : ℕ) (bytes : List ℕ) (ended : Bool) (old new : List R) (s t : State) (r : Result (Unit {0}) Refusal) →
+    length old < limit → AreRecords before (length bytes) (reverse old) s →
+    OnOk r (step (record { bytes = bytes; ended = ended }) s ≡ Ok t) → OnOk r (Remembers before old new s t) →
+    IfErr r (MayRefuse (step (record { bytes = bytes; ended = ended }) s)) → IfErr r (λ _. (t ≡ s) × (new ≡ old)) →
+    Answers Step (plain_of before limit bytes ended old s) (reply_of r) (plain_of before limit bytes ended new t)
+Step_of_fields before limit bytes ended old new s t (Ok done_) room all taken kept may same =
+    let p : PlainSession = plain_of before limit bytes ended old s in
+    let l : length p.earlier < p.limit = omega (arith, length-earlier before limit bytes ended old s p refl all) in
+    answer_Step_Ok p t l taken
+    ∙ ap (λ (earlier : List State). done (record p { earlier = earlier; last = t })) (sym (earlier_of-more before old new s t kept))
+Step_of_fields before limit bytes ended old new s t (Err refusal) room all taken kept may same =
+    let p : PlainSession = plain_of before limit bytes ended old s in
+    let l : length p.earlier < p.limit = omega (arith, length-earlier before limit bytes ended old s p refl all) in
+    Step_refused_as p (plain_of before limit bytes ended new t) refusal l may (rw (same.0, same.1) refl)
+
+-- the fields stay sound
+pub IsSound-step : {R : Type 0} → (before : R → State → Option State) (limit : ℕ) (bytes : List ℕ) (ended : Bool) (old new : List R) (s t : State) (r : Result (Unit {0}) Refusal) →
+    length old < limit → IsSound before limit bytes old s →
+    OnOk r (step (record { bytes = bytes; ended = ended }) s ≡ Ok t) → OnOk r (Remembers before old new s t) → IfErr r (λ _. (t ≡ s) × (new ≡ old)) →
+    IsSound before limit bytes new t
+IsSound-step before limit bytes ended old new s t (Ok done_) room sound taken kept same = record {
+  some_records = sound.some_records;
+  not_too_many = sound.not_too_many;
+  within_limit = omega (arith, length-more before old new s t kept);
+  tape_limit = sound.tape_limit;
+  on_tape = step_within (record { bytes = bytes; ended = ended }) s t taken sound.on_tape;
+  records = AreRecords-more before (length bytes) old new s t kept sound.on_tape sound.records;
+}
+IsSound-step before limit bytes ended old new s t (Err refusal) room sound taken kept same = rw (same.0, same.1) sound
+
+-- a step with a full journal
+pub Step_full_of_fields : {R : Type 0} → (before : R → State → Option State) (limit : ℕ) (bytes : List ℕ) (ended : Bool) (journal : List R) (last : State) (p : PlainSession) →
+    plain_of before limit bytes ended journal last ≡ p → AreRecords before (length bytes) (reverse journal) last → limit ≤ length journal → answer Step p ≡ refused JournalFull p
+Step_full_of_fields before limit bytes ended journal last p view all full =
+    answer_Step_full p (omega (arith, length-earlier before limit bytes ended journal last p view all, ap (λ (q : PlainSession). q.limit) view))
+
+-- ---- steps back
+
+-- at the first state
+pub Back_start_of_fields : {R : Type 0} → (before : R → State → Option State) (limit : ℕ) (bytes : List ℕ) (ended : Bool) (old new : List R) (last : State) (p : PlainSession) →
+    plain_of before limit bytes ended old last ≡ p → old ≡ [] → new ≡ [] → answer Back p ≡ refused AtStart (plain_of before limit bytes ended new last)
+Back_start_of_fields before limit bytes ended old new last p view empty still =
+    let none : p.earlier ≡ [] = sym (ap (λ (q : PlainSession). q.earlier) view) ∙ ap (λ journal. earlier_of before (reverse journal) last) empty in
+    answer_Back_start p none
+    ∙ ap (refused AtStart) (sym view ∙ ap (λ journal. plain_of before limit bytes ended journal last) (empty ∙ sym still))
+
+-- from any other
+pub Back_of_fields : {R : Type 0} → (before : R → State → Option State) (limit : ℕ) (bytes : List ℕ) (ended : Bool) (old new : List R) (r : R) (last s : State) (p : PlainSession) →
+    plain_of before limit bytes ended old last ≡ p → old ≡ new ++ r ∷ [] → before r last ≡ Some s →
+    answer Back p ≡ done (plain_of before limit bytes ended new s)
+Back_of_fields before limit bytes ended old new r last s p view with_r says =
+    let some : p.earlier ≡ s ∷ earlier_of before (reverse new) s =
+    sym (ap (λ (q : PlainSession). q.earlier) view) ∙ earlier_of-more before new old s last (r, with_r, says) in
+    answer_Back_from p s (earlier_of before (reverse new) s) some
+    ∙ ap (λ (q : PlainSession). done (record q { earlier = earlier_of before (reverse new) s; last = s })) (sym view)
+
+-- the fields stay sound
+pub IsSound-back : {R : Type 0} → (before : R → State → Option State) (limit : ℕ) (bytes : List ℕ) (old new : List R) (r : R) (last s : State) →
+    old ≡ new ++ r ∷ [] → before r last ≡ Some s → IsSound before limit bytes old last → IsSound before limit bytes new s
+IsSound-back before limit bytes old new r last s with_r says sound =
+    let this = newest_says_this before (length bytes) old new r last s with_r sound.records says in
+    record {
+      some_records = sound.some_records;
+      not_too_many = sound.not_too_many;
+      within_limit = omega (arith, ap length with_r, length-append new (r ∷ []));
+      tape_limit = sound.tape_limit;
+      on_tape = this.0;
+      records = this.1;
+    }
+
+-- and with a longer tape
+pub IsSound-feed : {R : Type 0} → (before : R → State → Option State) (limit : ℕ) (bytes longer more : List ℕ) (journal : List R) (last : State) →
+    longer ≡ bytes ++ more → length bytes + length more ≤ TAPE_LIMIT → IsSound before limit bytes journal last → IsSound before limit longer journal last
+IsSound-feed before limit bytes longer more journal last longer_is room sound =
+    let n : length longer ≡ length bytes + length more = ap length longer_is ∙ length-append bytes more in
+    record {
+      some_records = sound.some_records;
+      not_too_many = sound.not_too_many;
+      within_limit = sound.within_limit;
+      tape_limit = omega arith;
+      on_tape = omega (arith, sound.on_tape);
+      records = AreRecords-longer before (length bytes) (length longer) (reverse journal) last (omega arith) sound.records;
+    }

@@ -1,0 +1,3 @@
+pub mod Journaled
+pub mod Walked
+pub mod Performed

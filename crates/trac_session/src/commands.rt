@@ -1,0 +1,82 @@
+//! Lists of commands to a session, and the replies to them.
+ghost use Rattle.std.specs.Prelude.{◌≡◌, map, IfOk, IfErr};
+ghost use Rattle.trac_rules.specs.Session.{Answers, Run};
+ghost use Rattle.trac_session.specs.Commands.{command_of};
+ghost use Rattle.trac_session.specs.Replies.{reply_of};
+
+use crate::session::Session;
+use std::alloc::{Allocator, Global};
+use trac_rules::refusal::Refusal;
+pub use trac_rules::reply::Reply;
+
+/// What a session can be told to do.
+#[derive(Clone, Copy, Debug, PartialEq, Eq)]
+pub enum Command<'a> {
+    /// Add these bytes to the end of the tape.
+    Feed(&'a [u8]),
+    /// End the input behind what was fed.
+    End,
+    /// Go forward by one step.
+    Step,
+    /// Go back over the last step.
+    Back,
+    /// Release what is pending, and make the last state the first one.
+    Commit,
+}
+
+/// The replies to a list of commands, one for each, in their order.
+pub type Replies<A = Global> = Vec<Reply, A>;
+
+fn reply_to(outcome: Result<(), Refusal>) -> Reply
+    ensures { result ≡ reply_of outcome }
+{
+    match outcome {
+        Ok(()) => Reply::Done,
+        Err(refusal) => Reply::Refused(refusal),
+    }
+}
+
+impl<A: Allocator + Copy> Session<A> {
+    // Carries out one command.
+    fn carry_out(&mut self, command: Command<'_>) -> Reply
+        ensures { Answers (command_of command.entry) self.old result self.new }
+    {
+        match command {
+            Command::Feed(bytes) => reply_to(self.feed(bytes)),
+            Command::End => {
+                self.end();
+                Reply::Done
+            }
+            Command::Step => reply_to(self.step()),
+            Command::Back => reply_to(self.step_back()),
+            Command::Commit => {
+                self.commit();
+                Reply::Done
+            }
+        }
+    }
+
+    /// Carries out these commands one after another, and gives the reply to each: done, or refused with nothing changed
+    /// by that command. A refused command does not keep those behind it from being carried out.
+    ///
+    /// After any list of commands, from any session, the session's states are those of the plain list to which each
+    /// accepted step adds the next state of the scanning rules, and from which each step back takes the last away
+    /// (this project's profile).
+    ///
+    /// Refused with `Memory`, with nothing done, where there is no memory for the list of replies, which is
+    /// reserved first.
+    pub fn perform(&mut self, commands: &[Command<'_>]) -> Result<Replies<A>, Refusal>
+        ensures done { IfOk result (λ replies. Run (map command_of commands.now) replies.items self.old self.new) }
+        ensures nothing_done { IfErr result (λ e. (e ≡ Refusal.Memory) × (self.new ≡ self.old)) }
+    {
+        let alloc = *self.tape.allocator();
+        let Ok(mut replies) = Vec::with_capacity(alloc, commands.len()) else {
+            return Err(Refusal::Memory);
+        };
+        for command in commands.iter() {
+            let reply = self.carry_out(*command);
+            replies.push_reserved(reply);
+        }
+        Ok(replies)
+    }
+}

@@ -1,0 +1,35 @@
+//! Steps of a machine that are kept in a journal.
+ghost use Rattle.std.specs.Prelude.{◌≡◌, ◌≤◌, length, Ok, IfErr, OnOk};
+ghost use Rattle.trac_rules.specs.Stepping.{step, MayRefuse};
+ghost use Rattle.trac_step.specs.Record.{before};
+ghost use Rattle.trac_prims.specs.Tape.{tape_of};
+ghost use Rattle.trac_session.specs.Journal.{Remembers};
+
+use std::alloc::Allocator;
+use trac_gap::PlainEnds;
+use trac_rules::refusal::Refusal;
+use trac_step::{Machine, Record, Tape};
+
+/// What the journal keeps of a step.
+pub type Kept<A> = Record<PlainEnds<u8, A>, A>;
+
+/// Takes a step and keeps its record at the end of the journal, or changes nothing.
+/// Refused as the step is, or with `Memory` where the journal cannot grow: the step is undone then.
+pub fn step_kept<A: Allocator + Copy>(
+    machine: &mut Machine<A>,
+    journal: &mut Vec<Kept<A>, A>,
+    tape: Tape,
+) -> Result<(), Refusal>
+    requires { machine.old.state.position ≤ length tape.bytes.now }
+    ensures taken { OnOk result (step (tape_of tape.entry) machine.old.state ≡ Ok machine.new.state) }
+    ensures kept { OnOk result (Remembers before journal.old.items journal.new.items machine.old.state machine.new.state) }
+    ensures refused { IfErr result (MayRefuse (step (tape_of tape.entry) machine.old.state)) }
+    ensures same { IfErr result (λ _. machine.new.state ≡ machine.old.state × journal.new.items ≡ journal.old.items) }
+{
+    let record = machine.step(tape)?;
+    let Err(failed) = journal.push(record) else {
+        return Ok(());
+    };
+    machine.undo(failed.value);
+    Err(Refusal::Memory)
+}

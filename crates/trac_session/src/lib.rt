@@ -1,0 +1,13 @@
+//! Sessions: a processor that goes forwards and backwards over an input that is fed to it, with a journal of its steps.
+#![tactic(auto)]
+
+mod commands;
+mod journal;
+pub mod session;
+mod walk;
+
+pub use commands::{Command, Replies, Reply};
+pub use session::Session;
+pub use trac_rules::refusal::Refusal;
+pub use trac_step::{Machine, Store};
+pub use walk::Walk;

@@ -1,0 +1,185 @@
+//! A session: a processor that goes forwards and backwards over an input that is fed to it.
+ghost use Rattle.std.specs.Prelude.{◌≡◌, ◌==◌, ◌≤◌, length, IfOk, IsOkUnless};
+ghost use Rattle.trac_rules.specs.declared.reply.Reply.TheVariants.{Done};
+ghost use Rattle.trac_rules.specs.Session.{new_session, Feed, End, Step, Back, Commit, answer, Answers, IsWalk};
+ghost use Rattle.trac_session.specs.Replies.{reply_of};
+
+use crate::journal::{Kept, step_kept};
+use crate::walk::Walk;
+use std::alloc::{Allocator, Global};
+use std::marker::Model;
+use trac_rules::limit::{JOURNAL_LIMIT, TAPE_LIMIT};
+use trac_rules::refusal::Refusal;
+use trac_step::{Machine, Tape};
+
+/// A processor with its input and a journal of its steps. It is seen as a tape and the list of states
+/// from the last commit on, the last of which is the machine's.
+#[derive(Drop)]
+pub struct Session<A: Allocator + Copy = Global> {
+    pub(crate) tape: Vec<u8, A>,
+    ended: bool,
+    machine: Machine<A>,
+    // the oldest record first
+    journal: Vec<Kept<A>, A>,
+    limit: usize,
+}
+
+impl<A: Allocator + Copy> Model for Session<A> {
+    ghost use Rattle.trac_step.specs.Record.{before};
+    ghost use Rattle.trac_rules.specs.Session.{PlainSession};
+    ghost use Rattle.trac_session.specs.Codes.{session_code};
+    ghost use Rattle.trac_session.specs.Journal.{plain_of, IsSound};
+
+    ghost Value = { PlainSession };
+
+    ghost coded = { session_code };
+
+    ghost view = { λ s. plain_of before s.limit s.tape.items s.ended s.journal.items s.machine.state };
+
+    ghost invariant = { λ s. IsSound before s.limit s.tape.items s.journal.items s.machine.state };
+}
+
+impl<A: Allocator + Copy> Session<A> {
+    /// A session in the initial state, with a null tape. Its journal may hold so many records:
+    /// 1 to 1,048,576 (this project's profile).
+    /// Refused with `Memory` where the allocator refuses.
+    pub fn new(alloc: A, limit: usize) -> Result<Self, Refusal>
+        requires some { 1 ≤ limit }
+        requires most { limit ≤ JOURNAL_LIMIT }
+        ensures made { IfOk result (λ s. s ≡ new_session limit) }
+        ensures err { IsOkUnless result Refusal.Memory }
+    {
+        Ok(Session {
+            tape: Vec::new(alloc),
+            ended: false,
+            machine: Machine::new(alloc)?,
+            journal: Vec::new(alloc),
+            limit,
+        })
+    }
+
+    /// Adds these bytes to the end of the tape.
+    /// Refused, with nothing changed, as `Closed` after the end of the input, as `TooLong` where the tape would pass
+    /// 33,554,432 bytes (this project's profile), and with `Memory` where the tape cannot grow.
+    pub fn feed(&mut self, bytes: &[u8]) -> Result<(), Refusal>
+        ensures { Answers (Feed bytes.now) self.old (reply_of result) self.new }
+    {
+        if self.ended {
+            return Err(Refusal::Closed);
+        }
+        if bytes.len() > TAPE_LIMIT - self.tape.len() {
+            return Err(Refusal::TooLong);
+        }
+        let Ok(()) = self.tape.extend_from_slice(bytes) else {
+            return Err(Refusal::Memory);
+        };
+        Ok(())
+    }
+
+    /// The input ends behind what was fed. A second time this changes nothing.
+    pub fn end(&mut self)
+        ensures { answer End self.old ≡ record { reply = Done; session = self.new } }
+    {
+        self.ended = true;
+    }
+
+    /// Goes forward by one step.
+    /// Refused, with nothing changed, as `JournalFull` where the journal holds as many records as it may; else as
+    /// `NeedInput` or `Ended` where the step reads input that is not there; else as `TooLong` where the state
+    /// after the step passes a limit; and with `Memory` where there is not enough of it.
+    pub(crate) fn step(&mut self) -> Result<(), Refusal>
+        ensures { Answers Step self.old (reply_of result) self.new }
+    {
+        if self.journal.len() >= self.limit {
+            return Err(Refusal::JournalFull);
+        }
+        let tape = Tape {
+            bytes: self.tape.as_slice(),
+            ended: self.ended,
+        };
+        step_kept(&mut self.machine, &mut self.journal, tape)
+    }
+
+    /// Goes back over the last step, which takes no memory.
+    /// Refused, with nothing changed, as `AtStart` where there is no record to go back over.
+    pub(crate) fn step_back(&mut self) -> Result<(), Refusal>
+        ensures { answer Back self.old ≡ record { reply = reply_of result; session = self.new } }
+    {
+        let Some(record) = self.journal.pop() else {
+            return Err(Refusal::AtStart);
+        };
+        self.machine.undo(record);
+        Ok(())
+    }
+
+    /// Goes forward by up to `n` steps, until one is refused.
+    pub fn forward(&mut self, n: u64) -> Walk
+        ensures { IsWalk Step n self.old result.done result.why self.new }
+    {
+        for done in 0..n {
+            if let Err(refusal) = self.step() {
+                return Walk {
+                    done,
+                    why: Some(refusal),
+                };
+            }
+        }
+        Walk { done: n, why: None }
+    }
+
+    /// Goes back over up to `n` steps, until there is no record left. It takes no memory.
+    pub fn back(&mut self, n: u64) -> Walk
+        ensures { IsWalk Back n self.old result.done result.why self.new }
+    {
+        for done in 0..n {
+            if let Err(refusal) = self.step_back() {
+                return Walk {
+                    done,
+                    why: Some(refusal),
+                };
+            }
+        }
+        Walk { done: n, why: None }
+    }
+
+    /// What is printed and not released yet.
+    pub fn pending(&self) -> &[u8]
+        ensures { result.now ≡ self.now.last.output }
+    {
+        self.machine.output()
+    }
+
+    /// Makes the last state the first one: what is pending is released, so read it before, and what is read of the
+    /// tape is dropped. It takes no memory and always succeeds.
+    pub fn commit(&mut self)
+        ensures { answer Commit self.old ≡ record { reply = Done; session = self.new } }
+    {
+        let read = self.machine.position();
+        self.tape.rotate_left(read);
+        self.tape.truncate(self.tape.len() - read);
+        self.journal.clear();
+        self.machine.settle();
+    }
+
+    /// How many steps can be gone back over.
+    pub fn len(&self) -> usize
+        ensures { result ≡ length self.now.earlier }
+    {
+        self.journal.len()
+    }
+
+    /// Whether there is no step to go back over.
+    pub fn is_empty(&self) -> bool
+        ensures { result ≡ (length self.now.earlier == 0) }
+    {
+        self.len() == 0
+    }
+
+    /// The machine, which shows the last state.
+    pub fn machine(&self) -> &Machine<A>
+        ensures last { result.now.state ≡ self.now.last }
+        ensures on_tape { self.now.last.position ≤ length self.now.tape.bytes }
+    {
+        &self.machine
+    }
+}
