@@ -1,11 +1,11 @@
 -- Walks, step by step.
-use Rattle.std.proofs.Common.{◌≡◌, ℕ, suc, ◌+◌, ◌<◌, sym, ap, subst, ◌∙◌, arith}
-use Rattle.std.specs.Prelude.{Some, option_and_then}
+use Rattle.std.proofs.Common.{◌≡◌, ℕ, suc, ◌+◌, ◌<◌, refl, sym, ap, subst, ◌∙◌, arith, inl}
+use Rattle.std.specs.Prelude.{None, Some, option_and_then}
 use Rattle.trac_rules.specs.declared.refusal.Refusal.{Refusal}
 use Rattle.trac_rules.specs.declared.refusal.Refusal.TheVariants.{Memory, TooLong, NeedInput, Ended, JournalFull, AtStart, Closed, NotMet}
 use Rattle.trac_rules.specs.declared.reply.Reply.{Reply}
 use Rattle.trac_rules.specs.declared.reply.Reply.TheVariants.{Done, Refused}
-use Rattle.trac_rules.specs.Session.{PlainSession, Command, Step, Back, done, refused, answer, accepted_by, Answers, repeated, IsWalk}
+use Rattle.trac_rules.specs.Session.{PlainSession, Command, Step, Back, done, refused, answer, accepted_by, Answers, no_goal, repeated, IsWalk}
 use Rattle.trac_rules.proofs.Replies.{Step_refused, Back_refused}
 
 -- one accepted command more
@@ -40,25 +40,36 @@ Back_refused_as p q NotMet h = h
 
 -- a walk of steps that a refusal ended
 pub stopped_Step_walk : (n k : ℕ) (old p q : PlainSession) (refusal : Refusal) → repeated Step k old ≡ Some p → k < n → Answers Step p (Refused refusal) q →
-    IsWalk Step n old k (Some refusal) q
+    IsWalk Step no_goal n old k (Some refusal) q
 stopped_Step_walk n k old p q refusal walked l h =
     let same = Step_refused_same p q refusal h in
     record {
       within = omega arith;
       walked = walked ∙ ap (λ t. Some t) (sym same);
-      stopped = (l, subst (λ t. Answers Step t (Refused refusal) q) (sym same) h);
+      unmet = λ j p some fewer there. refl;
+      stopped = (l, λ some. refl, subst (λ t. Answers Step t (Refused refusal) q) (sym same) h);
     }
 
 -- a walk of steps back that a refusal ended
 pub stopped_Back_walk : (n k : ℕ) (old p q : PlainSession) (refusal : Refusal) → repeated Back k old ≡ Some p → k < n → answer Back p ≡ refused refusal q →
-    IsWalk Back n old k (Some refusal) q
+    IsWalk Back no_goal n old k (Some refusal) q
 stopped_Back_walk n k old p q refusal walked l h =
     let same = (Back_refused p q refusal h).0 in
     record {
       within = omega arith;
       walked = walked ∙ ap (λ t. Some t) (sym same);
-      stopped = (l, subst (λ t. Answers Back t (Refused refusal) q) (sym same) (Back_refused_as p q refusal h));
+      unmet = λ j p some fewer there. refl;
+      stopped = (l, λ some. refl, subst (λ t. Answers Back t (Refused refusal) q) (sym same) (Back_refused_as p q refusal h));
     }
+
+-- a walk whose steps were all accepted
+pub whole_walk : (command : Command) (n : ℕ) (old new : PlainSession) → repeated command n old ≡ Some new → IsWalk command no_goal n old n None new
+whole_walk command n old new walked = record {
+  within = omega arith;
+  walked = walked;
+  unmet = λ j p some fewer there. refl;
+  stopped = inl refl;
+}
 
 -- a step back is answered as the plain session says, whatever it answers
 pub Back_answered : (p q : PlainSession) (reply : Reply) → answer Back p ≡ record { reply = reply; session = q } → Answers Back p reply q

@@ -3,6 +3,8 @@ use Rattle.std.specs.Prelude.{◌≡◌, ℕ, ◌≤◌, Bool, List, [], ◌∷�
 use Rattle.trac_rules.specs.declared.limit.TheConstants.{TAPE_LIMIT, JOURNAL_LIMIT}
 use Rattle.trac_rules.specs.State.{State}
 use Rattle.trac_rules.specs.Session.{PlainSession}
+use Rattle.trac_step.specs.Layout.{Shown}
+use Rattle.trac_step.specs.Room.{HasRoom}
 
 -- ---- going left, by any kind of record that says a state before
 
@@ -16,10 +18,10 @@ abbrev pub earlier_of : {R : Type 0} → (R → State → Option State) → List
 earlier_of before [] t = []
 earlier_of before (r ∷ records) t = led_on (before r t) (λ s. earlier_of before records s)
 
--- each record says a state before, which stands on a tape of so many bytes
-abbrev pub AreRecords : {R : Type 0} → (R → State → Option State) → ℕ → List R → State → Type 0
-AreRecords before n [] t = Unit {0}
-AreRecords before n (r ∷ records) t = (s : State) × (before r t ≡ Some s) × (s.position ≤ n) × AreRecords before n records s
+-- each record says a state before, of which something holds
+abbrev pub AreRecords : {R : Type 0} → (R → State → Option State) → (State → Type 0) → List R → State → Type 0
+AreRecords before Holds [] t = Unit {0}
+AreRecords before Holds (r ∷ records) t = (s : State) × (before r t ≡ Some s) × Holds s × AreRecords before Holds records s
 
 -- a journal, its oldest record first, has one record more: of a step from s to t
 abbrev pub Remembers : {R : Type 0} → (R → State → Option State) → List R → List R → State → State → Type 0
@@ -36,11 +38,16 @@ plain_of before limit bytes ended journal last = record {
   last = last;
 }
 
+-- what holds of each earlier state: it stands on a tape of so many bytes, and the machine has room for it
+pub record IsWithinReach (machine : Shown) (n : ℕ) (s : State) : Type 0 where
+  pub on_tape : s.position ≤ n
+  pub room : HasRoom machine s
+
 -- what is true of the fields of every session
-pub record IsSound {R : Type 0} (before : R → State → Option State) (limit : ℕ) (bytes : List ℕ) (journal : List R) (last : State) : Type 0 where
+pub record IsSound {R : Type 0} (before : R → State → Option State) (limit : ℕ) (bytes : List ℕ) (journal : List R) (machine : Shown) : Type 0 where
   pub some_records : 1 ≤ limit
   pub not_too_many : limit ≤ JOURNAL_LIMIT
   pub within_limit : length journal ≤ limit
   pub tape_limit : length bytes ≤ TAPE_LIMIT
-  pub on_tape : last.position ≤ length bytes
-  pub records : AreRecords before (length bytes) (reverse journal) last
+  pub on_tape : machine.state.position ≤ length bytes
+  pub records : AreRecords before (IsWithinReach machine (length bytes)) (reverse journal) machine.state

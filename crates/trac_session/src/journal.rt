@@ -1,7 +1,10 @@
 //! Steps of a machine that are kept in a journal.
 ghost use Rattle.std.specs.Prelude.{◌≡◌, ◌≤◌, length, Ok, IfErr, OnOk};
-ghost use Rattle.trac_rules.specs.Stepping.{step, MayRefuse};
+ghost use Rattle.trac_rules.specs.Outcomes.{MayRefuse};
+ghost use Rattle.trac_rules.specs.Session.{over};
+ghost use Rattle.trac_rules.specs.Stepping.{step};
 ghost use Rattle.trac_step.specs.Record.{before};
+ghost use Rattle.trac_step.specs.Room.{HasRoom, IsNoLess};
 ghost use Rattle.trac_prims.specs.Tape.{tape_of};
 ghost use Rattle.trac_session.specs.Journal.{Remembers};
 
@@ -21,9 +24,11 @@ pub fn step_kept<A: Allocator + Copy>(
     tape: Tape,
 ) -> Result<(), Refusal>
     requires { machine.old.state.position ≤ length tape.bytes.now }
-    ensures taken { OnOk result (step (tape_of tape.entry) machine.old.state ≡ Ok machine.new.state) }
+    ensures taken { OnOk result (step (over (tape_of tape.entry)) machine.old.state ≡ Ok machine.new.state) }
     ensures kept { OnOk result (Remembers before journal.old.items journal.new.items machine.old.state machine.new.state) }
-    ensures refused { IfErr result (MayRefuse (step (tape_of tape.entry) machine.old.state)) }
+    ensures refused { IfErr result (MayRefuse (step (over (tape_of tape.entry)) machine.old.state)) }
+    ensures back { OnOk result (HasRoom machine.new machine.old.state) }
+    ensures no_less { IsNoLess machine.old machine.new }
     ensures same { IfErr result (λ _. machine.new.state ≡ machine.old.state × journal.new.items ≡ journal.old.items) }
 {
     let record = machine.step(tape)?;

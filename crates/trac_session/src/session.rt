@@ -1,7 +1,7 @@
 //! A session: a processor that goes forwards and backwards over an input that is fed to it.
 ghost use Rattle.std.specs.Prelude.{◌≡◌, ◌==◌, ◌≤◌, length, IfOk, IsOkUnless};
 ghost use Rattle.trac_rules.specs.declared.reply.Reply.TheVariants.{Done};
-ghost use Rattle.trac_rules.specs.Session.{new_session, Feed, End, Step, Back, Commit, answer, Answers, IsWalk};
+ghost use Rattle.trac_rules.specs.Session.{new_session, Feed, End, Step, Back, Commit, answer, Answers, IsWalk, no_goal};
 ghost use Rattle.trac_session.specs.Replies.{reply_of};
 
 use crate::journal::{Kept, step_kept};
@@ -36,7 +36,7 @@ impl<A: Allocator + Copy> Model for Session<A> {
 
     ghost view = { λ s. plain_of before s.limit s.tape.items s.ended s.journal.items s.machine.state };
 
-    ghost invariant = { λ s. IsSound before s.limit s.tape.items s.journal.items s.machine.state };
+    ghost invariant = { λ s. IsSound before s.limit s.tape.items s.journal.items s.machine };
 }
 
 impl<A: Allocator + Copy> Session<A> {
@@ -114,7 +114,7 @@ impl<A: Allocator + Copy> Session<A> {
 
     /// Goes forward by up to `n` steps, until one is refused.
     pub fn forward(&mut self, n: u64) -> Walk
-        ensures { IsWalk Step n self.old result.done result.why self.new }
+        ensures { IsWalk Step no_goal n self.old result.done result.why self.new }
     {
         for done in 0..n {
             if let Err(refusal) = self.step() {
@@ -129,7 +129,7 @@ impl<A: Allocator + Copy> Session<A> {
 
     /// Goes back over up to `n` steps, until there is no record left. It takes no memory.
     pub fn back(&mut self, n: u64) -> Walk
-        ensures { IsWalk Back n self.old result.done result.why self.new }
+        ensures { IsWalk Back no_goal n self.old result.done result.why self.new }
     {
         for done in 0..n {
             if let Err(refusal) = self.step_back() {
