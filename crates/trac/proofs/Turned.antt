@@ -2,11 +2,12 @@
 use Rattle.std.proofs.Common.{◌≡◌, ℕ, zero, suc, ◌+◌, ◌-◌, ◌<◌, ◌≤◌, Bool, true, false, List, [], ◌++◌, length, refl, sym, ap, subst, ◌∙◌, arith, ⊎_elim}
 use Rattle.std.specs.Prelude.{Option, None, Some, MatchOption, Result, Ok, Err, OnOk, IfErr, if◌then◌else◌, ◌⊎◌, ◌==◌}
 use Rattle.std.specs.Io.KnownBytes.{Appends, IsAtEnd}
+use Rattle.std.proofs.lemmas.Bool.{false≢true}
 use Rattle.std.proofs.lemmas.Bool.Decides.{nat_tests}
 use Rattle.trac_rules.specs.declared.refusal.Refusal.{Refusal}
 use Rattle.trac_rules.specs.declared.refusal.Refusal.TheVariants as refusals
 use Rattle.trac_rules.specs.declared.reply.Reply.TheVariants.{Refused}
-use Rattle.trac_rules.specs.Session.{PlainSession, Step, Commit, done, refused, answer, Answers, repeated, IsWalk}
+use Rattle.trac_rules.specs.Session.{PlainSession, Step, Commit, done, refused, answer, Answers, repeated, HasEnded, IsWalk, no_goal}
 use Rattle.trac_rules.specs.Running.{Output, LimitPassed}
 use Rattle.trac_rules.specs.GoingOn.{prepended, going_on_from}
 use Rattle.trac_rules.proofs.GoingOn.{after_repeated, going_on-repeated, after_Commit, going_on-Commit, going_on_spent, going_on_ended, going_on_too_long}
@@ -35,7 +36,7 @@ unmoved_by_none zero p q h e = cc
 unmoved_by_none (suc k) p q h e = absurd (omega arith)
 
 -- what a walk leaves
-pub after_walk : (p : PlainSession) (m k : ℕ) (why : Option Refusal) (q : PlainSession) → IsFresh p → IsWalk Step m p k why q → AfterWalk p m k q
+pub after_walk : (p : PlainSession) (m k : ℕ) (why : Option Refusal) (q : PlainSession) → IsFresh p → IsWalk Step no_goal m p k why q → AfterWalk p m k q
 after_walk p m k why q fresh walk =
     let start : p.last.position ≤ length p.tape.bytes = omega (arith, fresh.nothing_read) in
     let after = after_repeated k p q start walk.walked in
@@ -51,14 +52,20 @@ after_walk p m k why q fresh walk =
     }
 
 -- why a walk was stopped
-pub stopped_for : (p : PlainSession) (m k : ℕ) (why : Option Refusal) (q : PlainSession) (refusal r : Refusal) → IsWalk Step m p k why q → why ≡ Some refusal → refusal ≡ r →
+pub stopped_for : (p : PlainSession) (m k : ℕ) (why : Option Refusal) (q : PlainSession) (refusal r : Refusal) → IsWalk Step no_goal m p k why q → why ≡ Some refusal → refusal ≡ r →
     (k < m) × Answers Step q (Refused r) q
 stopped_for p m k why q refusal r walk e same =
-    subst (λ w. MatchOption w (k ≡ m) (λ x. (k < m) × Answers Step q (Refused x) q)) (e ∙ ap (λ x. Some x) same) walk.stopped
+    let stop = subst (λ w. MatchOption w (HasEnded no_goal m k q) (λ x. (k < m) × (0 < k → no_goal q.last ≡ false) × Answers Step q (Refused x) q))
+    (e ∙ ap (λ x. Some x) same) walk.stopped in
+    (stop.0, stop.2)
 
 -- a walk that was not stopped
-pub not_stopped : (p : PlainSession) (m k : ℕ) (why : Option Refusal) (q : PlainSession) → IsWalk Step m p k why q → why ≡ None → k ≡ m
-not_stopped p m k why q walk e = subst (λ w. MatchOption w (k ≡ m) (λ x. (k < m) × Answers Step q (Refused x) q)) e walk.stopped
+pub not_stopped : (p : PlainSession) (m k : ℕ) (why : Option Refusal) (q : PlainSession) → IsWalk Step no_goal m p k why q → why ≡ None → k ≡ m
+not_stopped p m k why q walk e =
+    ⊎_elim
+    (λ (all : k ≡ m). all)
+    (λ (met : (0 < k) × (no_goal q.last ≡ true)). absurd (false≢true met.1))
+    (subst (λ w. MatchOption w (HasEnded no_goal m k q) (λ x. (k < m) × (0 < k → no_goal q.last ≡ false) × Answers Step q (Refused x) q)) e walk.stopped)
 
 -- a step is refused for nothing else
 pub refused_for_none : (q : PlainSession) (refusal : Refusal) → answer Step q ≡ refused refusal q →

@@ -119,8 +119,8 @@ abbrev pub no_goal : Goal
 no_goal s = false
 
 -- a walk is over: all its steps were accepted, or it took one at least and its goal is met
-abbrev pub IsOver : Goal → ℕ → ℕ → PlainSession → Type 0
-IsOver goal n steps new = (steps ≡ n) ⊎ ((0 < steps) × (goal new.last ≡ true))
+abbrev pub HasEnded : Goal → ℕ → ℕ → PlainSession → Type 0
+HasEnded goal n steps new = (steps ≡ n) ⊎ ((0 < steps) × (goal new.last ≡ true))
 
 -- a walk of at most n steps forward or back, to a goal: `steps` of them were accepted, the goal was not met before the last of
 -- them, and where the walk is not over then, a refusal ended it
@@ -128,7 +128,7 @@ pub record IsWalk (command : Command) (goal : Goal) (n : ℕ) (old : PlainSessio
   pub within : steps ≤ n
   pub walked : repeated command steps old ≡ Some new
   pub unmet : (k : ℕ) → (p : PlainSession) → 0 < k → k < steps → repeated command k old ≡ Some p → goal p.last ≡ false
-  pub stopped : MatchOption why (IsOver goal n steps new) (λ refusal.
+  pub stopped : MatchOption why (HasEnded goal n steps new) (λ refusal.
       (steps < n) × (0 < steps → goal new.last ≡ false) × Answers command new (Refused refusal) new)
 
 -- ---- lists of commands
