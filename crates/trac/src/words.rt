@@ -60,7 +60,9 @@ pub fn read_line(alloc: Global, words: &[&str]) -> Result<Line, AllocError>
     };
     match error.kind() {
         ErrorKind::OutOfMemory => Err(AllocError),
-        ErrorKind::DisplayHelp | ErrorKind::DisplayVersion => Ok(Line::Help(error.to_string(alloc)?)),
+        ErrorKind::DisplayHelp | ErrorKind::DisplayVersion => {
+            Ok(Line::Help(error.to_string(alloc)?))
+        }
         _ => Ok(Line::Bad(error.to_string(alloc)?)),
     }
 }
