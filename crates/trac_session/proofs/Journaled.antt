@@ -16,7 +16,7 @@ use Rattle.trac_rules.proofs.Replies.{answer_Step, answer_Step_Ok, answer_Step_E
 use Rattle.trac_step.proofs.Rules.{reverse_push}
 use Rattle.trac_step.specs.Layout.{Shown}
 use Rattle.trac_step.specs.Room.{HasRoom, IsNoLess}
-use Rattle.trac_step.proofs.Rooms.{HasRoom-more}
+use Rattle.trac_step.proofs.Rooms.{HasRoom-kept}
 use Rattle.trac_session.specs.Journal.{led_on, earlier_of, AreRecords, Remembers, plain_of, IsWithinReach, IsSound}
 use Rattle.trac_session.specs.Replies.{reply_of}
 
@@ -58,7 +58,7 @@ AreRecords-weaker before Holds Still (r ∷ records) t so all = (all.0, all.1, s
 pub IsWithinReach-more : (old new : Shown) (n k : ℕ) → IsNoLess old new → n ≤ k → (s : State) → IsWithinReach old n s → IsWithinReach new k s
 IsWithinReach-more old new n k more l s reach = record {
   on_tape = omega (arith, reach.on_tape);
-  room = HasRoom-more old new s more reach.room;
+  room = HasRoom-kept old new s more reach.room;
 }
 
 -- a journal with one record more is longer by one
