@@ -1,6 +1,6 @@
 -- Whether a state is proper is decided by a test.
 use Rattle.std.proofs.Common.{◌≡◌, ℕ, ◌≤◌, Bool, true, false, cond, not, ◌&&◌, ◌||◌, T, List, [], ◌∷◌, length, map, All, Decides, refl, sym, ap, subst, ◌∙◌, ⊎_elim}
-use Rattle.std.specs.Prelude.{Option, None, Some, nat_le, bytes_eq}
+use Rattle.std.specs.Prelude.{None, Some, nat_le, bytes_eq}
 use Rattle.std.specs.Cmp.Lexicographic.{slice_cmp}
 use Rattle.std.specs.FinMap as finite
 use Rattle.std.specs.FinMap.Entries.{find, below_all, is_sorted}
@@ -14,9 +14,9 @@ use Rattle.std.proofs.lemmas.List.Elements.{All-nil, All-cons, All-head, All-tai
 use Rattle.trac_rules.specs.declared.limit.TheConstants.{BLOCK_LIMIT, FORM_COUNT_LIMIT}
 use Rattle.trac_rules.specs.Form.{Form, IsWide, all_items, width_of}
 use Rattle.trac_rules.specs.Limits.{form_fits, texts_fit}
-use Rattle.trac_rules.specs.Proper.{AreHeld, AreProperForms, IsProper, IsProperBlock, IsProperForm, IsProperStorage, are_distinct, are_proper_forms, is_proper, is_proper_block, is_proper_form, is_proper_storage}
+use Rattle.trac_rules.specs.Proper.{AreProperForms, IsProper, IsProperBlock, IsProperForm, IsProperStorage, are_distinct, are_proper_forms, is_proper, is_proper_block, is_proper_form, is_proper_storage}
 use Rattle.trac_rules.specs.State.{Block, Forms, State, Storage, storage_of}
-use Rattle.trac_rules.proofs.ProperStates.{one_name, ties_itself}
+use Rattle.trac_rules.proofs.NamedForms.{one_name, ties_itself}
 
 -- ---- tests
 
