@@ -1,5 +1,5 @@
 -- Forms by their names, put, taken and looked up.
-use Rattle.std.proofs.Common.{◌≡◌, ◌+◌, ◌-◌, ◌≤◌, Bool, true, false, cond, ℕ, List, refl, sym, ap, ◌∙◌, arith, inl, inr, ⊎_elim, is_some}
+use Rattle.std.proofs.Common.{◌≡◌, ◌+◌, ◌-◌, ◌≤◌, Bool, true, false, cond, ℕ, List, sym, ap, ◌∙◌, arith, inl, inr, ⊎_elim, is_some}
 use Rattle.std.specs.Prelude.{Option, None, Some, ◌⊎◌}
 use Rattle.std.specs.Cmp.Lexicographic.{slice_cmp, nat_list_cmp_total, nat_list_eq_equiv}
 use Rattle.std.specs.FinMap as finite
