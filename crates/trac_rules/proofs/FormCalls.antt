@@ -185,7 +185,4 @@ finds_none action arguments es on named none = row action arguments es es [] [] 
         on_form-held (argument 1 arguments) None (λ f. Ok (leaves (pointing (argument 1 arguments) 0 f (holding es storage)))) es (holding es storage) none
     go CallForm i storage = on_form-held (argument 1 arguments) None (λ f. Ok (gives (called (drop 2 arguments) f) (holding es storage))) es (holding es storage) none
     go PrintForm i storage = on_form-held (argument 1 arguments) None (λ f. Ok (prints (shown f) (holding es storage))) es (holding es storage) none
-    go Define i storage = absurd i
-    go Delete i storage = absurd i
-    go DeleteAll i storage = absurd i
-    go ListNames i storage = absurd i
+    go a i storage = absurd i

@@ -36,7 +36,8 @@ get-put forms name form =
 pub found_of_put : (forms : Forms) (name q : List ℕ) (form found : Form) → finite.get (finite.insert forms name form) q ≡ Some found →
     (((q ≡ name) × (found ≡ form)) ⊎ (finite.get forms q ≡ Some found))
 found_of_put forms name q form found there =
-    let is : cond (eq_by_cmp (slice_cmp nat_cmp) q name) (Some form) (finite.get forms q) ≡ Some found = sym (finite.get-insert nat_list_cmp_total forms name form q) ∙ there in
+    let is : cond (eq_by_cmp (slice_cmp nat_cmp) q name) (Some form) (finite.get forms q) ≡ Some found =
+    sym (finite.get-insert nat_list_cmp_total forms name form q) ∙ there in
     ⊎_elim
     (λ (t : eq_by_cmp (slice_cmp nat_cmp) q name ≡ true).
     let same : Some form ≡ Some found = sym (cond-true (eq_by_cmp (slice_cmp nat_cmp) q name) (Some form) (finite.get forms q) t) ∙ is in
@@ -65,6 +66,7 @@ len-put_again forms name old new there =
 pub len-taken : (forms : Forms) (name : List ℕ) → finite.len (finite.remove forms name) ≤ finite.len forms
 len-taken forms name = go (finite.contains_key forms name) (finite.len-remove nat_list_cmp_total forms name)
   where
-    go : (there : Bool) → finite.len (finite.remove forms name) ≡ cond there (finite.len forms - 1) (finite.len forms) → finite.len (finite.remove forms name) ≤ finite.len forms
+    go : (there : Bool) → finite.len (finite.remove forms name) ≡ cond there (finite.len forms - 1) (finite.len forms) →
+        finite.len (finite.remove forms name) ≤ finite.len forms
     go true e = omega (arith, e)
     go false e = omega (arith, e)

@@ -10,11 +10,11 @@ use Rattle.trac_rules.specs.declared.kind.Kind.{Kind}
 use Rattle.trac_rules.specs.declared.kind.Kind.TheVariants.{Active, Neutral}
 use Rattle.trac_rules.specs.declared.limit.TheConstants.{FORM_COUNT_LIMIT}
 use Rattle.trac_rules.specs.declared.primitive.Computation.{Computation}
-use Rattle.trac_rules.specs.declared.primitive.Computation.TheVariants.{Equal, Greater, Calculate, Union, Meet, Complement, Shift, Rotate}
+use Rattle.trac_rules.specs.declared.primitive.Computation.TheVariants.{Calculate}
 use Rattle.trac_rules.specs.declared.primitive.FormAction.{FormAction}
 use Rattle.trac_rules.specs.declared.primitive.FormAction.TheVariants.{Define, Delete, DeleteAll, Segment, Restore, ListNames, PrintForm, Call as CallForm}
 use Rattle.trac_rules.specs.declared.primitive.Primitive.{Primitive}
-use Rattle.trac_rules.specs.declared.primitive.Primitive.TheVariants.{PrintString, ReadString, Compute, Handle, Unknown}
+use Rattle.trac_rules.specs.declared.primitive.Primitive.TheVariants.{ReadString, Compute, Handle}
 use Rattle.trac_rules.specs.declared.refusal.Refusal.{Refusal}
 use Rattle.trac_rules.specs.Computing.{computed, result_of}
 use Rattle.trac_rules.specs.Effect.{Effect, argument, gives, gives_or_forces, leaves, prints}
@@ -148,29 +148,23 @@ read_proper None text ended storage proper = rest text ended
     rest (b ∷ text) true = proper
 
 -- computing
-computed_proper : (computation : Computation) (arguments : List (List ℕ)) (storage : Storage) → IsProperStorage storage → IsProperStorage (computed computation arguments storage).storage
-computed_proper Equal arguments storage proper = proper
-computed_proper Greater arguments storage proper = proper
+computed_proper : (computation : Computation) (arguments : List (List ℕ)) (storage : Storage) → IsProperStorage storage →
+    IsProperStorage (computed computation arguments storage).storage
 computed_proper (Calculate operation) arguments storage proper = either (calculated (result_of operation) (argument 1 arguments) (argument 2 arguments))
   where
     either : (value : Option (List ℕ)) → IsProperStorage (gives_or_forces value (argument 3 arguments) storage).storage
     either None = proper
     either (Some value) = proper
-computed_proper Union arguments storage proper = proper
-computed_proper Meet arguments storage proper = proper
-computed_proper Complement arguments storage proper = proper
-computed_proper Shift arguments storage proper = proper
-computed_proper Rotate arguments storage proper = proper
+computed_proper computation arguments storage proper = proper
 
 -- each primitive
 effect_proper : (primitive : Primitive) (environment : Environment) (arguments : List (List ℕ)) (s : State) → IsProperStorage (storage_of s) →
     LeavesProper (effect_of primitive environment arguments s)
-effect_proper PrintString environment arguments s proper = proper
 effect_proper ReadString environment arguments s proper =
     read_proper (position (λ b. b == s.meta) (unread environment.tape s)) (unread environment.tape s) environment.tape.ended (storage_of s) proper
 effect_proper (Compute computation) environment arguments s proper = computed_proper computation arguments (storage_of s) proper
 effect_proper (Handle action) environment arguments s proper = handled_proper action arguments (storage_of s) proper
-effect_proper Unknown environment arguments s proper = proper
+effect_proper primitive environment arguments s proper = proper
 
 -- the line of the trace changes no storage
 traced_proper : (line : List ℕ) (outcome : Result Effect Refusal) → LeavesProper outcome → LeavesProper (seen_as (printed_behind line) outcome)
@@ -203,7 +197,8 @@ placed_proper call (Ok e) proper = subst IsProperStorage (sym (storage-placed ca
 placed_proper call (Err refusal) proper = tt
 
 -- what scanning gives is carried out
-carried_out_proper : (environment : Environment) (s : State) (x : Scanned) → ScanShows storage_of s x → IsProperStorage (storage_of s) → StepsProper (carried_out environment x)
+carried_out_proper : (environment : Environment) (s : State) (x : Scanned) → ScanShows storage_of s x → IsProperStorage (storage_of s) →
+    StepsProper (carried_out environment x)
 carried_out_proper environment s (Moves t) same proper = subst IsProperStorage (sym same) proper
 carried_out_proper environment s (Calls call) same proper =
     placed_proper call (performed environment call) (performed_proper environment call (subst IsProperStorage (sym same) proper))
