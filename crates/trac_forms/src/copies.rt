@@ -1,5 +1,5 @@
 //! A second store that holds the same, and a store that is set back to what another one holds.
-ghost use Rattle.std.specs.Prelude.{◌≡◌, is_some, IfOk, IsOkUnless, IsTrue};
+ghost use Rattle.std.specs.Prelude.{◌≡◌, is_some, IfOk, IsOkUnless, IsTrue, OnOk};
 ghost use Rattle.std.specs.FinSet as set;
 ghost use Rattle.trac_forms.specs.Stored.{KnowsAll};
 ghost use Rattle.trac_forms.specs.Table.{named, with_any};
@@ -17,6 +17,9 @@ impl<A: Allocator + Copy> Store<A> {
     pub fn copy(&self) -> Result<Self, FormError>
         ensures same { IfOk result (λ s. s ≡ self.now) }
         ensures err { IsOkUnless result FormError.Memory }
+
+        // The name of each form is known.
+        ensures known { OnOk result (KnowsAll self.now.known self.now.forms) }
     {
         Ok(Store {
             table: table_copy(&self.table)?,
