@@ -1,5 +1,5 @@
 -- Proper states: what is true of every state that a machine shows.
-use Rattle.std.specs.Prelude.{◌≡◌, ℕ, ◌≤◌, ◌&&◌, not, nat_le, List, [], ◌∷◌, length, map, Bool, true, Option, None, Some}
+use Rattle.std.specs.Prelude.{◌≡◌, ℕ, ◌≤◌, ◌&&◌, not, nat_le, List, [], ◌∷◌, length, map, Bool, true, None, Some}
 use Rattle.std.specs.FinMap as finite
 use Rattle.std.specs.List.{All, IsDistinct, list_all, list_any}
 use Rattle.std.specs.Str.{bytes_eq}

@@ -2,7 +2,7 @@
 use Rattle.std.specs.Prelude.{ℕ, ◌+◌, ◌==◌, List, [], ◌∷◌, length, take, drop, Bool, true, false, Option, None, Some, Result, Ok, Err, position}
 use Rattle.trac_rules.specs.declared.refusal.Refusal.{Refusal}
 use Rattle.trac_rules.specs.declared.refusal.Refusal.TheVariants.{NeedInput, Ended}
-use Rattle.trac_rules.specs.State.{State, Storage, Tape, storage_of}
+use Rattle.trac_rules.specs.State.{State, Storage, Tape}
 use Rattle.trac_rules.specs.Effect.{Effect, reads}
 
 -- the input that is not read yet

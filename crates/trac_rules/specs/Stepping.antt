@@ -1,5 +1,5 @@
 -- One step.
-use Rattle.std.specs.Prelude.{List, ℕ, Option, None, Some, Result, Ok, Err}
+use Rattle.std.specs.Prelude.{List, ℕ, Option, None, Some, Result, Ok}
 use Rattle.trac_rules.specs.declared.refusal.Refusal.{Refusal}
 use Rattle.trac_rules.specs.State.{Environment, State}
 use Rattle.trac_rules.specs.Scanning.{Scanned, Moves, Calls, scan}
