@@ -6,7 +6,7 @@ use Rattle.std.specs.FinMap as finite
 use Rattle.std.specs.FinSet as set
 use Rattle.std.specs.List.{list_any, IsDistinct, AllByRecursion}
 use Rattle.std.specs.Map.Calls.{RetainsPairs}
-use Rattle.std.specs.Map.{keys_of, values_of, lookup, set_value}
+use Rattle.std.specs.Map.{keys_of, lookup, set_value}
 use Rattle.std.specs.Option.{option_flatten, option_or}
 use Rattle.std.specs.Ordering.{nat_cmp, eq_by_cmp}
 use Rattle.std.specs.Str.{bytes_eq}
@@ -18,6 +18,7 @@ use Rattle.std.proofs.lemmas.Map.Made.{is_some-lookup}
 use Rattle.std.proofs.lemmas.Map.Text.{is_eq-slice_cmp}
 use Rattle.std.proofs.lemmas.Slice.Eq.{bytes_eq-Decides}
 use Rattle.trac_rules.specs.Form.{Form}
+use Rattle.trac_rules.proofs.NamedForms.{only_equal_tie, ties_itself}
 use Rattle.trac_rules.specs.Listing.{names_of}
 use Rattle.trac_rules.specs.State.{Block, Forms}
 use Rattle.trac_forms.specs.Stored.{KnowsAll, Names, Stored, swept}
@@ -28,18 +29,9 @@ use Rattle.std.proofs.lemmas.List.{append_assoc, length-map, map-append}
 abbrev pub Entries : Type 0
 Entries = List (List ℕ × Option Form)
 
--- only equal names tie
-abbrev exact : finite.IsAntisymmetric (slice_cmp nat_cmp)
-exact = finite.slice_cmp-IsAntisymmetric finite.nat_cmp-IsAntisymmetric
-
 -- ---- look-ups
 
--- tests that answer alike find the same
-pub lookup_alike : {K V : Type 0} (p q : K → Bool) → ((k : K) → p k ≡ q k) → (es : List (K × V)) → lookup p es ≡ lookup q es
-lookup_alike p q same [] = refl
-lookup_alike p q same (e ∷ es) = ap (λ b. cond b (Some e.1) (lookup p es)) (same e.0) ∙ ap (cond (q e.0) (Some e.1)) (lookup_alike p q same es)
-
--- and pass alike
+-- tests that answer alike pass alike
 pub list_any_alike : {K : Type 0} (p q : K → Bool) → ((k : K) → p k ≡ q k) → (ks : List K) → list_any p ks ≡ list_any q ks
 list_any_alike p q same [] = refl
 list_any_alike p q same (k ∷ ks) = ap (λ b. b || list_any p ks) (same k) ∙ ap (λ b. q k || b) (list_any_alike p q same ks)
@@ -119,7 +111,7 @@ form_known es bs s view q there =
 
 -- two tables in which each name has the same form
 forms_alike : (es fs : Entries) → ((q : List ℕ) → option_flatten (lookup (bytes_eq q) es) ≡ option_flatten (lookup (bytes_eq q) fs)) → forms_of es ≡ forms_of fs
-forms_alike es fs same = finite.same_map nat_list_cmp_total exact (forms_of es) (forms_of fs) (λ q. get-forms_of es q ∙ same q ∙ sym (get-forms_of fs q))
+forms_alike es fs same = finite.same_map nat_list_cmp_total only_equal_tie (forms_of es) (forms_of fs) (λ q. get-forms_of es q ∙ same q ∙ sym (get-forms_of fs q))
 
 -- ---- what the calls do
 
@@ -133,7 +125,7 @@ lookup_written es name q w some =
 -- an entry's form is put, or taken
 pub forms_written : (es : Entries) (name : List ℕ) (w : Option Form) → IsSome (lookup (bytes_eq name) es) → forms_of (set_value (bytes_eq name) es w) ≡ with_entry name w (forms_of es)
 forms_written es name w some =
-    finite.same_map nat_list_cmp_total exact (forms_of (set_value (bytes_eq name) es w)) (with_entry name w (forms_of es)) (λ q.
+    finite.same_map nat_list_cmp_total only_equal_tie (forms_of (set_value (bytes_eq name) es w)) (with_entry name w (forms_of es)) (λ q.
     get-forms_of (set_value (bytes_eq name) es w) q
     ∙ ap option_flatten (lookup_written es name q w some)
     ∙ flatten_cond (bytes_eq q name) (Some w) (lookup (bytes_eq q) es)
@@ -147,7 +139,7 @@ known_written es name w = ap (λ (ks : List (List ℕ)). let s : Names = set.fro
 -- a name without an entry has no form to be taken
 pub forms_not_taken : (es : Entries) (name : List ℕ) → lookup (bytes_eq name) es ≡ None → finite.remove (forms_of es) name ≡ forms_of es
 forms_not_taken es name none =
-    finite.same_map nat_list_cmp_total exact (finite.remove (forms_of es) name) (forms_of es) (λ q.
+    finite.same_map nat_list_cmp_total only_equal_tie (finite.remove (forms_of es) name) (forms_of es) (λ q.
     get-with_entry name q None (forms_of es)
     ∙ ⊎_elim
     (λ (t : bytes_eq q name ≡ true).
@@ -176,12 +168,12 @@ keys_push (e ∷ es) name w = ap (λ r. e.0 ∷ r) (keys_push es name w)
 pub known_more : (es : Entries) (name : List ℕ) → known_of (es ++ (name, None) ∷ []) ≡ set.insert (known_of es) name
 known_more es name =
     ap (λ (ks : List (List ℕ)). let s : Names = set.from_list ks in s) (keys_push es name None)
-    ∙ set.from_list_push nat_list_cmp_total exact (keys_of es) name
+    ∙ set.from_list_push nat_list_cmp_total only_equal_tie (keys_of es) name
 
 -- a name that is known already
 pub known_again : (s : Names) (name : List ℕ) → set.contains s name ≡ true → set.insert s name ≡ s
 known_again s name there =
-    set.same_set nat_list_cmp_total exact (set.insert s name) s (λ q.
+    set.same_set nat_list_cmp_total only_equal_tie (set.insert s name) s (λ q.
     set.contains-insert nat_list_cmp_total s name q
     ∙ ⊎_elim
     (λ (t : eq_by_cmp (slice_cmp nat_cmp) q name ≡ true).
@@ -219,7 +211,7 @@ lookup_swept es q apart =
 -- then the names of the forms alone are known
 pub known_swept : (es : Entries) → IsDistinct bytes_eq (keys_of es) → known_of (filter (λ e. is_some e.1) es) ≡ set.from_list (names_of (forms_of es))
 known_swept es apart =
-    set.same_set nat_list_cmp_total exact (known_of (filter (λ e. is_some e.1) es)) (set.from_list (names_of (forms_of es))) (λ q.
+    set.same_set nat_list_cmp_total only_equal_tie (known_of (filter (λ e. is_some e.1) es)) (set.from_list (names_of (forms_of es))) (λ q.
     contains-known_of (filter (λ e. is_some e.1) es) q
     ∙ lookup_swept es q apart
     ∙ finite.contains_key-keys (forms_of es) q
@@ -247,15 +239,6 @@ len-forms_of (e ∷ es) apart =
     ∙ elim (is_some e.1) as (λ b. cond b (finite.len (forms_of es) + 1) (finite.len (forms_of es)) ≡ length (cond b (e ∷ filter (λ x. is_some x.1) es) (filter (λ x. is_some x.1) es))) [
       | true ↦ omega (arith, rest)
       | false ↦ rest
-    ]
-
--- as many entries as values pass a test of the values
-pub values_filter : {K V : Type 0} (es : List (K × Option V)) → length (filter (λ e. is_some e.1) es) ≡ length (filter is_some (values_of es))
-values_filter [] = refl
-values_filter (e ∷ es) =
-    elim (is_some e.1) as (λ b. length (cond b (e ∷ filter (λ x. is_some x.1) es) (filter (λ x. is_some x.1) es)) ≡ length (cond b (e.1 ∷ filter is_some (values_of es)) (filter is_some (values_of es)))) [
-      | true ↦ omega (arith, values_filter es)
-      | false ↦ values_filter es
     ]
 
 -- what a map's `retain` leaves, where the closure keeps no state, takes each value away and keeps each entry
@@ -439,7 +422,7 @@ get-put_all (e ∷ es) forms q apart =
 -- put into nothing, they are the forms of the table
 pub put_all-forms_of : (es : Entries) → IsDistinct bytes_eq (keys_of es) → put_all es finite.empty ≡ forms_of es
 put_all-forms_of es apart =
-    finite.same_map nat_list_cmp_total exact (put_all es finite.empty) (forms_of es) (λ q.
+    finite.same_map nat_list_cmp_total only_equal_tie (put_all es finite.empty) (forms_of es) (λ q.
     get-put_all es finite.empty q apart
     ∙ ap (option_or (option_flatten (lookup (bytes_eq q) es))) (finite.get-empty (slice_cmp nat_cmp) q)
     ∙ or_none (option_flatten (lookup (bytes_eq q) es))
@@ -453,16 +436,17 @@ put_all-forms_of es apart =
 knows_each : (known : Names) (es : Entries) → IsDistinct bytes_eq (keys_of es) →
     ((q : List ℕ) → IsTrue (is_some (option_flatten (lookup (bytes_eq q) es))) → IsTrue (set.contains known q)) → KnowsEach known es
 knows_each known [] apart all = tt
-knows_each known (e ∷ es) apart all =
-    ((λ some. all e.0 (rw (nat_list_eq_equiv.refl e.0) some)),
-    knows_each known es (IsDistinct-tail bytes_eq e.0 (keys_of es) apart) (λ q some.
-    ⊎_elim
-    (λ (t : bytes_eq q e.0 ≡ true).
-    let none : lookup (bytes_eq q) es ≡ None =
-    ap (λ k. lookup (bytes_eq k) es) ((bytes_eq-Decides q e.0).0 t) ∙ lookup_none e.0 es (IsDistinct-head bytes_eq e.0 (keys_of es) apart) in
-    absurd (false≢true (sym (ap (λ o. is_some (option_flatten o)) none) ∙ some)))
-    (λ (t : bytes_eq q e.0 ≡ false). all q (rw t some))
-    (cases_Bool (bytes_eq q e.0))))
+knows_each known (e ∷ es) apart all = (
+  (λ some. all e.0 (rw (nat_list_eq_equiv.refl e.0) some)),
+  knows_each known es (IsDistinct-tail bytes_eq e.0 (keys_of es) apart) (λ q some.
+      ⊎_elim
+      (λ (t : bytes_eq q e.0 ≡ true).
+      let none : lookup (bytes_eq q) es ≡ None =
+      ap (λ k. lookup (bytes_eq k) es) ((bytes_eq-Decides q e.0).0 t) ∙ lookup_none e.0 es (IsDistinct-head bytes_eq e.0 (keys_of es) apart) in
+      absurd (false≢true (sym (ap (λ o. is_some (option_flatten o)) none) ∙ some)))
+      (λ (t : bytes_eq q e.0 ≡ false). all q (rw t some))
+      (cases_Bool (bytes_eq q e.0))),
+)
 
 pub KnowsEach-forms_of : (known : Names) (es : Entries) → IsDistinct bytes_eq (keys_of es) → KnowsAll known (forms_of es) → KnowsEach known es
 KnowsEach-forms_of known es apart all =
@@ -470,13 +454,6 @@ KnowsEach-forms_of known es apart all =
 
 -- ---- after the calls
 
-itself : (name : List ℕ) → eq_by_cmp (slice_cmp nat_cmp) name name ≡ true
-itself name = is_eq-slice_cmp name name ∙ nat_list_eq_equiv.refl name
-
 -- a name that was made known is known
 pub known_then : (s : Names) (name : List ℕ) → set.contains (set.insert s name) name ≡ true
-known_then s name = set.contains-insert nat_list_cmp_total s name name ∙ ap (λ b. b || set.contains s name) (itself name)
-
--- a form that was put is there
-pub form_then : (forms : Forms) (name : List ℕ) (form : Form) → finite.get (finite.insert forms name form) name ≡ Some form
-form_then forms name form = finite.get-insert nat_list_cmp_total forms name form name ∙ ap (λ b. cond b (Some form) (finite.get forms name)) (itself name)
+known_then s name = set.contains-insert nat_list_cmp_total s name name ∙ ap (λ b. b || set.contains s name) (ties_itself name)

@@ -57,9 +57,7 @@ pub(crate) fn blocks_copy<A: Allocator + Copy>(
 }
 
 // The same block, if it is not erased, with memory of its own.
-fn block_copy<A: Allocator + Copy>(
-    block: &Option<Block<A>>,
-) -> Result<Option<Block<A>>, FormError>
+fn block_copy<A: Allocator + Copy>(block: &Option<Block<A>>) -> Result<Option<Block<A>>, FormError>
     ensures same { IfOk result (λ copy. copy ≡ block.now) }
     ensures err { IsOkUnless result FormError.Memory }
 {

@@ -4,7 +4,7 @@ ghost use Rattle.std.specs.FinMap as finite;
 ghost use Rattle.std.specs.FinSet as set;
 ghost use Rattle.std.specs.Option.{option_copied};
 ghost use Rattle.std.specs.Str.{bytes_eq};
-ghost use Rattle.indexmap.specs.IndexMap.{get_by, values, IsUnique};
+ghost use Rattle.indexmap.specs.IndexMap.{get_by, IsUnique};
 ghost use Rattle.trac_forms.specs.Layout.{IsSound};
 ghost use Rattle.trac_forms.specs.Stored.{KnowsAll, nothing_stored, swept};
 
@@ -150,12 +150,10 @@ pub(crate) fn add_entry<A: Allocator + Copy>(
 fn count_full<K: Eq + Hash, V, S: BuildHasher, A: Allocator>(
     table: &IndexMap<K, Option<V>, S, A>,
 ) -> usize
-    ensures count { result ≡ length (filter is_some (values table.now)) }
+    ensures count { result ≡ length (filter (λ e. is_some e.1) table.now.entries) }
     ensures unique { IsUnique K.eq table.now }
 {
-    // `len` is called for its clause that no key stands twice.
-    let _len = table.len();
-    table.values().filter(|value| value.is_some()).count()
+    table.iter().filter(|entry| entry.1.is_some()).count()
 }
 
 // Takes the values of all entries away.
