@@ -2,7 +2,7 @@
 use Rattle.std.proofs.Common.{◌≡◌, ℕ, ◌+◌, ◌<◌, ◌≤◌, List, [], ◌∷◌, ◌++◌, length, take, drop, get_or, refl, sym, ap, subst, ◌∙◌, arith, ⊎_elim}
 use Rattle.std.specs.Prelude.{None, Some}
 use Rattle.std.proofs.lemmas.Bool.{cases_lt}
-use Rattle.std.proofs.lemmas.List.{append_assoc, append-nil, drop_all, drop_more, map-append, take-append-drop, length-append, length-take-le, get_or-append-add, get_or_append_left}
+use Rattle.std.proofs.lemmas.List.{append_assoc, append-nil, drop_more, take-append-drop, length-append, length-take-le, get_or-append-add, get_or_append_left}
 use Rattle.std.proofs.lemmas.List.Prefix.{at_from_reads}
 use Rattle.memchr.specs.Find.{OccursAt, FindsNeedle}
 use Rattle.trac_rules.specs.declared.item.Item.{Item}
@@ -60,16 +60,6 @@ cut_more k text rest place done fronted new back some h f n b =
 
 -- ---- items: what is cut so far, the run that is read so far, and the items that are left
 
--- one byte more of a run
-pub byte_read : (k : ℕ) (text run : List ℕ) (done left all : List Item) (b : ℕ) (rest : List Item) (longer : List ℕ) → left ≡ Byte b ∷ rest → longer ≡ run ++ b ∷ [] →
-    done ++ cut_out k text (as_items run ++ left) ≡ all → done ++ cut_out k text (as_items longer ++ rest) ≡ all
-byte_read k text run done left all b rest longer e r so_far =
-    ap (λ (xs : List ℕ). done ++ cut_out k text (as_items xs ++ rest)) r
-    ∙ ap (λ (xs : List Item). done ++ cut_out k text (xs ++ rest)) (map-append Byte run (b ∷ []))
-    ∙ ap (λ (xs : List Item). done ++ cut_out k text xs) (append_assoc (as_items run) (Byte b ∷ []) rest)
-    ∙ ap (λ (xs : List Item). done ++ cut_out k text (as_items run ++ xs)) (sym e)
-    ∙ so_far
-
 -- a gap, which ends the run
 pub gap_read : (k : ℕ) (text run : List ℕ) (done left all : List Item) (gap : Item) (rest cut new : List Item) → left ≡ gap ∷ rest → ((b : ℕ) → gap ≡ Byte b → ⊥) →
     cut ≡ done ++ part k text run → new ≡ cut ++ gap ∷ [] →
@@ -106,7 +96,3 @@ text_next texts i text items new all l e n so_far =
 pub text_null : (texts : List (List ℕ)) (i : ℕ) (items all : List Item) → i < length texts → get_or texts i [] ≡ [] → segmented_from (i + 1) (drop i texts) items ≡ all →
     segmented_from (i + 1 + 1) (drop (i + 1) texts) items ≡ all
 text_null texts i items all l e so_far = text_next texts i [] items items all l (sym e) (sym (cut_out_null (i + 1) items)) so_far
-
--- after the last text
-pub texts_done : (texts : List (List ℕ)) (i : ℕ) (items all : List Item) → length texts ≤ i → segmented_from (i + 1) (drop i texts) items ≡ all → items ≡ all
-texts_done texts i items all l so_far = ap (λ (ts : List (List ℕ)). segmented_from (i + 1) ts items) (sym (drop_all i texts l)) ∙ so_far

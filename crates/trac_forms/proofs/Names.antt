@@ -18,6 +18,7 @@ use Rattle.std.proofs.lemmas.List.Sorted.{list_any-IsPermutation, ranks_by, sort
 use Rattle.std.proofs.lemmas.Map.Keys.{IsDistinct-head, IsDistinct-tail, IsDistinct-IsPermutation}
 use Rattle.std.proofs.lemmas.Map.Made.{is_some-lookup, IsDistinct-keys_filter}
 use Rattle.std.proofs.lemmas.Map.Text.{is_eq-slice_cmp}
+use Rattle.trac_rules.proofs.NamedForms.{only_equal_tie}
 use Rattle.trac_rules.specs.Listing.{names_of}
 use Rattle.trac_forms.specs.Table.{full_keys, forms_of}
 use Rattle.trac_forms.proofs.Tables.{Entries, list_any_alike, lookup_swept}
@@ -76,7 +77,7 @@ same_names : (ms ns : List (List ℕ)) → T (is_sorted (slice_cmp nat_cmp) (alo
     ((q : List ℕ) → list_any (eq_by_cmp (slice_cmp nat_cmp) q) ms ≡ list_any (eq_by_cmp (slice_cmp nat_cmp) q) ns) → ms ≡ ns
 same_names ms ns g h same =
     sym (keys-alone ms)
-    ∙ ap keys_of (same_entries (slice_cmp nat_cmp) nat_list_cmp_total (finite.slice_cmp-IsAntisymmetric finite.nat_cmp-IsAntisymmetric) (alone ms) (alone ns) g h (λ q.
+    ∙ ap keys_of (same_entries (slice_cmp nat_cmp) nat_list_cmp_total only_equal_tie (alone ms) (alone ns) g h (λ q.
     same_found (find (slice_cmp nat_cmp) q (alone ms)) (find (slice_cmp nat_cmp) q (alone ns))
     (is_some-find (slice_cmp nat_cmp) q (alone ms)
     ∙ ap (list_any (eq_by_cmp (slice_cmp nat_cmp) q)) (keys-alone ms)

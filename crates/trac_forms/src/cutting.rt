@@ -2,6 +2,7 @@
 ghost use Rattle.std.specs.Prelude.{◌≡◌, ◌+◌, ◌++◌, ◌<◌, ◌≤◌, ◌∷◌, [], length, IfOk, IsOkUnless, OnOk};
 ghost use Rattle.trac_rules.specs.Form.{as_items, extent};
 ghost use Rattle.trac_rules.specs.Segmenting.{cut_out, part, segmented};
+ghost use Rattle.trac_forms.specs.Layout.{IsSound};
 
 use crate::error::FormError;
 use crate::form::Form;
@@ -21,6 +22,7 @@ impl<A: Allocator + Copy> Form<A> {
     pub fn segmented<T: Texts>(&self, texts: &T) -> Result<Form<A>, FormError>
         requires { length (T.texts texts.now) ≤ MARK_LIMIT }
         ensures cut { IfOk result (λ f. f ≡ segmented (T.texts texts.now) self.now) }
+        ensures sound { IfOk result IsSound }
         ensures err { IsOkUnless result FormError.Memory }
     {
         let alloc = *self.items.allocator();

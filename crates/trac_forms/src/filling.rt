@@ -1,7 +1,7 @@
 //! Calling a form: its gaps are filled with the call's texts.
 ghost use Rattle.std.specs.Prelude.{◌≡◌, ◌++◌, ◌≤◌, length, OnOk, OnErr, IsOkUnless, SomeIff};
+ghost use Rattle.trac_rules.specs.Fronts.{IsFrontOf};
 ghost use Rattle.trac_rules.specs.Filling.{called, filled, text_numbered};
-ghost use Rattle.trac_forms.specs.Outcomes.{BeginsWith};
 
 use crate::error::FormError;
 use crate::form::Form;
@@ -38,7 +38,7 @@ impl<A: Allocator + Copy> Form<A> {
         out: &mut Vec<u8, B>,
     ) -> Result<(), FormError>
         ensures ok { OnOk result (out.new.items ≡ out.old.items ++ called (T.texts args.now) self.now) }
-        ensures left { OnErr result (BeginsWith out.old.items out.new.items) }
+        ensures left { OnErr result (IsFrontOf out.old.items out.new.items) }
         ensures err { IsOkUnless result FormError.Memory }
     {
         for item in self.after() {

@@ -2,6 +2,7 @@
 ghost use Rattle.std.specs.Prelude.{◌≡◌, ◌++◌, ◌≤◌, length, slice_get, IfOk, IfErr, OnOk, IsOkUnless, SomeIff};
 ghost use Rattle.std.specs.List.{All};
 ghost use Rattle.trac_rules.specs.Form.{IsWide, all_items, as_items, defined, extent, pointed_at, width_of};
+ghost use Rattle.trac_forms.specs.Layout.{IsSound};
 ghost use Rattle.trac_forms.specs.Outcomes.{MayRefuseForm};
 
 use crate::error::FormError;
@@ -40,6 +41,7 @@ impl<A: Allocator + Copy> Form<A> {
     pub fn new(alloc: A, text: &[u8]) -> Result<Self, FormError>
         ensures made { IfOk result (λ f. f ≡ defined text.now) }
         ensures fits { OnOk result (length text.now ≤ FORM_LIMIT) }
+        ensures sound { IfOk result IsSound }
         ensures err { IfErr result (MayRefuseForm (length text.now)) }
     {
         if text.len() > FORM_LIMIT {
@@ -57,6 +59,7 @@ impl<A: Allocator + Copy> Form<A> {
         requires { All IsWide (before.now ++ after.now) }
         ensures made { IfOk result (λ f. f ≡ record { before = before.now; after = after.now }) }
         ensures fits { OnOk result (extent (before.now ++ after.now) ≤ FORM_LIMIT) }
+        ensures sound { IfOk result IsSound }
         ensures err { IfErr result (MayRefuseForm (extent (before.now ++ after.now))) }
     {
         let Some(front) = extent_within(before, FORM_LIMIT) else {

@@ -1,7 +1,7 @@
 //! How a form is printed.
 ghost use Rattle.std.specs.Prelude.{◌≡◌, ◌++◌, ◌≤◌, length, OnOk, OnErr, IsOkUnless, SomeIff, codes, decimal};
+ghost use Rattle.trac_rules.specs.Fronts.{IsFrontOf};
 ghost use Rattle.trac_rules.specs.Showing.{shown, shown_item, shown_items};
-ghost use Rattle.trac_forms.specs.Outcomes.{BeginsWith};
 
 use crate::error::FormError;
 use crate::form::Form;
@@ -29,7 +29,7 @@ impl<A: Allocator + Copy> Form<A> {
     /// Refused with `Memory` where the allocator refuses; then `out` still begins with what it held.
     pub fn show_into<B: Allocator>(&self, out: &mut Vec<u8, B>) -> Result<(), FormError>
         ensures ok { OnOk result (out.new.items ≡ out.old.items ++ shown self.now) }
-        ensures left { OnErr result (BeginsWith out.old.items out.new.items) }
+        ensures left { OnErr result (IsFrontOf out.old.items out.new.items) }
         ensures err { IsOkUnless result FormError.Memory }
     {
         items_into(self.before(), out)?;
@@ -74,7 +74,7 @@ fn gap_len(ordinal: u32) -> usize
 // Puts items as they are printed at the end of `out`.
 fn items_into<B: Allocator>(items: &[Item], out: &mut Vec<u8, B>) -> Result<(), FormError>
     ensures ok { OnOk result (out.new.items ≡ out.old.items ++ shown_items items.now) }
-    ensures left { OnErr result (BeginsWith out.old.items out.new.items) }
+    ensures left { OnErr result (IsFrontOf out.old.items out.new.items) }
     ensures err { IsOkUnless result FormError.Memory }
 {
     for item in items {
@@ -86,7 +86,7 @@ fn items_into<B: Allocator>(items: &[Item], out: &mut Vec<u8, B>) -> Result<(), 
 // Puts an item as it is printed at the end of `out`.
 fn item_into<B: Allocator>(item: Item, out: &mut Vec<u8, B>) -> Result<(), FormError>
     ensures ok { OnOk result (out.new.items ≡ out.old.items ++ shown_item item) }
-    ensures left { OnErr result (BeginsWith out.old.items out.new.items) }
+    ensures left { OnErr result (IsFrontOf out.old.items out.new.items) }
     ensures err { IsOkUnless result FormError.Memory }
 {
     match item {
@@ -98,7 +98,7 @@ fn item_into<B: Allocator>(item: Item, out: &mut Vec<u8, B>) -> Result<(), FormE
 // Puts a gap of this ordinal as it is printed at the end of `out`.
 fn gap_into<B: Allocator>(ordinal: u32, out: &mut Vec<u8, B>) -> Result<(), FormError>
     ensures ok { OnOk result (out.new.items ≡ out.old.items ++ (codes "<" ++ (decimal ordinal ++ codes ">"))) }
-    ensures left { OnErr result (BeginsWith out.old.items out.new.items) }
+    ensures left { OnErr result (IsFrontOf out.old.items out.new.items) }
     ensures err { IsOkUnless result FormError.Memory }
 {
     let mut buffer = Buffer::new();

@@ -1,6 +1,6 @@
 -- How the two halves of a block change when one call writes places and moves the ends of the gap.
-use Rattle.std.proofs.Common.{◌≡◌, ℕ, suc, ◌+◌, ◌-◌, ◌≤◌, ◌<◌, ◌++◌, List, [], ◌∷◌, Option, Some, None, IsSome, length, take, drop, get_or, set, map, refl, sym, ap, subst, ◌∙◌, add-one, arith, length-drop, length-set, drop-cons}
-use Rattle.std.proofs.lemmas.List.{length-map, take-append-drop, take-take, drop-take, drop-drop, take-set-le, drop-set-lt, drop-set, get_or-take, get_or-drop}
+use Rattle.std.proofs.Common.{◌≡◌, ℕ, suc, ◌+◌, ◌-◌, ◌≤◌, ◌<◌, ◌++◌, List, [], ◌∷◌, Option, Some, None, IsSome, length, take, drop, get_or, set, map, refl, sym, ap, subst, ◌∙◌, add-one, arith, length-drop, length-set}
+use Rattle.std.proofs.lemmas.List.{length-map, take-append-drop, take-take, drop-take, drop-drop, drop-set-lt, get_or-take, get_or-drop}
 use Rattle.std.proofs.Math.Seq.{length-take-le, take-add, take-suc, take-suc-set}
 use Rattle.trac_gap.specs.declared.block.Block.TheInside.{Inside}
 use Rattle.trac_gap.specs.declared.places.Places.{Places}
@@ -79,16 +79,6 @@ module _ {T A : Type 0} (b : Inside T A) (ok : IsBlock b) where
         becomes p (b.gap_start + 1) b.gap_end (L ++ x ∷ []) R at (ap length e ∙ length-set cs b.gap_start (Some x)) (omega (arith, free)) ok.within
         (behind (take b.gap_start cs) _ (x ∷ []) front ok.left_full) (same_row (drop b.gap_end cs) _ back ok.right_full)
 
-    pub pushed_right : p.slots ≡ set cs (b.gap_end - 1) (Some x) → Becomes p b.gap_start (b.gap_end - 1) L (x ∷ R)
-    pushed_right e =
-        let low = b.gap_end - 1 in
-        let in_row : low < length cs = omega (arith, free, ok.within, ok.places_count) in
-        let next : low + 1 ≡ b.gap_end = omega (arith, free) in
-        let back : drop low p.slots ≡ map Some (x ∷ []) ++ drop b.gap_end cs = ap (drop low) e ∙ drop-set cs low (Some x) in_row ∙ ap (λ k. Some x ∷ drop k cs) next in
-        let front : take b.gap_start p.slots ≡ take b.gap_start cs = ap (take b.gap_start) e ∙ take-set-le b.gap_start cs low (Some x) (omega (arith, free)) in
-        becomes p b.gap_start low L (x ∷ R) at (ap length e ∙ length-set cs low (Some x)) (omega (arith, free)) (omega (arith, ok.within))
-        (same_row (take b.gap_start cs) _ front ok.left_full) (before (drop b.gap_end cs) _ (x ∷ []) back ok.right_full)
-
   -- a run of items at either side
   module _ (p : Places T) (xs : List T) (at : p.at ≡ b.places.at) (room : item_count (block_ends b) + length xs ≤ b.capacity) where
     abbrev ws : List (Option T)
@@ -163,12 +153,6 @@ module _ {T A : Type 0} (b : Inside T A) (ok : IsBlock b) where
     first_some =
         let back = drop b.gap_end cs in
         (omega (arith, ok.places_count), subst IsSome (get_or-drop b.gap_end cs 0 None ∙ ap (λ k. get_or cs k None) (omega arith)) (some_at back 0 ok.right_full (omega (arith, length-drop b.gap_end cs, ok.places_count))))
-
-    pub popped_right : (x : T) → get_or cs b.gap_end None ≡ Some x → IsBlock (record b { gap_end = b.gap_end + 1 }) × (R ≡ x ∷ items_of (drop (b.gap_end + 1) cs))
-    popped_right x is =
-        let part = right_part 1 (omega arith) in
-        let row : drop b.gap_end cs ≡ map Some (x ∷ []) ++ drop (b.gap_end + 1) cs = drop-cons cs b.gap_end None first_some.0 ∙ ap (λ c. c ∷ drop (suc b.gap_end) cs) is ∙ ap (λ k. Some x ∷ drop k cs) (sym (add-one b.gap_end)) in
-        ((becomes b.places b.gap_start (b.gap_end + 1) L _ refl refl (omega (arith, ok.gap)) (omega arith) (ok.left_full, refl) part).0, (before (drop (b.gap_end + 1) cs) _ (x ∷ []) row part.0).1)
 
   -- a run crosses the gap
   module _ (n : ℕ) (p : Places T) (at : p.at ≡ b.places.at) where

@@ -62,10 +62,6 @@ value_after n (d ∷ ds) =
 pub value_first : (d : ℕ) (ds : List ℕ) → digits_value 10 (d ∷ ds) ≡ digit_value d * 10 ^ length ds + digits_value 10 ds
 value_first d ds = value_after (0 * 10 + digit_value d) ds ∙ ap (λ n. n * 10 ^ length ds + digits_value 10 ds) (omega arith)
 
--- a `0` before them changes nothing
-pub value_zero : (text : List ℕ) (k : ℕ) → k < length text → get_or text k 0 ≡ 48 → digits_value 10 (drop (k + 1) text) ≡ digits_value 10 (drop k text)
-value_zero text k l e = rw (drop_more text k 0 l) (rw e refl)
-
 -- they write less than the power that has one digit more
 pub value_below : (ds : List ℕ) → all_ascii_digits ds ≡ true → digits_value 10 ds < 10 ^ length ds
 value_below ds t = digits_value-lt 10 ds (all_digits_from ds t)

@@ -1,6 +1,7 @@
 -- The bits of what is made digit by digit.
 use Rattle.std.proofs.Common.{◌≡◌, ℕ, ◌+◌, ◌-◌, ◌*◌, ◌≤◌, Bool, true, false, List, [], ◌∷◌, ◌++◌, length, take, drop, replicate, map, refl, sym, ap, ◌∙◌, arith}
 use Rattle.std.specs.Prelude.{◌&&◌, ◌||◌, not, min, max, bit_and, bit_or, bit_xor}
+use Rattle.std.proofs.Math.Bool.{or_comm}
 use Rattle.std.proofs.lemmas.Bool.{and_parts, and_from}
 use Rattle.std.proofs.lemmas.List.{length-append, length-replicate, length-drop, take-append-drop}
 use Rattle.trac_rules.specs.Octal.{IsOctal, bits_of, complement, digit_bits, is_octal, is_octal_digit, last_bits, meet, union}
@@ -46,12 +47,6 @@ octal-pairwise f g b (x ∷ xs) (y ∷ ys) hx hy =
     and_from (is_octal_digit (f x y)) (is_octal (pairwise f xs ys)) (b.digit x y px.0 py.0) (octal-pairwise f g b xs ys px.1 py.1)
 
 -- ---- or
-
-or_comm : (x y : Bool) → (x || y) ≡ (y || x)
-or_comm true true = refl
-or_comm true false = refl
-or_comm false true = refl
-or_comm false false = refl
 
 -- the texts may change places
 pub union_comm : (a b : List Bool) → union a b ≡ union b a

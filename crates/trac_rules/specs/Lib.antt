@@ -1,5 +1,6 @@
 -- The language as definitions, to be read in this order.
 pub mod Bytes
+pub mod Fronts
 pub mod Form
 pub mod State
 pub mod Matching

@@ -2,14 +2,14 @@
 use Rattle.std.proofs.Common.{arith}
 use Rattle.trac_rules.specs.declared.item.Item.TheVariants.{Byte}
 use Rattle.trac_rules.specs.Showing.{shown_item}
-use Rattle.trac_forms.proofs.Going.{gives_no_more}
+use Rattle.std.proofs.lemmas.List.Folds.{length-flat_map-take}
 use Rattle.trac_forms.proofs.showing.items_len.Goals as goal
 
 pub returns-then-len-most : goal.returns-then-len-most
 returns-then-len-most c = λ fits.
     omega (
       arith,
-      gives_no_more shown_item c.args.items.now c.loop-item.item-index (Byte 0) (omega arith),
+      length-flat_map-take shown_item c.args.items.now c.loop-item.item-index (Byte 0) (omega arith),
       c.item_len-len.ensures,
       c.loop-item.invariant.0,
     )

@@ -3,7 +3,8 @@ use Rattle.std.proofs.Common.{ap, ◌∙◌}
 use Rattle.std.specs.Prelude.{Some}
 use Rattle.std.specs.FinMap as finite
 use Rattle.std.specs.FinSet as set
-use Rattle.trac_forms.proofs.Tables.{known_then, form_then}
+use Rattle.trac_rules.proofs.NamedForms.{get-put}
+use Rattle.trac_forms.proofs.Tables.{known_then}
 use Rattle.trac_forms.proofs.tests.define.Goals as goal
 
 pub put-replaced-requires : goal.put-replaced-requires
@@ -12,5 +13,5 @@ put-replaced-requires g c = ap (λ s. set.contains s.known c.args.name.now) c.in
 pub returns : goal.returns
 returns g c =
     ap (λ s. finite.get s.forms c.args.name.now) c.put-replaced.ensures.put
-    ∙ form_then c.know.new.self.forms c.args.name.now c.in_ok-form.form
+    ∙ get-put c.know.new.self.forms c.args.name.now c.in_ok-form.form
     ∙ ap Some c.in_ok-form.ensures.made

@@ -2,7 +2,7 @@
 use Rattle.std.proofs.Common.{length, ap, arith}
 use Rattle.trac_rules.specs.declared.item.Item.TheVariants.{Byte}
 use Rattle.trac_rules.specs.Filling.{filled, all_filled}
-use Rattle.trac_forms.proofs.Going.{gives_no_more}
+use Rattle.std.proofs.lemmas.List.Folds.{length-flat_map-take}
 use Rattle.trac_forms.proofs.form.Form.call_len.Goals as goal
 
 pub returns-then-len-total : goal.returns-then-len-total
@@ -11,7 +11,7 @@ returns-then-len-total g c = λ fits.
     let same = c.after-item-items.ensures in
     omega (
       arith,
-      gives_no_more (filled texts) c.after-item-items.result.now c.loop-item.item-index (Byte 0) (omega arith),
+      length-flat_map-take (filled texts) c.after-item-items.result.now c.loop-item.item-index (Byte 0) (omega arith),
       c.filled_len-len.ensures,
       c.loop-item.invariant.0,
       ap (λ items. length (all_filled texts items)) same,

@@ -11,5 +11,12 @@ invariant_of-result g c =
       wide = wide-as_items c.args.text.now;
     })
 
+pub returns-clause-sound : goal.returns-clause-sound
+returns-clause-sound g c =
+    rw c.in_ok-items.ensures (record {
+      within = omega (arith, extent-as_items c.args.text.now);
+      wide = wide-as_items c.args.text.now;
+    })
+
 pub returns-clause-made : goal.returns-clause-made
 returns-clause-made g c = rw c.in_ok-items.ensures refl
