@@ -4,7 +4,7 @@ use Rattle.std.specs.Prelude.{Option, None, Some}
 use Rattle.std.specs.Io.KnownBytes.{Keeps, Appends, Consumes}
 use Rattle.std.proofs.Math.Seq.{take-add}
 use Rattle.std.proofs.lemmas.List.{append-nil, append_assoc, length-drop, take_all, take-append-drop}
-use Rattle.trac.specs.Written.{IsFrontOf}
+use Rattle.trac_rules.specs.Fronts.{IsFrontOf}
 
 -- ---- writers
 
@@ -37,12 +37,6 @@ Appends-same a b x y e h = subst (Appends a b) e h
 pub Consumes-nothing : (o : Option (List ℕ)) → Consumes o o []
 Consumes-nothing None = tt
 Consumes-nothing (Some xs) = refl
-
--- a failed read gives nothing
-pub Consumes-kept : (a b : Option (List ℕ)) → Keeps a b → Consumes a b []
-Consumes-kept None b h = tt
-Consumes-kept (Some xs) None h = absurd h
-Consumes-kept (Some xs) (Some ys) h = sym h
 
 -- one text after another
 pub Consumes-both : (a b c : Option (List ℕ)) (x y : List ℕ) → Consumes a b x → Consumes b c y → Consumes a c (x ++ y)

@@ -10,7 +10,8 @@ use Rattle.trac_rules.specs.GoingOn.{prepended, going_on_from}
 use Rattle.trac_rules.proofs.GoingOn.{prepended-prepended}
 use Rattle.trac.specs.declared.running.ending.Ending.{Ending}
 use Rattle.trac.specs.declared.running.ending.Ending.TheVariants.{Ended, Budget, Limit, Memory, Read, Write}
-use Rattle.trac.specs.Written.{IsFrontOf, Closes}
+use Rattle.trac_rules.specs.Fronts.{IsFrontOf}
+use Rattle.trac.specs.Written.{Closes}
 use Rattle.trac.specs.Runs.{Shows, Runs, IsFresh, GoesOn, Finishes}
 use Rattle.trac.proofs.Known.{Appends-nothing, Appends-both, Consumes-nothing, Consumes-both, front_of_nothing, empty_front}
 use Rattle.trac.proofs.Turned.{Shows-Write}

@@ -14,7 +14,8 @@ use Rattle.trac_rules.proofs.GoingOn.{after_repeated, going_on-repeated, after_C
 use Rattle.trac_rules.proofs.Replies.{Commit_done, Step_refused_JournalFull, Step_refusals}
 use Rattle.trac.specs.declared.running.ending.Ending.{Ending}
 use Rattle.trac.specs.declared.running.ending.Ending.TheVariants.{Ended, Budget, Limit, Write}
-use Rattle.trac.specs.Written.{IsFrontOf, WritesFront, Closes}
+use Rattle.trac_rules.specs.Fronts.{IsFrontOf}
+use Rattle.trac.specs.Written.{WritesFront, Closes}
 use Rattle.trac.specs.Runs.{Shows, IsFresh, turns_left, GoesOn, Finishes}
 use Rattle.trac.proofs.Known.{Consumes-nothing, front_of_front}
 

@@ -9,7 +9,7 @@ use Rattle.trac_rules.specs.Running.{Output, BudgetSpent, InputEnded, LimitPasse
 use Rattle.trac_rules.specs.GoingOn.{prepended, going_on_from}
 use Rattle.trac.specs.declared.running.ending.Ending.{Ending}
 use Rattle.trac.specs.declared.running.ending.Ending.TheVariants.{Ended, Budget, Limit, Memory, Read, Write}
-use Rattle.trac.specs.Written.{IsFrontOf}
+use Rattle.trac_rules.specs.Fronts.{IsFrontOf}
 
 -- ---- endings
 

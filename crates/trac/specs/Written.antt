@@ -1,12 +1,9 @@
 -- What a writer holds after a text was written, whole or in part.
 use Rattle.std.specs.Prelude.{◌≡◌, ℕ, List, ◌++◌, Option, ◌⊎◌}
 use Rattle.std.specs.Io.KnownBytes.{Appends}
+use Rattle.trac_rules.specs.Fronts.{IsFrontOf}
 use Rattle.trac.specs.declared.running.ending.Ending.{Ending}
 use Rattle.trac.specs.declared.running.ending.Ending.TheVariants.{Write}
-
--- a text begins with a front
-abbrev pub IsFrontOf : List ℕ → List ℕ → Type 0
-IsFrontOf front text = (rest : List ℕ) × (text ≡ front ++ rest)
 
 -- a front of a text was written, and no more
 pub record WritesFront (old new : Option (List ℕ)) (text : List ℕ) : Type 0 where
