@@ -1,9 +1,11 @@
 //! Why a call on forms can be refused.
 ghost use Rattle.std.specs.Prelude.{◌≡◌};
+ghost use Rattle.trac_forms.specs.Outcomes.{as_refusal};
 ghost use Rattle.trac_forms.specs.declared.error.FormError.TheVariants.{Memory};
 
-use std::alloc::AllocError;
+use std::alloc::{AllocError, AllocFailed};
 use thiserror::Error;
+use trac_rules::refusal::Refusal;
 
 /// Why a call on a form or on a store was refused. After each the forms, their names and their pointers are as they were.
 #[derive(Clone, Copy, Debug, PartialEq, Eq, Error)]
@@ -21,5 +23,24 @@ impl From<AllocError> for FormError {
 
     fn from(_error: AllocError) -> FormError {
         FormError::Memory
+    }
+}
+
+impl<T: Drop> From<AllocFailed<T>> for FormError {
+    ghost from_gives = { λ _ e. e ≡ Memory };
+
+    fn from(_failed: AllocFailed<T>) -> FormError {
+        FormError::Memory
+    }
+}
+
+impl From<FormError> for Refusal {
+    ghost from_gives = { λ e refusal. refusal ≡ as_refusal e };
+
+    fn from(error: FormError) -> Refusal {
+        match error {
+            FormError::Memory => Refusal::Memory,
+            FormError::TooLong => Refusal::TooLong,
+        }
     }
 }

@@ -69,7 +69,7 @@ fn fill_into<T: Texts, B: Allocator>(
     ensures err { IsOkUnless result FormError.Memory }
 {
     match item {
-        Item::Byte(b) => out.push(b).map_err(|_| FormError::Memory),
+        Item::Byte(b) => Ok(out.push(b)?),
         Item::Gap { ordinal, width: _ } => {
             out.extend_from_slice(text(args, ordinal))?;
             Ok(())

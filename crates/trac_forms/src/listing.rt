@@ -46,7 +46,7 @@ fn full_names<A: Allocator + Copy>(table: &Table<A>) -> Result<Vec<&[u8], A>, Fo
         if form.is_none() {
             continue;
         }
-        names.push(name.as_slice()).map_err(|_| FormError::Memory)?;
+        names.push(name.as_slice())?;
     }
     Ok(names)
 }

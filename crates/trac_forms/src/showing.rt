@@ -90,7 +90,7 @@ fn item_into<B: Allocator>(item: Item, out: &mut Vec<u8, B>) -> Result<(), FormE
     ensures err { IsOkUnless result FormError.Memory }
 {
     match item {
-        Item::Byte(b) => out.push(b).map_err(|_| FormError::Memory),
+        Item::Byte(b) => Ok(out.push(b)?),
         Item::Gap { ordinal, width: _ } => gap_into(ordinal, out),
     }
 }

@@ -1,9 +1,11 @@
 //! Why a call on numbers can be refused.
 ghost use Rattle.std.specs.Prelude.{◌≡◌};
 ghost use Rattle.trac_num.specs.declared.error.NumError.TheVariants.{Memory};
+ghost use Rattle.trac_rules.specs.declared.refusal.Refusal.TheVariants as refused;
 
 use std::alloc::{AllocError, AllocFailed};
 use thiserror::Error;
+use trac_rules::refusal::Refusal;
 
 /// Why a text could not be made.
 #[derive(Clone, Copy, Debug, PartialEq, Eq, Error)]
@@ -26,5 +28,15 @@ impl<T: Drop> From<AllocFailed<T>> for NumError {
 
     fn from(_failed: AllocFailed<T>) -> NumError {
         NumError::Memory
+    }
+}
+
+impl From<NumError> for Refusal {
+    ghost from_gives = { λ _ refusal. refusal ≡ refused.Memory };
+
+    fn from(error: NumError) -> Refusal {
+        match error {
+            NumError::Memory => Refusal::Memory,
+        }
     }
 }
