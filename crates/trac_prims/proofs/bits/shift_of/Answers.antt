@@ -1,8 +1,8 @@
-use Rattle.std.proofs.Common.{◌≡◌, ℕ, List, ap, sym, ◌∙◌, w64, to_z, of_z}
+use Rattle.std.proofs.Common.{◌≡◌, ℕ, List, ap, ◌∙◌, w64, to_z, of_z}
 use Rattle.std.specs.Prelude.{Vec}
 use Rattle.std.proofs.lemmas.Int.{to_z-of_z}
 use Rattle.trac_rules.specs.Computing.{moved, number_argument, octal_argument}
-use Rattle.trac_rules.specs.Octal.{bits_of, octal_tail, shift, text_of}
+use Rattle.trac_rules.specs.Octal.{bits_of, octal_tail, shift}
 use Rattle.trac_rules.proofs.OctalTexts.{text_from_bits}
 use Rattle.trac_prims.proofs.Made.{given}
 use Rattle.trac_prims.proofs.bits.shift_of.Goals as goal
