@@ -1,7 +1,14 @@
 pub mod Cutting
-pub mod ReadTexts
+pub mod Neutral
+pub mod Ending
+pub mod Peeling
+pub mod Made
 pub mod Calculated
-pub mod OctalResults
+pub mod FirstPlaces
 pub mod Putting
 pub mod Listed
-pub mod Called
+pub mod Held
+pub mod Fitting
+pub mod ReadCounts
+pub mod Joining
+pub mod Planned

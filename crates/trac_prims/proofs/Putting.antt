@@ -12,9 +12,11 @@ use Rattle.trac_rules.specs.declared.item.Item.TheVariants.{Byte}
 use Rattle.trac_rules.specs.declared.limit.TheConstants.{FORM_LIMIT, FORM_COUNT_LIMIT, NAME_LIMIT}
 use Rattle.trac_rules.specs.declared.refusal.Refusal.TheVariants.{TooLong}
 use Rattle.trac_rules.specs.Form.{Form, IsWide, all_items, defined, extent}
-use Rattle.trac_rules.specs.Handling.{leaving, putting}
+use Rattle.trac_rules.specs.Effect.{leaves}
+use Rattle.trac_rules.specs.Handling.{keeping, putting}
+use Rattle.trac_rules.specs.Outcomes.{MayLackMemory}
 use Rattle.trac_rules.specs.Limits.{form_fits, may_be_put}
-use Rattle.trac_rules.specs.State.{Forms}
+use Rattle.trac_rules.specs.State.{Forms, Storage}
 use Rattle.trac_rules.proofs.Cutting.{count_within_extent}
 
 -- what a reference is made of is there where the reference is
@@ -67,5 +69,20 @@ long_text name text forms l =
     and_left (form_fits name (defined text)) (nat_le (map.len (map.insert forms name (defined text))) FORM_COUNT_LIMIT) fitting
 
 -- what may not be put is refused
-pub not_put : (name : List ℕ) (form : Form) (forms : Forms) → may_be_put name form forms ≡ false → putting name form forms ≡ Err TooLong
-not_put name form forms e = ap (λ b. if b then Ok (leaving (map.insert forms name form)) else Err TooLong) e
+pub not_put : (name : List ℕ) (form : Form) (storage : Storage) → may_be_put name form storage.forms ≡ false → putting name form storage ≡ Err TooLong
+not_put name form storage e =
+    ap (λ b. if b then Ok (leaves (keeping (map.insert storage.forms name form) storage)) else Err TooLong) e
+
+-- and what may be put is put
+pub is_put : (name : List ℕ) (form : Form) (storage : Storage) → may_be_put name form storage.forms ≡ true →
+    putting name form storage ≡ Ok (leaves (keeping (map.insert storage.forms name form) storage))
+is_put name form storage e =
+    ap (λ b. if b then Ok (leaves (keeping (map.insert storage.forms name form) storage)) else Err TooLong) e
+
+-- memory may be refused in place of both
+pub putting_lacks : (name : List ℕ) (form : Form) (storage : Storage) → MayLackMemory (putting name form storage)
+putting_lacks name form storage = lacks (may_be_put name form storage.forms)
+  where
+    lacks : (b : Bool) → MayLackMemory (if b then Ok (leaves (keeping (map.insert storage.forms name form) storage)) else Err TooLong)
+    lacks true = tt
+    lacks false = tt

@@ -1,62 +1,80 @@
 //! Bit strings: operations on the octal strings of arguments.
-ghost use Rattle.std.specs.Prelude.{◌≡◌, IfOk};
-ghost use Rattle.trac_rules.specs.Computing.{moved, number_argument, octal_argument};
-ghost use Rattle.trac_rules.specs.Octal.{complement, meet, rotate, shift, text_of, union};
+ghost use Rattle.std.specs.Prelude.{◌≡◌, Ok};
+ghost use Rattle.trac_rules.specs.Computing.{computed};
+ghost use Rattle.trac_rules.specs.State.{Storage};
+ghost use Rattle.trac_rules.specs.declared.primitive.Computation.TheVariants.{Complement, Meet, Rotate, Shift, Union};
+ghost use Rattle.trac_prims.specs.Effects.{IsMade};
 
 use crate::args::Args;
-use crate::calculating::number_at;
+use crate::decimals::number_at;
+use crate::effect::Effect;
 use std::alloc::Allocator;
-use trac_num::{NumError, complement, meet, octal_tail, rotate, shift, union};
+use trac_num::{complement, meet, octal_tail, rotate, shift, union};
+use trac_rules::refusal::Refusal;
 
-pub(crate) fn union_of<A: Allocator + Copy>(
-    alloc: A,
-    args: &Args<'_>,
-) -> Result<Vec<u8, A>, NumError>
-    ensures { IfOk result (λ v. v.items ≡ text_of (union (octal_argument 1 args.now) (octal_argument 2 args.now))) }
+// `bu`: the bitwise or of two octal strings.
+pub(crate) fn union_of<A: Allocator + Copy>(alloc: A, args: &Args<'_>) -> Result<Effect<A>, Refusal>
+    ensures { (storage : Storage) → IsMade storage (Ok (computed Union args.now storage)) result }
 {
-    union(alloc, octal_tail(args.get(1)), octal_tail(args.get(2)))
+    let value = union(alloc, octal_tail(args.get(1)), octal_tail(args.get(2)))?;
+    Ok(Effect {
+        value,
+        ..Effect::keeping(alloc)
+    })
 }
 
-pub(crate) fn meet_of<A: Allocator + Copy>(
-    alloc: A,
-    args: &Args<'_>,
-) -> Result<Vec<u8, A>, NumError>
-    ensures { IfOk result (λ v. v.items ≡ text_of (meet (octal_argument 1 args.now) (octal_argument 2 args.now))) }
+// `bi`: the bitwise and of two octal strings.
+pub(crate) fn meet_of<A: Allocator + Copy>(alloc: A, args: &Args<'_>) -> Result<Effect<A>, Refusal>
+    ensures { (storage : Storage) → IsMade storage (Ok (computed Meet args.now storage)) result }
 {
-    meet(alloc, octal_tail(args.get(1)), octal_tail(args.get(2)))
+    let value = meet(alloc, octal_tail(args.get(1)), octal_tail(args.get(2)))?;
+    Ok(Effect {
+        value,
+        ..Effect::keeping(alloc)
+    })
 }
 
+// `bc`: an octal string with each bit turned over.
 pub(crate) fn complement_of<A: Allocator + Copy>(
     alloc: A,
     args: &Args<'_>,
-) -> Result<Vec<u8, A>, NumError>
-    ensures { IfOk result (λ v. v.items ≡ text_of (complement (octal_argument 1 args.now))) }
+) -> Result<Effect<A>, Refusal>
+    ensures { (storage : Storage) → IsMade storage (Ok (computed Complement args.now storage)) result }
 {
-    complement(alloc, octal_tail(args.get(1)))
+    let value = complement(alloc, octal_tail(args.get(1)))?;
+    Ok(Effect {
+        value,
+        ..Effect::keeping(alloc)
+    })
 }
 
-// Null where the number does not fit (this project's profile).
-pub(crate) fn shifted<A: Allocator + Copy>(
-    alloc: A,
-    args: &Args<'_>,
-) -> Result<Vec<u8, A>, NumError>
-    ensures { IfOk result (λ v. v.items ≡ moved shift (number_argument 1 args.now) (octal_argument 2 args.now)) }
+// `bs`: an octal string with its bits moved; null where the number does not fit (this project's profile).
+pub(crate) fn shift_of<A: Allocator + Copy>(alloc: A, args: &Args<'_>) -> Result<Effect<A>, Refusal>
+    ensures { (storage : Storage) → IsMade storage (Ok (computed Shift args.now storage)) result }
 {
-    match number_at(args, 1) {
-        Some(by) => shift(alloc, by, octal_tail(args.get(2))),
-        None => Ok(Vec::new(alloc)),
-    }
+    let value = match number_at(args, 1) {
+        Some(by) => shift(alloc, by, octal_tail(args.get(2)))?,
+        None => Vec::new(alloc),
+    };
+    Ok(Effect {
+        value,
+        ..Effect::keeping(alloc)
+    })
 }
 
-// Null where the number does not fit (this project's profile).
-pub(crate) fn rotated<A: Allocator + Copy>(
+// `br`: an octal string with its bits rotated; null where the number does not fit (this project's profile).
+pub(crate) fn rotation_of<A: Allocator + Copy>(
     alloc: A,
     args: &Args<'_>,
-) -> Result<Vec<u8, A>, NumError>
-    ensures { IfOk result (λ v. v.items ≡ moved rotate (number_argument 1 args.now) (octal_argument 2 args.now)) }
+) -> Result<Effect<A>, Refusal>
+    ensures { (storage : Storage) → IsMade storage (Ok (computed Rotate args.now storage)) result }
 {
-    match number_at(args, 1) {
-        Some(by) => rotate(alloc, by, octal_tail(args.get(2))),
-        None => Ok(Vec::new(alloc)),
-    }
+    let value = match number_at(args, 1) {
+        Some(by) => rotate(alloc, by, octal_tail(args.get(2)))?,
+        None => Vec::new(alloc),
+    };
+    Ok(Effect {
+        value,
+        ..Effect::keeping(alloc)
+    })
 }

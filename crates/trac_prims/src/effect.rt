@@ -1,24 +1,27 @@
 //! What a call will do, and what it has to know for that.
-ghost use Rattle.std.specs.Prelude.{◌≡◌, ◌+◌, ℕ, Ok, IfOk};
-ghost use Rattle.trac_rules.specs.Performing.{prints, reads};
-ghost use Rattle.trac_rules.specs.State.{State};
-ghost use Rattle.trac_prims.specs.Effects.{IsPlanned};
+ghost use Rattle.std.specs.Prelude.{◌≡◌};
+ghost use Rattle.trac_rules.specs.Effect.{leaves};
+ghost use Rattle.trac_rules.specs.State.{Storage};
+ghost use Rattle.trac_prims.specs.Effects.{effect_on};
 
 use crate::change::Change;
 use std::alloc::{Allocator, Global};
-use trac_rules::refusal::Refusal;
 
-/// What a call will do, its pieces already made.
+/// What a call will do, its pieces already made: the parts of an effect as the definitions have them.
 #[derive(Drop)]
 pub struct Effect<A: Allocator + Copy = Global> {
     /// The value.
     pub value: Vec<u8, A>,
     /// Whether the value is scanned, though the function may be neutral.
     pub forced: bool,
-    /// What is printed.
+    /// What is printed, the line of the trace first.
     pub print: Vec<u8, A>,
-    /// How many bytes of the tape are read afterwards.
-    pub position: usize,
+    /// How many bytes of the tape are read.
+    pub read: usize,
+    /// The byte that ends a text of the input from then on, where it is set.
+    pub meta: Option<u8>,
+    /// Whether each call is printed from then on, where that is set.
+    pub trace: Option<bool>,
     /// What becomes of the forms.
     pub change: Change<A>,
 }
@@ -28,42 +31,29 @@ pub struct Effect<A: Allocator + Copy = Global> {
 pub struct Now {
     /// The byte that ends a text of the input.
     pub meta: u8,
+    /// Whether each call is printed.
+    pub trace: bool,
     /// How many bytes of the tape are read.
     pub position: usize,
+    /// How many bytes of output are kept.
+    pub output: usize,
+    /// How many bytes the active text and the neutral text hold without the call: its arguments and the `)` that ends it.
+    pub text: usize,
 }
 
 impl<A: Allocator + Copy> Effect<A> {
-    // Prints this text.
-    pub(crate) fn printing(alloc: A, text: &[u8], position: usize) -> Result<Self, Refusal>
-        ensures outcome { (s : State) → s.position ≡ position → IsPlanned s (Ok (prints text.now s)) result }
-        ensures same { IfOk result (λ e. e.position ≡ position) }
+    // A null value, nothing printed and nothing read, and all else as it is. It takes no memory.
+    pub(crate) fn keeping(alloc: A) -> Self
+        ensures { (storage : Storage) → effect_on storage result ≡ leaves storage }
     {
-        let Ok(print) = Vec::from_slice(alloc, text) else {
-            return Err(Refusal::Memory);
-        };
-        Ok(Effect {
+        Effect {
             value: Vec::new(alloc),
             forced: false,
-            print,
-            position,
-            change: Change::Keep,
-        })
-    }
-
-    // Gives a value that is read from the input, up to this position.
-    pub(crate) fn reading(alloc: A, value: &[u8], position: usize) -> Result<Self, Refusal>
-        ensures outcome { (s : State) → (n : ℕ) → s.position + n ≡ position → IsPlanned s (Ok (reads value.now n s)) result }
-        ensures same { IfOk result (λ e. e.position ≡ position) }
-    {
-        let Ok(value) = Vec::from_slice(alloc, value) else {
-            return Err(Refusal::Memory);
-        };
-        Ok(Effect {
-            value,
-            forced: false,
             print: Vec::new(alloc),
-            position,
+            read: 0,
+            meta: None,
+            trace: None,
             change: Change::Keep,
-        })
+        }
     }
 }

@@ -3,25 +3,29 @@
 
 pub mod args;
 mod bits;
-mod calculating;
 pub mod change;
-mod computing;
+mod decimals;
+mod decisions;
 pub mod effect;
-mod handling;
-mod listing;
+mod forms;
+pub mod frames;
+mod io;
 pub mod mark;
 mod name;
 mod planning;
-mod reading;
 #[cfg(test)]
 mod refusals;
 pub mod tape;
 #[cfg(test)]
 mod tests;
+mod tracing;
 
 pub use args::Args;
 pub use change::Change;
 pub use effect::{Effect, Now};
+pub use frames::{Innermost, NeutralText};
 pub use mark::Mark;
 pub use planning::plan;
 pub use tape::Tape;
+pub use trac_rules::kind::Kind;
+pub use trac_rules::refusal::Refusal;
