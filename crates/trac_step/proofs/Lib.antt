@@ -1,13 +1,8 @@
 pub mod Depth
 pub mod Neutral
 pub mod Rules
+pub mod Limited
+pub mod Rooms
+pub mod Scans
 pub mod Changes
-pub mod Closing
-pub mod Ended
-pub mod Ending
-pub mod Fitting
 pub mod Moving
-pub mod Outcomes
-pub mod Peeling
-pub mod Performed
-pub mod Pointers

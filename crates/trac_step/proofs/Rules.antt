@@ -8,7 +8,7 @@ use Rattle.trac_rules.specs.declared.kind.Kind.{Kind}
 use Rattle.trac_rules.specs.declared.limit.TheConstants.{TEXT_LIMIT, MARK_LIMIT, OUTPUT_LIMIT}
 use Rattle.trac_rules.specs.State.{Frame, State}
 use Rattle.trac_rules.specs.Scanning.{gather, begun, comma_in}
-use Rattle.trac_rules.specs.Limits.{text_bytes, marks, is_within_limits}
+use Rattle.trac_rules.specs.Limits.{text_bytes, marks, texts_fit}
 use Rattle.trac_prims.specs.declared.mark.Mark.{Mark}
 use Rattle.trac_prims.specs.Cuts.{function_count}
 use Rattle.trac_step.specs.Layout.{Neutral, marked, neutral, AreMarks, Parts, state_of, IsSound}
@@ -21,15 +21,6 @@ text_bytes-parts p a = omega (arith, bytes-neutral p.text (reverse p.marks) a)
 
 pub marks-parts : (p : Parts) → AreMarks (length p.text) (reverse p.marks) → marks (state_of p).frames ≡ length p.marks
 marks-parts p a = marks-neutral p.text (reverse p.marks) (length p.text) a ∙ length-reverse p.marks
-
-within_limits_by : (s : State) → text_bytes s ≤ TEXT_LIMIT → marks s.frames ≤ MARK_LIMIT → length s.output ≤ OUTPUT_LIMIT → is_within_limits s ≡ true
-unfolding is_within_limits
-within_limits_by s t m o = rw (le-leb _ _ t, le-leb _ _ m, le-leb _ _ o) refl
-
--- a machine's state is within the limits
-pub within_limits : (p : Parts) → IsSound p → is_within_limits (state_of p) ≡ true
-within_limits p sound = within_limits_by (state_of p)
-    (rw (text_bytes-parts p sound.ordered) sound.text_limit) (rw (marks-parts p sound.ordered) sound.mark_limit) sound.output_limit
 
 -- ---- texts go to the current text
 

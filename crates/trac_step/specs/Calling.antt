@@ -8,18 +8,6 @@ use Rattle.trac_rules.specs.declared.scan.Front.{Front}
 use Rattle.trac_rules.specs.declared.scan.Front.TheVariants.{Comma, ActiveCall, NeutralCall}
 use Rattle.trac_rules.specs.State.{State}
 use Rattle.trac_rules.specs.Scanning.{Call, Scanned, Moves, Calls}
-use Rattle.trac_rules.specs.Performing.{after_call}
-use Rattle.trac_prims.specs.declared.effect.Effect as code
-use Rattle.trac_prims.specs.Effects.{effect_on}
-
--- a fact of the call that scanning asks for, where it asks for one
-abbrev pub IfCalls : Scanned → (Call → Type 0) → Type 0
-IfCalls (Moves t) P = Unit {0}
-IfCalls (Calls call) P = P call
-
--- the state after a call with this effect
-abbrev pub ended_call : {A : Type 0} → code.Effect A → Call → State
-ended_call e call = after_call call (effect_on call.state e)
 
 -- the place of the mark of this number
 abbrev pub place_of : List Mark → ℕ → ℕ

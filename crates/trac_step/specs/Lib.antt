@@ -1,6 +1,4 @@
 -- How the machine keeps a state.
 pub mod Layout
+pub mod Room
 pub mod Calling
-pub mod Changing
-pub mod Frames
-pub mod Record

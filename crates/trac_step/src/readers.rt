@@ -22,9 +22,9 @@ impl<E: TwoEnds<u8, A>, A: Allocator + Copy> Core<E, A> {
         frame_count(self.marks.left())
     }
 
-    /// The forms by their names.
+    /// The forms by their names, the blocks, and the names that have a place.
     pub fn store(&self) -> &Store<A>
-        ensures { result.now.forms ≡ self.now.state.forms }
+        ensures { result.now ≡ record { forms = self.now.state.forms; known = self.now.known } }
     {
         &self.store
     }
@@ -40,8 +40,7 @@ impl<E: TwoEnds<u8, A>, A: Allocator + Copy> Core<E, A> {
     pub fn trace(&self) -> bool
         ensures { result ≡ self.now.state.trace }
     {
-        let _parts = &self.marks;
-        false
+        self.trace
     }
 
     /// How many bytes of the tape are read.

@@ -6,5 +6,5 @@ use Rattle.trac_step.proofs.engine.Core.depth.Goals as goal
 
 pub returns : goal.returns
 returns g c =
-    let p = parts_of (g.E.TwoEnds.ends c.self.inside.text) c.self.inside.marks c.self.inside.store.forms c.self.inside.meta c.self.inside.position c.self.inside.output.items in
+    let p = parts_of (g.E.TwoEnds.ends c.self.inside.text) c.self.inside.marks c.self.inside.store c.self.inside.meta c.self.inside.trace c.self.inside.position c.self.inside.output in
     c.frame_count.ensures ∙ ap function_count c.left.ensures.left ∙ frames_counted p ∙ ap (λ (m : Shown). length m.state.frames) c.self.view_is
