@@ -4,8 +4,8 @@ use Rattle.std.specs.Prelude.{None, Some, ◌==◌, ◌⊎◌}
 use Rattle.std.proofs.lemmas.List.{append_assoc, take_all, take-take, take_more, take_at, drop_at, drop_more, take-append-drop, take-append-le, get_or_at, get_or_append_left, length-append, length-take-le}
 use Rattle.std.proofs.lemmas.Bool.{false≢true, eqb-true, eq-eqb, ne_eqb, and_parts, and_from, cases_Bool, cases_eq, cases_lt, false_from_ne_true}
 use Rattle.trac_rules.specs.declared.byte.TheConstants.{OPENING, CLOSING}
-use Rattle.trac_rules.specs.Bytes.{count_of}
-use Rattle.trac_rules.specs.Matching.{first_place, closes_at, match_of, protected, IsBalanced}
+use Rattle.trac_rules.specs.Bytes.{count_of, first_place}
+use Rattle.trac_rules.specs.Matching.{closes_at, match_of, protected, IsBalanced}
 
 -- ---- counting
 

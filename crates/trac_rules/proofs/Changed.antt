@@ -9,17 +9,18 @@ use Rattle.trac_rules.specs.declared.kind.Kind.TheVariants.{Active, Neutral}
 use Rattle.trac_rules.specs.declared.primitive.Primitive.{Primitive}
 use Rattle.trac_rules.specs.declared.primitive.Primitive.TheVariants.{PrintString, ReadString, Compute, Handle, Unknown}
 use Rattle.trac_rules.specs.declared.refusal.Refusal.{Refusal}
-use Rattle.trac_rules.specs.declared.refusal.Refusal.TheVariants.{TooLong}
 use Rattle.trac_rules.specs.declared.scan.Front.{Front}
 use Rattle.trac_rules.specs.declared.scan.Front.TheVariants.{Nothing, Opening, Layout, Comma, ActiveCall, NeutralCall, Sharp, Closing, Plain}
-use Rattle.trac_rules.specs.Bytes.{argument}
-use Rattle.trac_rules.specs.State.{Frame, State, Tape}
+use Rattle.trac_rules.specs.State.{Environment, Frame, State, storage_of}
 use Rattle.trac_rules.specs.Matching.{protected}
 use Rattle.trac_rules.specs.Scanning.{Call, Scanned, Moves, Calls, gathered_in, deleted, comma_in, closing_in, front_of, scan_at, scan}
-use Rattle.trac_rules.specs.Limits.{is_within_limits, text_bytes, marks}
-use Rattle.trac_rules.specs.Handling.{Handled, handled}
-use Rattle.trac_rules.specs.Performing.{Effect, handles, reads, unread, read_rest, read_up_to, effect_of, primitive_of, trace_line, placed, after_call, performed_by, perform}
-use Rattle.trac_rules.specs.Stepping.{carried_out, limited}
+use Rattle.trac_rules.specs.Limits.{texts_fit, text_bytes, marks}
+use Rattle.trac_rules.specs.Effect.{Effect, argument}
+use Rattle.trac_rules.specs.Outcomes.{limited, seen_as}
+use Rattle.trac_rules.specs.Reading.{string_read, unread}
+use Rattle.trac_rules.specs.Performing.{effect_of, primitive_of, trace_line, printed_behind, performed, placed, changed_by, after_call}
+use Rattle.trac_rules.specs.Stepping.{carried_out}
+use Rattle.trac_rules.proofs.Outcomes.{limited-seen_as}
 
 -- a state with its position and its output changed
 abbrev pub changed : (ℕ → ℕ) → (List ℕ → List ℕ) → State → State
@@ -29,16 +30,6 @@ changed places texts s = record s { position = places s.position; output = texts
 abbrev pub scanned_as : (State → State) → Scanned → Scanned
 scanned_as change (Moves t) = Moves (change t)
 scanned_as change (Calls call) = Calls (record call { state = change call.state })
-
--- the same change of what a primitive does
-abbrev pub effect_as : (State → State) → Result Effect Refusal → Result Effect Refusal
-effect_as change (Ok e) = Ok (record e { state = change e.state })
-effect_as change (Err refusal) = Err refusal
-
--- the same change of what a step gives
-abbrev pub stepped_as : (State → State) → Result State Refusal → Result State Refusal
-stepped_as change (Ok t) = Ok (change t)
-stepped_as change (Err refusal) = Err refusal
 
 -- ---- scanning
 
@@ -132,54 +123,30 @@ scan_keeps s = scan_at_keeps (front_of s.active) s
 -- ---- performing
 
 -- a change of a state, and of its tape, that performing does not notice
-pub record GoesUnnoticed (places : ℕ → ℕ) (texts : List ℕ → List ℕ) (old new : Tape) (s : State) : Type 0 where
-  pub unread : unread new (changed places texts s) ≡ unread old s
-  pub ended : new.ended ≡ old.ended
+pub record GoesUnnoticed (places : ℕ → ℕ) (texts : List ℕ → List ℕ) (old new : Environment) (s : State) : Type 0 where
+  pub unread : unread new.tape (changed places texts s) ≡ unread old.tape s
+  pub ended : new.tape.ended ≡ old.tape.ended
   pub moved : (n : ℕ) → places (s.position + n) ≡ places s.position + n
   pub printed : (x y : List ℕ) → texts (x ++ y) ≡ texts x ++ y
 
--- an effect with its state changed
-abbrev pub acting_as : (State → State) → Effect → Effect
-acting_as change e = record e { state = change e.state }
-
--- a value is read alike
-pub reads-changed : (places : ℕ → ℕ) (texts : List ℕ → List ℕ) (value : List ℕ) (n : ℕ) (s : State) → places (s.position + n) ≡ places s.position + n →
-    reads value n (changed places texts s) ≡ acting_as (changed places texts) (reads value n s)
-reads-changed f g value n s moved =
-    ap (λ (p : ℕ). record (reads value n s) { state = record s { position = p; output = g s.output } }) (sym moved)
-
--- where no meta character is met, it is read alike
-pub read_rest-changed : (places : ℕ → ℕ) (texts : List ℕ → List ℕ) (s : State) → ((n : ℕ) → places (s.position + n) ≡ places s.position + n) →
-    (rest : List ℕ) (ended : Bool) → read_rest rest ended (changed places texts s) ≡ effect_as (changed places texts) (read_rest rest ended s)
-read_rest-changed f g s moved rest false = refl
-read_rest-changed f g s moved [] true = refl
-read_rest-changed f g s moved (b ∷ rest) true = ap Ok (reads-changed f g (b ∷ rest) (length (b ∷ rest)) s (moved (length (b ∷ rest))))
-
--- a text is read alike
-pub read_up_to-changed : (places : ℕ → ℕ) (texts : List ℕ → List ℕ) (old new : Tape) (s : State) → GoesUnnoticed places texts old new s →
-    (at : Option ℕ) → read_up_to at new (changed places texts s) ≡ effect_as (changed places texts) (read_up_to at old s)
-read_up_to-changed f g old new s same (Some k) =
-    rw same.unread (ap Ok (reads-changed f g (take k (unread old s)) (k + 1) s (same.moved (k + 1))))
-read_up_to-changed f g old new s same None = rw (same.unread, same.ended) (read_rest-changed f g s same.moved (unread old s) old.ended)
-
--- what comes of a call on forms is alike
-pub handles-changed : (places : ℕ → ℕ) (texts : List ℕ → List ℕ) (s : State) (outcome : Result Handled Refusal) →
-    handles outcome (changed places texts s) ≡ effect_as (changed places texts) (handles outcome s)
-handles-changed f g s (Ok h) = refl
-handles-changed f g s (Err refusal) = refl
-
 -- each primitive acts alike
-pub effect_of-changed : (places : ℕ → ℕ) (texts : List ℕ → List ℕ) (old new : Tape) (s : State) → GoesUnnoticed places texts old new s →
-    (primitive : Primitive) (arguments : List (List ℕ)) →
-    effect_of primitive new arguments (changed places texts s) ≡ effect_as (changed places texts) (effect_of primitive old arguments s)
+pub effect_of-changed : (places : ℕ → ℕ) (texts : List ℕ → List ℕ) (old new : Environment) (s : State) → GoesUnnoticed places texts old new s →
+    (primitive : Primitive) (arguments : List (List ℕ)) → effect_of primitive new arguments (changed places texts s) ≡ effect_of primitive old arguments s
 effect_of-changed f g old new s same PrintString arguments = refl
 effect_of-changed f g old new s same ReadString arguments =
-    let unread_alike : drop (f s.position) new.bytes ≡ drop s.position old.bytes = same.unread in
-    ap (λ (text : List ℕ). read_up_to (position (λ b. b == s.meta) text) new (changed f g s)) unread_alike
-    ∙ read_up_to-changed f g old new s same (position (λ b. b == s.meta) (unread old s))
+    ap (λ (text : List ℕ). string_read text new.tape.ended s.meta (storage_of s)) same.unread
+    ∙ ap (λ (ended : Bool). string_read (unread old.tape s) ended s.meta (storage_of s)) same.ended
 effect_of-changed f g old new s same (Compute computation) arguments = refl
-effect_of-changed f g old new s same (Handle action) arguments = handles-changed f g s (handled action arguments s.forms)
+effect_of-changed f g old new s same (Handle action) arguments = refl
 effect_of-changed f g old new s same Unknown arguments = refl
+
+-- a call does the same
+pub performed-changed : (places : ℕ → ℕ) (texts : List ℕ → List ℕ) (old new : Environment) (call : Call) → GoesUnnoticed places texts old new call.state →
+    performed new (record call { state = changed places texts call.state }) ≡ performed old call
+unfolding performed
+performed-changed f g old new call same =
+    ap (seen_as (printed_behind (trace_line call.state.trace call.kind call.arguments)))
+    (effect_of-changed f g old new call.state same (primitive_of (argument 0 call.arguments)) call.arguments)
 
 -- a value goes to the same place
 pub placed-changed : (places : ℕ → ℕ) (texts : List ℕ → List ℕ) (kind : Kind) (forced : Bool) (value : List ℕ) (s : State) →
@@ -189,100 +156,69 @@ placed-changed f g Neutral true value s = refl
 placed-changed f g Neutral false value s = gathered_in-changed f g s.frames value s
 
 -- the state after a call is the same, but for the change
-pub after_call-changed : (places : ℕ → ℕ) (texts : List ℕ → List ℕ) → ((x y : List ℕ) → texts (x ++ y) ≡ texts x ++ y) → (call : Call) (e : Effect) →
-    after_call (record call { state = changed places texts call.state }) (acting_as (changed places texts) e) ≡ changed places texts (after_call call e)
-after_call-changed f g printed call e =
-    ap (λ (o : List ℕ). placed call.kind e.forced e.value (record e.state { position = f e.state.position; output = o }))
-    (sym (printed e.state.output (trace_line call.state.trace call.kind call.arguments ++ e.printed)))
-    ∙ placed-changed f g call.kind e.forced e.value (record e.state {
-      output = e.state.output ++ (trace_line call.state.trace call.kind call.arguments ++ e.printed);
-    })
+pub after_call-changed : (places : ℕ → ℕ) (texts : List ℕ → List ℕ) (call : Call) → ((n : ℕ) → places (call.state.position + n) ≡ places call.state.position + n) →
+    ((x y : List ℕ) → texts (x ++ y) ≡ texts x ++ y) → (e : Effect) →
+    after_call (record call { state = changed places texts call.state }) e ≡ changed places texts (after_call call e)
+after_call-changed f g call moved printed e =
+    let place = sym (moved e.read) in
+    let output = sym (printed call.state.output e.printed) in
+    (λ i. placed call.kind e.forced e.value (record (changed_by e call.state) { position = place i; output = output i }))
+    ∙ placed-changed f g call.kind e.forced e.value (changed_by e call.state)
 
--- what was done is carried out alike
-pub performed_by-changed : (places : ℕ → ℕ) (texts : List ℕ → List ℕ) → ((x y : List ℕ) → texts (x ++ y) ≡ texts x ++ y) → (call : Call) (outcome : Result Effect Refusal) →
-    performed_by (record call { state = changed places texts call.state }) (effect_as (changed places texts) outcome) ≡ stepped_as (changed places texts) (performed_by call outcome)
-performed_by-changed f g printed call (Ok e) = ap Ok (after_call-changed f g printed call e)
-performed_by-changed f g printed call (Err refusal) = refl
-
--- a call is performed alike
-pub perform-changed : (places : ℕ → ℕ) (texts : List ℕ → List ℕ) (old new : Tape) (call : Call) → GoesUnnoticed places texts old new call.state →
-    perform new (record call { state = changed places texts call.state }) ≡ stepped_as (changed places texts) (perform old call)
-unfolding perform
-perform-changed f g old new call same =
-    ap (λ (outcome : Result Effect Refusal). performed_by (record call { state = changed f g call.state }) outcome)
-    (effect_of-changed f g old new call.state same (primitive_of (argument 0 call.arguments)) call.arguments)
-    ∙ performed_by-changed f g same.printed call (effect_of (primitive_of (argument 0 call.arguments)) old call.arguments call.state)
+-- what was done leads to the same state, but for the change
+pub placed_as-changed : (places : ℕ → ℕ) (texts : List ℕ → List ℕ) (call : Call) → ((n : ℕ) → places (call.state.position + n) ≡ places call.state.position + n) →
+    ((x y : List ℕ) → texts (x ++ y) ≡ texts x ++ y) → (outcome : Result Effect Refusal) →
+    seen_as (after_call (record call { state = changed places texts call.state })) outcome ≡ seen_as (changed places texts) (seen_as (after_call call) outcome)
+placed_as-changed f g call moved printed (Ok e) = ap Ok (after_call-changed f g call moved printed e)
+placed_as-changed f g call moved printed (Err refusal) = refl
 
 -- ---- a step, before limits are looked at
 
 -- what is not noticed at a state is not noticed at one of its position
-pub GoesUnnoticed_at : (places : ℕ → ℕ) (texts : List ℕ → List ℕ) (old new : Tape) (s t : State) → t.position ≡ s.position → GoesUnnoticed places texts old new s → GoesUnnoticed places texts old new t
+pub GoesUnnoticed_at : (places : ℕ → ℕ) (texts : List ℕ → List ℕ) (old new : Environment) (s t : State) → t.position ≡ s.position → GoesUnnoticed places texts old new s → GoesUnnoticed places texts old new t
 GoesUnnoticed_at f g old new s t e same = record {
-  unread = ap (λ (p : ℕ). drop (f p) new.bytes) e ∙ same.unread ∙ ap (λ (p : ℕ). drop p old.bytes) (sym e);
+  unread = ap (λ (p : ℕ). drop (f p) new.tape.bytes) e ∙ same.unread ∙ ap (λ (p : ℕ). drop p old.tape.bytes) (sym e);
   ended = same.ended;
   moved = λ n. ap (λ (p : ℕ). f (p + n)) e ∙ same.moved n ∙ ap (λ (p : ℕ). f p + n) (sym e);
   printed = same.printed;
 }
 
+-- a call is carried out alike
+pub call-changed : (places : ℕ → ℕ) (texts : List ℕ → List ℕ) (old new : Environment) (call : Call) → GoesUnnoticed places texts old new call.state →
+    carried_out new (Calls (record call { state = changed places texts call.state })) ≡ seen_as (changed places texts) (carried_out old (Calls call))
+call-changed f g old new call same =
+    ap (seen_as (after_call (record call { state = changed f g call.state }))) (performed-changed f g old new call same)
+    ∙ placed_as-changed f g call same.moved same.printed (performed old call)
+
 -- what scanning gives is carried out alike
-pub carried_out-changed : (places : ℕ → ℕ) (texts : List ℕ → List ℕ) (old new : Tape) (s : State) → GoesUnnoticed places texts old new s → (x : Scanned) → ScanKeeps s x →
-    carried_out new (scanned_as (changed places texts) x) ≡ stepped_as (changed places texts) (carried_out old x)
+pub carried_out-changed : (places : ℕ → ℕ) (texts : List ℕ → List ℕ) (old new : Environment) (s : State) → GoesUnnoticed places texts old new s → (x : Scanned) → ScanKeeps s x →
+    carried_out new (scanned_as (changed places texts) x) ≡ seen_as (changed places texts) (carried_out old x)
 carried_out-changed f g old new s same (Moves t) kept = refl
 carried_out-changed f g old new s same (Calls call) kept =
-    perform-changed f g old new call (GoesUnnoticed_at f g old new s call.state kept.place same)
+    call-changed f g old new call (GoesUnnoticed_at f g old new s call.state kept.place same)
 
 -- a step is carried out alike
-pub scanned_out-changed : (places : ℕ → ℕ) (texts : List ℕ → List ℕ) (old new : Tape) (s : State) → GoesUnnoticed places texts old new s →
-    carried_out new (scan (changed places texts s)) ≡ stepped_as (changed places texts) (carried_out old (scan s))
+pub scanned_out-changed : (places : ℕ → ℕ) (texts : List ℕ → List ℕ) (old new : Environment) (s : State) → GoesUnnoticed places texts old new s →
+    carried_out new (scan (changed places texts s)) ≡ seen_as (changed places texts) (carried_out old (scan s))
 scanned_out-changed f g old new s same =
     ap (λ (x : Scanned). carried_out new x) (scan-changed f g s) ∙ carried_out-changed f g old new s same (scan s) (scan_keeps s)
 
 -- ---- limits
 
 -- the position plays no part in the limits
-pub is_within_limits-moved : (places : ℕ → ℕ) (s : State) → is_within_limits (changed places (λ o. o) s) ≡ is_within_limits s
-unfolding is_within_limits
-is_within_limits-moved f s = refl
+pub texts_fit-moved : (places : ℕ → ℕ) (s : State) → texts_fit (changed places (λ o. o) s) ≡ texts_fit s
+unfolding texts_fit
+texts_fit-moved f s = refl
 
 -- a state keeps the limits where one with more output does
-pub is_within_limits_of_more : (text : List ℕ) (s : State) → is_within_limits (changed (λ p. p) (λ o. text ++ o) s) ≡ true → is_within_limits s ≡ true
-unfolding is_within_limits
-is_within_limits_of_more text s h =
+pub texts_fit_of_more : (text : List ℕ) (s : State) → texts_fit (changed (λ p. p) (λ o. text ++ o) s) ≡ true → texts_fit s ≡ true
+unfolding texts_fit
+texts_fit_of_more text s h =
     let parts = and_parts (nat_le (text_bytes s) TEXT_LIMIT && nat_le (marks s.frames) MARK_LIMIT) (nat_le (length (text ++ s.output)) OUTPUT_LIMIT) h in
     and_from (nat_le (text_bytes s) TEXT_LIMIT && nat_le (marks s.frames) MARK_LIMIT) (nat_le (length s.output) OUTPUT_LIMIT) parts.0
     (le-leb (length s.output) OUTPUT_LIMIT (omega (arith, leb-true (length (text ++ s.output)) OUTPUT_LIMIT parts.1, length-append text s.output)))
 
--- a state that keeps the limits is the outcome
-pub limited_within : (t : State) → is_within_limits t ≡ true → limited (Ok t) ≡ Ok t
-limited_within t h = rw h refl
-
--- any other state is refused
-pub limited_beyond : (t : State) → is_within_limits t ≡ false → limited (Ok t) ≡ Err TooLong
-limited_beyond t h = rw h refl
-
--- an outcome is what was carried out, and keeps the limits
-pub limited_Ok : (x : Result State Refusal) (t : State) → limited x ≡ Ok t → (x ≡ Ok t) × (is_within_limits t ≡ true)
-limited_Ok (Ok u) t h =
-    ⊎_elim
-    (λ (w : is_within_limits u ≡ true). let same : u ≡ t = (let e : limited (Ok u) ≡ Ok u = limited_within u w in cc) in (ap Ok same, rw (← same) w))
-    (λ (w : is_within_limits u ≡ false). absurd (let e : limited (Ok u) ≡ Err TooLong = limited_beyond u w in cc))
-    (cases_Bool (is_within_limits u))
-limited_Ok (Err refusal) t h = absurd (cc)
-
--- a refusal is for a limit, or what was carried out was refused
-pub limited_Err : (x : Result State Refusal) (refusal : Refusal) → limited x ≡ Err refusal → (refusal ≡ TooLong) ⊎ (x ≡ Err refusal)
-limited_Err (Ok u) r h =
-    ⊎_elim
-    (λ (w : is_within_limits u ≡ true). absurd (let e : limited (Ok u) ≡ Ok u = limited_within u w in cc))
-    (λ (w : is_within_limits u ≡ false). inl (let e : limited (Ok u) ≡ Err TooLong = limited_beyond u w in cc))
-    (cases_Bool (is_within_limits u))
-limited_Err (Err refusal) r h = inr h
-
 -- a moved position makes no difference to the limits
-pub limited-moved : (places : ℕ → ℕ) (x : Result State Refusal) → limited (stepped_as (changed places (λ o. o)) x) ≡ stepped_as (changed places (λ o. o)) (limited x)
-limited-moved f (Ok u) =
-    ⊎_elim
-    (λ (w : is_within_limits u ≡ true). limited_within (changed f (λ o. o) u) (is_within_limits-moved f u ∙ w) ∙ ap (stepped_as (changed f (λ o. o))) (sym (limited_within u w)))
-    (λ (w : is_within_limits u ≡ false). limited_beyond (changed f (λ o. o) u) (is_within_limits-moved f u ∙ w) ∙ ap (stepped_as (changed f (λ o. o))) (sym (limited_beyond u w)))
-    (cases_Bool (is_within_limits u))
-limited-moved f (Err refusal) = refl
+pub limited-moved : (places : ℕ → ℕ) (x : Result State Refusal) →
+    limited texts_fit (seen_as (changed places (λ o. o)) x) ≡ seen_as (changed places (λ o. o)) (limited texts_fit x)
+limited-moved f x = limited-seen_as texts_fit texts_fit (changed f (λ o. o)) (texts_fit-moved f) x

@@ -3,14 +3,14 @@ use Rattle.std.proofs.Common.{◌≡◌, ℕ, zero, suc, ◌+◌, ◌<◌, ◌�
 use Rattle.std.specs.Prelude.{Option, None, Some}
 use Rattle.std.specs.List.{All, flat_map}
 use Rattle.std.proofs.lemmas.Bool.{false_from_ne_true, cases_eq}
-use Rattle.std.proofs.lemmas.List.{append_assoc, append-nil, drop-drop, drop_at, take_at, take-append-drop, length-append, length-drop, nil_from_length, length-take, get_or_at}
+use Rattle.std.proofs.lemmas.List.{append_assoc, append-nil, drop-drop, drop_at, take_at, take-append-drop, length-append, nil_from_length, length-take, get_or_at}
 use Rattle.std.proofs.lemmas.List.Elements.{All-nil, All-cons, All-append, All-head, All-tail}
 use Rattle.std.proofs.lemmas.Slice.Eq.{bytes_eq-Decides}
 use Rattle.trac_rules.specs.declared.item.Item.{Item}
 use Rattle.trac_rules.specs.declared.item.Item.TheVariants.{Byte, Gap}
 use Rattle.trac_rules.specs.Form.{Form, all_items, as_items, width_of, IsWide, extent}
 use Rattle.trac_rules.specs.Filling.{text_numbered, filled, all_filled}
-use Rattle.trac_rules.specs.Matching.{first_place}
+use Rattle.trac_rules.specs.Bytes.{first_place}
 use Rattle.trac_rules.specs.Segmenting.{stands_at, leftmost, cut_at, cut_up_to, part, Runs, byte_before, runs_of, replaced, cut_out, segmented_from, segmented}
 use Rattle.trac_rules.proofs.Balanced.{first_place_some, first_place_none, first_place_cases}
 
@@ -34,28 +34,38 @@ split_at text run place h =
     sym (take-append-drop place run) ∙ ap (λ r. take place run ++ r) behind
 
 -- a place at which the text stands, with none before it, is the leftmost
-pub leftmost_some : (text run : List ℕ) (place : ℕ) → 0 < length text → place < length run → stands_at text run place ≡ true → ((j : ℕ) → j < place → stands_at text run j ≡ false) →
+pub leftmost_some : (text run : List ℕ) (place : ℕ) → place ≤ length run → stands_at text run place ≡ true → ((j : ℕ) → j < place → stands_at text run j ≡ false) →
     leftmost text run ≡ Some place
-leftmost_some [] run place some l is before = absurd (omega arith)
-leftmost_some (b ∷ text) run place some l is before = first_place_some (stands_at (b ∷ text) run) (length run) place l is before
+leftmost_some text run place l is before = first_place_some (stands_at text run) (length run + 1) place (omega arith) is before
 
 -- where the text stands at no place there is no leftmost one
-pub leftmost_none : (text run : List ℕ) → ((j : ℕ) → j < length run → stands_at text run j ≡ false) → leftmost text run ≡ None
-leftmost_none [] run none = refl
-leftmost_none (b ∷ text) run none = first_place_none (stands_at (b ∷ text) run) (length run) none
+pub leftmost_none : (text run : List ℕ) → ((j : ℕ) → j ≤ length run → stands_at text run j ≡ false) → leftmost text run ≡ None
+leftmost_none text run none = first_place_none (stands_at text run) (length run + 1) (λ j l. none j (omega arith))
 
--- a leftmost place is one at which the text, which is not null, stands
-pub leftmost_stands : (text run : List ℕ) (place : ℕ) → leftmost text run ≡ Some place → (0 < length text) × (place < length run) × (stands_at text run place ≡ true)
-leftmost_stands [] run place h = absurd (cc)
-leftmost_stands (b ∷ text) run place h =
+-- a leftmost place is one at which the text stands
+pub leftmost_stands : (text run : List ℕ) (place : ℕ) → leftmost text run ≡ Some place → stands_at text run place ≡ true
+leftmost_stands text run place h =
     ⊎_elim
-    (λ (none : (k : ℕ) → k < length run → stands_at (b ∷ text) run k ≡ false).
-    absurd (let e : first_place (stands_at (b ∷ text) run) (length run) ≡ None = first_place_none (stands_at (b ∷ text) run) (length run) none in cc))
-    (λ (some : (k : ℕ) × (k < length run) × (stands_at (b ∷ text) run k ≡ true) × ((j : ℕ) → j < k → stands_at (b ∷ text) run j ≡ false)).
-    let e : first_place (stands_at (b ∷ text) run) (length run) ≡ Some some.0 = first_place_some (stands_at (b ∷ text) run) (length run) some.0 some.1 some.2 some.3 in
+    (λ (none : (k : ℕ) → k < length run + 1 → stands_at text run k ≡ false).
+    absurd (let e : leftmost text run ≡ None = first_place_none (stands_at text run) (length run + 1) none in cc))
+    (λ (some : (k : ℕ) × (k < length run + 1) × (stands_at text run k ≡ true) × ((j : ℕ) → j < k → stands_at text run j ≡ false)).
+    let e : leftmost text run ≡ Some some.0 = first_place_some (stands_at text run) (length run + 1) some.0 some.1 some.2 some.3 in
     let same : some.0 ≡ place = cc in
-    (omega arith, omega (arith, some.1), ap (stands_at (b ∷ text) run) (sym same) ∙ some.2))
-    (first_place_cases (stands_at (b ∷ text) run) (length run))
+    ap (stands_at text run) (sym same) ∙ some.2)
+    (first_place_cases (stands_at text run) (length run + 1))
+
+-- a run is as long as what is before a leftmost place, the text, and what is behind it
+leftmost_length : (text run : List ℕ) (place : ℕ) → leftmost text run ≡ Some place →
+    length run ≡ length (take place run) + (length text + length (drop (place + length text) run))
+leftmost_length text run place h =
+    let front = take place run in
+    let back = drop (place + length text) run in
+    omega (
+      arith,
+      ap length (split_at text run place (leftmost_stands text run place h)),
+      length-append front (text ++ back),
+      length-append text back,
+    )
 
 -- ---- one run
 
@@ -66,42 +76,44 @@ cut_at_same None k text run cut cut' same = refl
 cut_at_same (Some place) k text run cut cut' same = ap (λ r. as_items (take place run) ++ Gap k (length text) ∷ r) (same place refl)
 
 -- nothing is cut out of nothing
-pub cut_up_to_nil : (n k : ℕ) (text : List ℕ) → cut_up_to n k text [] ≡ []
-cut_up_to_nil zero k text = refl
-cut_up_to_nil (suc n) k text =
-    let none : leftmost text [] ≡ None = leftmost_none text [] (λ j l. absurd (omega arith)) in
-    ap (λ (o : Option ℕ). cut_at o k text [] (cut_up_to n k text)) none
+pub cut_up_to_nil : (n k : ℕ) (text : List ℕ) → 0 < length text → cut_up_to n k text [] ≡ []
+cut_up_to_nil zero k text some = refl
+cut_up_to_nil (suc n) k text some = go (leftmost text []) refl
+  where
+    go : (o : Option ℕ) → leftmost text [] ≡ o → cut_at o k text [] (cut_up_to n k text) ≡ []
+    go None h = refl
+    go (Some place) h = absurd (omega (arith, some, leftmost_length text [] place h))
 
 -- as many cuts as there are bytes are enough
-pub cut_up_to_enough : (n m k : ℕ) (text run : List ℕ) → length run ≤ n → length run ≤ m → cut_up_to n k text run ≡ cut_up_to m k text run
-cut_up_to_enough zero m k text run l r =
+pub cut_up_to_enough : (n m k : ℕ) (text run : List ℕ) → 0 < length text → length run ≤ n → length run ≤ m → cut_up_to n k text run ≡ cut_up_to m k text run
+cut_up_to_enough zero m k text run some l r =
     let nothing : run ≡ [] = nil_from_length run (omega arith) in
-    rw nothing (sym (cut_up_to_nil m k text))
-cut_up_to_enough (suc n) zero k text run l r =
+    rw nothing (sym (cut_up_to_nil m k text some))
+cut_up_to_enough (suc n) zero k text run some l r =
     let nothing : run ≡ [] = nil_from_length run (omega arith) in
-    rw nothing (cut_up_to_nil (suc n) k text)
-cut_up_to_enough (suc n) (suc m) k text run l r =
+    rw nothing (cut_up_to_nil (suc n) k text some)
+cut_up_to_enough (suc n) (suc m) k text run some l r =
     cut_at_same (leftmost text run) k text run (cut_up_to n k text) (cut_up_to m k text)
     (λ place h.
-    let at = leftmost_stands text run place h in
-    cut_up_to_enough n m k text (drop (place + length text) run)
-    (omega (arith, at.0, at.1, length-drop (place + length text) run)) (omega (arith, at.0, at.1, length-drop (place + length text) run)))
+    let shorter = leftmost_length text run place h in
+    cut_up_to_enough n m k text (drop (place + length text) run) some (omega (arith, some, shorter)) (omega (arith, some, shorter)))
 
 -- a run is cut at the leftmost place, and the rest as a run of its own
-pub part_is : (k : ℕ) (text run : List ℕ) → part k text run ≡ cut_at (leftmost text run) k text run (part k text)
+pub part_is : (k : ℕ) (text run : List ℕ) → 0 < length text → part k text run ≡ cut_at (leftmost text run) k text run (part k text)
 unfolding part
-part_is k text run =
-    cut_up_to_enough (length run) (suc (length run)) k text run (omega arith) (omega arith)
-    ∙ cut_at_same (leftmost text run) k text run (cut_up_to (length run) k text) (λ r. cut_up_to (length r) k text r)
-    (λ place h. cut_up_to_enough (length run) (length (drop (place + length text) run)) k text (drop (place + length text) run)
-    (omega (arith, length-drop (place + length text) run)) (omega arith))
+part_is k [] run some = absurd (omega arith)
+part_is k (b ∷ text) run some =
+    cut_up_to_enough (length run) (suc (length run)) k (b ∷ text) run some (omega arith) (omega arith)
+    ∙ cut_at_same (leftmost (b ∷ text) run) k (b ∷ text) run (cut_up_to (length run) k (b ∷ text)) (λ r. cut_up_to (length r) k (b ∷ text) r)
+    (λ place h. cut_up_to_enough (length run) (length (drop (place + length (b ∷ text)) run)) k (b ∷ text) (drop (place + length (b ∷ text)) run) some
+    (omega (arith, leftmost_length (b ∷ text) run place h)) (omega arith))
 
 -- the leftmost occurrence is cut first
 pub part_found : (k : ℕ) (text front back : List ℕ) → (text ≡ [] → ⊥) →
     ((sooner rest : List ℕ) → front ++ (text ++ back) ≡ sooner ++ (text ++ rest) → length front ≤ length sooner) →
     part k text (front ++ (text ++ back)) ≡ as_items front ++ Gap k (length text) ∷ part k text back
 part_found k text front back some first =
-    part_is k text (front ++ (text ++ back))
+    part_is k text (front ++ (text ++ back)) long
     ∙ ap (λ (o : Option ℕ). cut_at o k text (front ++ (text ++ back)) (part k text)) found
     ∙ ap (λ f. as_items f ++ Gap k (length text) ∷ part k text (drop (length front + length text) (front ++ (text ++ back)))) (take_at front (text ++ back) (length front) refl)
     ∙ ap (λ r. as_items front ++ Gap k (length text) ∷ part k text r) behind
@@ -115,24 +127,26 @@ part_found k text front back some first =
         absurd (omega (arith, sooner, l, length-take j (front ++ (text ++ back)))))
 
     found : leftmost text (front ++ (text ++ back)) ≡ Some (length front)
-    found = leftmost_some text (front ++ (text ++ back)) (length front) long
-        (omega (arith, long, length-append front (text ++ back), length-append text back)) (stands_behind text front back) before
+    found = leftmost_some text (front ++ (text ++ back)) (length front)
+        (omega (arith, length-append front (text ++ back))) (stands_behind text front back) before
 
     behind : drop (length front + length text) (front ++ (text ++ back)) ≡ back
     behind = sym (drop-drop (length text) (length front) (front ++ (text ++ back)))
         ∙ ap (drop (length text)) (drop_at front (text ++ back) (length front) refl)
         ∙ drop_at text back (length text) refl
 
--- a run in which the text does not stand stays
-pub part_without : (k : ℕ) (text run : List ℕ) → ((front back : List ℕ) → run ≡ front ++ (text ++ back) → ⊥) → part k text run ≡ as_items run
-part_without k text run none =
-    part_is k text run
-    ∙ ap (λ (o : Option ℕ). cut_at o k text run (part k text))
-    (leftmost_none text run (λ j l. false_from_ne_true (stands_at text run j) (λ t. none (take j run) (drop (j + length text) run) (split_at text run j t))))
-
 -- a null text is cut out nowhere
 pub part_null : (k : ℕ) (run : List ℕ) → part k [] run ≡ as_items run
-part_null k run = part_is k [] run
+unfolding part
+part_null k run = refl
+
+-- a run in which the text does not stand stays
+pub part_without : (k : ℕ) (text run : List ℕ) → ((front back : List ℕ) → run ≡ front ++ (text ++ back) → ⊥) → part k text run ≡ as_items run
+part_without k [] run none = part_null k run
+part_without k (b ∷ text) run none =
+    part_is k (b ∷ text) run (omega arith)
+    ∙ ap (λ (o : Option ℕ). cut_at o k (b ∷ text) run (part k (b ∷ text)))
+    (leftmost_none (b ∷ text) run (λ j l. false_from_ne_true (stands_at (b ∷ text) run j) (λ t. none (take j run) (drop (j + length (b ∷ text)) run) (split_at (b ∷ text) run j t))))
 
 -- ---- runs and gaps
 
@@ -181,7 +195,6 @@ extent-cut_at : (o : Option ℕ) (k : ℕ) (text run : List ℕ) (cut : List ℕ
     extent (cut_at o k text run cut) ≡ length run
 extent-cut_at None k text run cut h keeps = extent-as_items run
 extent-cut_at (Some place) k text run cut h keeps =
-    let at = leftmost_stands text run place h in
     let front = take place run in
     let back = drop (place + length text) run in
     omega (
@@ -189,9 +202,7 @@ extent-cut_at (Some place) k text run cut h keeps =
       extent-append (as_items front) (Gap k (length text) ∷ cut back),
       extent-as_items front,
       keeps back,
-      ap length (split_at text run place at.2),
-      length-append front (text ++ back),
-      length-append text back,
+      leftmost_length text run place h,
     )
 
 -- a cut run stands for as many bytes as before
@@ -201,7 +212,8 @@ extent-cut_up_to (suc n) k text run = extent-cut_at (leftmost text run) k text r
 
 pub extent-part : (k : ℕ) (text run : List ℕ) → extent (part k text run) ≡ length run
 unfolding part
-extent-part k text run = extent-cut_up_to (length run) k text run
+extent-part k [] run = extent-as_items run
+extent-part k (b ∷ text) run = extent-cut_up_to (length run) k (b ∷ text) run
 
 -- how many bytes runs with their gaps stand for
 abbrev runs_extent : List (Item × List ℕ) → ℕ
@@ -241,21 +253,21 @@ pub wide-as_items : (text : List ℕ) → All IsWide (as_items text)
 wide-as_items [] = All-nil IsWide
 wide-as_items (b ∷ text) = All-cons IsWide (Byte b) (as_items text) (omega arith) (wide-as_items text)
 
-wide-cut_at : (o : Option ℕ) (k : ℕ) (text run : List ℕ) (cut : List ℕ → List Item) → leftmost text run ≡ o → ((r : List ℕ) → All IsWide (cut r)) → All IsWide (cut_at o k text run cut)
-wide-cut_at None k text run cut h wide = wide-as_items run
-wide-cut_at (Some place) k text run cut h wide =
-    let at = leftmost_stands text run place h in
+wide-cut_at : (o : Option ℕ) (k : ℕ) (text run : List ℕ) (cut : List ℕ → List Item) → 0 < length text → ((r : List ℕ) → All IsWide (cut r)) → All IsWide (cut_at o k text run cut)
+wide-cut_at None k text run cut some wide = wide-as_items run
+wide-cut_at (Some place) k text run cut some wide =
     All-append IsWide (as_items (take place run)) (Gap k (length text) ∷ cut (drop (place + length text) run)) (wide-as_items (take place run))
-    (All-cons IsWide (Gap k (length text)) (cut (drop (place + length text) run)) (omega (arith, at.0)) (wide (drop (place + length text) run)))
+    (All-cons IsWide (Gap k (length text)) (cut (drop (place + length text) run)) (omega arith) (wide (drop (place + length text) run)))
 
-wide-cut_up_to : (n k : ℕ) (text run : List ℕ) → All IsWide (cut_up_to n k text run)
-wide-cut_up_to zero k text run = wide-as_items run
-wide-cut_up_to (suc n) k text run = wide-cut_at (leftmost text run) k text run (cut_up_to n k text) refl (wide-cut_up_to n k text)
+wide-cut_up_to : (n k : ℕ) (text run : List ℕ) → 0 < length text → All IsWide (cut_up_to n k text run)
+wide-cut_up_to zero k text run some = wide-as_items run
+wide-cut_up_to (suc n) k text run some = wide-cut_at (leftmost text run) k text run (cut_up_to n k text) some (λ r. wide-cut_up_to n k text r some)
 
 -- the gaps of a cut run are wide
 pub wide-part : (k : ℕ) (text run : List ℕ) → All IsWide (part k text run)
 unfolding part
-wide-part k text run = wide-cut_up_to (length run) k text run
+wide-part k [] run = wide-as_items run
+wide-part k (b ∷ text) run = wide-cut_up_to (length run) k (b ∷ text) run (omega arith)
 
 -- the gaps between runs are gaps of the items
 wide-runs_of : (items : List Item) → All IsWide items → All (λ (gap : Item × List ℕ). IsWide gap.0) (runs_of items).others
@@ -306,14 +318,13 @@ filled-cut_at : (texts : List (List ℕ)) (o : Option ℕ) (k : ℕ) (text run :
     ((r : List ℕ) → all_filled texts (cut r) ≡ r) → all_filled texts (cut_at o k text run cut) ≡ run
 filled-cut_at texts None k text run cut e h fills = filled-as_items texts run
 filled-cut_at texts (Some place) k text run cut e h fills =
-    let at = leftmost_stands text run place h in
     let front = take place run in
     let back = drop (place + length text) run in
     filled-append texts (as_items front) (Gap k (length text) ∷ cut back)
     ∙ ap (λ f. f ++ (text_numbered k texts ++ all_filled texts (cut back))) (filled-as_items texts front)
     ∙ ap (λ t. front ++ (t ++ all_filled texts (cut back))) e
     ∙ ap (λ r. front ++ (text ++ r)) (fills back)
-    ∙ sym (split_at text run place at.2)
+    ∙ sym (split_at text run place (leftmost_stands text run place h))
 
 filled-cut_up_to : (texts : List (List ℕ)) (n k : ℕ) (text run : List ℕ) → text_numbered k texts ≡ text → all_filled texts (cut_up_to n k text run) ≡ run
 filled-cut_up_to texts zero k text run e = filled-as_items texts run
@@ -321,7 +332,8 @@ filled-cut_up_to texts (suc n) k text run e = filled-cut_at texts (leftmost text
 
 pub filled-part : (texts : List (List ℕ)) (k : ℕ) (text run : List ℕ) → text_numbered k texts ≡ text → all_filled texts (part k text run) ≡ run
 unfolding part
-filled-part texts k text run e = filled-cut_up_to texts (length run) k text run e
+filled-part texts k [] run e = filled-as_items texts run
+filled-part texts k (b ∷ text) run e = filled-cut_up_to texts (length run) k (b ∷ text) run e
 
 -- two ways to cut runs that are filled alike fill all alike
 pub filled-replaced : (texts : List (List ℕ)) (cut cut' : List ℕ → List Item) → ((run : List ℕ) → all_filled texts (cut run) ≡ all_filled texts (cut' run)) → (r : Runs) →

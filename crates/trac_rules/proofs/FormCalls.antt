@@ -14,17 +14,17 @@ use Rattle.trac_rules.specs.declared.primitive.FormAction.TheVariants.{Define, D
 use Rattle.trac_rules.specs.declared.primitive.Primitive.TheVariants.{Handle}
 use Rattle.trac_rules.specs.declared.refusal.Refusal.{Refusal}
 use Rattle.trac_rules.specs.declared.refusal.Refusal.TheVariants.{TooLong}
-use Rattle.trac_rules.specs.Bytes.{argument}
+use Rattle.trac_rules.specs.Effect.{Effect, argument, gives, leaves, prints}
 use Rattle.trac_rules.specs.Filling.{called}
 use Rattle.trac_rules.specs.Form.{Form, all_items, defined, pointed_at}
-use Rattle.trac_rules.specs.Handling.{Handled, handled, leaving, on_form, pointing, printing, putting, valued, without}
+use Rattle.trac_rules.specs.Handling.{handled, keeping, on_form, pointing, putting, without}
 use Rattle.trac_rules.specs.Limits.{form_fits, may_be_put}
 use Rattle.trac_rules.specs.Listing.{listed}
-use Rattle.trac_rules.specs.Performing.{handles, effect_of, primitive_of}
-use Rattle.trac_rules.specs.Rows.{Named, Does, with_forms}
+use Rattle.trac_rules.specs.Performing.{effect_of, primitive_of}
+use Rattle.trac_rules.specs.Rows.{Named, Does, Gives, Leaves, Prints, with_forms}
 use Rattle.trac_rules.specs.Segmenting.{segmented}
 use Rattle.trac_rules.specs.Showing.{shown}
-use Rattle.trac_rules.specs.State.{Forms}
+use Rattle.trac_rules.specs.State.{Forms, Storage, storage_of}
 
 -- ---- forms in a list
 
@@ -72,44 +72,6 @@ held-removed name es =
     ∙ sym (find-where_key (slice_cmp nat_cmp) (λ x. not (eq_by_cmp (slice_cmp nat_cmp) name x)) q (λ x t. ap (λ r. not (is_eq r)) (sym (alike_right nat_list_cmp_total q x name t))) es)
     ∙ sym (finite.get-from_entries nat_list_cmp_total (removed name es) q))
 
--- ---- what comes of a call
-
--- what comes of a call, with the forms in a list
-pub record Outcome : Type 0 where
-  pub value : List ℕ
-  pub printed : List ℕ
-  pub forms : Named
-
--- the same with the forms as a state holds them
-abbrev handled_of : Result Outcome Refusal → Result Handled Refusal
-handled_of (Ok o) = Ok (record { value = o.value; printed = o.printed; forms = held o.forms })
-handled_of (Err refusal) = Err refusal
-
--- a form put into a list, or refused
-abbrev pub chosen : Bool → List ℕ → Form → Named → Result Outcome Refusal
-chosen true name form es = Ok (record { value = []; printed = []; forms = (name, form) ∷ es })
-chosen false name form es = Err TooLong
-
--- whether it is put
-abbrev pub judged : List ℕ → Form → Named → Bool
-judged name form es = form_fits name form && nat_le (length (in_order ((name, form) ∷ es))) FORM_COUNT_LIMIT
-
-may_be_put-held : (name : List ℕ) (form : Form) (es : Named) → may_be_put name form (held es) ≡ judged name form es
-unfolding may_be_put
-may_be_put-held name form es =
-    ap (λ n. form_fits name form && nat_le n FORM_COUNT_LIMIT)
-    (finite.len-entries (held ((name, form) ∷ es)) ∙ ap length (entries-held ((name, form) ∷ es)))
-
--- putting a form
-putting-held : (name : List ℕ) (form : Form) (es : Named) → putting name form (held es) ≡ handled_of (chosen (judged name form es) name form es)
-putting-held name form es =
-    ap (λ b. cond b (Ok (leaving (finite.insert (held es) name form))) (Err TooLong)) (may_be_put-held name form es)
-    ∙ either (judged name form es)
-  where
-    either : (b : Bool) → cond b (Ok (leaving (finite.insert (held es) name form))) (Err TooLong) ≡ handled_of (chosen b name form es)
-    either true = refl
-    either false = refl
-
 -- names taken from a list
 abbrev pub all_removed : List (List ℕ) → Named → Named
 all_removed [] es = es
@@ -119,81 +81,114 @@ without-held : (names : List (List ℕ)) (es : Named) → without names (held es
 without-held [] es = refl
 without-held (name ∷ names) es = ap (without names) (held-removed name es) ∙ without-held names (removed name es)
 
--- a call on a form that is found
-abbrev pub on_found : Option Form → (Form → Result Outcome Refusal) → Named → Result Outcome Refusal
-on_found None act es = Ok (record { value = []; printed = []; forms = es })
-on_found (Some form) act es = act form
+-- whether a form may be put into a list
+abbrev pub judged : List ℕ → Form → Named → Bool
+judged name form es = form_fits name form && nat_le (length (in_order ((name, form) ∷ es))) FORM_COUNT_LIMIT
 
-on_form-held : (name : List ℕ) (act : Form → Result Handled Refusal) (act_so : Form → Result Outcome Refusal) (es : Named) →
-    ((form : Form) → act form ≡ handled_of (act_so form)) →
-    on_form (finite.get (held es) name) act (held es) ≡ handled_of (on_found (find (slice_cmp nat_cmp) name es) act_so es)
-on_form-held name act act_so es same =
-    ap (λ o. on_form o act (held es)) (finite.get-from_entries nat_list_cmp_total es name)
-    ∙ either (find (slice_cmp nat_cmp) name es)
-  where
-    either : (o : Option Form) → on_form o act (held es) ≡ handled_of (on_found o act_so es)
-    either None = refl
-    either (Some form) = same form
-
--- the names of a list
-abbrev pub names_in : List ℕ → Named → List ℕ
-names_in text es = flat_map (λ name. text ++ name) (map (λ e. e.0) (in_order es))
-
-listed-held : (text : List ℕ) (es : Named) → listed text (held es) ≡ names_in text es
-listed-held text es = ap (λ (entries : Named). flat_map (λ name. text ++ name) (map (λ e. e.0) entries)) (entries-held es)
-
--- what comes of each call, computed on a list
-abbrev pub handled_in : FormAction → List (List ℕ) → Named → Result Outcome Refusal
-handled_in Define arguments es = chosen (judged (argument 1 arguments) (defined (argument 2 arguments)) es) (argument 1 arguments) (defined (argument 2 arguments)) es
-handled_in Delete arguments es = Ok (record { value = []; printed = []; forms = all_removed (drop 1 arguments) es })
-handled_in DeleteAll arguments es = Ok (record { value = []; printed = []; forms = [] })
-handled_in Segment arguments es =
-    on_found (find (slice_cmp nat_cmp) (argument 1 arguments) es)
-    (λ form. chosen (judged (argument 1 arguments) (segmented (drop 2 arguments) form) es) (argument 1 arguments) (segmented (drop 2 arguments) form) es) es
-handled_in Restore arguments es =
-    on_found (find (slice_cmp nat_cmp) (argument 1 arguments) es)
-    (λ form. Ok (record { value = []; printed = []; forms = (argument 1 arguments, pointed_at 0 (all_items form)) ∷ es })) es
-handled_in CallForm arguments es =
-    on_found (find (slice_cmp nat_cmp) (argument 1 arguments) es) (λ form. Ok (record { value = called (drop 2 arguments) form; printed = []; forms = es })) es
-handled_in ListNames arguments es = Ok (record { value = names_in (argument 1 arguments) es; printed = []; forms = es })
-handled_in PrintForm arguments es =
-    on_found (find (slice_cmp nat_cmp) (argument 1 arguments) es) (λ form. Ok (record { value = []; printed = shown form; forms = es })) es
-
-handled-held : (action : FormAction) (arguments : List (List ℕ)) (es : Named) → handled action arguments (held es) ≡ handled_of (handled_in action arguments es)
-handled-held Define arguments es = putting-held (argument 1 arguments) (defined (argument 2 arguments)) es
-handled-held Delete arguments es = ap (λ forms. Ok (leaving forms)) (without-held (drop 1 arguments) es)
-handled-held DeleteAll arguments es = refl
-handled-held Segment arguments es =
-    on_form-held (argument 1 arguments) (λ form. putting (argument 1 arguments) (segmented (drop 2 arguments) form) (held es))
-    (λ form. chosen (judged (argument 1 arguments) (segmented (drop 2 arguments) form) es) (argument 1 arguments) (segmented (drop 2 arguments) form) es) es
-    (λ form. putting-held (argument 1 arguments) (segmented (drop 2 arguments) form) es)
-handled-held Restore arguments es =
-    on_form-held (argument 1 arguments) (λ form. Ok (pointing (argument 1 arguments) 0 form (held es)))
-    (λ form. Ok (record { value = []; printed = []; forms = (argument 1 arguments, pointed_at 0 (all_items form)) ∷ es })) es (λ form. refl)
-handled-held CallForm arguments es =
-    on_form-held (argument 1 arguments) (λ form. Ok (valued (called (drop 2 arguments) form) (held es)))
-    (λ form. Ok (record { value = called (drop 2 arguments) form; printed = []; forms = es })) es (λ form. refl)
-handled-held ListNames arguments es = ap (λ value. Ok (valued value (held es))) (listed-held (argument 1 arguments) es)
-handled-held PrintForm arguments es =
-    on_form-held (argument 1 arguments) (λ form. Ok (printing (shown form) (held es)))
-    (λ form. Ok (record { value = []; printed = shown form; forms = es })) es (λ form. refl)
+may_be_put-held : (name : List ℕ) (form : Form) (es : Named) → may_be_put name form (held es) ≡ judged name form es
+unfolding may_be_put
+may_be_put-held name form es =
+    ap (λ n. form_fits name form && nat_le n FORM_COUNT_LIMIT)
+    (finite.len-entries (held ((name, form) ∷ es)) ∙ ap length (entries-held ((name, form) ∷ es)))
 
 -- ---- rows
 
--- what came of a call is this value, this text and these forms
-abbrev pub ComesTo : Result Outcome Refusal → List ℕ → List ℕ → Named → Type 0
-ComesTo (Ok o) value printed after = (o.value ≡ value) × ((o.printed ≡ printed) × (in_order o.forms ≡ in_order after))
-ComesTo (Err refusal) value printed after = ⊥
+-- a storage with the forms of a list
+abbrev holding : Named → Storage → Storage
+holding es storage = keeping (held es) storage
 
-came : (r : Result Outcome Refusal) (value printed : List ℕ) (after : Named) → ComesTo r value printed after →
-    handled_of r ≡ Ok (record { value = value; printed = printed; forms = held after })
-came (Ok o) value printed after is = λ i. Ok (record { value = is.0 i; printed = is.1.0 i; forms = same_held o.forms after is.1.1 i })
-came (Err refusal) value printed after is = absurd is
+-- a form put into a list
+putting-held : (name : List ℕ) (form : Form) (es after : Named) (storage : Storage) → judged name form es ≡ true → in_order ((name, form) ∷ es) ≡ in_order after →
+    putting name form (holding es storage) ≡ Ok (leaves (holding after storage))
+putting-held name form es after storage fits same =
+    ap (λ b. cond b (Ok (leaves (holding ((name, form) ∷ es) storage))) (Err TooLong)) (may_be_put-held name form es ∙ fits)
+    ∙ ap (λ forms. Ok (leaves (keeping forms storage))) (same_held ((name, form) ∷ es) after same)
 
--- a row holds where computing it on the list comes to it
-pub row : (action : FormAction) (arguments : List (List ℕ)) (before after : Named) (value printed : List ℕ) →
-    primitive_of (argument 0 arguments) ≡ Handle action → ComesTo (handled_in action arguments before) value printed after → Does arguments before value printed after
-row action arguments before after value printed named is tape s =
-    ap (λ primitive. effect_of primitive tape arguments (with_forms before s)) named
-    ∙ ap (λ outcome. handles outcome (with_forms before s))
-    (handled-held action arguments before ∙ came (handled_in action arguments before) value printed after is)
+-- a call on a form that is found in a list, or not
+on_form-held : (name : List ℕ) (o : Option Form) (act : Form → Result Effect Refusal) (es : Named) (storage : Storage) → find (slice_cmp nat_cmp) name es ≡ o →
+    on_form (finite.get (held es) name) act storage ≡ on_form o act storage
+on_form-held name o act es storage there = ap (λ found. on_form found act storage) (finite.get-from_entries nat_list_cmp_total es name ∙ there)
+
+-- a row holds where its call on forms does what it says
+row : (action : FormAction) (arguments : List (List ℕ)) (before after : Named) (value printed : List ℕ) → primitive_of (argument 0 arguments) ≡ Handle action →
+    ((storage : Storage) → handled action arguments (holding before storage) ≡ Ok (record (leaves (holding after storage)) { value = value; printed = printed })) →
+    Does arguments before value printed after
+row action arguments before after value printed named is environment s =
+    ap (λ primitive. effect_of primitive environment arguments (with_forms before s)) named ∙ is (storage_of s)
+
+pub defines : (arguments : List (List ℕ)) (before after : Named) → primitive_of (argument 0 arguments) ≡ Handle Define →
+    judged (argument 1 arguments) (defined (argument 2 arguments)) before ≡ true →
+    in_order ((argument 1 arguments, defined (argument 2 arguments)) ∷ before) ≡ in_order after → Leaves arguments before after
+defines arguments before after named fits same =
+    row Define arguments before after [] [] named
+    (λ storage. putting-held (argument 1 arguments) (defined (argument 2 arguments)) before after storage fits same)
+
+pub deletes : (arguments : List (List ℕ)) (before after : Named) → primitive_of (argument 0 arguments) ≡ Handle Delete →
+    in_order (all_removed (drop 1 arguments) before) ≡ in_order after → Leaves arguments before after
+deletes arguments before after named same =
+    row Delete arguments before after [] [] named
+    (λ storage. ap (λ forms. Ok (leaves (keeping forms storage)))
+    (without-held (drop 1 arguments) before ∙ same_held (all_removed (drop 1 arguments) before) after same))
+
+pub deletes_all : (arguments : List (List ℕ)) (before : Named) → primitive_of (argument 0 arguments) ≡ Handle DeleteAll → Leaves arguments before []
+deletes_all arguments before named = row DeleteAll arguments before [] [] [] named (λ storage. refl)
+
+pub segments : (arguments : List (List ℕ)) (before after : Named) (form : Form) → primitive_of (argument 0 arguments) ≡ Handle Segment →
+    find (slice_cmp nat_cmp) (argument 1 arguments) before ≡ Some form → judged (argument 1 arguments) (segmented (drop 2 arguments) form) before ≡ true →
+    in_order ((argument 1 arguments, segmented (drop 2 arguments) form) ∷ before) ≡ in_order after → Leaves arguments before after
+segments arguments before after form named there fits same =
+    row Segment arguments before after [] [] named
+    (λ storage. on_form-held (argument 1 arguments) (Some form)
+    (λ f. putting (argument 1 arguments) (segmented (drop 2 arguments) f) (holding before storage)) before (holding before storage) there
+    ∙ putting-held (argument 1 arguments) (segmented (drop 2 arguments) form) before after storage fits same)
+
+pub restores : (arguments : List (List ℕ)) (before after : Named) (form : Form) → primitive_of (argument 0 arguments) ≡ Handle Restore →
+    find (slice_cmp nat_cmp) (argument 1 arguments) before ≡ Some form →
+    in_order ((argument 1 arguments, pointed_at 0 (all_items form)) ∷ before) ≡ in_order after → Leaves arguments before after
+restores arguments before after form named there same =
+    row Restore arguments before after [] [] named
+    (λ storage. on_form-held (argument 1 arguments) (Some form)
+    (λ f. Ok (leaves (pointing (argument 1 arguments) 0 f (holding before storage)))) before (holding before storage) there
+    ∙ ap (λ forms. Ok (leaves (keeping forms storage))) (same_held ((argument 1 arguments, pointed_at 0 (all_items form)) ∷ before) after same))
+
+pub calls : (arguments : List (List ℕ)) (es : Named) (form : Form) → primitive_of (argument 0 arguments) ≡ Handle CallForm →
+    find (slice_cmp nat_cmp) (argument 1 arguments) es ≡ Some form → Gives arguments es (called (drop 2 arguments) form)
+calls arguments es form named there =
+    row CallForm arguments es es (called (drop 2 arguments) form) [] named
+    (λ storage. on_form-held (argument 1 arguments) (Some form) (λ f. Ok (gives (called (drop 2 arguments) f) (holding es storage))) es (holding es storage) there)
+
+pub lists : (arguments : List (List ℕ)) (es : Named) → primitive_of (argument 0 arguments) ≡ Handle ListNames →
+    Gives arguments es (flat_map (λ name. argument 1 arguments ++ name) (map (λ e. e.0) (in_order es)))
+lists arguments es named =
+    row ListNames arguments es es (flat_map (λ name. argument 1 arguments ++ name) (map (λ e. e.0) (in_order es))) [] named
+    (λ storage. ap (λ (entries : Named). Ok (gives (flat_map (λ name. argument 1 arguments ++ name) (map (λ e. e.0) entries)) (holding es storage))) (entries-held es))
+
+pub prints_form : (arguments : List (List ℕ)) (es : Named) (form : Form) → primitive_of (argument 0 arguments) ≡ Handle PrintForm →
+    find (slice_cmp nat_cmp) (argument 1 arguments) es ≡ Some form → Prints arguments es (shown form)
+prints_form arguments es form named there =
+    row PrintForm arguments es es [] (shown form) named
+    (λ storage. on_form-held (argument 1 arguments) (Some form) (λ f. Ok (prints (shown f) (holding es storage))) es (holding es storage) there)
+
+-- the calls that do nothing where there is no form of their name
+abbrev IsOnForm : FormAction → Type 0
+IsOnForm Segment = Unit {0}
+IsOnForm Restore = Unit {0}
+IsOnForm CallForm = Unit {0}
+IsOnForm PrintForm = Unit {0}
+IsOnForm action = ⊥
+
+pub finds_none : (action : FormAction) (arguments : List (List ℕ)) (es : Named) → IsOnForm action → primitive_of (argument 0 arguments) ≡ Handle action →
+    find (slice_cmp nat_cmp) (argument 1 arguments) es ≡ None → Leaves arguments es es
+finds_none action arguments es on named none = row action arguments es es [] [] named (λ storage. go action on storage)
+  where
+    go : (a : FormAction) → IsOnForm a → (storage : Storage) → handled a arguments (holding es storage) ≡ Ok (leaves (holding es storage))
+    go Segment i storage =
+        on_form-held (argument 1 arguments) None (λ f. putting (argument 1 arguments) (segmented (drop 2 arguments) f) (holding es storage)) es (holding es storage) none
+    go Restore i storage =
+        on_form-held (argument 1 arguments) None (λ f. Ok (leaves (pointing (argument 1 arguments) 0 f (holding es storage)))) es (holding es storage) none
+    go CallForm i storage = on_form-held (argument 1 arguments) None (λ f. Ok (gives (called (drop 2 arguments) f) (holding es storage))) es (holding es storage) none
+    go PrintForm i storage = on_form-held (argument 1 arguments) None (λ f. Ok (prints (shown f) (holding es storage))) es (holding es storage) none
+    go Define i storage = absurd i
+    go Delete i storage = absurd i
+    go DeleteAll i storage = absurd i
+    go ListNames i storage = absurd i

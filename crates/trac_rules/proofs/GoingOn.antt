@@ -1,20 +1,20 @@
 -- What a run still writes from a session, as commands are answered.
-use Rattle.std.proofs.Common.{◌≡◌, ℕ, zero, suc, ◌+◌, ◌-◌, ◌<◌, ◌≤◌, true, false, List, [], ◌++◌, length, refl, sym, ap, ◌∙◌, arith}
+use Rattle.std.proofs.Common.{◌≡◌, ℕ, zero, suc, ◌+◌, ◌-◌, ◌<◌, ◌≤◌, true, false, List, [], ◌++◌, length, drop, refl, sym, ap, ◌∙◌, arith}
 use Rattle.std.specs.Prelude.{Some, Result, Ok, Err}
-use Rattle.std.proofs.lemmas.List.{append-nil, append_assoc, drop-append-le, length-append}
+use Rattle.std.proofs.lemmas.List.{append-nil, append_assoc, drop_all, drop-append-le, length-append}
 use Rattle.std.proofs.lemmas.Option.{option_and_then_some}
 use Rattle.trac_rules.specs.declared.limit.TheConstants.{TEXT_LIMIT}
 use Rattle.trac_rules.specs.declared.refusal.Refusal.{Refusal}
 use Rattle.trac_rules.specs.declared.refusal.Refusal.TheVariants.{TooLong, NeedInput, Ended}
-use Rattle.trac_rules.specs.State.{State, Tape}
-use Rattle.trac_rules.specs.Performing.{unread}
+use Rattle.trac_rules.specs.State.{Environment, State, Tape}
+use Rattle.trac_rules.specs.Reading.{unread}
 use Rattle.trac_rules.specs.Stepping.{step}
-use Rattle.trac_rules.specs.Session.{PlainSession, Feed, End, Step, Commit, done, refused, settled, answer, accepted_by, repeated}
+use Rattle.trac_rules.specs.Session.{PlainSession, Feed, End, Step, Commit, done, refused, released, settled, answer, accepted_by, over, repeated}
 use Rattle.trac_rules.specs.Running.{Output, Stop, BudgetSpent, InputEnded, LimitPassed, stop_of, silent, going_on, output_from}
 use Rattle.trac_rules.specs.GoingOn.{whole, prepended, going_on_from}
-use Rattle.trac_rules.proofs.Steps.{step_within, step-whole, step-silent_Ok, step-silent_Err, silent_of_none, output_from-output, output_from-cut, cut, moved_back}
+use Rattle.trac_rules.proofs.Steps.{step_within, step-whole, step-silent_Ok, step-silent_Err, silent_of_none, output_from-output, output_from-cut, moved_back}
 use Rattle.trac_rules.proofs.Refusals.{step_hopeless-silent}
-use Rattle.trac_rules.proofs.Replies.{accepted_done, Step_done, Step_refused_TooLong, Step_refused_NeedInput, Step_refused_Ended, Feed_done, End_done, Commit_done}
+use Rattle.trac_rules.proofs.Replies.{accepted_done, Step_done, Step_refused_TooLong, Step_refused_NeedInput, Step_refused_Ended, Feed_done, End_done, committed, Commit_done}
 
 -- ---- outputs
 
@@ -29,20 +29,20 @@ prepended_empty text stop = ap (λ (bytes : List ℕ). record { bytes = bytes; s
 -- ---- one step of a run
 
 -- where a step goes to a state, the run goes on from there
-pub output_from_Ok : (n : ℕ) (tape : Tape) (s t : State) → step tape s ≡ Ok t → prepended s.output (output_from (suc n) tape s) ≡ prepended t.output (output_from n tape t)
+pub output_from_Ok : (n : ℕ) (e : Environment) (s t : State) → step e s ≡ Ok t → prepended s.output (output_from (suc n) e s) ≡ prepended t.output (output_from n e t)
 unfolding output_from
-output_from_Ok n tape s t h =
-    let at = step-silent_Ok tape s t h in
-    ap (λ (x : Result State Refusal). prepended s.output (going_on x (λ u. output_from n tape u))) at.1
-    ∙ prepended-prepended s.output at.0.output (output_from n tape at.0)
-    ∙ ap (λ (o : Output). prepended (s.output ++ at.0.output) o) (sym (output_from-output n tape at.0 (s.output ++ at.0.output)))
-    ∙ ap (λ (u : State). prepended u.output (output_from n tape u)) (sym at.2)
+output_from_Ok n e s t h =
+    let at = step-silent_Ok e s t h in
+    ap (λ (x : Result State Refusal). prepended s.output (going_on x (λ u. output_from n e u))) at.1
+    ∙ prepended-prepended s.output at.0.output (output_from n e at.0)
+    ∙ ap (λ (o : Output). prepended (s.output ++ at.0.output) o) (sym (output_from-output n e at.0 (s.output ++ at.0.output)))
+    ∙ ap (λ (u : State). prepended u.output (output_from n e u)) (sym at.2)
 
 -- where the silent state's step is refused, the run ends
-pub output_from_Err : (n : ℕ) (tape : Tape) (s : State) (refusal : Refusal) → step tape (silent s) ≡ Err refusal → prepended s.output (output_from (suc n) tape s) ≡ record { bytes = s.output; stop = stop_of refusal }
+pub output_from_Err : (n : ℕ) (e : Environment) (s : State) (refusal : Refusal) → step e (silent s) ≡ Err refusal → prepended s.output (output_from (suc n) e s) ≡ record { bytes = s.output; stop = stop_of refusal }
 unfolding output_from
-output_from_Err n tape s r h =
-    ap (λ (x : Result State Refusal). prepended s.output (going_on x (λ u. output_from n tape u))) h
+output_from_Err n e s r h =
+    ap (λ (x : Result State Refusal). prepended s.output (going_on x (λ u. output_from n e u))) h
     ∙ prepended_empty s.output (stop_of r)
 
 -- ---- accepted steps
@@ -58,7 +58,7 @@ pub record IsAfterSteps (k : ℕ) (p q : PlainSession) : Type 0 where
 pub after_Step : (p q : PlainSession) → p.last.position ≤ length p.tape.bytes → answer Step p ≡ done q → IsAfterSteps 1 p q
 after_Step p q l h =
     let at = Step_done p q h in
-    let inside : at.0.position ≤ length p.tape.bytes = step_within p.tape p.last at.0 at.1 l in
+    let inside : at.0.position ≤ length p.tape.bytes = step_within (over p.tape) p.last at.0 at.1 l in
     rw at.2 (record { tape = refl; limit = refl; within = inside; earlier = omega arith })
 
 -- an accepted step writes what the run writes
@@ -66,8 +66,8 @@ pub going_on-Step : (p q : PlainSession) (more : List ℕ) (n : ℕ) → p.last.
     going_on_from p more (suc n) ≡ going_on_from q more n
 going_on-Step p q more n l h none =
     let at = Step_done p q h in
-    let e : step (whole p.tape more) p.last ≡ Ok at.0 = step-whole p.tape more p.last l none (λ w. cc) ∙ at.1 in
-    output_from_Ok n (whole p.tape more) p.last at.0 e ∙ ap (λ (s : PlainSession). going_on_from s more n) (sym at.2)
+    let e : step (over (whole p.tape more)) p.last ≡ Ok at.0 = step-whole (over p.tape) more p.last l none (λ w. cc) ∙ at.1 in
+    output_from_Ok n (over (whole p.tape more)) p.last at.0 e ∙ ap (λ (s : PlainSession). going_on_from s more n) (sym at.2)
 
 -- what many accepted steps leave
 pub after_repeated : (k : ℕ) (p q : PlainSession) → p.last.position ≤ length p.tape.bytes → repeated Step k p ≡ Some q → IsAfterSteps k p q
@@ -99,25 +99,34 @@ going_on-repeated (suc k) n p q more l none h =
 
 -- ---- a commit, a feed, the end
 
+-- a settled state has no output, and nothing of its tape is read
+pub settled_is : (s : State) → settled s ≡ record s { output = []; position = 0 }
+settled_is s =
+    let output : drop (length s.output) s.output ≡ [] = drop_all (length s.output) s.output (omega arith) in
+    let place : s.position - s.position ≡ 0 = omega arith in
+    λ i. record s { output = output i; position = place i }
+
 -- what a commit leaves
 pub after_Commit : (p q : PlainSession) → answer Commit p ≡ done q → (q.last.output ≡ []) × (q.earlier ≡ []) × (q.last.position ≡ 0) × (q.limit ≡ p.limit)
-after_Commit p q h = rw (Commit_done p q h) (refl, refl, refl, refl)
+after_Commit p q h =
+    rw (Commit_done p q h) (ap (λ (s : State). s.output) (settled_is p.last), refl, ap (λ (s : State). s.position) (settled_is p.last), refl)
 
 -- a run goes on from a settled state as from the state itself
 pub output_from-settled : (n : ℕ) (tape : Tape) (more : List ℕ) (s : State) → s.position ≤ length tape.bytes →
-    output_from n (whole tape more) s ≡ output_from n (whole (cut s.position tape) more) (settled s)
+    output_from n (over (whole tape more)) s ≡ output_from n (over (whole (record tape { bytes = drop s.position tape.bytes }) more)) (settled s)
 output_from-settled n tape more s l =
-    let start : s.position - s.position ≡ 0 = omega arith in
-    sym (output_from-cut n s.position (whole tape more) s (omega arith))
-    ∙ ap (λ (bytes : List ℕ). output_from n (record { bytes = bytes; ended = true }) (moved_back s.position s)) (drop-append-le s.position tape.bytes more l)
-    ∙ ap (λ (k : ℕ). output_from n (whole (cut s.position tape) more) (record s { position = k })) start
-    ∙ sym (output_from-output n (whole (cut s.position tape) more) (record s { position = 0 }) [])
+    sym (output_from-cut n s.position (over (whole tape more)) s (omega arith))
+    ∙ ap (λ (bytes : List ℕ). output_from n (over (record { bytes = bytes; ended = true })) (moved_back s.position s)) (drop-append-le s.position tape.bytes more l)
+    ∙ sym (output_from-output n (over (whole (record tape { bytes = drop s.position tape.bytes }) more)) (moved_back s.position s) (drop (length s.output) s.output))
 
 -- a commit writes the pending output
 pub going_on-Commit : (p q : PlainSession) (more : List ℕ) (n : ℕ) → p.last.position ≤ length p.tape.bytes → answer Commit p ≡ done q →
     going_on_from p more n ≡ prepended p.last.output (going_on_from q more n)
 going_on-Commit p q more n l h =
+    let rest : Output = output_from n (over (whole (committed p).tape more)) (settled p.last) in
+    let nothing : (settled p.last).output ≡ [] = ap (λ (s : State). s.output) (settled_is p.last) in
     ap (prepended p.last.output) (output_from-settled n p.tape more p.last l)
+    ∙ ap (λ (text : List ℕ). prepended p.last.output (prepended text rest)) (sym nothing)
     ∙ ap (λ (s : PlainSession). prepended p.last.output (going_on_from s more n)) (sym (Commit_done p q h))
 
 -- what a feed leaves
@@ -131,7 +140,7 @@ after_Feed p q d l h =
 -- a feed is more of the input
 pub going_on-Feed : (p q : PlainSession) (bytes more : List ℕ) (n : ℕ) → answer (Feed bytes) p ≡ done q → going_on_from p (bytes ++ more) n ≡ going_on_from q more n
 going_on-Feed p q d more n h =
-    ap (λ (bytes : List ℕ). prepended p.last.output (output_from n (record { bytes = bytes; ended = true }) p.last)) (sym (append_assoc p.tape.bytes d more))
+    ap (λ (bytes : List ℕ). prepended p.last.output (output_from n (over (record { bytes = bytes; ended = true })) p.last)) (sym (append_assoc p.tape.bytes d more))
     ∙ ap (λ (s : PlainSession). going_on_from s more n) (sym (Feed_done d p q h).0)
 
 -- what the end leaves
@@ -154,21 +163,21 @@ going_on_spent p more = prepended_empty p.last.output BudgetSpent
 pub going_on_ended : (p q : PlainSession) (more : List ℕ) (n : ℕ) → p.last.position ≤ length p.tape.bytes → answer Step p ≡ refused Ended q → (p.tape.ended ≡ true → more ≡ []) →
     going_on_from p more (suc n) ≡ record { bytes = p.last.output; stop = InputEnded }
 going_on_ended p q more n l h none =
-    let e : step p.tape p.last ≡ Err Ended = Step_refused_Ended p q h in
-    let f : step (whole p.tape more) p.last ≡ Err Ended = step-whole p.tape more p.last l none (λ w. cc) ∙ e in
-    output_from_Err n (whole p.tape more) p.last Ended (step-silent_Err (whole p.tape more) p.last Ended f (λ w. cc))
+    let e : step (over p.tape) p.last ≡ Err Ended = Step_refused_Ended p q h in
+    let f : step (over (whole p.tape more)) p.last ≡ Err Ended = step-whole (over p.tape) more p.last l none (λ w. cc) ∙ e in
+    output_from_Err n (over (whole p.tape more)) p.last Ended (step-silent_Err (over (whole p.tape more)) p.last Ended f (λ w. cc))
 
 -- where a step is refused for a limit and nothing is pending, the run ends for the limit
 pub going_on_too_long : (p q : PlainSession) (more : List ℕ) (n : ℕ) → p.last.position ≤ length p.tape.bytes → answer Step p ≡ refused TooLong q → (p.tape.ended ≡ true → more ≡ []) → p.last.output ≡ [] →
     going_on_from p more (suc n) ≡ record { bytes = []; stop = LimitPassed }
 going_on_too_long p q more n l h none nothing =
-    let e : step p.tape p.last ≡ Err TooLong = Step_refused_TooLong p q h in
-    let f : step (whole p.tape more) p.last ≡ Err TooLong = step-whole p.tape more p.last l none (λ w. cc) ∙ e in
-    output_from_Err n (whole p.tape more) p.last TooLong (ap (step (whole p.tape more)) (silent_of_none p.last nothing) ∙ f)
+    let e : step (over p.tape) p.last ≡ Err TooLong = Step_refused_TooLong p q h in
+    let f : step (over (whole p.tape more)) p.last ≡ Err TooLong = step-whole (over p.tape) more p.last l none (λ w. cc) ∙ e in
+    output_from_Err n (over (whole p.tape more)) p.last TooLong (ap (step (over (whole p.tape more))) (silent_of_none p.last nothing) ∙ f)
     ∙ ap (λ (bytes : List ℕ). record { bytes = bytes; stop = LimitPassed }) nothing
 
 -- where a step wants input and too much is unread already, the run ends for the limit, however the input goes on
 pub going_on_hopeless : (p q : PlainSession) (more : List ℕ) (n : ℕ) → p.last.position ≤ length p.tape.bytes → answer Step p ≡ refused NeedInput q → TEXT_LIMIT < length (unread p.tape p.last) →
     going_on_from p more (suc n) ≡ record { bytes = p.last.output; stop = LimitPassed }
 going_on_hopeless p q more n l h long =
-    output_from_Err n (whole p.tape more) p.last TooLong (step_hopeless-silent p.tape more p.last (Step_refused_NeedInput p q h) l long)
+    output_from_Err n (over (whole p.tape more)) p.last TooLong (step_hopeless-silent (over p.tape) more p.last (Step_refused_NeedInput p q h) l long)

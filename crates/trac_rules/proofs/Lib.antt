@@ -2,10 +2,13 @@ pub mod Balanced
 pub mod Calculated
 pub mod Numerals
 pub mod Cutting
+pub mod Outcomes
+pub mod Scans
 pub mod Changed
 pub mod Positions
 pub mod Steps
-pub mod FormLimits
+pub mod ProperStates
+pub mod ProperDecided
 pub mod FormCalls
 pub mod Refusals
 pub mod Replies

@@ -1,55 +1,55 @@
 -- Each clause is computed from the definitions.
 use Rattle.std.proofs.Common.{refl}
 use Rattle.std.specs.Fmt.{digits}
-use Rattle.trac_rules.specs.Limits.{is_within_limits}
+use Rattle.trac_rules.specs.Limits.{texts_fit}
 use Rattle.trac_rules.specs.Matching.{match_of}
 use Rattle.trac_rules.specs.Number.{calculated, difference_of, is_greater, number_of, numeral_of, prefix_of, product_of, quotient_of, sum_of, whole_number}
-use Rattle.trac_rules.specs.Performing.{perform}
+use Rattle.trac_rules.specs.Performing.{performed}
 use Rattle.trac_rules.specs.Running.{output_from}
 use Rattle.trac_rules.specs.Scanning.{scan}
 use Rattle.trac_rules.specs.Stepping.{step}
 use Rattle.trac_rules.proofs.rows.worked_calls.Goals as goal
 
 pub returns-clause-decimals : goal.returns-clause-decimals
-unfolding match_of scan is_within_limits perform step output_from calculated prefix_of numeral_of number_of whole_number is_greater sum_of difference_of product_of quotient_of digits
+unfolding match_of scan texts_fit performed step output_from calculated prefix_of numeral_of number_of whole_number is_greater sum_of difference_of product_of quotient_of digits
 returns-clause-decimals c = refl
 
 pub returns-clause-bit_strings : goal.returns-clause-bit_strings
-unfolding match_of scan is_within_limits perform step output_from calculated prefix_of numeral_of number_of whole_number is_greater sum_of difference_of product_of quotient_of digits
+unfolding match_of scan texts_fit performed step output_from calculated prefix_of numeral_of number_of whole_number is_greater sum_of difference_of product_of quotient_of digits
 returns-clause-bit_strings c = refl
 
 pub returns-clause-neutral : goal.returns-clause-neutral
-unfolding match_of scan is_within_limits perform step output_from calculated prefix_of numeral_of number_of whole_number is_greater sum_of difference_of product_of quotient_of digits
+unfolding match_of scan texts_fit performed step output_from calculated prefix_of numeral_of number_of whole_number is_greater sum_of difference_of product_of quotient_of digits
 returns-clause-neutral c = refl
 
 pub returns-clause-forced : goal.returns-clause-forced
-unfolding match_of scan is_within_limits perform step output_from calculated prefix_of numeral_of number_of whole_number is_greater sum_of difference_of product_of quotient_of digits
+unfolding match_of scan texts_fit performed step output_from calculated prefix_of numeral_of number_of whole_number is_greater sum_of difference_of product_of quotient_of digits
 returns-clause-forced c = refl
 
 pub returns-clause-products : goal.returns-clause-products
-unfolding match_of scan is_within_limits perform step output_from calculated prefix_of numeral_of number_of whole_number is_greater sum_of difference_of product_of quotient_of digits
+unfolding match_of scan texts_fit performed step output_from calculated prefix_of numeral_of number_of whole_number is_greater sum_of difference_of product_of quotient_of digits
 returns-clause-products c = refl
 
 pub returns-clause-far_moves : goal.returns-clause-far_moves
-unfolding match_of scan is_within_limits perform step output_from calculated prefix_of numeral_of number_of whole_number is_greater sum_of difference_of product_of quotient_of digits
+unfolding match_of scan texts_fit performed step output_from calculated prefix_of numeral_of number_of whole_number is_greater sum_of difference_of product_of quotient_of digits
 returns-clause-far_moves c = refl
 
 pub returns-clause-texts : goal.returns-clause-texts
-unfolding match_of scan is_within_limits perform step output_from calculated prefix_of numeral_of number_of whole_number is_greater sum_of difference_of product_of quotient_of digits
+unfolding match_of scan texts_fit performed step output_from calculated prefix_of numeral_of number_of whole_number is_greater sum_of difference_of product_of quotient_of digits
 returns-clause-texts c = refl
 
 pub returns-clause-results : goal.returns-clause-results
-unfolding match_of scan is_within_limits perform step output_from calculated prefix_of numeral_of number_of whole_number is_greater sum_of difference_of product_of quotient_of digits
+unfolding match_of scan texts_fit performed step output_from calculated prefix_of numeral_of number_of whole_number is_greater sum_of difference_of product_of quotient_of digits
 returns-clause-results c = refl
 
 pub returns-clause-comparisons : goal.returns-clause-comparisons
-unfolding match_of scan is_within_limits perform step output_from calculated prefix_of numeral_of number_of whole_number is_greater sum_of difference_of product_of quotient_of digits
+unfolding match_of scan texts_fit performed step output_from calculated prefix_of numeral_of number_of whole_number is_greater sum_of difference_of product_of quotient_of digits
 returns-clause-comparisons c = refl
 
 pub returns-clause-places : goal.returns-clause-places
-unfolding match_of scan is_within_limits perform step output_from calculated prefix_of numeral_of number_of whole_number is_greater sum_of difference_of product_of quotient_of digits
+unfolding match_of scan texts_fit performed step output_from calculated prefix_of numeral_of number_of whole_number is_greater sum_of difference_of product_of quotient_of digits
 returns-clause-places c = refl
 
 pub returns-clause-names : goal.returns-clause-names
-unfolding match_of scan is_within_limits perform step output_from calculated prefix_of numeral_of number_of whole_number is_greater sum_of difference_of product_of quotient_of digits
+unfolding match_of scan texts_fit performed step output_from calculated prefix_of numeral_of number_of whole_number is_greater sum_of difference_of product_of quotient_of digits
 returns-clause-names c = refl

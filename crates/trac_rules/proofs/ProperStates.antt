@@ -1,0 +1,281 @@
+-- States stay proper.
+use Rattle.std.proofs.Common.{◌≡◌, ℕ, ◌+◌, ◌-◌, ◌≤◌, Bool, true, false, cond, not, ◌&&◌, ◌||◌, List, [], ◌∷◌, ◌++◌, drop, All, refl, sym, ap, subst, ◌∙◌, arith, inl, inr, ⊎_elim, is_some}
+use Rattle.std.specs.Prelude.{Option, None, Some, Result, Ok, Err, position, nat_le, ◌==◌, ◌⊎◌}
+use Rattle.std.specs.Cmp.Lexicographic.{slice_cmp, nat_list_cmp_total, nat_list_eq_equiv}
+use Rattle.std.specs.FinMap as finite
+use Rattle.std.specs.Ordering.{nat_cmp, eq_by_cmp}
+use Rattle.std.proofs.lemmas.Bool.{and_parts, and_from, leb-true, le-leb, cases_Bool, cond-true, cond-false}
+use Rattle.std.proofs.lemmas.List.Elements.{All-nil}
+use Rattle.std.proofs.lemmas.Map.Text.{is_eq-slice_cmp}
+use Rattle.std.proofs.lemmas.Slice.Eq.{bytes_eq-Decides}
+use Rattle.trac_rules.specs.declared.kind.Kind.{Kind}
+use Rattle.trac_rules.specs.declared.kind.Kind.TheVariants.{Active, Neutral}
+use Rattle.trac_rules.specs.declared.limit.TheConstants.{FORM_COUNT_LIMIT}
+use Rattle.trac_rules.specs.declared.primitive.Computation.{Computation}
+use Rattle.trac_rules.specs.declared.primitive.Computation.TheVariants.{Equal, Greater, Calculate, Union, Meet, Complement, Shift, Rotate}
+use Rattle.trac_rules.specs.declared.primitive.FormAction.{FormAction}
+use Rattle.trac_rules.specs.declared.primitive.FormAction.TheVariants.{Define, Delete, DeleteAll, Segment, Restore, ListNames, PrintForm, Call as CallForm}
+use Rattle.trac_rules.specs.declared.primitive.Primitive.{Primitive}
+use Rattle.trac_rules.specs.declared.primitive.Primitive.TheVariants.{PrintString, ReadString, Compute, Handle, Unknown}
+use Rattle.trac_rules.specs.declared.refusal.Refusal.{Refusal}
+use Rattle.trac_rules.specs.Computing.{computed, result_of}
+use Rattle.trac_rules.specs.Effect.{Effect, argument, gives, gives_or_forces, leaves, prints}
+use Rattle.trac_rules.specs.Filling.{called}
+use Rattle.trac_rules.specs.Form.{Form, IsWide, all_items, defined, pointed_at}
+use Rattle.trac_rules.specs.Handling.{handled, keeping, named_form, on_form, pointing, putting, without}
+use Rattle.trac_rules.specs.Limits.{form_fits, may_be_put, texts_fit}
+use Rattle.trac_rules.specs.Number.{calculated}
+use Rattle.trac_rules.specs.Outcomes.{seen_as}
+use Rattle.trac_rules.specs.Performing.{after_call, changed_by, effect_of, performed, placed, primitive_of, printed_behind, trace_line}
+use Rattle.trac_rules.specs.Proper.{AreProperForms, IsProper, IsProperBlock, IsProperForm, IsProperStorage}
+use Rattle.trac_rules.specs.Reading.{read_up_to, rest_read, unread}
+use Rattle.trac_rules.specs.Scanning.{Call, Scanned, Moves, Calls, scan}
+use Rattle.trac_rules.specs.Segmenting.{segmented}
+use Rattle.trac_rules.specs.Showing.{shown}
+use Rattle.trac_rules.specs.State.{Environment, Forms, State, Storage, initial, storage_of}
+use Rattle.trac_rules.specs.Stepping.{carried_out, step}
+use Rattle.trac_rules.proofs.Cutting.{wide-as_items, wide-segmented_from}
+use Rattle.trac_rules.proofs.Outcomes.{limited_Ok}
+use Rattle.trac_rules.proofs.Scans.{ScanShows, gathered_in_shows, scan_shows}
+
+-- ---- forms put, taken and looked up
+
+-- names that the order does not tell apart are one
+pub one_name : (q name : List ℕ) → eq_by_cmp (slice_cmp nat_cmp) q name ≡ true → q ≡ name
+one_name q name t = (bytes_eq-Decides q name).0 (sym (is_eq-slice_cmp q name) ∙ t)
+
+-- the order does not tell a name from itself
+pub ties_itself : (name : List ℕ) → eq_by_cmp (slice_cmp nat_cmp) name name ≡ true
+ties_itself name = is_eq-slice_cmp name name ∙ nat_list_eq_equiv.refl name
+
+-- a form that was put is found under its name
+get-put : (forms : Forms) (name : List ℕ) (form : Form) → finite.get (finite.insert forms name form) name ≡ Some form
+get-put forms name form =
+    finite.get-insert nat_list_cmp_total forms name form name
+    ∙ cond-true (eq_by_cmp (slice_cmp nat_cmp) name name) (Some form) (finite.get forms name) (ties_itself name)
+
+-- what is found then is that form under its name, or was there before
+found_of_put : (forms : Forms) (name q : List ℕ) (form found : Form) → finite.get (finite.insert forms name form) q ≡ Some found →
+    (((q ≡ name) × (found ≡ form)) ⊎ (finite.get forms q ≡ Some found))
+found_of_put forms name q form found there =
+    let is : cond (eq_by_cmp (slice_cmp nat_cmp) q name) (Some form) (finite.get forms q) ≡ Some found = sym (finite.get-insert nat_list_cmp_total forms name form q) ∙ there in
+    ⊎_elim
+    (λ (t : eq_by_cmp (slice_cmp nat_cmp) q name ≡ true).
+    let same : Some form ≡ Some found = sym (cond-true (eq_by_cmp (slice_cmp nat_cmp) q name) (Some form) (finite.get forms q) t) ∙ is in
+    inl (one_name q name t, cc))
+    (λ (t : eq_by_cmp (slice_cmp nat_cmp) q name ≡ false).
+    inr (sym (cond-false (eq_by_cmp (slice_cmp nat_cmp) q name) (Some form) (finite.get forms q) t) ∙ is))
+    (cases_Bool (eq_by_cmp (slice_cmp nat_cmp) q name))
+
+-- what is found after a name was taken was there before
+found_of_taken : (forms : Forms) (name q : List ℕ) (found : Form) → finite.get (finite.remove forms name) q ≡ Some found → finite.get forms q ≡ Some found
+found_of_taken forms name q found there =
+    let is : cond (eq_by_cmp (slice_cmp nat_cmp) q name) None (finite.get forms q) ≡ Some found = sym (finite.get-remove nat_list_cmp_total forms name q) ∙ there in
+    ⊎_elim
+    (λ (t : eq_by_cmp (slice_cmp nat_cmp) q name ≡ true).
+    absurd (let none : None ≡ Some found = sym (cond-true (eq_by_cmp (slice_cmp nat_cmp) q name) None (finite.get forms q) t) ∙ is in cc))
+    (λ (t : eq_by_cmp (slice_cmp nat_cmp) q name ≡ false).
+    sym (cond-false (eq_by_cmp (slice_cmp nat_cmp) q name) None (finite.get forms q) t) ∙ is)
+    (cases_Bool (eq_by_cmp (slice_cmp nat_cmp) q name))
+
+-- a form that takes the place of another leaves their number
+len-put_again : (forms : Forms) (name : List ℕ) (old new : Form) → finite.get forms name ≡ Some old → finite.len (finite.insert forms name new) ≡ finite.len forms
+len-put_again forms name old new there =
+    finite.len-insert nat_list_cmp_total forms name new ∙ ap (λ (o : Option Form). cond (is_some o) (finite.len forms) (finite.len forms + 1)) there
+
+-- a name that was taken leaves no more of them
+len-taken : (forms : Forms) (name : List ℕ) → finite.len (finite.remove forms name) ≤ finite.len forms
+len-taken forms name = go (finite.contains_key forms name) (finite.len-remove nat_list_cmp_total forms name)
+  where
+    go : (there : Bool) → finite.len (finite.remove forms name) ≡ cond there (finite.len forms - 1) (finite.len forms) → finite.len (finite.remove forms name) ≤ finite.len forms
+    go true e = omega (arith, e)
+    go false e = omega (arith, e)
+
+-- ---- proper forms
+
+-- no forms are proper
+none_proper : AreProperForms finite.empty
+none_proper = record {
+  count = (let none = finite.len-empty (slice_cmp nat_cmp) Form in omega (arith, none));
+  each = λ name form there. absurd (let none : None ≡ Some form = sym (finite.get-empty (slice_cmp nat_cmp) name) ∙ there in cc);
+}
+
+-- with a proper form put they stay so, where they are not too many
+put_proper : (forms : Forms) (name : List ℕ) (form : Form) → AreProperForms forms → IsProperForm name form →
+    finite.len (finite.insert forms name form) ≤ FORM_COUNT_LIMIT → AreProperForms (finite.insert forms name form)
+put_proper forms name form proper one few = record {
+  count = few;
+  each = λ q found there.
+      ⊎_elim
+      (λ (same : (q ≡ name) × (found ≡ form)). subst (λ n. IsProperForm n found) (sym same.0) (subst (IsProperForm name) (sym same.1) one))
+      (λ (before : finite.get forms q ≡ Some found). proper.each q found before)
+      (found_of_put forms name q form found there);
+}
+
+-- a form that may be put, its gaps wide, leaves proper forms proper
+pub proper_of_judged : (name : List ℕ) (form : Form) (forms : Forms) → AreProperForms forms → All IsWide (all_items form) → may_be_put name form forms ≡ true →
+    AreProperForms (finite.insert forms name form)
+unfolding may_be_put
+proper_of_judged name form forms proper wide judged =
+    let parts = and_parts (form_fits name form) (nat_le (finite.len (finite.insert forms name form)) FORM_COUNT_LIMIT) judged in
+    put_proper forms name form proper (record { fits = parts.0; wide = wide }) (leb-true (finite.len (finite.insert forms name form)) FORM_COUNT_LIMIT parts.1)
+
+-- and one that leaves them proper may be put
+pub judged_of_proper : (name : List ℕ) (form : Form) (forms : Forms) → AreProperForms (finite.insert forms name form) → may_be_put name form forms ≡ true
+unfolding may_be_put
+judged_of_proper name form forms proper =
+    and_from (form_fits name form) (nat_le (finite.len (finite.insert forms name form)) FORM_COUNT_LIMIT) (proper.each name form (get-put forms name form)).fits
+    (le-leb (finite.len (finite.insert forms name form)) FORM_COUNT_LIMIT proper.count)
+
+-- a form whose pointer goes back to the start leaves them proper
+restored_proper : (name : List ℕ) (form : Form) (forms : Forms) → AreProperForms forms → finite.get forms name ≡ Some form →
+    AreProperForms (finite.insert forms name (pointed_at 0 (all_items form)))
+restored_proper name form forms proper there =
+    let same = proper.each name form there in
+    put_proper forms name (pointed_at 0 (all_items form)) proper (record { fits = same.fits; wide = same.wide })
+    (let again = len-put_again forms name form (pointed_at 0 (all_items form)) there in omega (arith, again, proper.count))
+
+-- and they stay proper without these names
+without_proper : (names : List (List ℕ)) (forms : Forms) → AreProperForms forms → AreProperForms (without names forms)
+without_proper [] forms proper = proper
+without_proper (name ∷ names) forms proper =
+    without_proper names (finite.remove forms name) (record {
+      count = omega (arith, len-taken forms name, proper.count);
+      each = λ q found there. proper.each q found (found_of_taken forms name q found there);
+    })
+
+-- ---- effects
+
+-- what a primitive does leaves a proper storage
+abbrev LeavesProper : Result Effect Refusal → Type 0
+LeavesProper (Ok e) = IsProperStorage e.storage
+LeavesProper (Err refusal) = Unit {0}
+
+-- other forms in a storage
+with_proper : (forms : Forms) (storage : Storage) → IsProperStorage storage → AreProperForms forms → IsProperStorage (keeping forms storage)
+with_proper forms storage proper now = record { forms = now; block_count = proper.block_count; blocks = proper.blocks }
+
+-- a form that is put, its gaps wide, or refused
+putting_proper : (name : List ℕ) (form : Form) (storage : Storage) → IsProperStorage storage → All IsWide (all_items form) → LeavesProper (putting name form storage)
+putting_proper name form storage proper wide =
+    ⊎_elim
+    (λ (t : may_be_put name form storage.forms ≡ true).
+    rw t (with_proper (finite.insert storage.forms name form) storage proper (proper_of_judged name form storage.forms proper.forms wide t)))
+    (λ (t : may_be_put name form storage.forms ≡ false). rw t tt)
+    (cases_Bool (may_be_put name form storage.forms))
+
+-- a form that is acted upon, where there is one
+on_form_proper : (found : Option Form) (act : Form → Result Effect Refusal) (storage : Storage) → IsProperStorage storage →
+    ((form : Form) → found ≡ Some form → LeavesProper (act form)) → LeavesProper (on_form found act storage)
+on_form_proper None act storage proper acts = proper
+on_form_proper (Some form) act storage proper acts = acts form refl
+
+-- each call on forms
+handled_proper : (action : FormAction) (arguments : List (List ℕ)) (storage : Storage) → IsProperStorage storage → LeavesProper (handled action arguments storage)
+handled_proper Define arguments storage proper =
+    putting_proper (argument 1 arguments) (defined (argument 2 arguments)) storage proper (wide-as_items (argument 2 arguments))
+handled_proper Delete arguments storage proper =
+    with_proper (without (drop 1 arguments) storage.forms) storage proper (without_proper (drop 1 arguments) storage.forms proper.forms)
+handled_proper DeleteAll arguments storage proper = with_proper finite.empty storage proper none_proper
+handled_proper Segment arguments storage proper =
+    on_form_proper (named_form arguments storage) (λ form. putting (argument 1 arguments) (segmented (drop 2 arguments) form) storage) storage proper
+    (λ form there. putting_proper (argument 1 arguments) (segmented (drop 2 arguments) form) storage proper
+    (wide-segmented_from 1 (drop 2 arguments) (all_items form) (proper.forms.each (argument 1 arguments) form there).wide))
+handled_proper Restore arguments storage proper =
+    on_form_proper (named_form arguments storage) (λ form. Ok (leaves (pointing (argument 1 arguments) 0 form storage))) storage proper
+    (λ form there. with_proper (finite.insert storage.forms (argument 1 arguments) (pointed_at 0 (all_items form))) storage proper
+    (restored_proper (argument 1 arguments) form storage.forms proper.forms there))
+handled_proper CallForm arguments storage proper =
+    on_form_proper (named_form arguments storage) (λ form. Ok (gives (called (drop 2 arguments) form) storage)) storage proper (λ form there. proper)
+handled_proper ListNames arguments storage proper = proper
+handled_proper PrintForm arguments storage proper =
+    on_form_proper (named_form arguments storage) (λ form. Ok (prints (shown form) storage)) storage proper (λ form there. proper)
+
+-- reading
+read_proper : (at : Option ℕ) (text : List ℕ) (ended : Bool) (storage : Storage) → IsProperStorage storage → LeavesProper (read_up_to at text ended storage)
+read_proper (Some k) text ended storage proper = proper
+read_proper None text ended storage proper = rest text ended
+  where
+    rest : (text : List ℕ) (ended : Bool) → LeavesProper (rest_read text ended storage)
+    rest text false = tt
+    rest [] true = tt
+    rest (b ∷ text) true = proper
+
+-- computing
+computed_proper : (computation : Computation) (arguments : List (List ℕ)) (storage : Storage) → IsProperStorage storage → IsProperStorage (computed computation arguments storage).storage
+computed_proper Equal arguments storage proper = proper
+computed_proper Greater arguments storage proper = proper
+computed_proper (Calculate operation) arguments storage proper = either (calculated (result_of operation) (argument 1 arguments) (argument 2 arguments))
+  where
+    either : (value : Option (List ℕ)) → IsProperStorage (gives_or_forces value (argument 3 arguments) storage).storage
+    either None = proper
+    either (Some value) = proper
+computed_proper Union arguments storage proper = proper
+computed_proper Meet arguments storage proper = proper
+computed_proper Complement arguments storage proper = proper
+computed_proper Shift arguments storage proper = proper
+computed_proper Rotate arguments storage proper = proper
+
+-- each primitive
+effect_proper : (primitive : Primitive) (environment : Environment) (arguments : List (List ℕ)) (s : State) → IsProperStorage (storage_of s) →
+    LeavesProper (effect_of primitive environment arguments s)
+effect_proper PrintString environment arguments s proper = proper
+effect_proper ReadString environment arguments s proper =
+    read_proper (position (λ b. b == s.meta) (unread environment.tape s)) (unread environment.tape s) environment.tape.ended (storage_of s) proper
+effect_proper (Compute computation) environment arguments s proper = computed_proper computation arguments (storage_of s) proper
+effect_proper (Handle action) environment arguments s proper = handled_proper action arguments (storage_of s) proper
+effect_proper Unknown environment arguments s proper = proper
+
+-- the line of the trace changes no storage
+traced_proper : (line : List ℕ) (outcome : Result Effect Refusal) → LeavesProper outcome → LeavesProper (seen_as (printed_behind line) outcome)
+traced_proper line (Ok e) proper = proper
+traced_proper line (Err refusal) proper = tt
+
+-- and so a call
+performed_proper : (environment : Environment) (call : Call) → IsProperStorage (storage_of call.state) → LeavesProper (performed environment call)
+unfolding performed
+performed_proper environment call proper =
+    traced_proper (trace_line call.state.trace call.kind call.arguments) (effect_of (primitive_of (argument 0 call.arguments)) environment call.arguments call.state)
+    (effect_proper (primitive_of (argument 0 call.arguments)) environment call.arguments call.state proper)
+
+-- ---- a step
+
+-- a step leaves a proper storage
+abbrev StepsProper : Result State Refusal → Type 0
+StepsProper (Ok t) = IsProperStorage (storage_of t)
+StepsProper (Err refusal) = Unit {0}
+
+-- a placed value leaves the storage
+storage-placed : (kind : Kind) (forced : Bool) (value : List ℕ) (s : State) → storage_of (placed kind forced value s) ≡ storage_of s
+storage-placed Active forced value s = refl
+storage-placed Neutral true value s = refl
+storage-placed Neutral false value s = gathered_in_shows storage_of (λ _ _ _ _. refl) s.frames value s
+
+-- what is placed after a call has the storage that the call left
+placed_proper : (call : Call) (outcome : Result Effect Refusal) → LeavesProper outcome → StepsProper (seen_as (after_call call) outcome)
+placed_proper call (Ok e) proper = subst IsProperStorage (sym (storage-placed call.kind e.forced e.value (changed_by e call.state))) proper
+placed_proper call (Err refusal) proper = tt
+
+-- what scanning gives is carried out
+carried_out_proper : (environment : Environment) (s : State) (x : Scanned) → ScanShows storage_of s x → IsProperStorage (storage_of s) → StepsProper (carried_out environment x)
+carried_out_proper environment s (Moves t) same proper = subst IsProperStorage (sym same) proper
+carried_out_proper environment s (Calls call) same proper =
+    placed_proper call (performed environment call) (performed_proper environment call (subst IsProperStorage (sym same) proper))
+
+-- a step leads from a proper state to a proper one
+pub step_proper : (environment : Environment) (s t : State) → IsProper s → step environment s ≡ Ok t → IsProper t
+unfolding step
+step_proper environment s t proper h =
+    let accepted = limited_Ok texts_fit (carried_out environment (scan s)) t h in
+    record {
+      texts = accepted.1;
+      storage = subst StepsProper accepted.0 (carried_out_proper environment s (scan s) (scan_shows storage_of (λ _ _ _ _. refl) s) proper.storage);
+    }
+
+-- the state at the start is proper
+pub initial_proper : IsProper initial
+unfolding texts_fit
+initial_proper = record {
+  texts = refl;
+  storage = record { forms = none_proper; block_count = omega arith; blocks = All-nil IsProperBlock };
+}
