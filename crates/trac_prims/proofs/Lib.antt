@@ -1,7 +1,4 @@
 pub mod Cutting
-pub mod ReadTexts
-pub mod Calculated
-pub mod OctalResults
-pub mod Putting
-pub mod Listed
-pub mod Called
+pub mod Neutral
+pub mod Ending
+pub mod Peeling

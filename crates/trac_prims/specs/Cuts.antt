@@ -1,5 +1,6 @@
 -- A text cut into arguments at the places of marks.
-use Rattle.std.specs.Prelude.{◌≡◌, ℕ, zero, suc, ◌+◌, ◌-◌, ◌<◌, ◌≤◌, List, [], ◌∷◌, length, take, drop, get_or, None, IsSome, is_some, if◌then◌else◌}
+use Rattle.std.specs.Prelude.{◌≡◌, ℕ, zero, suc, ◌+◌, ◌-◌, ◌<◌, ◌≤◌, List, [], ◌∷◌, length, take, drop, get_or, None, Some, is_some, count_by}
+use Rattle.trac_rules.specs.declared.kind.Kind.{Kind}
 use Rattle.trac_prims.specs.declared.mark.Mark.{Mark}
 
 -- the text from a place on, cut at the places of the marks
@@ -24,18 +25,21 @@ end_of end [] i = end
 end_of end (m ∷ marks) zero = m.place
 end_of end (m ∷ marks) (suc i) = end_of end marks i
 
+-- what stands for a mark where there is none
+abbrev pub no_mark : Mark
+no_mark = record { place = 0; frame = None }
+
 -- none of the marks begins a function
 abbrev pub AreArguments : List Mark → Type 0
 AreArguments [] = Unit {0}
 AreArguments (m ∷ marks) = (m.frame ≡ None) × AreArguments marks
 
--- the mark of this number begins a function, and those behind it begin only arguments
-pub record BeginsFunction (marks : List Mark) (k : ℕ) : Type 0 where
+-- the mark of this number begins a function of this kind, and those behind it begin only arguments
+pub record BeginsFunction (marks : List Mark) (k : ℕ) (kind : Kind) : Type 0 where
   pub within : k < length marks
-  pub begins : IsSome (get_or marks k (record { place = 0; frame = None })).frame
+  pub begins : (get_or marks k no_mark).frame ≡ Some kind
   pub behind : AreArguments (drop (k + 1) marks)
 
 -- how many of the marks begin functions
 abbrev pub function_count : List Mark → ℕ
-function_count [] = 0
-function_count (m ∷ marks) = if is_some m.frame then suc (function_count marks) else function_count marks
+function_count marks = count_by (λ m. is_some m.frame) marks

@@ -1,6 +1,5 @@
--- Arguments, and what is planned with them.
+-- Arguments, the text that they lie in, and what is planned with them.
 pub mod Cuts
+pub mod Neutral
+pub mod Frames
 pub mod Tape
-pub mod Effects
-pub mod Handlings
-pub mod Values

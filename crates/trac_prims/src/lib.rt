@@ -2,17 +2,8 @@
 #![tactic(auto)]
 
 pub mod args;
-mod bits;
-mod calculating;
-pub mod change;
-mod computing;
-pub mod effect;
-mod handling;
-mod listing;
+pub mod frames;
 pub mod mark;
-mod name;
-mod planning;
-mod reading;
 #[cfg(test)]
 mod refusals;
 pub mod tape;
@@ -20,8 +11,8 @@ pub mod tape;
 mod tests;
 
 pub use args::Args;
-pub use change::Change;
-pub use effect::{Effect, Now};
+pub use frames::{Innermost, NeutralText};
 pub use mark::Mark;
-pub use planning::plan;
 pub use tape::Tape;
+pub use trac_rules::kind::Kind;
+pub use trac_rules::refusal::Refusal;
