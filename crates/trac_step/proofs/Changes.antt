@@ -1,18 +1,22 @@
 -- What each rule does to the parts of a machine: they stay sound, and show the state that the rule names.
-use Rattle.std.proofs.Common.{◌≡◌, ℕ, zero, suc, ◌+◌, ◌<◌, ◌≤◌, List, [], ◌∷◌, ◌++◌, length, take, drop, reverse, refl, sym, ap, ◌∙◌, arith, true, false, Bool}
-use Rattle.std.specs.Prelude.{Option, Some, None, ◌==◌, Vec}
+use Rattle.std.proofs.Common.{◌≡◌, ℕ, zero, suc, ◌+◌, ◌<◌, ◌≤◌, List, [], ◌∷◌, ◌++◌, length, take, drop, reverse, refl, sym, ap, ◌∙◌, subst, arith, true, false, Bool}
+use Rattle.std.specs.Prelude.{Option, Some, None, ◌==◌, Vec, vec_capacity}
 use Rattle.std.proofs.lemmas.List.{length-append, length-drop, drop-drop, take_all, drop_all}
-use Rattle.trac_gap.specs.Ends.{Ends}
+use Rattle.std.specs.FinSet as set
+use Rattle.trac_gap.specs.Ends.{Ends, item_count}
 use Rattle.trac_rules.specs.declared.kind.Kind.{Kind}
 use Rattle.trac_rules.specs.declared.limit.TheConstants.{MARK_LIMIT}
-use Rattle.trac_rules.specs.State.{Frame, State}
+use Rattle.trac_rules.specs.declared.byte.TheConstants.{APOSTROPHE}
+use Rattle.trac_rules.specs.Bytes.{idle_program}
+use Rattle.trac_rules.specs.State.{Frame, State, initial, storage_of}
+use Rattle.trac_rules.proofs.ProperStates.{initial_proper}
 use Rattle.trac_rules.specs.Matching.{match_of, protected, protected_up_to}
 use Rattle.trac_rules.specs.Scanning.{gather, protect}
 use Rattle.trac_rules.specs.Limits.{marks}
 use Rattle.trac_prims.specs.declared.mark.Mark.{Mark}
-use Rattle.trac_forms.specs.Stored.{Stored}
+use Rattle.trac_forms.specs.Stored.{Stored, nothing_stored}
 use Rattle.trac_step.specs.Layout.{Parts, parts_of, state_of, IsSound}
-use Rattle.trac_step.proofs.Neutral.{AreMarks-longer}
+use Rattle.trac_prims.proofs.Neutral.{AreMarks-longer}
 use Rattle.trac_step.proofs.Rules.{mark_at, gathers, ordered_push, marks-parts}
 
 -- ---- a mark is put at the end of the text
@@ -118,3 +122,73 @@ unmatched_ends old cut last n c is l =
     l ∙ ap (λ (k : ℕ). record cut { left = cut.left ++ take k cut.right; right = drop k cut.right }) is
     ∙ ap (λ (e : Ends ℕ). record e { left = e.left ++ take (length e.right) e.right; right = drop (length e.right) e.right }) c
     ∙ (λ i. record old { left = old.left ++ take_all (length (drop 1 old.right)) (drop 1 old.right) (omega arith) i; right = drop_all (length (drop 1 old.right)) (drop 1 old.right) (omega arith) i })
+
+-- ---- a copy, and the parts at the start
+
+-- the same parts with other rooms
+pub copied_parts : {A : Type 0} (old new : Ends ℕ) (ms ns : Ends Mark) (store kept : Stored) (meta : ℕ) (trace : Bool) (position : ℕ) (output copy : Vec ℕ A) →
+    new.left ≡ old.left → new.right ≡ old.right → ns.left ≡ ms.left → kept ≡ store → copy.items ≡ output.items →
+    parts_of new ns kept meta trace position copy
+    ≡ record (parts_of old ms store meta trace position output) { text_room = new.capacity; mark_room = ns.capacity; output_room = vec_capacity copy }
+copied_parts old new ms ns store kept meta trace position output copy left right marks same items i =
+    record (parts_of old ms (same i) meta trace position output) {
+      active = right i;
+      text = left i;
+      marks = marks i;
+      output = items i;
+      text_room = new.capacity;
+      mark_room = ns.capacity;
+      output_room = vec_capacity copy;
+    }
+
+pub sound_roomier : (p : Parts) (text_room mark_room output_room : ℕ) → IsSound p → p.text_room ≤ text_room → p.mark_room ≤ mark_room →
+    IsSound (record p { text_room = text_room; mark_room = mark_room; output_room = output_room })
+sound_roomier p text_room mark_room output_room sound text marked = record {
+  ordered = sound.ordered;
+  text_limit = sound.text_limit;
+  mark_limit = sound.mark_limit;
+  output_limit = sound.output_limit;
+  text_room = omega (arith, sound.text_room, text);
+  mark_room = omega (arith, sound.mark_room, marked);
+  storage = sound.storage;
+}
+
+-- the parts of a machine at the start
+abbrev pub first_parts : ℕ → ℕ → Parts
+first_parts text_room output_room = record {
+  active = idle_program;
+  text = [];
+  marks = [];
+  storage = storage_of initial;
+  meta = APOSTROPHE;
+  trace = false;
+  position = 0;
+  output = [];
+  text_room = text_room;
+  mark_room = 0;
+  output_room = output_room;
+  known = set.empty;
+}
+
+sound_first : (text_room output_room : ℕ) → 11 ≤ text_room → IsSound (first_parts text_room output_room)
+sound_first text_room output_room room = record {
+  ordered = tt;
+  text_limit = omega arith;
+  mark_limit = omega arith;
+  output_limit = omega arith;
+  text_room = room;
+  mark_room = omega arith;
+  storage = initial_proper.storage;
+}
+
+pub sound_at_start : {A : Type 0} (made reserved filled : Ends ℕ) (ms : Ends Mark) (store : Stored) (output : Vec ℕ A) →
+    made ≡ record { left = []; right = []; capacity = 0 } → reserved.left ≡ made.left → reserved.right ≡ made.right → item_count reserved + 11 ≤ reserved.capacity →
+    filled ≡ record reserved { right = idle_program ++ reserved.right } → ms ≡ record { left = []; right = []; capacity = 0 } → store ≡ nothing_stored → output.items ≡ [] →
+    IsSound (parts_of filled ms store APOSTROPHE false 0 output)
+sound_at_start made reserved filled ms store output made_is left right room filled_is ms_is store_is items =
+    let none_left : reserved.left ≡ [] = left ∙ ap (λ (e : Ends ℕ). e.left) made_is in
+    let none_right : reserved.right ≡ [] = right ∙ ap (λ (e : Ends ℕ). e.right) made_is in
+    subst IsSound (sym (
+    ap (λ (e : Ends ℕ). parts_of e ms store APOSTROPHE false 0 output) filled_is
+    ∙ (λ i. record (parts_of (record { left = none_left i; right = idle_program ++ none_right i; capacity = reserved.capacity }) (ms_is i) (store_is i) APOSTROPHE false 0 output) { output = items i })
+    )) (sound_first reserved.capacity (vec_capacity output) (omega (arith, room)))

@@ -6,7 +6,8 @@ use Rattle.trac_rules.specs.declared.limit.TheConstants.{TEXT_LIMIT, MARK_LIMIT,
 use Rattle.trac_rules.specs.State.{State}
 use Rattle.trac_rules.specs.Limits.{text_bytes, marks, texts_fit}
 use Rattle.trac_rules.specs.Proper.{IsProper}
-use Rattle.trac_step.specs.Layout.{AreMarks, Parts, state_of, IsSound}
+use Rattle.trac_prims.specs.Neutral.{AreMarks}
+use Rattle.trac_step.specs.Layout.{Parts, state_of, IsSound}
 use Rattle.trac_step.proofs.Rules.{text_bytes-parts, marks-parts}
 
 -- ---- the three limits

@@ -15,7 +15,8 @@ use Rattle.trac_rules.specs.Matching.{match_of, protected}
 use Rattle.trac_rules.specs.Scanning.{Moves, front_of, scan, scan_at, protect, deleted, begun, comma_in, closing_in, gather_first}
 use Rattle.trac_rules.specs.Limits.{texts_fit, marks}
 use Rattle.trac_prims.specs.declared.mark.Mark.{Mark}
-use Rattle.trac_step.specs.Layout.{Parts, state_of, IsSound, neutral}
+use Rattle.trac_prims.specs.Neutral.{neutral}
+use Rattle.trac_step.specs.Layout.{Parts, state_of, IsSound}
 use Rattle.trac_step.specs.Calling.{IfMoves, IsMove, adds_mark}
 use Rattle.trac_step.proofs.Rules.{mark_at, begins, next_argument, ordered_push, marks-parts}
 use Rattle.trac_step.proofs.Limited.{beyond_limits_of_marks, limits_kept, within_limits}

@@ -1,43 +1,15 @@
 -- How the parts of a machine are read as a state.
-use Rattle.std.specs.Prelude.{◌≡◌, ℕ, ◌<◌, ◌≤◌, ◌+◌, List, [], ◌∷◌, length, take, drop, reverse, Option, None, Some, Bool, Vec, vec_capacity, refl}
+use Rattle.std.specs.Prelude.{ℕ, ◌≤◌, ◌+◌, List, length, Bool, Vec, vec_capacity, refl}
 use Rattle.std.specs.Coded.{Coded, code_by, coded×, coded_ℕ}
 use Rattle.std.specs.FinSet as set
 use Rattle.trac_gap.specs.Ends.{Ends}
-use Rattle.trac_rules.specs.declared.kind.Kind.{Kind}
 use Rattle.trac_rules.specs.declared.limit.TheConstants.{TEXT_LIMIT, MARK_LIMIT, OUTPUT_LIMIT}
-use Rattle.trac_rules.specs.State.{Frame, State, Storage}
+use Rattle.trac_rules.specs.State.{State, Storage}
 use Rattle.trac_rules.specs.Proper.{IsProperStorage}
-use Rattle.trac_rules.specs.Scanning.{with_next_argument}
 use Rattle.trac_rules.specs.Codes.{state_code, text_code}
 use Rattle.trac_forms.specs.Stored.{Names, Stored, storage_in}
 use Rattle.trac_prims.specs.declared.mark.Mark.{Mark}
-
--- ---- the neutral text
-
--- base text and frames, the innermost first
-pub record Neutral : Type 0 where
-  pub base : List ℕ
-  pub frames : List Frame
-
--- the innermost function has a further argument
-abbrev pub with_argument : List ℕ → List Frame → List Frame
-with_argument text [] = []
-with_argument text (f ∷ fs) = record (with_next_argument f) { gathered = text } ∷ fs
-
--- a mark, and the text behind it: it begins a function, or a further argument of the innermost one
-abbrev pub marked : Option Kind → List ℕ → Neutral → Neutral
-marked (Some kind) text n = record n { frames = record { kind = kind; arguments = []; gathered = text } ∷ n.frames }
-marked None text n = record n { frames = with_argument text n.frames }
-
--- a neutral text with its marks, the last one first
-abbrev pub neutral : List ℕ → List Mark → Neutral
-neutral text [] = record { base = text; frames = [] }
-neutral text (m ∷ marks) = marked m.frame (drop m.place text) (neutral (take m.place text) marks)
-
--- the marks of a text of this length, the last one first: no place falls, and the first of all begins a function
-abbrev pub AreMarks : ℕ → List Mark → Type 0
-AreMarks n [] = Unit {0}
-AreMarks n (m ∷ marks) = (m.place ≤ n) × (m.frame ≡ None → 0 < length marks) × AreMarks m.place marks
+use Rattle.trac_prims.specs.Neutral.{MarkedText, IsOrdered, neutral_of}
 
 -- ---- the state
 
@@ -74,11 +46,15 @@ parts_of text marks store meta trace position output = record {
   known = store.known;
 }
 
+-- the neutral text with its marks
+abbrev pub marked_text : Parts → MarkedText
+marked_text p = record { text = p.text; marks = p.marks }
+
 abbrev pub state_of : Parts → State
 state_of p = record {
   active = p.active;
-  base = (neutral p.text (reverse p.marks)).base;
-  frames = (neutral p.text (reverse p.marks)).frames;
+  base = (neutral_of (marked_text p)).base;
+  frames = (neutral_of (marked_text p)).frames;
   forms = p.storage.forms;
   blocks = p.storage.blocks;
   meta = p.meta;
@@ -89,7 +65,7 @@ state_of p = record {
 
 -- what is true of the parts of every machine
 pub record IsSound (p : Parts) : Type 0 where
-  pub ordered : AreMarks (length p.text) (reverse p.marks)
+  pub ordered : IsOrdered (marked_text p)
   pub text_limit : length p.active + length p.text ≤ TEXT_LIMIT
   pub mark_limit : length p.marks ≤ MARK_LIMIT
   pub output_limit : length p.output ≤ OUTPUT_LIMIT

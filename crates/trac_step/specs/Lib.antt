@@ -2,3 +2,4 @@
 pub mod Layout
 pub mod Room
 pub mod Calling
+pub mod Record

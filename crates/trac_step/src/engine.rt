@@ -4,6 +4,7 @@ ghost use Rattle.trac_rules.specs.State.{initial};
 ghost use Rattle.trac_rules.specs.Session.{settled};
 ghost use Rattle.trac_step.specs.Room.{HasRoom, IsNoLess};
 
+use crate::ends;
 use std::alloc::{Allocator, Global};
 use std::marker::Model;
 use trac_forms::Store;
@@ -53,8 +54,7 @@ impl<E: TwoEnds<u8, A>, A: Allocator + Copy> Core<E, A> {
         ensures err { IsOkUnless result Refusal.Memory }
     {
         let mut text = E::new(alloc);
-        text.reserve(IDLE_PROGRAM.len())
-            .map_err(|_| Refusal::Memory)?;
+        ends::reserve(&mut text, IDLE_PROGRAM.len())?;
         text.put_right(IDLE_PROGRAM);
         Ok(Core {
             text,
@@ -78,8 +78,8 @@ impl<E: TwoEnds<u8, A>, A: Allocator + Copy> Core<E, A> {
         ensures err { IsOkUnless result Refusal.Memory }
     {
         Ok(Core {
-            text: self.text.copy().map_err(|_| Refusal::Memory)?,
-            marks: self.marks.copy().map_err(|_| Refusal::Memory)?,
+            text: ends::copy(&self.text)?,
+            marks: ends::copy(&self.marks)?,
             store: self.store.copy()?,
             meta: self.meta,
             trace: self.trace,

@@ -6,6 +6,7 @@ ghost use Rattle.trac_rules.specs.Scanning.{protect, deleted, begun, comma_in, g
 ghost use Rattle.trac_rules.specs.Limits.{marks};
 ghost use Rattle.trac_step.specs.Room.{IsNoLess};
 
+use crate::ends;
 use crate::engine::{Core, IDLE_PROGRAM};
 use crate::matching::match_in;
 use std::alloc::Allocator;
@@ -24,9 +25,7 @@ impl<E: TwoEnds<u8, A>, A: Allocator + Copy> Core<E, A> {
         ensures unchanged { OnErr result (self.new ≡ self.old) }
         ensures err { IsOkUnless result Refusal.Memory }
     {
-        self.text
-            .reserve(IDLE_PROGRAM.len())
-            .map_err(|_| Refusal::Memory)?;
+        ends::reserve(&mut self.text, IDLE_PROGRAM.len())?;
         self.text.cut_left(self.text.left().len());
         self.marks.cut_left(self.marks.left().len());
         self.text.put_right(IDLE_PROGRAM);
@@ -80,7 +79,7 @@ impl<E: TwoEnds<u8, A>, A: Allocator + Copy> Core<E, A> {
         ensures unchanged { OnErr result (self.new ≡ self.old) }
         ensures err { IsOkUnless result Refusal.Memory }
     {
-        self.marks.reserve(1).map_err(|_| Refusal::Memory)?;
+        ends::reserve(&mut self.marks, 1)?;
         self.text.cut_right(1);
         self.marks.push_left(Mark {
             place: self.text.left().len(),
@@ -98,7 +97,7 @@ impl<E: TwoEnds<u8, A>, A: Allocator + Copy> Core<E, A> {
         ensures unchanged { OnErr result (self.new ≡ self.old) }
         ensures err { IsOkUnless result Refusal.Memory }
     {
-        self.marks.reserve(1).map_err(|_| Refusal::Memory)?;
+        ends::reserve(&mut self.marks, 1)?;
         self.text.cut_right(n);
         self.marks.push_left(Mark {
             place: self.text.left().len(),

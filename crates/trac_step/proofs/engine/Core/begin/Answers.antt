@@ -1,6 +1,7 @@
-use Rattle.std.proofs.Common.{◌≡◌, refl, sym, ap, subst, arith}
+use Rattle.std.proofs.Common.{List, length, ◌≡◌, refl, sym, ap, subst, arith}
 use Rattle.std.specs.Prelude.{Some, None}
 use Rattle.trac_rules.specs.State.{State}
+use Rattle.trac_prims.specs.declared.mark.Mark.{Mark}
 use Rattle.trac_step.specs.Layout.{parts_of, IsSound, Shown}
 use Rattle.trac_step.proofs.Changes.{marked_parts, sound_push, marks_of_view}
 use Rattle.trac_step.proofs.engine.Core.begin.Goals as goal
@@ -12,7 +13,7 @@ pub invariant_of-self-2 : goal.invariant_of-self-2
 invariant_of-self-2 g c =
     let p = parts_of (g.E.TwoEnds.ends c.self.inside.text) c.self.inside.marks c.self.inside.store c.self.inside.meta c.self.inside.trace c.self.inside.position c.self.inside.output in
     let count = marks_of_view p c.args.self.now.state c.self.invariant (ap (λ (m : Shown). m.state) c.self.view_is) in
-    subst IsSound (sym (marked_parts (g.E.TwoEnds.ends c.self.inside.text) (g.E.TwoEnds.ends c.cut_right.new.self) c.self.inside.marks c.reserve.new.self c.push_left.new.self
+    subst IsSound (sym (marked_parts (g.E.TwoEnds.ends c.self.inside.text) (g.E.TwoEnds.ends c.cut_right.new.self) c.self.inside.marks c.reserve.new.list c.push_left.new.self
     c.self.inside.store c.self.inside.meta c.self.inside.trace c.self.inside.position c.self.inside.output c.args.n (Some c.args.kind) c.left.result.now
     c.cut_right.ensures c.left.ensures.left c.reserve.ensures.left c.push_left.ensures))
-    (sound_push p c.args.n (Some c.args.kind) c.reserve.new.self.capacity c.self.invariant (omega (arith, count, c.requires.room)) ? (λ e. absurd (some_none e)))
+    (sound_push p c.args.n (Some c.args.kind) c.reserve.new.list.capacity c.self.invariant (omega (arith, count, c.requires.room)) (omega (arith, c.in_ok-reserve.ensures.ok, ap (λ (ms : List Mark). length ms) c.reserve.ensures.left)) (λ e. absurd (some_none e)))

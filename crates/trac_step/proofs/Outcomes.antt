@@ -1,0 +1,48 @@
+-- The outcome of a step, from what scanning asks for and what is performed.
+use Rattle.std.proofs.Common.{◌≡◌, refl, sym, ap, ◌∙◌, subst, true, false, Bool}
+use Rattle.std.specs.Prelude.{Result, Ok, Err}
+use Rattle.trac_rules.specs.declared.refusal.Refusal.{Refusal}
+use Rattle.trac_rules.specs.declared.refusal.Refusal.TheVariants.{Memory, TooLong}
+use Rattle.trac_rules.specs.State.{Environment, State}
+use Rattle.trac_rules.specs.Scanning.{Scanned, Moves, scan}
+use Rattle.trac_rules.specs.Limits.{texts_fit}
+use Rattle.trac_rules.specs.Outcomes.{limited, MayLackMemory, MayRefuse}
+use Rattle.trac_rules.specs.Stepping.{step, carried_out}
+use Rattle.trac_rules.proofs.Outcomes.{limited_beyond, limited_within}
+use Rattle.trac_step.specs.Calling.{IfMoves, IsMove}
+use Rattle.trac_step.proofs.Scans.{moves_of}
+
+-- memory, where it may be refused
+pub refuses_memory : (outcome : Result State Refusal) (e : Refusal) → e ≡ Memory → MayLackMemory outcome → MayRefuse outcome e
+refuses_memory outcome e is lacks = subst (MayRefuse outcome) (sym is) lacks
+
+pub step_as : (environment : Environment) (s : State) (scanned : Scanned) → scan s ≡ scanned → step environment s ≡ limited texts_fit (carried_out environment scanned)
+unfolding step
+step_as environment s scanned e = ap (λ x. limited texts_fit (carried_out environment x)) e
+
+-- a state is judged by its limits alone, and memory may be refused in either case
+lacks_limited : (t : State) → MayLackMemory (limited texts_fit (Ok t))
+lacks_limited t = lacks_by (texts_fit t) refl
+  where
+    lacks_by : (b : Bool) → b ≡ texts_fit t → MayLackMemory (limited texts_fit (Ok t))
+    lacks_by true e = subst MayLackMemory (sym (limited_within texts_fit t (sym e))) tt
+    lacks_by false e = subst MayLackMemory (sym (limited_beyond texts_fit t (sym e))) tt
+
+-- ---- scanning moves on
+
+module _ (environment : Environment) (s : State) (moves : IsMove (scan s)) where
+  outcome_of_move : step environment s ≡ limited texts_fit (Ok (moves_of (scan s) moves).0)
+  outcome_of_move = step_as environment s (Moves (moves_of (scan s) moves).0) (moves_of (scan s) moves).1
+
+  move_holds : (P : State → Type 0) → IfMoves (scan s) P → P (moves_of (scan s) moves).0
+  move_holds P h = subst (λ x. IfMoves x P) (moves_of (scan s) moves).1 h
+
+  pub move_beyond : IfMoves (scan s) (λ t. false ≡ texts_fit t) → step environment s ≡ Err TooLong
+  move_beyond h = outcome_of_move ∙ limited_beyond texts_fit _ (sym (move_holds (λ t. false ≡ texts_fit t) h))
+
+  pub move_lacks : MayLackMemory (step environment s)
+  move_lacks = subst MayLackMemory (sym outcome_of_move) (lacks_limited (moves_of (scan s) moves).0)
+
+pub move_taken : (environment : Environment) (s t : State) → scan s ≡ Moves t → IfMoves (scan s) (λ u. true ≡ texts_fit u) → step environment s ≡ Ok t
+move_taken environment s t scanned h =
+    step_as environment s (Moves t) scanned ∙ limited_within texts_fit t (sym (subst (λ x. IfMoves x (λ u. true ≡ texts_fit u)) scanned h))
