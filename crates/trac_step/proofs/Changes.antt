@@ -14,7 +14,7 @@ use Rattle.trac_rules.specs.Matching.{match_of, protected, protected_up_to}
 use Rattle.trac_rules.specs.Scanning.{gather, protect}
 use Rattle.trac_rules.specs.Limits.{marks}
 use Rattle.trac_prims.specs.declared.mark.Mark.{Mark}
-use Rattle.trac_forms.specs.Stored.{Stored, nothing_stored}
+use Rattle.trac_forms.specs.Stored.{Names, Stored, nothing_stored, storage_in}
 use Rattle.trac_step.specs.Layout.{Parts, parts_of, state_of, IsSound}
 use Rattle.trac_prims.proofs.Neutral.{AreMarks-longer}
 use Rattle.trac_step.proofs.Rules.{mark_at, gathers, ordered_push, marks-parts}
@@ -192,3 +192,32 @@ sound_at_start made reserved filled ms store output made_is left right room fill
     ap (λ (e : Ends ℕ). parts_of e ms store APOSTROPHE false 0 output) filled_is
     ∙ (λ i. record (parts_of (record { left = none_left i; right = idle_program ++ none_right i; capacity = reserved.capacity }) (ms_is i) (store_is i) APOSTROPHE false 0 output) { output = items i })
     )) (sound_first reserved.capacity (vec_capacity output) (omega (arith, room)))
+
+-- ---- room that is made
+
+pub grown_parts : {A : Type 0} (old new : Ends ℕ) (ms : Ends Mark) (store kept : Stored) (meta : ℕ) (trace : Bool) (position : ℕ) (output grown : Vec ℕ A) →
+    new.left ≡ old.left → new.right ≡ old.right → storage_in kept ≡ storage_in store → grown.items ≡ output.items →
+    parts_of new ms kept meta trace position grown
+    ≡ record (parts_of old ms store meta trace position output) { text_room = new.capacity; output_room = vec_capacity grown; known = kept.known }
+grown_parts old new ms store kept meta trace position output grown left right same items i =
+    record (parts_of old ms store meta trace position output) {
+      active = right i;
+      text = left i;
+      storage = same i;
+      output = items i;
+      text_room = new.capacity;
+      output_room = vec_capacity grown;
+      known = kept.known;
+    }
+
+pub sound_grown : (p : Parts) (text_room output_room : ℕ) (known : Names) → IsSound p → p.text_room ≤ text_room →
+    IsSound (record p { text_room = text_room; output_room = output_room; known = known })
+sound_grown p text_room output_room known sound text = record {
+  ordered = sound.ordered;
+  text_limit = sound.text_limit;
+  mark_limit = sound.mark_limit;
+  output_limit = sound.output_limit;
+  text_room = omega (arith, sound.text_room, text);
+  mark_room = sound.mark_room;
+  storage = sound.storage;
+}

@@ -6,3 +6,7 @@ pub mod Scans
 pub mod Changes
 pub mod Moving
 pub mod Outcomes
+pub mod Calls
+pub mod Beginnings
+pub mod Ended
+pub mod Pointers

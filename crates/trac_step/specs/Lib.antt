@@ -1,5 +1,6 @@
--- How the machine keeps a state.
+-- How the machine keeps a state, and what its calls promise.
 pub mod Layout
 pub mod Room
+pub mod Changing
 pub mod Calling
 pub mod Record

@@ -1,6 +1,8 @@
 //! The machine: a state of the language that takes one step at a time, and goes back over it.
 #![tactic(auto)]
 
+mod calling;
+mod changing;
 mod ends;
 pub mod engine;
 mod front;
@@ -9,6 +11,9 @@ mod moves;
 mod readers;
 pub mod record;
 mod scanning;
+mod stepping;
 
 pub use engine::{Core, Machine};
 pub use record::Record;
+pub use trac_forms::Store;
+pub use trac_prims::{Args, Kind, Mark, Refusal, Tape};

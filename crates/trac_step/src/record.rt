@@ -1,4 +1,10 @@
 //! What a step leaves for the way back.
+ghost use Rattle.std.specs.Prelude.{◌≡◌, IsSomeAnd, Some};
+ghost use Rattle.trac_step.specs.Record.{before};
+ghost use Rattle.trac_step.specs.Room.{HasRoom, IsNoLess};
+
+use crate::calling::append;
+use crate::ends::refill;
 use crate::engine::Core;
 use std::alloc::Allocator;
 use trac_gap::TwoEnds;
@@ -8,4 +14,25 @@ use trac_gap::TwoEnds;
 pub enum Record<E: TwoEnds<u8, A>, A: Allocator + Copy> {
     /// The machine as it was before the step.
     Whole(Core<E, A>),
+}
+
+impl<E: TwoEnds<u8, A>, A: Allocator + Copy> Core<E, A> {
+    /// Goes back over a step: the machine shows the state before it again, all parts as they were, in its own room.
+    /// It takes no memory and cannot fail, lessens no room and forgets no name. The machine has to have room for that state,
+    /// as it has after the step.
+    pub fn undo(&mut self, taken: Record<E, A>)
+        requires { IsSomeAnd (before taken self.old.state) (λ s. HasRoom self.old s) }
+        ensures state { before taken self.old.state ≡ Some self.new.state }
+        ensures room { IsNoLess self.old self.new }
+    {
+        let Record::Whole(earlier) = taken;
+        refill(&mut self.text, earlier.text.left(), earlier.text.right());
+        refill(&mut self.marks, earlier.marks.left(), &[]);
+        self.output.clear();
+        append(&mut self.output, earlier.output.as_slice());
+        self.meta = earlier.meta;
+        self.trace = earlier.trace;
+        self.position = earlier.position;
+        self.store = earlier.store;
+    }
 }

@@ -1,0 +1,40 @@
+//! One step of the machine.
+ghost use Rattle.std.specs.Prelude.{◌≡◌, ◌≤◌, length, IfOk, IfErr, OnOk, Ok, Some};
+ghost use Rattle.trac_rules.specs.Outcomes.{MayRefuse};
+ghost use Rattle.trac_rules.specs.Proper.{IsProper};
+ghost use Rattle.trac_rules.specs.Stepping.{step};
+ghost use Rattle.trac_prims.specs.Tape.{environment_of};
+ghost use Rattle.trac_step.specs.Record.{before};
+ghost use Rattle.trac_step.specs.Room.{HasRoom, IsNoLess};
+
+use crate::engine::Core;
+use crate::front::front_at;
+use crate::record::Record;
+use std::alloc::Allocator;
+use trac_gap::TwoEnds;
+use trac_prims::{Refusal, Tape};
+use trac_rules::scan::Front;
+
+impl<E: TwoEnds<u8, A>, A: Allocator + Copy> Core<E, A> {
+    /// Takes the next step of the rules over this tape, and gives what the way back needs. The state after it is a proper one:
+    /// a step is refused where its new state would pass any limit.
+    ///
+    /// Refused with `NeedInput` or `Ended` where a function reads input that is not there, with `TooLong` where the
+    /// state after the step would pass a limit, and with `Memory` where the allocator refuses; after each the state is as it was.
+    /// No step, refused ones among them, lessens the machine's room or forgets a name, and after an accepted one there is room
+    /// for the state before it. The tape has to hold at least as many bytes as are read.
+    pub fn step(&mut self, tape: Tape<'_>) -> Result<Record<E, A>, Refusal>
+        requires { self.old.state.position ≤ length tape.bytes.now }
+        ensures taken { IfOk result (λ r. (step (environment_of tape.entry) self.old.state ≡ Ok self.new.state) × (before r self.new.state ≡ Some self.old.state)) }
+        ensures proper { OnOk result (IsProper self.new.state) }
+        ensures held { OnOk result (HasRoom self.new self.old.state) }
+        ensures refused { IfErr result (λ e. (self.new.state ≡ self.old.state) × MayRefuse (step (environment_of tape.entry) self.old.state) e) }
+        ensures room { IsNoLess self.old self.new }
+    {
+        let front = front_at(self.text.right());
+        if front == Front::Closing && !self.neutral().is_outside() {
+            return self.call_step(tape);
+        }
+        self.move_step(front)
+    }
+}
