@@ -7,10 +7,10 @@ use Rattle.std.specs.FinSet as set
 use Rattle.std.specs.List.{list_any, IsDistinct, AllByRecursion}
 use Rattle.std.specs.Map.Calls.{RetainsPairs}
 use Rattle.std.specs.Map.{keys_of, values_of, lookup, set_value}
-use Rattle.std.specs.Option.{option_flatten}
+use Rattle.std.specs.Option.{option_flatten, option_or}
 use Rattle.std.specs.Ordering.{nat_cmp, eq_by_cmp}
 use Rattle.std.specs.Str.{bytes_eq}
-use Rattle.std.proofs.lemmas.Bool.{cases_Bool, cond-true, cond-false}
+use Rattle.std.proofs.lemmas.Bool.{cases_Bool, cond-true, cond-false, false≢true}
 use Rattle.std.proofs.lemmas.Map.{lookup-set_value, keys-set_value}
 use Rattle.std.proofs.lemmas.Map.Entries.{lookup-filter-values, option_filter}
 use Rattle.std.proofs.lemmas.Map.Keys.{IsDistinct-head, IsDistinct-tail}
@@ -19,9 +19,9 @@ use Rattle.std.proofs.lemmas.Map.Text.{is_eq-slice_cmp}
 use Rattle.std.proofs.lemmas.Slice.Eq.{bytes_eq-Decides}
 use Rattle.trac_rules.specs.Form.{Form}
 use Rattle.trac_rules.specs.Listing.{names_of}
-use Rattle.trac_rules.specs.State.{Forms}
-use Rattle.trac_forms.specs.Stored.{Names, Stored, swept}
-use Rattle.trac_forms.specs.Table.{named, with_entry, forms_of, known_of, stored}
+use Rattle.trac_rules.specs.State.{Block, Forms}
+use Rattle.trac_forms.specs.Stored.{KnowsAll, Names, Stored, swept}
+use Rattle.trac_forms.specs.Table.{named, with_any, with_entry, forms_of, known_of, stored}
 use Rattle.std.proofs.lemmas.List.{append_assoc, length-map, map-append}
 
 -- entries of a table of forms
@@ -106,9 +106,9 @@ contains-known_of es q =
     ∙ list_any_alike (eq_by_cmp (slice_cmp nat_cmp) q) (bytes_eq q) (is_eq-slice_cmp q) (keys_of es)
     ∙ sym (is_some-lookup (bytes_eq q) es)
 
--- the name of a form is known
-pub form_known : (es : Entries) (s : Stored) → stored es ≡ s → (q : List ℕ) → IsTrue (is_some (finite.get s.forms q)) → IsTrue (set.contains s.known q)
-form_known es s view q there =
+-- the name of each form is known
+pub form_known : (es : Entries) (bs : List Block) (s : Stored) → stored es bs ≡ s → KnowsAll s.known s.forms
+form_known es bs s view q there =
     let here : is_some (finite.get (forms_of es) q) ≡ true = subst (λ t. is_some (finite.get t.forms q) ≡ true) (sym view) there in
     subst (λ t. set.contains t.known q ≡ true) view
     (contains-known_of es q ∙ some_inside (lookup (bytes_eq q) es) (ap is_some (sym (get-forms_of es q)) ∙ here))
@@ -291,7 +291,7 @@ keys-taken name (e ∷ es) = ap (λ r. name e.0 ∷ r) (keys-taken name es)
 
 -- ---- a store, of which the table's entries and the names of its keys are given
 
-module _ {K : Type 0} (name : K → List ℕ) (es : List (K × Option Form)) (s : Stored) (is : stored (named name es) ≡ s) where
+module _ {K : Type 0} (name : K → List ℕ) (es : List (K × Option Form)) (bs : List Block) (s : Stored) (is : stored (named name es) bs ≡ s) where
   -- the form of a name
   pub form_found : (q : List ℕ) (r : Option (Option Form)) → r ≡ lookup (λ k. bytes_eq q (name k)) es → finite.get s.forms q ≡ option_flatten r
   form_found q r e =
@@ -308,13 +308,13 @@ module _ {K : Type 0} (name : K → List ℕ) (es : List (K × Option Form)) (s 
 
   -- what is written at a name that has an entry
   pub written : (q : List ℕ) (w : Option Form) (new : List (K × Option Form)) → new ≡ set_value (λ k. bytes_eq q (name k)) es w → IsSome (lookup (λ k. bytes_eq q (name k)) es) →
-      stored (named name new) ≡ record s { forms = with_entry q w s.forms }
+      stored (named name new) bs ≡ record s { forms = with_entry q w s.forms }
   written q w new e some =
       let same : named name new ≡ set_value (bytes_eq q) (named name es) w = ap (named name) e ∙ set_value-named name (bytes_eq q) es w in
       let there : IsSome (lookup (bytes_eq q) (named name es)) = ap is_some (lookup-named name (bytes_eq q) es) ∙ some in
-      ap stored same
-      ∙ ap (λ (f : Forms). let t : Stored = record { forms = f; known = known_of (set_value (bytes_eq q) (named name es) w) } in t) (forms_written (named name es) q w there)
-      ∙ ap (λ (n : Names). let t : Stored = record { forms = with_entry q w (forms_of (named name es)); known = n } in t) (known_written (named name es) q w)
+      ap (λ xs. stored xs bs) same
+      ∙ ap (λ (f : Forms). let t : Stored = record { forms = f; blocks = bs; known = known_of (set_value (bytes_eq q) (named name es) w) } in t) (forms_written (named name es) q w there)
+      ∙ ap (λ (n : Names). let t : Stored = record { forms = with_entry q w (forms_of (named name es)); blocks = bs; known = n } in t) (known_written (named name es) q w)
       ∙ ap (λ (t : Stored). let u : Stored = record t { forms = with_entry q w t.forms } in u) is
 
   -- where a name has no entry, no form is taken
@@ -323,16 +323,16 @@ module _ {K : Type 0} (name : K → List ℕ) (es : List (K × Option Form)) (s 
       let gone : finite.remove (forms_of (named name es)) q ≡ forms_of (named name es) =
       forms_not_taken (named name es) q (lookup-named name (bytes_eq q) es ∙ none) in
       sym is
-      ∙ ap (λ (f : Forms). let t : Stored = record { forms = f; known = known_of (named name es) } in t) (sym gone)
+      ∙ ap (λ (f : Forms). let t : Stored = record { forms = f; blocks = bs; known = known_of (named name es) } in t) (sym gone)
       ∙ ap (λ (t : Stored). let u : Stored = record t { forms = finite.remove t.forms q } in u) is
 
   -- a new name, which has no form
-  pub made_known : (k : K) (q : List ℕ) (new : List (K × Option Form)) → name k ≡ q → new ≡ es ++ (k, None) ∷ [] → stored (named name new) ≡ record s { known = set.insert s.known q }
+  pub made_known : (k : K) (q : List ℕ) (new : List (K × Option Form)) → name k ≡ q → new ≡ es ++ (k, None) ∷ [] → stored (named name new) bs ≡ record s { known = set.insert s.known q }
   made_known k q new called e =
       let same : named name new ≡ named name es ++ (q, None) ∷ [] = ap (named name) e ∙ pushed es ∙ ap (λ (n : List ℕ). named name es ++ (n, None) ∷ []) called in
-      ap stored same
-      ∙ ap (λ (f : Forms). let t : Stored = record { forms = f; known = known_of (named name es ++ (q, None) ∷ []) } in t) (forms_known (named name es) q)
-      ∙ ap (λ (n : Names). let t : Stored = record { forms = forms_of (named name es); known = n } in t) (known_more (named name es) q)
+      ap (λ xs. stored xs bs) same
+      ∙ ap (λ (f : Forms). let t : Stored = record { forms = f; blocks = bs; known = known_of (named name es ++ (q, None) ∷ []) } in t) (forms_known (named name es) q)
+      ∙ ap (λ (n : Names). let t : Stored = record { forms = forms_of (named name es); blocks = bs; known = n } in t) (known_more (named name es) q)
       ∙ ap (λ (t : Stored). let u : Stored = record t { known = set.insert t.known q } in u) is
     where
       pushed : (xs : List (K × Option Form)) → named name (xs ++ (k, None) ∷ []) ≡ named name xs ++ (name k, None) ∷ []
@@ -340,20 +340,20 @@ module _ {K : Type 0} (name : K → List ℕ) (es : List (K × Option Form)) (s 
       pushed (x ∷ xs) = ap (λ r. (name x.0, x.1) ∷ r) (pushed xs)
 
   -- entries without a form dropped
-  pub emptied : (new : List (K × Option Form)) → new ≡ filter (λ e. is_some e.1) es → IsDistinct (λ x y. bytes_eq (name x) (name y)) (keys_of es) → stored (named name new) ≡ swept s
+  pub emptied : (new : List (K × Option Form)) → new ≡ filter (λ e. is_some e.1) es → IsDistinct (λ x y. bytes_eq (name x) (name y)) (keys_of es) → stored (named name new) bs ≡ swept s
   emptied new e apart =
       let distinct = IsDistinct-named name es apart in
-      ap stored (ap (named name) e ∙ filter-named name is_some es)
-      ∙ ap (λ (f : Forms). let t : Stored = record { forms = f; known = known_of (filter (λ x. is_some x.1) (named name es)) } in t) (forms_swept (named name es) distinct)
-      ∙ ap (λ (n : Names). let t : Stored = record { forms = forms_of (named name es); known = n } in t) (known_swept (named name es) distinct)
+      ap (λ xs. stored xs bs) (ap (named name) e ∙ filter-named name is_some es)
+      ∙ ap (λ (f : Forms). let t : Stored = record { forms = f; blocks = bs; known = known_of (filter (λ x. is_some x.1) (named name es)) } in t) (forms_swept (named name es) distinct)
+      ∙ ap (λ (n : Names). let t : Stored = record { forms = forms_of (named name es); blocks = bs; known = n } in t) (known_swept (named name es) distinct)
       ∙ ap swept is
 
   -- all forms taken away
-  pub cleared : (new : List (K × Option Form)) → new ≡ taken es → stored (named name new) ≡ record s { forms = finite.empty }
+  pub cleared : (new : List (K × Option Form)) → new ≡ taken es → stored (named name new) bs ≡ record s { forms = finite.empty }
   cleared new e =
-      ap (λ xs. stored (named name xs)) e
-      ∙ ap (λ (f : Forms). let t : Stored = record { forms = f; known = known_of (named name (taken es)) } in t) (no_forms name es)
-      ∙ ap (λ (ks : List (List ℕ)). let t : Stored = record { forms = finite.empty; known = set.from_list ks } in t) (keys-taken name es)
+      ap (λ xs. stored (named name xs) bs) e
+      ∙ ap (λ (f : Forms). let t : Stored = record { forms = f; blocks = bs; known = known_of (named name (taken es)) } in t) (no_forms name es)
+      ∙ ap (λ (ks : List (List ℕ)). let t : Stored = record { forms = finite.empty; blocks = bs; known = set.from_list ks } in t) (keys-taken name es)
       ∙ ap (λ (t : Stored). let u : Stored = record t { forms = finite.empty } in u) is
 
   -- how many forms there are
@@ -403,6 +403,70 @@ module _ {K V : Type 0} (name : K → List ℕ) (done left rest all : List (K ×
       ∙ ap (λ (n : List ℕ). named name done ++ (n, w) ∷ named name rest) called
       ∙ ap (λ (x : V). named name done ++ (name k, x) ∷ named name rest) same
       ∙ at_next
+
+-- ---- a table whose forms are put into another one, entry by entry
+
+-- the forms of all entries put, one after another
+abbrev pub put_all : Entries → Forms → Forms
+put_all [] forms = forms
+put_all (e ∷ es) forms = put_all es (with_any e.0 e.1 forms)
+
+-- the names of all entries with a form are known
+abbrev pub KnowsEach : Names → Entries → Type 0
+KnowsEach known [] = Unit {0}
+KnowsEach known (e ∷ es) = (IsTrue (is_some e.1) → IsTrue (set.contains known e.0)) × KnowsEach known es
+
+get-with_any : (name q : List ℕ) (form : Option Form) (forms : Forms) → finite.get (with_any name form forms) q ≡ cond (bytes_eq q name) (option_or form (finite.get forms q)) (finite.get forms q)
+get-with_any name q None forms = elim (bytes_eq q name) as (λ b. finite.get forms q ≡ cond b (finite.get forms q) (finite.get forms q)) [ true ↦ refl | false ↦ refl ]
+get-with_any name q (Some form) forms =
+    finite.get-insert nat_list_cmp_total forms name form q ∙ ap (λ b. cond b (Some form) (finite.get forms q)) (is_eq-slice_cmp q name)
+
+get-put_all : (es : Entries) (forms : Forms) (q : List ℕ) → IsDistinct bytes_eq (keys_of es) →
+    finite.get (put_all es forms) q ≡ option_or (option_flatten (lookup (bytes_eq q) es)) (finite.get forms q)
+get-put_all [] forms q apart = refl
+get-put_all (e ∷ es) forms q apart =
+    let rest = get-put_all es (with_any e.0 e.1 forms) q (IsDistinct-tail bytes_eq e.0 (keys_of es) apart) in
+    rest
+    ∙ ap (option_or (option_flatten (lookup (bytes_eq q) es))) (get-with_any e.0 q e.1 forms)
+    ∙ ⊎_elim
+    (λ (t : bytes_eq q e.0 ≡ true).
+    let none : lookup (bytes_eq q) es ≡ None =
+    ap (λ k. lookup (bytes_eq k) es) ((bytes_eq-Decides q e.0).0 t) ∙ lookup_none e.0 es (IsDistinct-head bytes_eq e.0 (keys_of es) apart) in
+    rw (t, none) refl)
+    (λ (t : bytes_eq q e.0 ≡ false). rw t refl)
+    (cases_Bool (bytes_eq q e.0))
+
+-- put into nothing, they are the forms of the table
+pub put_all-forms_of : (es : Entries) → IsDistinct bytes_eq (keys_of es) → put_all es finite.empty ≡ forms_of es
+put_all-forms_of es apart =
+    finite.same_map nat_list_cmp_total exact (put_all es finite.empty) (forms_of es) (λ q.
+    get-put_all es finite.empty q apart
+    ∙ ap (option_or (option_flatten (lookup (bytes_eq q) es))) (finite.get-empty (slice_cmp nat_cmp) q)
+    ∙ or_none (option_flatten (lookup (bytes_eq q) es))
+    ∙ sym (get-forms_of es q))
+  where
+    or_none : {X : Type 0} (o : Option X) → option_or o None ≡ o
+    or_none None = refl
+    or_none (Some x) = refl
+
+-- where the names of all forms are known
+knows_each : (known : Names) (es : Entries) → IsDistinct bytes_eq (keys_of es) →
+    ((q : List ℕ) → IsTrue (is_some (option_flatten (lookup (bytes_eq q) es))) → IsTrue (set.contains known q)) → KnowsEach known es
+knows_each known [] apart all = tt
+knows_each known (e ∷ es) apart all =
+    ((λ some. all e.0 (rw (nat_list_eq_equiv.refl e.0) some)),
+    knows_each known es (IsDistinct-tail bytes_eq e.0 (keys_of es) apart) (λ q some.
+    ⊎_elim
+    (λ (t : bytes_eq q e.0 ≡ true).
+    let none : lookup (bytes_eq q) es ≡ None =
+    ap (λ k. lookup (bytes_eq k) es) ((bytes_eq-Decides q e.0).0 t) ∙ lookup_none e.0 es (IsDistinct-head bytes_eq e.0 (keys_of es) apart) in
+    absurd (false≢true (sym (ap (λ o. is_some (option_flatten o)) none) ∙ some)))
+    (λ (t : bytes_eq q e.0 ≡ false). all q (rw t some))
+    (cases_Bool (bytes_eq q e.0))))
+
+pub KnowsEach-forms_of : (known : Names) (es : Entries) → IsDistinct bytes_eq (keys_of es) → KnowsAll known (forms_of es) → KnowsEach known es
+KnowsEach-forms_of known es apart all =
+    knows_each known es apart (λ q some. all q (ap is_some (get-forms_of es q) ∙ some))
 
 -- ---- after the calls
 

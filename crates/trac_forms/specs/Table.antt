@@ -4,7 +4,7 @@ use Rattle.std.specs.FinMap as finite
 use Rattle.std.specs.FinSet as set
 use Rattle.std.specs.Map.{keys_of}
 use Rattle.trac_rules.specs.Form.{Form}
-use Rattle.trac_rules.specs.State.{Forms}
+use Rattle.trac_rules.specs.State.{Block, Forms}
 use Rattle.trac_forms.specs.Stored.{Names, Stored}
 
 -- the entries of a table, its keys read as texts
@@ -30,6 +30,11 @@ forms_of (e ∷ entries) = with_entry e.0 e.1 (forms_of entries)
 abbrev pub known_of : List (List ℕ × Option Form) → Names
 known_of entries = set.from_list (keys_of entries)
 
--- what a table of these entries holds
-abbrev pub stored : List (List ℕ × Option Form) → Stored
-stored entries = record { forms = forms_of entries; known = known_of entries }
+-- what a table of these entries holds, beside these blocks
+abbrev pub stored : List (List ℕ × Option Form) → List Block → Stored
+stored entries blocks = record { forms = forms_of entries; blocks = blocks; known = known_of entries }
+
+-- a form, if there is one, put under a name
+abbrev pub with_any : List ℕ → Option Form → Forms → Forms
+with_any name None forms = forms
+with_any name (Some form) forms = finite.insert forms name form

@@ -1,7 +1,9 @@
 //! Forms: texts with gaps and a pointer, how they are made, called, segmented and shown, and the store that keeps them
-//! by their names.
+//! by their names, beside blocks of them.
 #![tactic(auto)]
 
+pub mod block;
+mod copies;
 mod cutting;
 pub mod error;
 mod filling;
@@ -15,6 +17,7 @@ pub mod store;
 mod tests;
 pub mod texts;
 
+pub use block::Block;
 pub use error::FormError;
 pub use form::Form;
 pub use store::Store;

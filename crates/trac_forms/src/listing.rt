@@ -1,4 +1,4 @@
-//! The names of a store's forms, and a second store of the same forms.
+//! The names of a store's forms.
 ghost use Rattle.std.specs.Prelude.{◌≡◌, map, IfOk, IsOkUnless};
 ghost use Rattle.std.specs.Str.{bytes_eq};
 ghost use Rattle.indexmap.specs.IndexMap.{IsUnique};
@@ -6,9 +6,7 @@ ghost use Rattle.trac_rules.specs.Listing.{names_of};
 ghost use Rattle.trac_forms.specs.Table.{full_keys, named};
 
 use crate::error::FormError;
-use crate::form::Form;
-use crate::store::{Store, Table, add_entry};
-use indexmap::IndexMap;
+use crate::store::{Store, Table};
 use std::alloc::Allocator;
 
 impl<A: Allocator + Copy> Store<A> {
@@ -21,17 +19,6 @@ impl<A: Allocator + Copy> Store<A> {
         let mut names = full_names(&self.table)?;
         names.sort_unstable();
         Ok(names)
-    }
-
-    /// A second store of the same forms that knows the same names, with memory of its own.
-    /// Refused with `Memory` where the allocator refuses.
-    pub fn copy(&self) -> Result<Self, FormError>
-        ensures same { IfOk result (λ s. s ≡ self.now) }
-        ensures err { IsOkUnless result FormError.Memory }
-    {
-        Ok(Store {
-            table: table_copy(&self.table)?,
-        })
     }
 }
 
@@ -49,30 +36,4 @@ fn full_names<A: Allocator + Copy>(table: &Table<A>) -> Result<Vec<&[u8], A>, Fo
         names.push(name.as_slice())?;
     }
     Ok(names)
-}
-
-// A table with the same entries, in the same order.
-fn table_copy<A: Allocator + Copy>(table: &Table<A>) -> Result<Table<A>, FormError>
-    ensures same { IfOk result (λ copy. named (λ k. k.items) copy.entries ≡ named (λ k. k.items) table.now.entries) }
-    ensures err { IsOkUnless result FormError.Memory }
-{
-    let alloc = *table.allocator();
-    let mut copy: Table<A> = IndexMap::with_capacity(alloc, table.len())?;
-    for (key, held) in table.iter() {
-        let name = Vec::from_slice(alloc, key.as_slice())?;
-        let form = form_copy(held)?;
-        add_entry(&mut copy, name, form)?;
-    }
-    Ok(copy)
-}
-
-// A copy of a form, if there is one.
-fn form_copy<A: Allocator + Copy>(form: &Option<Form<A>>) -> Result<Option<Form<A>>, FormError>
-    ensures same { IfOk result (λ copy. copy ≡ form.now) }
-    ensures err { IsOkUnless result FormError.Memory }
-{
-    match form {
-        Some(form) => Ok(Some(form.copy()?)),
-        None => Ok(None),
-    }
 }

@@ -1,12 +1,14 @@
-//! The forms by their names.
-ghost use Rattle.std.specs.Prelude.{◌≡◌, ◌++◌, ◌∷◌, [], filter, is_some, length, map, true, IfOk, IsOk, IsOkUnless, IsTrue, OnErr, OnOk};
+//! The forms by their names, and the blocks.
+ghost use Rattle.std.specs.Prelude.{◌≡◌, ◌++◌, ◌∷◌, [], filter, is_some, length, map, true, IfOk, IfSome, IsOk, IsOkUnless, IsTrue, OnErr, OnOk};
 ghost use Rattle.std.specs.FinMap as finite;
 ghost use Rattle.std.specs.FinSet as set;
 ghost use Rattle.std.specs.Option.{option_copied};
 ghost use Rattle.std.specs.Str.{bytes_eq};
 ghost use Rattle.indexmap.specs.IndexMap.{get_by, values, IsUnique};
-ghost use Rattle.trac_forms.specs.Stored.{nothing_stored, swept};
+ghost use Rattle.trac_forms.specs.Layout.{IsSound};
+ghost use Rattle.trac_forms.specs.Stored.{KnowsAll, nothing_stored, swept};
 
+use crate::block::Block;
 use crate::error::FormError;
 use crate::form::Form;
 use indexmap::IndexMap;
@@ -18,12 +20,14 @@ use std::marker::Model;
 /// `sweep`, and a form in it while it names one.
 pub(crate) type Table<A> = IndexMap<Vec<u8, A>, Option<Form<A>>, BuildHasherDefault<FoldHasher>, A>;
 
-/// Forms by their names, which are any bytes. It is seen as the map of its forms and the set of the names that it knows.
+/// Forms by their names, which are any bytes, and blocks by their numbers, an erased one having none. It is seen as the map of
+/// its forms, the list of its blocks and the set of the names that it knows.
 ///
 /// A form can be put under a known name without memory. A name stays known when its form is taken, until `sweep`.
 #[derive(Drop)]
 pub struct Store<A: Allocator + Copy = Global> {
     pub(crate) table: Table<A>,
+    pub(crate) blocks: Vec<Option<Block<A>>, A>,
 }
 
 impl<A: Allocator + Copy> Model for Store<A> {
@@ -34,16 +38,17 @@ impl<A: Allocator + Copy> Model for Store<A> {
 
     ghost coded = { stored_code };
 
-    ghost view = { λ s. stored (named (λ k. k.items) s.table.entries) };
+    ghost view = { λ s. stored (named (λ k. k.items) s.table.entries) s.blocks.items };
 }
 
 impl<A: Allocator + Copy> Store<A> {
-    /// A store without forms, which knows no name. It takes no memory; `alloc` is kept for later.
+    /// A store without forms and blocks, which knows no name. It takes no memory; `alloc` is kept for later.
     pub fn new(alloc: A) -> Self
         ensures { result ≡ nothing_stored }
     {
         Store {
             table: IndexMap::new(alloc),
+            blocks: Vec::new(alloc),
         }
     }
 
@@ -58,10 +63,15 @@ impl<A: Allocator + Copy> Store<A> {
     pub fn get(&self, name: &[u8]) -> Option<&Form<A>>
         ensures value { option_copied result ≡ finite.get self.now.forms name.now }
 
-        // The name of a form is known.
-        ensures known { IsTrue (is_some (finite.get self.now.forms name.now)) → IsTrue (set.contains self.now.known name.now) }
+        ensures sound { IfSome result (λ form. IsSound form.now) }
+
+        // The name of each form is known.
+        ensures known { KnowsAll self.now.known self.now.forms }
     {
-        self.table.get(name)?.as_ref()
+        let form = self.table.get(name)?.as_ref()?;
+        // For the clause `sound`: what is true of the items of every form.
+        let _ = &form.items;
+        Some(form)
     }
 
     /// Makes a place for a form of this name, so that `put` needs no memory. The forms stay as they are.

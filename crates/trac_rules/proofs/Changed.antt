@@ -1,8 +1,8 @@
 -- A state whose position and output are changed is scanned, performed and limited alike.
-use Rattle.std.proofs.Common.{◌≡◌, ℕ, ◌+◌, Bool, true, false, ◌&&◌, List, [], ◌∷◌, ◌++◌, length, take, drop, refl, sym, ap, ◌∙◌, arith, inl, inr, ⊎_elim}
-use Rattle.std.specs.Prelude.{Option, None, Some, Result, Ok, Err, position, nat_le, ◌==◌, ◌⊎◌}
+use Rattle.std.proofs.Common.{◌≡◌, ℕ, ◌+◌, Bool, true, false, ◌&&◌, List, [], ◌∷◌, ◌++◌, length, take, drop, refl, sym, ap, ◌∙◌, arith}
+use Rattle.std.specs.Prelude.{Result, Ok, Err, nat_le}
 use Rattle.std.proofs.lemmas.List.{length-append}
-use Rattle.std.proofs.lemmas.Bool.{and_parts, and_from, leb-true, le-leb, cases_Bool}
+use Rattle.std.proofs.lemmas.Bool.{and_parts, and_from, leb-true, le-leb}
 use Rattle.trac_rules.specs.declared.limit.TheConstants.{TEXT_LIMIT, MARK_LIMIT, OUTPUT_LIMIT}
 use Rattle.trac_rules.specs.declared.kind.Kind.{Kind}
 use Rattle.trac_rules.specs.declared.kind.Kind.TheVariants.{Active, Neutral}
@@ -21,6 +21,7 @@ use Rattle.trac_rules.specs.Reading.{string_read, unread}
 use Rattle.trac_rules.specs.Performing.{effect_of, primitive_of, trace_line, printed_behind, performed, placed, changed_by, after_call}
 use Rattle.trac_rules.specs.Stepping.{carried_out}
 use Rattle.trac_rules.proofs.Outcomes.{limited-seen_as}
+use Rattle.trac_rules.proofs.Scans.{ScanShows, place_of, scan_keeps_place}
 
 -- a state with its position and its output changed
 abbrev pub changed : (ℕ → ℕ) → (List ℕ → List ℕ) → State → State
@@ -69,56 +70,6 @@ scan_at-changed f g Plain s = ap Moves (gathered_in-changed f g s.frames (take 1
 pub scan-changed : (places : ℕ → ℕ) (texts : List ℕ → List ℕ) (s : State) → scan (changed places texts s) ≡ scanned_as (changed places texts) (scan s)
 unfolding scan
 scan-changed f g s = scan_at-changed f g (front_of s.active) s
-
--- ---- what scanning keeps
-
--- one state has the position and the output of another
-pub record IsKept (s t : State) : Type 0 where
-  pub place : t.position ≡ s.position
-  pub printed : t.output ≡ s.output
-
--- what scanning gives has the position and the output of this state
-abbrev pub ScanKeeps : State → Scanned → Type 0
-ScanKeeps s (Moves t) = IsKept s t
-ScanKeeps s (Calls call) = IsKept s call.state
-
--- gathering keeps them
-pub gathered_in_keeps : (frames : List Frame) (text : List ℕ) (s : State) → IsKept s (gathered_in frames text s)
-gathered_in_keeps [] text s = record { place = refl; printed = refl }
-gathered_in_keeps (x ∷ xs) text s = record { place = refl; printed = refl }
-
--- a comma keeps them
-pub comma_in_keeps : (frames : List Frame) (s : State) → IsKept s (comma_in frames s)
-comma_in_keeps [] s = record { place = refl; printed = refl }
-comma_in_keeps (x ∷ xs) s = record { place = refl; printed = refl }
-
--- an end of a function keeps them
-pub closing_in_keeps : (frames : List Frame) (s : State) → ScanKeeps s (closing_in frames s)
-closing_in_keeps [] s = record { place = refl; printed = refl }
-closing_in_keeps (x ∷ xs) s = record { place = refl; printed = refl }
-
--- each rule of scanning keeps them
-pub scan_at_keeps : (front : Front) (s : State) → ScanKeeps s (scan_at front s)
-scan_at_keeps Nothing s = record { place = refl; printed = refl }
-scan_at_keeps Opening s =
-    let kept = gathered_in_keeps s.frames (protected (drop 1 s.active)).inner (record s { active = (protected (drop 1 s.active)).rest }) in
-    record { place = kept.place; printed = kept.printed }
-scan_at_keeps Layout s = record { place = refl; printed = refl }
-scan_at_keeps Comma s = let kept = comma_in_keeps s.frames (deleted 1 s) in record { place = kept.place; printed = kept.printed }
-scan_at_keeps ActiveCall s = record { place = refl; printed = refl }
-scan_at_keeps NeutralCall s = record { place = refl; printed = refl }
-scan_at_keeps Sharp s = let kept = gathered_in_keeps s.frames (take 1 s.active) (deleted 1 s) in record { place = kept.place; printed = kept.printed }
-scan_at_keeps Closing s = go (deleted 1 s) refl refl (closing_in s.frames (deleted 1 s)) (closing_in_keeps s.frames (deleted 1 s))
-  where
-    go : (t : State) → t.position ≡ s.position → t.output ≡ s.output → (x : Scanned) → ScanKeeps t x → ScanKeeps s x
-    go t p o (Moves u) k = record { place = k.place ∙ p; printed = k.printed ∙ o }
-    go t p o (Calls call) k = record { place = k.place ∙ p; printed = k.printed ∙ o }
-scan_at_keeps Plain s = let kept = gathered_in_keeps s.frames (take 1 s.active) (deleted 1 s) in record { place = kept.place; printed = kept.printed }
-
--- scanning reads nothing and prints nothing
-pub scan_keeps : (s : State) → ScanKeeps s (scan s)
-unfolding scan
-scan_keeps s = scan_at_keeps (front_of s.active) s
 
 -- ---- performing
 
@@ -191,17 +142,17 @@ call-changed f g old new call same =
     ∙ placed_as-changed f g call same.moved same.printed (performed old call)
 
 -- what scanning gives is carried out alike
-pub carried_out-changed : (places : ℕ → ℕ) (texts : List ℕ → List ℕ) (old new : Environment) (s : State) → GoesUnnoticed places texts old new s → (x : Scanned) → ScanKeeps s x →
+pub carried_out-changed : (places : ℕ → ℕ) (texts : List ℕ → List ℕ) (old new : Environment) (s : State) → GoesUnnoticed places texts old new s → (x : Scanned) → ScanShows place_of s x →
     carried_out new (scanned_as (changed places texts) x) ≡ seen_as (changed places texts) (carried_out old x)
 carried_out-changed f g old new s same (Moves t) kept = refl
 carried_out-changed f g old new s same (Calls call) kept =
-    call-changed f g old new call (GoesUnnoticed_at f g old new s call.state kept.place same)
+    call-changed f g old new call (GoesUnnoticed_at f g old new s call.state kept same)
 
 -- a step is carried out alike
 pub scanned_out-changed : (places : ℕ → ℕ) (texts : List ℕ → List ℕ) (old new : Environment) (s : State) → GoesUnnoticed places texts old new s →
     carried_out new (scan (changed places texts s)) ≡ seen_as (changed places texts) (carried_out old (scan s))
 scanned_out-changed f g old new s same =
-    ap (λ (x : Scanned). carried_out new x) (scan-changed f g s) ∙ carried_out-changed f g old new s same (scan s) (scan_keeps s)
+    ap (λ (x : Scanned). carried_out new x) (scan-changed f g s) ∙ carried_out-changed f g old new s same (scan s) (scan_keeps_place s)
 
 -- ---- limits
 

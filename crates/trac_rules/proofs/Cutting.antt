@@ -10,7 +10,6 @@ use Rattle.trac_rules.specs.declared.item.Item.{Item}
 use Rattle.trac_rules.specs.declared.item.Item.TheVariants.{Byte, Gap}
 use Rattle.trac_rules.specs.Form.{Form, all_items, as_items, width_of, IsWide, extent}
 use Rattle.trac_rules.specs.Filling.{text_numbered, filled, all_filled}
-use Rattle.trac_rules.specs.Bytes.{first_place}
 use Rattle.trac_rules.specs.Segmenting.{stands_at, leftmost, cut_at, cut_up_to, part, Runs, byte_before, runs_of, replaced, cut_out, segmented_from, segmented}
 use Rattle.trac_rules.proofs.Balanced.{first_place_some, first_place_none, first_place_cases}
 

@@ -19,16 +19,16 @@ use Rattle.trac_rules.specs.Filling.{called}
 use Rattle.trac_rules.specs.Form.{Form, all_items, defined, pointed_at}
 use Rattle.trac_rules.specs.Handling.{handled, keeping, on_form, pointing, putting, without}
 use Rattle.trac_rules.specs.Limits.{form_fits, may_be_put}
-use Rattle.trac_rules.specs.Listing.{listed}
 use Rattle.trac_rules.specs.Performing.{effect_of, primitive_of}
 use Rattle.trac_rules.specs.Rows.{Named, Does, Gives, Leaves, Prints, with_forms}
 use Rattle.trac_rules.specs.Segmenting.{segmented}
 use Rattle.trac_rules.specs.Showing.{shown}
 use Rattle.trac_rules.specs.State.{Forms, Storage, storage_of}
+use Rattle.trac_rules.proofs.NamedForms.{only_equal_tie}
 
 -- ---- forms in a list
 
-abbrev held : Named → Forms
+abbrev pub held : Named → Forms
 held es = finite.from_entries es
 
 -- in the order of their names, of each name the first
@@ -41,7 +41,7 @@ no_entries : finite.entries (held []) ≡ []
 no_entries = nil_from_length (finite.entries (held [])) (sym (finite.len-entries (held [])) ∙ finite.len-empty (slice_cmp nat_cmp) Form)
 
 -- the entries of the forms of a list
-entries-held : (es : Named) → finite.entries (held es) ≡ in_order es
+pub entries-held : (es : Named) → finite.entries (held es) ≡ in_order es
 entries-held [] = no_entries
 entries-held (e ∷ es) = finite.entries-insert nat_list_cmp_total (held es) e.0 e.1 ∙ ap (put (slice_cmp nat_cmp) e.0 e.1) (entries-held es)
 
@@ -58,13 +58,10 @@ turned : {A : Type 0} (b : Bool) (x y : A) → cond (not b) x y ≡ cond b y x
 turned true x y = refl
 turned false x y = refl
 
-abbrev exact : finite.IsAntisymmetric (slice_cmp nat_cmp)
-exact = finite.slice_cmp-IsAntisymmetric finite.nat_cmp-IsAntisymmetric
-
 -- a name that is taken is taken from the list
 held-removed : (name : List ℕ) (es : Named) → finite.remove (held es) name ≡ held (removed name es)
 held-removed name es =
-    finite.same_map nat_list_cmp_total exact (finite.remove (held es) name) (held (removed name es)) (λ q.
+    finite.same_map nat_list_cmp_total only_equal_tie (finite.remove (held es) name) (held (removed name es)) (λ q.
     finite.get-remove nat_list_cmp_total (held es) name q
     ∙ ap (cond (eq_by_cmp (slice_cmp nat_cmp) q name) None) (finite.get-from_entries nat_list_cmp_total es q)
     ∙ ap (λ b. cond b None (find (slice_cmp nat_cmp) q es)) ((eq_by_cmp_equiv nat_list_cmp_total).symm q name)
@@ -188,7 +185,4 @@ finds_none action arguments es on named none = row action arguments es es [] [] 
         on_form-held (argument 1 arguments) None (λ f. Ok (leaves (pointing (argument 1 arguments) 0 f (holding es storage)))) es (holding es storage) none
     go CallForm i storage = on_form-held (argument 1 arguments) None (λ f. Ok (gives (called (drop 2 arguments) f) (holding es storage))) es (holding es storage) none
     go PrintForm i storage = on_form-held (argument 1 arguments) None (λ f. Ok (prints (shown f) (holding es storage))) es (holding es storage) none
-    go Define i storage = absurd i
-    go Delete i storage = absurd i
-    go DeleteAll i storage = absurd i
-    go ListNames i storage = absurd i
+    go a i storage = absurd i

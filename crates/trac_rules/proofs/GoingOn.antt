@@ -9,7 +9,7 @@ use Rattle.trac_rules.specs.declared.refusal.Refusal.TheVariants.{TooLong, NeedI
 use Rattle.trac_rules.specs.State.{Environment, State, Tape}
 use Rattle.trac_rules.specs.Reading.{unread}
 use Rattle.trac_rules.specs.Stepping.{step}
-use Rattle.trac_rules.specs.Session.{PlainSession, Feed, End, Step, Commit, done, refused, released, settled, answer, accepted_by, over, repeated}
+use Rattle.trac_rules.specs.Session.{PlainSession, Feed, End, Step, Commit, done, refused, settled, answer, accepted_by, over, repeated}
 use Rattle.trac_rules.specs.Running.{Output, Stop, BudgetSpent, InputEnded, LimitPassed, stop_of, silent, going_on, output_from}
 use Rattle.trac_rules.specs.GoingOn.{whole, prepended, going_on_from}
 use Rattle.trac_rules.proofs.Steps.{step_within, step-whole, step-silent_Ok, step-silent_Err, silent_of_none, output_from-output, output_from-cut, moved_back}

@@ -7,6 +7,7 @@ pub mod Scans
 pub mod Changed
 pub mod Positions
 pub mod Steps
+pub mod NamedForms
 pub mod ProperStates
 pub mod ProperDecided
 pub mod FormCalls

@@ -1,6 +1,6 @@
 -- Whether a state is proper is decided by a test.
 use Rattle.std.proofs.Common.{◌≡◌, ℕ, ◌≤◌, Bool, true, false, cond, not, ◌&&◌, ◌||◌, T, List, [], ◌∷◌, length, map, All, Decides, refl, sym, ap, subst, ◌∙◌, ⊎_elim}
-use Rattle.std.specs.Prelude.{Option, None, Some, nat_le, bytes_eq}
+use Rattle.std.specs.Prelude.{None, Some, nat_le, bytes_eq}
 use Rattle.std.specs.Cmp.Lexicographic.{slice_cmp}
 use Rattle.std.specs.FinMap as finite
 use Rattle.std.specs.FinMap.Entries.{find, below_all, is_sorted}
@@ -14,9 +14,9 @@ use Rattle.std.proofs.lemmas.List.Elements.{All-nil, All-cons, All-head, All-tai
 use Rattle.trac_rules.specs.declared.limit.TheConstants.{BLOCK_LIMIT, FORM_COUNT_LIMIT}
 use Rattle.trac_rules.specs.Form.{Form, IsWide, all_items, width_of}
 use Rattle.trac_rules.specs.Limits.{form_fits, texts_fit}
-use Rattle.trac_rules.specs.Proper.{AreHeld, AreProperForms, IsProper, IsProperBlock, IsProperForm, IsProperStorage, are_distinct, are_proper_forms, is_proper, is_proper_block, is_proper_form, is_proper_storage}
+use Rattle.trac_rules.specs.Proper.{AreProperForms, IsProper, IsProperBlock, IsProperForm, IsProperStorage, are_distinct, are_proper_forms, is_proper, is_proper_block, is_proper_form, is_proper_storage}
 use Rattle.trac_rules.specs.State.{Block, Forms, State, Storage, storage_of}
-use Rattle.trac_rules.proofs.ProperStates.{one_name, ties_itself}
+use Rattle.trac_rules.proofs.NamedForms.{one_name, ties_itself}
 
 -- ---- tests
 
@@ -101,15 +101,21 @@ forms_decided : (forms : Forms) → Decides (are_proper_forms forms) (AreProperF
 forms_decided forms =
     Decides-like (are_proper_forms forms)
     (λ h. record { count = h.0; each = λ name form there. of_entries (finite.entries forms) name form h.1 (sym (finite.get-entries forms name) ∙ there) })
-    (λ proper. (proper.count, all_entries (finite.entries forms) (finite.entries_sorted forms) (λ name form there. proper.each name form (finite.get-entries forms name ∙ there))))
-    (Decides-and (nat_le (finite.len forms) FORM_COUNT_LIMIT) (list_all (λ e. is_proper_form e.0 e.1) (finite.entries forms)) (no_greater (finite.len forms) FORM_COUNT_LIMIT) (entries_decided (finite.entries forms)))
+    (λ proper. (
+      proper.count,
+      all_entries (finite.entries forms) (finite.entries_sorted forms)
+          (λ name form there. proper.each name form (finite.get-entries forms name ∙ there)),
+    ))
+    (Decides-and (nat_le (finite.len forms) FORM_COUNT_LIMIT) (list_all (λ e. is_proper_form e.0 e.1) (finite.entries forms))
+    (no_greater (finite.len forms) FORM_COUNT_LIMIT) (entries_decided (finite.entries forms)))
 
 -- ---- names of a block
 
 -- no name of a list is this one
 none_is : (name : List ℕ) (names : List (List ℕ)) → Decides (not (list_any (bytes_eq name) names)) (AllByRecursion (λ n. bytes_eq name n ≡ false) names)
 none_is name names =
-    Decides-like (not (list_any (bytes_eq name) names)) (recursion_from_All (λ n. bytes_eq name n ≡ false) names) (All-from_recursion (λ n. bytes_eq name n ≡ false) names)
+    Decides-like (not (list_any (bytes_eq name) names)) (recursion_from_All (λ n. bytes_eq name n ≡ false) names)
+    (All-from_recursion (λ n. bytes_eq name n ≡ false) names)
     (Decides-by_and (λ n. not (bytes_eq name n)) (λ n. bytes_eq name n ≡ false) (λ ns. not (list_any (bytes_eq name) ns)) (λ n. turned (bytes_eq name n)) refl
     (λ n ns. neither (bytes_eq name n) (list_any (bytes_eq name) ns)) names)
   where
@@ -133,13 +139,16 @@ block_decided (Some held) =
     let names = map (λ e. e.0) held in
     let few = nat_le (length held) FORM_COUNT_LIMIT in
     let each = list_all (λ e. is_proper_form e.0 e.1) held in
-    Decides-like (is_proper_block (Some held)) (λ h. record { count = h.0.0; each = h.0.1; distinct = h.1 }) (λ proper. ((proper.count, proper.each), proper.distinct))
-    (Decides-and (few && each) (are_distinct names) (Decides-and few each (no_greater (length held) FORM_COUNT_LIMIT) (entries_decided held)) (distinct_decided names))
+    Decides-like (is_proper_block (Some held)) (λ h. record { count = h.0.0; each = h.0.1; distinct = h.1 })
+    (λ proper. ((proper.count, proper.each), proper.distinct))
+    (Decides-and (few && each) (are_distinct names)
+    (Decides-and few each (no_greater (length held) FORM_COUNT_LIMIT) (entries_decided held)) (distinct_decided names))
 
 storage_decided : (storage : Storage) → Decides (is_proper_storage storage) (IsProperStorage storage)
 storage_decided storage =
     let few = nat_le (length storage.blocks) BLOCK_LIMIT in
-    Decides-like (is_proper_storage storage) (λ h. record { forms = h.0.0; block_count = h.0.1; blocks = h.1 })
+    Decides-like (is_proper_storage storage)
+    (λ h. record { forms = h.0.0; block_count = h.0.1; blocks = h.1 })
     (λ proper. ((proper.forms, proper.block_count), proper.blocks))
     (Decides-and (are_proper_forms storage.forms && few) (list_all is_proper_block storage.blocks)
     (Decides-and (are_proper_forms storage.forms) few (forms_decided storage.forms) (no_greater (length storage.blocks) BLOCK_LIMIT))

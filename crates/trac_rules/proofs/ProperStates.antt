@@ -1,22 +1,20 @@
 -- States stay proper.
-use Rattle.std.proofs.Common.{◌≡◌, ℕ, ◌+◌, ◌-◌, ◌≤◌, Bool, true, false, cond, not, ◌&&◌, ◌||◌, List, [], ◌∷◌, ◌++◌, drop, All, refl, sym, ap, subst, ◌∙◌, arith, inl, inr, ⊎_elim, is_some}
-use Rattle.std.specs.Prelude.{Option, None, Some, Result, Ok, Err, position, nat_le, ◌==◌, ◌⊎◌}
-use Rattle.std.specs.Cmp.Lexicographic.{slice_cmp, nat_list_cmp_total, nat_list_eq_equiv}
+use Rattle.std.proofs.Common.{◌≡◌, ℕ, ◌≤◌, Bool, true, false, List, [], ◌∷◌, drop, All, refl, sym, subst, ◌∙◌, arith, ⊎_elim}
+use Rattle.std.specs.Prelude.{Option, None, Some, Result, Ok, Err, position, nat_le, ◌==◌}
+use Rattle.std.specs.Cmp.Lexicographic.{slice_cmp}
 use Rattle.std.specs.FinMap as finite
-use Rattle.std.specs.Ordering.{nat_cmp, eq_by_cmp}
-use Rattle.std.proofs.lemmas.Bool.{and_parts, and_from, leb-true, le-leb, cases_Bool, cond-true, cond-false}
+use Rattle.std.specs.Ordering.{nat_cmp}
+use Rattle.std.proofs.lemmas.Bool.{and_parts, and_from, leb-true, le-leb, cases_Bool}
 use Rattle.std.proofs.lemmas.List.Elements.{All-nil}
-use Rattle.std.proofs.lemmas.Map.Text.{is_eq-slice_cmp}
-use Rattle.std.proofs.lemmas.Slice.Eq.{bytes_eq-Decides}
 use Rattle.trac_rules.specs.declared.kind.Kind.{Kind}
 use Rattle.trac_rules.specs.declared.kind.Kind.TheVariants.{Active, Neutral}
 use Rattle.trac_rules.specs.declared.limit.TheConstants.{FORM_COUNT_LIMIT}
 use Rattle.trac_rules.specs.declared.primitive.Computation.{Computation}
-use Rattle.trac_rules.specs.declared.primitive.Computation.TheVariants.{Equal, Greater, Calculate, Union, Meet, Complement, Shift, Rotate}
+use Rattle.trac_rules.specs.declared.primitive.Computation.TheVariants.{Calculate}
 use Rattle.trac_rules.specs.declared.primitive.FormAction.{FormAction}
 use Rattle.trac_rules.specs.declared.primitive.FormAction.TheVariants.{Define, Delete, DeleteAll, Segment, Restore, ListNames, PrintForm, Call as CallForm}
 use Rattle.trac_rules.specs.declared.primitive.Primitive.{Primitive}
-use Rattle.trac_rules.specs.declared.primitive.Primitive.TheVariants.{PrintString, ReadString, Compute, Handle, Unknown}
+use Rattle.trac_rules.specs.declared.primitive.Primitive.TheVariants.{ReadString, Compute, Handle}
 use Rattle.trac_rules.specs.declared.refusal.Refusal.{Refusal}
 use Rattle.trac_rules.specs.Computing.{computed, result_of}
 use Rattle.trac_rules.specs.Effect.{Effect, argument, gives, gives_or_forces, leaves, prints}
@@ -35,61 +33,9 @@ use Rattle.trac_rules.specs.Showing.{shown}
 use Rattle.trac_rules.specs.State.{Environment, Forms, State, Storage, initial, storage_of}
 use Rattle.trac_rules.specs.Stepping.{carried_out, step}
 use Rattle.trac_rules.proofs.Cutting.{wide-as_items, wide-segmented_from}
+use Rattle.trac_rules.proofs.NamedForms.{found_of_put, found_of_taken, get-put, len-put_again, len-taken}
 use Rattle.trac_rules.proofs.Outcomes.{limited_Ok}
 use Rattle.trac_rules.proofs.Scans.{ScanShows, gathered_in_shows, scan_shows}
-
--- ---- forms put, taken and looked up
-
--- names that the order does not tell apart are one
-pub one_name : (q name : List ℕ) → eq_by_cmp (slice_cmp nat_cmp) q name ≡ true → q ≡ name
-one_name q name t = (bytes_eq-Decides q name).0 (sym (is_eq-slice_cmp q name) ∙ t)
-
--- the order does not tell a name from itself
-pub ties_itself : (name : List ℕ) → eq_by_cmp (slice_cmp nat_cmp) name name ≡ true
-ties_itself name = is_eq-slice_cmp name name ∙ nat_list_eq_equiv.refl name
-
--- a form that was put is found under its name
-get-put : (forms : Forms) (name : List ℕ) (form : Form) → finite.get (finite.insert forms name form) name ≡ Some form
-get-put forms name form =
-    finite.get-insert nat_list_cmp_total forms name form name
-    ∙ cond-true (eq_by_cmp (slice_cmp nat_cmp) name name) (Some form) (finite.get forms name) (ties_itself name)
-
--- what is found then is that form under its name, or was there before
-found_of_put : (forms : Forms) (name q : List ℕ) (form found : Form) → finite.get (finite.insert forms name form) q ≡ Some found →
-    (((q ≡ name) × (found ≡ form)) ⊎ (finite.get forms q ≡ Some found))
-found_of_put forms name q form found there =
-    let is : cond (eq_by_cmp (slice_cmp nat_cmp) q name) (Some form) (finite.get forms q) ≡ Some found = sym (finite.get-insert nat_list_cmp_total forms name form q) ∙ there in
-    ⊎_elim
-    (λ (t : eq_by_cmp (slice_cmp nat_cmp) q name ≡ true).
-    let same : Some form ≡ Some found = sym (cond-true (eq_by_cmp (slice_cmp nat_cmp) q name) (Some form) (finite.get forms q) t) ∙ is in
-    inl (one_name q name t, cc))
-    (λ (t : eq_by_cmp (slice_cmp nat_cmp) q name ≡ false).
-    inr (sym (cond-false (eq_by_cmp (slice_cmp nat_cmp) q name) (Some form) (finite.get forms q) t) ∙ is))
-    (cases_Bool (eq_by_cmp (slice_cmp nat_cmp) q name))
-
--- what is found after a name was taken was there before
-found_of_taken : (forms : Forms) (name q : List ℕ) (found : Form) → finite.get (finite.remove forms name) q ≡ Some found → finite.get forms q ≡ Some found
-found_of_taken forms name q found there =
-    let is : cond (eq_by_cmp (slice_cmp nat_cmp) q name) None (finite.get forms q) ≡ Some found = sym (finite.get-remove nat_list_cmp_total forms name q) ∙ there in
-    ⊎_elim
-    (λ (t : eq_by_cmp (slice_cmp nat_cmp) q name ≡ true).
-    absurd (let none : None ≡ Some found = sym (cond-true (eq_by_cmp (slice_cmp nat_cmp) q name) None (finite.get forms q) t) ∙ is in cc))
-    (λ (t : eq_by_cmp (slice_cmp nat_cmp) q name ≡ false).
-    sym (cond-false (eq_by_cmp (slice_cmp nat_cmp) q name) None (finite.get forms q) t) ∙ is)
-    (cases_Bool (eq_by_cmp (slice_cmp nat_cmp) q name))
-
--- a form that takes the place of another leaves their number
-len-put_again : (forms : Forms) (name : List ℕ) (old new : Form) → finite.get forms name ≡ Some old → finite.len (finite.insert forms name new) ≡ finite.len forms
-len-put_again forms name old new there =
-    finite.len-insert nat_list_cmp_total forms name new ∙ ap (λ (o : Option Form). cond (is_some o) (finite.len forms) (finite.len forms + 1)) there
-
--- a name that was taken leaves no more of them
-len-taken : (forms : Forms) (name : List ℕ) → finite.len (finite.remove forms name) ≤ finite.len forms
-len-taken forms name = go (finite.contains_key forms name) (finite.len-remove nat_list_cmp_total forms name)
-  where
-    go : (there : Bool) → finite.len (finite.remove forms name) ≡ cond there (finite.len forms - 1) (finite.len forms) → finite.len (finite.remove forms name) ≤ finite.len forms
-    go true e = omega (arith, e)
-    go false e = omega (arith, e)
 
 -- ---- proper forms
 
@@ -202,29 +148,23 @@ read_proper None text ended storage proper = rest text ended
     rest (b ∷ text) true = proper
 
 -- computing
-computed_proper : (computation : Computation) (arguments : List (List ℕ)) (storage : Storage) → IsProperStorage storage → IsProperStorage (computed computation arguments storage).storage
-computed_proper Equal arguments storage proper = proper
-computed_proper Greater arguments storage proper = proper
+computed_proper : (computation : Computation) (arguments : List (List ℕ)) (storage : Storage) → IsProperStorage storage →
+    IsProperStorage (computed computation arguments storage).storage
 computed_proper (Calculate operation) arguments storage proper = either (calculated (result_of operation) (argument 1 arguments) (argument 2 arguments))
   where
     either : (value : Option (List ℕ)) → IsProperStorage (gives_or_forces value (argument 3 arguments) storage).storage
     either None = proper
     either (Some value) = proper
-computed_proper Union arguments storage proper = proper
-computed_proper Meet arguments storage proper = proper
-computed_proper Complement arguments storage proper = proper
-computed_proper Shift arguments storage proper = proper
-computed_proper Rotate arguments storage proper = proper
+computed_proper computation arguments storage proper = proper
 
 -- each primitive
 effect_proper : (primitive : Primitive) (environment : Environment) (arguments : List (List ℕ)) (s : State) → IsProperStorage (storage_of s) →
     LeavesProper (effect_of primitive environment arguments s)
-effect_proper PrintString environment arguments s proper = proper
 effect_proper ReadString environment arguments s proper =
     read_proper (position (λ b. b == s.meta) (unread environment.tape s)) (unread environment.tape s) environment.tape.ended (storage_of s) proper
 effect_proper (Compute computation) environment arguments s proper = computed_proper computation arguments (storage_of s) proper
 effect_proper (Handle action) environment arguments s proper = handled_proper action arguments (storage_of s) proper
-effect_proper Unknown environment arguments s proper = proper
+effect_proper primitive environment arguments s proper = proper
 
 -- the line of the trace changes no storage
 traced_proper : (line : List ℕ) (outcome : Result Effect Refusal) → LeavesProper outcome → LeavesProper (seen_as (printed_behind line) outcome)
@@ -257,7 +197,8 @@ placed_proper call (Ok e) proper = subst IsProperStorage (sym (storage-placed ca
 placed_proper call (Err refusal) proper = tt
 
 -- what scanning gives is carried out
-carried_out_proper : (environment : Environment) (s : State) (x : Scanned) → ScanShows storage_of s x → IsProperStorage (storage_of s) → StepsProper (carried_out environment x)
+carried_out_proper : (environment : Environment) (s : State) (x : Scanned) → ScanShows storage_of s x → IsProperStorage (storage_of s) →
+    StepsProper (carried_out environment x)
 carried_out_proper environment s (Moves t) same proper = subst IsProperStorage (sym same) proper
 carried_out_proper environment s (Calls call) same proper =
     placed_proper call (performed environment call) (performed_proper environment call (subst IsProperStorage (sym same) proper))

@@ -2,27 +2,27 @@
 use Rattle.std.proofs.Common.{◌≡◌, ℕ, ◌<◌, ◌≤◌, Bool, true, false, List, [], ◌∷◌, ◌++◌, length, drop, refl, sym, ap, ◌∙◌, arith, inl, inr, ⊎_elim}
 use Rattle.std.specs.Prelude.{Option, None, Some, Result, Ok, Err, position, nat_le, ◌==◌, ◌⊎◌, ◌&&◌}
 use Rattle.std.proofs.lemmas.List.{length-append, length-take-le}
-use Rattle.std.proofs.lemmas.Bool.{and_parts, leb-true, false≢true, false_from_ne_true}
+use Rattle.std.proofs.lemmas.Bool.{and_parts, leb-true, false_from_ne_true}
 use Rattle.trac_rules.specs.declared.limit.TheConstants.{TEXT_LIMIT, MARK_LIMIT, OUTPUT_LIMIT}
 use Rattle.trac_rules.specs.declared.kind.Kind.{Kind}
 use Rattle.trac_rules.specs.declared.kind.Kind.TheVariants.{Active, Neutral}
 use Rattle.trac_rules.specs.declared.primitive.Primitive.{Primitive}
 use Rattle.trac_rules.specs.declared.primitive.Primitive.TheVariants.{PrintString, ReadString, Compute, Handle, Unknown}
 use Rattle.trac_rules.specs.declared.refusal.Refusal.{Refusal}
-use Rattle.trac_rules.specs.declared.refusal.Refusal.TheVariants.{Memory, TooLong, NeedInput, Ended, JournalFull, AtStart, Closed, NotMet}
+use Rattle.trac_rules.specs.declared.refusal.Refusal.TheVariants.{TooLong, NeedInput, Ended}
 use Rattle.trac_rules.specs.State.{Environment, Frame, State, Storage, Tape, storage_of}
 use Rattle.trac_rules.specs.Scanning.{Call, Scanned, Moves, Calls, gathered_in, scan}
 use Rattle.trac_rules.specs.Limits.{texts_fit, text_bytes, marks}
 use Rattle.trac_rules.specs.Effect.{Effect, argument}
 use Rattle.trac_rules.specs.Handling.{handled}
 use Rattle.trac_rules.specs.Outcomes.{limited, seen_as}
-use Rattle.trac_rules.specs.Reading.{read_up_to, rest_read, string_read, unread}
+use Rattle.trac_rules.specs.Reading.{read_up_to, rest_read, unread}
 use Rattle.trac_rules.specs.Performing.{effect_of, primitive_of, trace_line, printed_behind, performed, placed, changed_by, after_call}
 use Rattle.trac_rules.specs.Stepping.{carried_out, step}
 use Rattle.trac_rules.specs.Running.{silent}
 use Rattle.trac_rules.proofs.Outcomes.{limited_beyond, limited_Err, seen_as-Err}
 use Rattle.trac_rules.proofs.Positions.{position-append_None}
-use Rattle.trac_rules.proofs.Changed.{ScanKeeps, gathered_in_keeps, scan_keeps}
+use Rattle.trac_rules.proofs.Scans.{ScanShows, gathered_in_shows, place_of, scan_keeps_place}
 use Rattle.trac_rules.proofs.Steps.{LooksAtForms, handled_looks, lengthened, unread-whole, step-silent_Err}
 
 -- ---- what is refused
@@ -194,7 +194,7 @@ beyond_limits_of_output t l = false_from_ne_true (texts_fit t) (λ h.
 output-placed : (kind : Kind) (forced : Bool) (value : List ℕ) (s : State) → (placed kind forced value s).output ≡ s.output
 output-placed Active forced value s = refl
 output-placed Neutral true value s = refl
-output-placed Neutral false value s = (gathered_in_keeps s.frames value s).printed
+output-placed Neutral false value s = gathered_in_shows (λ t. t.output) (λ t active base frames. refl) s.frames value s
 
 -- the output after a call is what it printed behind that before it
 pub output-after_call : (call : Call) (e : Effect) → (after_call call e).output ≡ call.state.output ++ e.printed
@@ -207,14 +207,14 @@ placed_long call n (Ok e) l long =
 placed_long call n (Err refusal) l long = absurd long
 
 -- what scanning gives and wants input is refused for a limit on a whole tape, where too much is unread
-carried_out_hopeless : (e : Environment) (more : List ℕ) (s : State) (x : Scanned) → ScanKeeps s x → carried_out e x ≡ Err NeedInput → s.position ≤ length e.tape.bytes →
+carried_out_hopeless : (e : Environment) (more : List ℕ) (s : State) (x : Scanned) → ScanShows place_of s x → carried_out e x ≡ Err NeedInput → s.position ≤ length e.tape.bytes →
     TEXT_LIMIT < length (unread e.tape s) → limited texts_fit (carried_out (lengthened more e) x) ≡ Err TooLong
 carried_out_hopeless e more s (Moves t) kept h l long = absurd (cc)
 carried_out_hopeless e more s (Calls call) kept h l long =
-    let same : unread e.tape call.state ≡ unread e.tape s = ap (λ p. drop p e.tape.bytes) kept.place in
+    let same : unread e.tape call.state ≡ unread e.tape s = ap (λ p. drop p e.tape.bytes) kept in
     let far : TEXT_LIMIT < length (unread e.tape call.state) = rw same long in
     placed_long call (length (unread e.tape call.state)) (performed (lengthened more e) call) far
-    (performed_long e more call (seen_as-Err (after_call call) (performed e call) NeedInput h) (omega (arith, kept.place)) (omega (arith, far)))
+    (performed_long e more call (seen_as-Err (after_call call) (performed e call) NeedInput h) (omega (arith, kept)) (omega (arith, far)))
 
 -- a step that wants input is refused for a limit however the input goes on, where too much is unread
 pub step_hopeless : (e : Environment) (more : List ℕ) (s : State) → step e s ≡ Err NeedInput → s.position ≤ length e.tape.bytes →
@@ -223,7 +223,7 @@ unfolding step
 step_hopeless e more s h l long =
     ⊎_elim
     (λ (no : NeedInput ≡ TooLong). absurd (cc))
-    (λ (out : carried_out e (scan s) ≡ Err NeedInput). carried_out_hopeless e more s (scan s) (scan_keeps s) out l long)
+    (λ (out : carried_out e (scan s) ≡ Err NeedInput). carried_out_hopeless e more s (scan s) (scan_keeps_place s) out l long)
     (limited_Err texts_fit (carried_out e (scan s)) NeedInput h)
 
 -- the step of the silent state is refused for a limit too

@@ -57,3 +57,11 @@ scan_at_shows view aside front s = go front
 pub scan_shows : {T : Type 0} (view : State → T) → IsAside view → (s : State) → ScanShows view s (scan s)
 unfolding scan
 scan_shows view aside s = scan_at_shows view aside (front_of s.active) s
+
+-- how far the tape is read
+abbrev pub place_of : State → ℕ
+place_of s = s.position
+
+-- scanning reads nothing
+pub scan_keeps_place : (s : State) → ScanShows place_of s (scan s)
+scan_keeps_place s = scan_shows place_of (λ t active base frames. refl) s

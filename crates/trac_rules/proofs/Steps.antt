@@ -8,7 +8,7 @@ use Rattle.std.proofs.lemmas.List.Quantifiers.{position-Some}
 use Rattle.trac_rules.specs.declared.kind.Kind.{Kind}
 use Rattle.trac_rules.specs.declared.kind.Kind.TheVariants.{Active, Neutral}
 use Rattle.trac_rules.specs.declared.primitive.Computation.{Computation}
-use Rattle.trac_rules.specs.declared.primitive.Computation.TheVariants.{Equal, Greater, Calculate, Union, Meet, Complement, Shift, Rotate}
+use Rattle.trac_rules.specs.declared.primitive.Computation.TheVariants.{Calculate}
 use Rattle.trac_rules.specs.declared.primitive.FormAction.{FormAction}
 use Rattle.trac_rules.specs.declared.primitive.FormAction.TheVariants.{Define, Delete, DeleteAll, Segment, Restore, ListNames, PrintForm, Call as CallForm}
 use Rattle.trac_rules.specs.declared.primitive.Primitive.{Primitive}
@@ -32,8 +32,9 @@ use Rattle.trac_rules.specs.Stepping.{carried_out, step}
 use Rattle.trac_rules.specs.Running.{Output, silent, going_on, output_from}
 use Rattle.trac_rules.specs.GoingOn.{whole}
 use Rattle.trac_rules.proofs.Outcomes.{limited_within, limited_Ok, limited_Err, seen_as-Ok, seen_as-Err}
+use Rattle.trac_rules.proofs.Scans.{ScanShows, gathered_in_shows, place_of, scan_keeps_place}
 use Rattle.trac_rules.proofs.Positions.{position-append_Some}
-use Rattle.trac_rules.proofs.Changed.{changed, ScanKeeps, scan_keeps, GoesUnnoticed, scanned_out-changed, texts_fit_of_more, limited-moved}
+use Rattle.trac_rules.proofs.Changed.{changed, GoesUnnoticed, scanned_out-changed, texts_fit_of_more, limited-moved}
 
 -- ---- the position
 
@@ -114,14 +115,8 @@ value_within n None other storage = omega arith
 value_within n (Some value) other storage = omega arith
 
 computed_within : (n : ℕ) (computation : Computation) (arguments : List (List ℕ)) (storage : Storage) → (computed computation arguments storage).read ≤ n
-computed_within n Equal arguments storage = omega arith
-computed_within n Greater arguments storage = omega arith
 computed_within n (Calculate operation) arguments storage = value_within n _ (argument 3 arguments) storage
-computed_within n Union arguments storage = omega arith
-computed_within n Meet arguments storage = omega arith
-computed_within n Complement arguments storage = omega arith
-computed_within n Shift arguments storage = omega arith
-computed_within n Rotate arguments storage = omega arith
+computed_within n computation arguments storage = omega arith
 
 -- each primitive reads no more than what is unread
 pub effect_within : (primitive : Primitive) (e : Environment) (arguments : List (List ℕ)) (s : State) →
@@ -146,16 +141,11 @@ performed_within e call =
     (effect_of (primitive_of (argument 0 call.arguments)) e call.arguments call.state)
     (effect_within (primitive_of (argument 0 call.arguments)) e call.arguments call.state)
 
--- a gathered text leaves the position as it is
-pub position-gathered_in : (frames : List Frame) (text : List ℕ) (s : State) → (gathered_in frames text s).position ≡ s.position
-position-gathered_in [] text s = refl
-position-gathered_in (x ∷ xs) text s = refl
-
 -- a placed value leaves the position as it is
 pub position-placed : (kind : Kind) (forced : Bool) (value : List ℕ) (s : State) → (placed kind forced value s).position ≡ s.position
 position-placed Active forced value s = refl
 position-placed Neutral true value s = refl
-position-placed Neutral false value s = position-gathered_in s.frames value s
+position-placed Neutral false value s = gathered_in_shows place_of (λ t active base frames. refl) s.frames value s
 
 -- the state after a call has the position behind what was read
 pub position-after_call : (call : Call) (e : Effect) → (after_call call e).position ≡ call.state.position + e.read
@@ -176,10 +166,10 @@ StepGoes_at tape s t e (Ok u) goes = is_further_at tape s t u e goes
 StepGoes_at tape s t e (Err refusal) goes = tt
 
 -- what scanning gives leaves the state further on
-carried_out_further : (e : Environment) (s : State) (x : Scanned) → ScanKeeps s x → StepGoes e.tape s (carried_out e x)
-carried_out_further e s (Moves t) kept = is_as_far e.tape s t kept.place
+carried_out_further : (e : Environment) (s : State) (x : Scanned) → ScanShows place_of s x → StepGoes e.tape s (carried_out e x)
+carried_out_further e s (Moves t) kept = is_as_far e.tape s t kept
 carried_out_further e s (Calls call) kept =
-    StepGoes_at e.tape s call.state kept.place (carried_out e (Calls call)) (placed_further e.tape call (performed e call) (performed_within e call))
+    StepGoes_at e.tape s call.state kept (carried_out e (Calls call)) (placed_further e.tape call (performed e call) (performed_within e call))
 
 -- what an outcome says of its state
 pub StepGoes-Ok : (tape : Tape) (s t : State) (x : Result State Refusal) → x ≡ Ok t → StepGoes tape s x → IsFurther tape s t
@@ -190,7 +180,7 @@ StepGoes-Ok tape s t (Err refusal) e goes = absurd (cc)
 pub step_further : (e : Environment) (s t : State) → step e s ≡ Ok t → IsFurther e.tape s t
 unfolding step
 step_further e s t h =
-    StepGoes-Ok e.tape s t (carried_out e (scan s)) (limited_Ok texts_fit (carried_out e (scan s)) t h).0 (carried_out_further e s (scan s) (scan_keeps s))
+    StepGoes-Ok e.tape s t (carried_out e (scan s)) (limited_Ok texts_fit (carried_out e (scan s)) t h).0 (carried_out_further e s (scan s) (scan_keeps_place s))
 
 -- a step does not leave the tape
 pub step_within : (e : Environment) (s t : State) → step e s ≡ Ok t → s.position ≤ length e.tape.bytes → t.position ≤ length e.tape.bytes
@@ -259,11 +249,11 @@ performed-whole e more call l unended wanted =
     (λ none. wanted (ap (seen_as (printed_behind line)) none)))
 
 -- what does not want input is carried out alike on a whole tape
-pub carried_out-whole : (e : Environment) (more : List ℕ) (s : State) (x : Scanned) → ScanKeeps s x → s.position ≤ length e.tape.bytes → e.tape.ended ≡ false →
+pub carried_out-whole : (e : Environment) (more : List ℕ) (s : State) (x : Scanned) → ScanShows place_of s x → s.position ≤ length e.tape.bytes → e.tape.ended ≡ false →
     (carried_out e x ≡ Err NeedInput → ⊥) → carried_out (lengthened more e) x ≡ carried_out e x
 carried_out-whole e more s (Moves t) kept l unended wanted = refl
 carried_out-whole e more s (Calls call) kept l unended wanted =
-    ap (seen_as (after_call call)) (performed-whole e more call (omega (arith, kept.place)) unended (λ none. wanted (ap (seen_as (after_call call)) none)))
+    ap (seen_as (after_call call)) (performed-whole e more call (omega (arith, kept)) unended (λ none. wanted (ap (seen_as (after_call call)) none)))
 
 -- a step that does not want input is the same once a tape that has not ended is lengthened and ended
 pub step-whole : (e : Environment) (more : List ℕ) (s : State) → s.position ≤ length e.tape.bytes → (e.tape.ended ≡ true → more ≡ []) →
@@ -273,7 +263,7 @@ step-whole e more s l none wanted =
     ⊎_elim
     (λ (ended : e.tape.ended ≡ true). ap (λ (t : Tape). limited texts_fit (carried_out (record e { tape = t }) (scan s))) (whole_of_ended e.tape more ended (none ended)))
     (λ (unended : e.tape.ended ≡ false).
-    ap (limited texts_fit) (carried_out-whole e more s (scan s) (scan_keeps s) l unended (λ short. wanted (ap (limited texts_fit) short))))
+    ap (limited texts_fit) (carried_out-whole e more s (scan s) (scan_keeps_place s) l unended (λ short. wanted (ap (limited texts_fit) short))))
     (cases_Bool e.tape.ended)
 
 -- ---- the output

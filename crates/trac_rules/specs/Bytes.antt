@@ -1,4 +1,4 @@
--- Texts are lists of bytes, each a number below 256. Null is the empty list.
+-- Texts are lists of bytes. Null is the empty list.
 use Rattle.std.specs.Prelude.{ℕ, zero, suc, ◌==◌, List, [], ◌∷◌, if◌then◌else◌, Bool, cond, Option, None, Some, codes}
 
 -- how often a byte stands in a text

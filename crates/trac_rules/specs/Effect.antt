@@ -1,4 +1,4 @@
--- What a call does: no texts and no begun functions are in it, so no primitive changes these.
+-- What a call does. Active text, base text and begun functions are no part of it, so no primitive changes them.
 use Rattle.std.specs.Prelude.{ℕ, List, [], get_or, Bool, true, false, Option, None, Some}
 use Rattle.trac_rules.specs.State.{Storage}
 
@@ -6,6 +6,7 @@ use Rattle.trac_rules.specs.State.{Storage}
 abbrev pub argument : ℕ → List (List ℕ) → List ℕ
 argument k arguments = get_or arguments k []
 
+-- what a primitive gives, prints and reads, and what it leaves
 pub record Effect : Type 0 where
   pub value : List ℕ
   -- whether the value is scanned though the function may be neutral

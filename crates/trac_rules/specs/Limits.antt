@@ -1,4 +1,4 @@
--- The limits on a state (this project's profile).
+-- The limits on a state: how a state is measured. The numbers are this project's profile.
 use Rattle.std.specs.Prelude.{ℕ, ◌+◌, ◌&&◌, nat_le, List, [], ◌∷◌, length, Bool}
 use Rattle.std.specs.FinMap as map
 use Rattle.trac_rules.specs.declared.limit.TheConstants.{TEXT_LIMIT, MARK_LIMIT, FORM_LIMIT, NAME_LIMIT, FORM_COUNT_LIMIT, OUTPUT_LIMIT}

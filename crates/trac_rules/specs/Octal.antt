@@ -44,7 +44,7 @@ text_of bits = []
 
 -- ---- operations on lists of bits
 
--- with zeros before it up to n bits; as it is where it has as many
+-- with zeros before it up to n bits; as it is where it has as many or more
 abbrev pub widened : ℕ → List Bool → List Bool
 widened n bits = replicate (n - length bits) false ++ bits
 

@@ -1,4 +1,4 @@
--- What a call may answer where the definitions say what comes of it.
+-- Outcomes: what comes of something, or why it is refused; and what a call may answer that is to show an outcome.
 use Rattle.std.specs.Prelude.{◌≡◌, if◌then◌else◌, Bool, Result, Ok, Err}
 use Rattle.trac_rules.specs.declared.refusal.Refusal.{Refusal}
 use Rattle.trac_rules.specs.declared.refusal.Refusal.TheVariants.{Memory, TooLong}
@@ -17,12 +17,12 @@ limited fits (Err refusal) = Err refusal
 
 -- ---- the one free choice: memory
 
--- a refusal is `Memory`, where that may be, or one that the definitions say
+-- a refusal is `Memory`, where memory may be lacking (`lacks`), or one that is the definitions' own (`said`)
 abbrev pub OrMemory : Type 0 → (Refusal → Type 0) → Refusal → Type 0
 OrMemory lacks said Memory = lacks
 OrMemory lacks said refusal = said refusal
 
--- memory may be refused where something comes of it, or `TooLong`, and nowhere else
+-- memory may be lacking where something comes of it, and where it is `TooLong`; nowhere else
 abbrev pub MayLackMemory : {T : Type 0} → Result T Refusal → Type 0
 MayLackMemory (Ok x) = Unit {0}
 MayLackMemory (Err TooLong) = Unit {0}
@@ -32,7 +32,7 @@ MayLackMemory (Err refusal) = ⊥
 abbrev pub MayRefuse : {T : Type 0} → Result T Refusal → Refusal → Type 0
 MayRefuse outcome refusal = OrMemory (MayLackMemory outcome) (λ said. outcome ≡ Err said) refusal
 
--- a call answers the outcome of the definitions, seen so in what it gives, or `Memory` where that may be
-abbrev pub Answers : {T C : Type 0} → (C → T) → Result T Refusal → Result C Refusal → Type 0
-Answers view outcome (Ok made) = outcome ≡ Ok (view made)
-Answers view outcome (Err refusal) = MayRefuse outcome refusal
+-- a call answers this outcome, `view` saying how what it gives is seen, or `Memory` where that may be
+abbrev pub MayAnswer : {T C : Type 0} → (C → T) → Result T Refusal → Result C Refusal → Type 0
+MayAnswer view outcome (Ok made) = outcome ≡ Ok (view made)
+MayAnswer view outcome (Err refusal) = MayRefuse outcome refusal

@@ -8,7 +8,7 @@ use Rattle.trac_rules.specs.declared.kind.Kind.{Kind}
 use Rattle.trac_rules.specs.declared.kind.Kind.TheVariants.{Active, Neutral}
 use Rattle.trac_rules.specs.declared.primitive.Primitive.{Primitive}
 use Rattle.trac_rules.specs.declared.primitive.Primitive.TheVariants.{PrintString, ReadString, Compute, Handle, Unknown}
-use Rattle.trac_rules.specs.declared.primitive.Named.{Named}
+use Rattle.trac_rules.specs.declared.primitive.NamedPrimitive.{NamedPrimitive}
 use Rattle.trac_rules.specs.declared.primitive.TheConstants.{NAMES}
 use Rattle.trac_rules.specs.declared.refusal.Refusal.{Refusal}
 use Rattle.trac_rules.specs.Computing.{computed}
@@ -22,12 +22,12 @@ use Rattle.trac_rules.specs.State.{Environment, State, storage_of}
 -- ---- names
 
 -- what an entry of a table of names stands for, if there is one
-abbrev pub named_primitive : Option Named → Primitive
+abbrev pub named_primitive : Option NamedPrimitive → Primitive
 named_primitive None = Unknown
 named_primitive (Some entry) = entry.primitive
 
 -- what a name stands for by a table: the first entry of these letters, each in either case (this project's profile)
-abbrev pub looked_up : List Named → List ℕ → Primitive
+abbrev pub looked_up : List NamedPrimitive → List ℕ → Primitive
 looked_up table name = named_primitive (find (λ entry. str_eq_ignore_ascii_case name entry.letters) table)
 
 -- what a name stands for; an unknown name is no primitive's (this project's profile)
@@ -36,7 +36,8 @@ primitive_of name = looked_up NAMES name
 
 -- ---- primitives
 
--- what a primitive does with these arguments, its name being the first, in this state: it sees no texts
+-- what a primitive does with these arguments, its name being the first, in this state: of it a primitive uses the meta character, the
+-- position and the storage alone
 abbrev pub effect_of : Primitive → Environment → List (List ℕ) → State → Result Effect Refusal
 effect_of PrintString environment arguments s = Ok (prints (argument 1 arguments) (storage_of s))
 effect_of ReadString environment arguments s = string_read (unread environment.tape s) environment.tape.ended s.meta (storage_of s)

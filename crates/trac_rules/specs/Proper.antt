@@ -1,5 +1,5 @@
 -- Proper states: what is true of every state that a machine shows.
-use Rattle.std.specs.Prelude.{◌≡◌, ℕ, ◌≤◌, ◌&&◌, not, nat_le, List, [], ◌∷◌, length, map, Bool, true, Option, None, Some}
+use Rattle.std.specs.Prelude.{◌≡◌, ℕ, ◌≤◌, ◌&&◌, not, nat_le, List, [], ◌∷◌, length, map, Bool, true, None, Some}
 use Rattle.std.specs.FinMap as finite
 use Rattle.std.specs.List.{All, IsDistinct, list_all, list_any}
 use Rattle.std.specs.Str.{bytes_eq}
@@ -24,7 +24,7 @@ pub record AreHeld (held : List (List ℕ × Form)) : Type 0 where
   pub each : All (λ entry. IsProperForm entry.0 entry.1) held
   pub distinct : IsDistinct bytes_eq (map (λ entry. entry.0) held)
 
--- an erased block is proper
+-- the forms that a block holds are proper; an erased block holds none
 abbrev pub IsProperBlock : Block → Type 0
 IsProperBlock None = Unit {0}
 IsProperBlock (Some held) = AreHeld held
@@ -35,7 +35,7 @@ pub record IsProperStorage (storage : Storage) : Type 0 where
   pub block_count : length storage.blocks ≤ BLOCK_LIMIT
   pub blocks : All IsProperBlock storage.blocks
 
--- all parts are within the limits
+-- texts, marks and output are within the limits, and the storage is proper
 pub record IsProper (s : State) : Type 0 where
   pub texts : texts_fit s ≡ true
   pub storage : IsProperStorage (storage_of s)
@@ -47,6 +47,7 @@ pub record IsProperOn (tape : Tape) (s : State) : Type 0 where
 
 -- ---- the same as a decision
 
+-- whether a form and its name are within the limits, and each gap wide
 abbrev pub is_proper_form : List ℕ → Form → Bool
 is_proper_form name form = form_fits name form && list_all (λ item. nat_le 1 (width_of item)) (all_items form)
 
@@ -55,14 +56,17 @@ abbrev pub are_distinct : List (List ℕ) → Bool
 are_distinct [] = true
 are_distinct (name ∷ names) = not (list_any (bytes_eq name) names) && are_distinct names
 
+-- whether there are not too many forms, and each is proper
 abbrev pub are_proper_forms : Forms → Bool
 are_proper_forms forms = nat_le (finite.len forms) FORM_COUNT_LIMIT && list_all (λ entry. is_proper_form entry.0 entry.1) (finite.entries forms)
 
+-- whether the forms that a block holds are proper
 abbrev pub is_proper_block : Block → Bool
 is_proper_block None = true
 is_proper_block (Some held) =
     nat_le (length held) FORM_COUNT_LIMIT && list_all (λ entry. is_proper_form entry.0 entry.1) held && are_distinct (map (λ entry. entry.0) held)
 
+-- whether forms and blocks are proper
 abbrev pub is_proper_storage : Storage → Bool
 is_proper_storage storage =
     are_proper_forms storage.forms && nat_le (length storage.blocks) BLOCK_LIMIT && list_all is_proper_block storage.blocks

@@ -21,6 +21,7 @@ stop_of TooLong = LimitPassed
 stop_of Ended = InputEnded
 stop_of refusal = InputEnded
 
+-- a state with its output emptied
 abbrev pub silent : State → State
 silent s = record s { output = [] }
 

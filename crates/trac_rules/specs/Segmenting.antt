@@ -1,5 +1,5 @@
--- Segmenting: how texts are cut out of a form, the leftmost occurrences that do not overlap each leaving a gap (all of it is this
--- project's profile).
+-- Segmenting: how texts are cut out of a form, the leftmost occurrences that do not overlap each leaving a gap. That occurrences are
+-- the leftmost, what null texts do and that none crosses a gap is this project's profile.
 use Rattle.std.specs.Prelude.{ℕ, zero, suc, ◌+◌, List, [], ◌∷◌, ◌++◌, length, take, drop, Bool, Option, None, Some}
 use Rattle.std.specs.List.{flat_map}
 use Rattle.std.specs.Str.{bytes_eq}
@@ -57,7 +57,7 @@ runs_of (Gap ordinal width ∷ items) = gap_before (Gap ordinal width) (runs_of 
 
 -- the gaps as they are, and each run as `cut` leaves it
 abbrev pub replaced : (List ℕ → List Item) → Runs → List Item
-replaced cut r = cut r.first ++ flat_map (λ gap. gap.0 ∷ cut gap.1) r.others
+replaced cut r = cut r.first ++ flat_map (λ piece. piece.0 ∷ cut piece.1) r.others
 
 -- items with the text of number k cut out of each run between gaps
 unfoldable pub cut_out : ℕ → List ℕ → List Item → List Item

@@ -10,7 +10,7 @@ use Rattle.trac_rules.specs.Outcomes.{OrMemory}
 use Rattle.trac_rules.specs.Stepping.{step}
 
 pub record PlainSession : Type 0 where
-  -- how many states there may be beside the last one: at least one, and at most JOURNAL_LIMIT
+  -- how many states there may be beside the last one
   pub limit : ℕ
   pub tape : Tape
   -- the states before the last one, the newest first
@@ -105,7 +105,7 @@ accepted_by a = accepted_as a.reply a.session
     accepted_as Done p = Some p
     accepted_as (Refused refusal) p = None
 
--- the session after as many accepted commands of one kind
+-- the session after n times this command; none where one of them is refused
 abbrev pub repeated : Command → ℕ → PlainSession → Option PlainSession
 repeated command zero p = Some p
 repeated command (suc n) p = option_and_then (λ q. accepted_by (answer command q)) (repeated command n p)
@@ -118,22 +118,23 @@ Goal = State → Bool
 abbrev pub no_goal : Goal
 no_goal s = false
 
--- a walk is over: all its steps were accepted, or it took one at least and its goal is met
-abbrev pub IsOver : Goal → ℕ → ℕ → PlainSession → Type 0
-IsOver goal n steps new = (steps ≡ n) ⊎ ((0 < steps) × (goal new.last ≡ true))
+-- a walk has come to its end: all its steps were accepted, or it took one at least and its goal is met
+abbrev pub HasEnded : Goal → ℕ → ℕ → PlainSession → Type 0
+HasEnded goal n steps new = (steps ≡ n) ⊎ ((0 < steps) × (goal new.last ≡ true))
 
--- a walk of at most n steps forward or back, to a goal: `steps` of them were accepted, the goal was not met before the last of
--- them, and where the walk is not over then, a refusal ended it
+-- a walk from one session to another of at most n steps forward or back, to a goal: `steps` of them were accepted, the goal was not
+-- met before the last of them, and where the walk is not over then, a refusal ended it. That a goal was not met after all its steps
+-- is no refusal of the walk; who asked for the goal may say so
 pub record IsWalk (command : Command) (goal : Goal) (n : ℕ) (old : PlainSession) (steps : ℕ) (why : Option Refusal) (new : PlainSession) : Type 0 where
   pub within : steps ≤ n
   pub walked : repeated command steps old ≡ Some new
   pub unmet : (k : ℕ) → (p : PlainSession) → 0 < k → k < steps → repeated command k old ≡ Some p → goal p.last ≡ false
-  pub stopped : MatchOption why (IsOver goal n steps new) (λ refusal.
+  pub stopped : MatchOption why (HasEnded goal n steps new) (λ refusal.
       (steps < n) × (0 < steps → goal new.last ≡ false) × Answers command new (Refused refusal) new)
 
 -- ---- lists of commands
 
--- these may be the replies to these commands, one after another
+-- these may be the replies to these commands, one after another, from the session `old` to the session `new`
 abbrev pub Run : List Command → List Reply → PlainSession → PlainSession → Type 0
 Run [] [] old new = new ≡ old
 Run (command ∷ commands) (reply ∷ replies) old new = (middle : PlainSession) × (Answers command old reply middle) × Run commands replies middle new

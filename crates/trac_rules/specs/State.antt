@@ -19,7 +19,8 @@ pub record Frame : Type 0 where
 abbrev pub Forms : Type 0
 Forms = FinMap (slice_cmp nat_cmp) Form
 
--- a block is the forms that it holds, in their order, with their names, no name twice; none where it is erased
+-- a block is the forms that it holds, in their order, with their names; none where it is erased. In a proper state no name stands
+-- twice in it (`AreHeld`)
 abbrev pub Block : Type 0
 Block = Option (List (List ℕ × Form))
 
@@ -28,6 +29,7 @@ pub record Storage : Type 0 where
   pub forms : Forms
   pub blocks : List Block
 
+-- all that a processor remembers from one step to the next
 pub record State : Type 0 where
   -- what is not scanned yet
   pub active : List ℕ

@@ -1,5 +1,5 @@
 -- One step.
-use Rattle.std.specs.Prelude.{List, ℕ, Option, None, Some, Result, Ok, Err}
+use Rattle.std.specs.Prelude.{List, ℕ, Option, None, Some, Result, Ok}
 use Rattle.trac_rules.specs.declared.refusal.Refusal.{Refusal}
 use Rattle.trac_rules.specs.State.{Environment, State}
 use Rattle.trac_rules.specs.Scanning.{Scanned, Moves, Calls, scan}
@@ -13,8 +13,8 @@ abbrev pub carried_out : Environment → Scanned → Result State Refusal
 carried_out environment (Moves t) = Ok t
 carried_out environment (Calls call) = seen_as (after_call call) (performed environment call)
 
--- the state after a step, or why it is refused: only the state after the step is judged; its forms were judged where the call
--- changed them
+-- the state after a step, or why it is refused: only the state after the step is judged. Its forms were judged where
+-- the call changed them: where the state before is proper, that is the same as judging all of the state after it
 unfoldable pub step : Environment → State → Result State Refusal
 step environment s = limited texts_fit (carried_out environment (scan s))
 

@@ -17,7 +17,7 @@ pub enum Primitive {
     Compute(Computation),
     /// A primitive that looks at the forms or changes them.
     Handle(FormAction),
-    /// Any other name, and those of primitives that are not there yet: its value is null, and it does nothing (this
+    /// Any other name, and that of a primitive that is not there yet: the value is null, and nothing is done (this
     /// project's profile).
     Unknown,
 }
@@ -79,7 +79,7 @@ pub enum FormAction {
 
 /// A primitive with its name.
 #[derive(Clone, Copy, Debug, PartialEq, Eq)]
-pub struct Named {
+pub struct NamedPrimitive {
     /// The two letters of the name, as lowercase.
     pub letters: [u8; 2],
     /// What the name stands for.
@@ -87,88 +87,88 @@ pub struct Named {
 }
 
 /// The names of the primitives. Any other name is unknown.
-pub const NAMES: [Named; 21] = [
-    Named {
+pub const NAMES: [NamedPrimitive; 21] = [
+    NamedPrimitive {
         letters: *b"ps",
         primitive: Primitive::PrintString,
     },
-    Named {
+    NamedPrimitive {
         letters: *b"rs",
         primitive: Primitive::ReadString,
     },
-    Named {
+    NamedPrimitive {
         letters: *b"eq",
         primitive: Primitive::Compute(Computation::Equal),
     },
-    Named {
+    NamedPrimitive {
         letters: *b"gr",
         primitive: Primitive::Compute(Computation::Greater),
     },
-    Named {
+    NamedPrimitive {
         letters: *b"ad",
         primitive: Primitive::Compute(Computation::Calculate(Operation::Add)),
     },
-    Named {
+    NamedPrimitive {
         letters: *b"su",
         primitive: Primitive::Compute(Computation::Calculate(Operation::Subtract)),
     },
-    Named {
+    NamedPrimitive {
         letters: *b"ml",
         primitive: Primitive::Compute(Computation::Calculate(Operation::Multiply)),
     },
-    Named {
+    NamedPrimitive {
         letters: *b"dv",
         primitive: Primitive::Compute(Computation::Calculate(Operation::Divide)),
     },
-    Named {
+    NamedPrimitive {
         letters: *b"bu",
         primitive: Primitive::Compute(Computation::Union),
     },
-    Named {
+    NamedPrimitive {
         letters: *b"bi",
         primitive: Primitive::Compute(Computation::Meet),
     },
-    Named {
+    NamedPrimitive {
         letters: *b"bc",
         primitive: Primitive::Compute(Computation::Complement),
     },
-    Named {
+    NamedPrimitive {
         letters: *b"bs",
         primitive: Primitive::Compute(Computation::Shift),
     },
-    Named {
+    NamedPrimitive {
         letters: *b"br",
         primitive: Primitive::Compute(Computation::Rotate),
     },
-    Named {
+    NamedPrimitive {
         letters: *b"ds",
         primitive: Primitive::Handle(FormAction::Define),
     },
-    Named {
+    NamedPrimitive {
         letters: *b"dd",
         primitive: Primitive::Handle(FormAction::Delete),
     },
-    Named {
+    NamedPrimitive {
         letters: *b"da",
         primitive: Primitive::Handle(FormAction::DeleteAll),
     },
-    Named {
+    NamedPrimitive {
         letters: *b"ss",
         primitive: Primitive::Handle(FormAction::Segment),
     },
-    Named {
+    NamedPrimitive {
         letters: *b"cr",
         primitive: Primitive::Handle(FormAction::Restore),
     },
-    Named {
+    NamedPrimitive {
         letters: *b"cl",
         primitive: Primitive::Handle(FormAction::Call),
     },
-    Named {
+    NamedPrimitive {
         letters: *b"ln",
         primitive: Primitive::Handle(FormAction::ListNames),
     },
-    Named {
+    NamedPrimitive {
         letters: *b"pf",
         primitive: Primitive::Handle(FormAction::PrintForm),
     },

@@ -26,13 +26,17 @@ fn command_lines(rt: HostRuntime) -> Result<(), Fail> {
             _ => panic!(rt; "help is shown"),
         }
     }
+    match read_line(alloc, ["trac", "--version"].as_slice())? {
+        Line::Help(text) => assert!(rt; text.starts_with("trac 0.1.0 (rattle-kit-")),
+        _ => panic!(rt; "the version is shown"),
+    }
     for words in [
         ["trac"].as_slice(),
         ["trac", "walk"].as_slice(),
         ["trac", "help"].as_slice(),
         ["trac", "run", "file"].as_slice(),
         ["trac", "run", "--fast"].as_slice(),
-        ["trac", "--version"].as_slice(),
+        ["trac", "run", "--version"].as_slice(),
     ] {
         match read_line(alloc, words)? {
             Line::Bad(text) => assert!(rt; text.starts_with("error: ")),

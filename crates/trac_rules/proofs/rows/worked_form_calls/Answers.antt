@@ -5,7 +5,7 @@ use Rattle.trac_rules.specs.Form.{as_items, at_start, pointed_at}
 use Rattle.trac_rules.specs.Rows.{texts_of}
 use Rattle.trac_rules.specs.Segmenting.{part, cut_out}
 use Rattle.trac_rules.specs.declared.item.Item.TheVariants.{Byte, Gap}
-use Rattle.trac_rules.specs.declared.primitive.FormAction.TheVariants.{Call, Define, Delete, DeleteAll, ListNames, PrintForm, Restore, Segment}
+use Rattle.trac_rules.specs.declared.primitive.FormAction.TheVariants.{Call, PrintForm, Restore, Segment}
 use Rattle.trac_rules.proofs.FormCalls.{calls, defines, deletes, deletes_all, finds_none, lists, prints_form, restores, segments}
 use Rattle.trac_rules.proofs.rows.worked_form_calls.Goals as goal
 

@@ -1,15 +1,10 @@
 -- Each clause is computed from the definitions.
-use Rattle.std.proofs.Common.{◌≡◌, ◌++◌, ◌∷◌, [], List, ℕ, codes, map, refl, sym, ap, ◌∙◌}
-use Rattle.std.specs.FinMap as finite
+use Rattle.std.proofs.Common.{◌++◌, ◌∷◌, [], List, ℕ, codes, map, refl, ap}
 use Rattle.std.specs.Fmt.{digits}
 use Rattle.std.specs.List.{flat_map}
-use Rattle.std.specs.Cmp.Lexicographic.{slice_cmp, nat_list_cmp_total}
-use Rattle.std.specs.FinMap.Entries.{put}
-use Rattle.std.specs.Ordering.{nat_cmp}
-use Rattle.std.proofs.lemmas.List.{nil_from_length}
 use Rattle.trac_rules.specs.Form.{Form, defined}
 use Rattle.trac_rules.specs.Segmenting.{part, cut_out}
-use Rattle.trac_rules.specs.State.{Forms}
+use Rattle.trac_rules.proofs.FormCalls.{entries-held}
 use Rattle.trac_rules.proofs.rows.worked_forms.Goals as goal
 
 pub returns-clause-two_texts : goal.returns-clause-two_texts
@@ -60,20 +55,10 @@ pub returns-clause-pointer_at_the_end : goal.returns-clause-pointer_at_the_end
 unfolding part cut_out digits
 returns-clause-pointer_at_the_end c = refl
 
--- an empty map has no entries
-none : finite.entries (let nothing : Forms = finite.empty in nothing) ≡ []
-none = nil_from_length (finite.entries (let nothing : Forms = finite.empty in nothing)) (sym (finite.len-entries (let nothing : Forms = finite.empty in nothing)) ∙ finite.len-empty (slice_cmp nat_cmp) Form)
-
--- the entries of the two forms, in the order of their names
-both : finite.entries (finite.insert (finite.insert (let nothing : Forms = finite.empty in nothing) (codes "b") (defined (codes "1"))) (codes "a") (defined (codes "2")))
-    ≡ (codes "a", defined (codes "2")) ∷ (codes "b", defined (codes "1")) ∷ []
-both =
-    finite.entries-insert nat_list_cmp_total (finite.insert finite.empty (codes "b") (defined (codes "1"))) (codes "a") (defined (codes "2"))
-    ∙ ap (put (slice_cmp nat_cmp) (codes "a") (defined (codes "2"))) (finite.entries-insert nat_list_cmp_total finite.empty (codes "b") (defined (codes "1")))
-    ∙ ap (λ (es : List (List ℕ × Form)). put (slice_cmp nat_cmp) (codes "a") (defined (codes "2")) (put (slice_cmp nat_cmp) (codes "b") (defined (codes "1")) es)) none
-
 pub returns-clause-names : goal.returns-clause-names
-returns-clause-names c = ap (λ (es : List (List ℕ × Form)). flat_map (λ name. codes "," ++ name) (map (λ e. e.0) es)) both
+returns-clause-names c =
+    ap (λ (es : List (List ℕ × Form)). flat_map (λ name. codes "," ++ name) (map (λ e. e.0) es))
+    (entries-held ((codes "a", defined (codes "2")) ∷ (codes "b", defined (codes "1")) ∷ []))
 
 pub returns-clause-widths : goal.returns-clause-widths
 unfolding part cut_out digits

@@ -7,4 +7,4 @@ pub returns : goal.returns
 returns g c =
     c.count_full.ensures.count
     ∙ sym (values_filter c.self.inside.table.entries)
-    ∙ sym (counted (λ k. k.items) c.self.inside.table.entries c.args.self.now c.self.view_is c.count_full.ensures.unique)
+    ∙ sym (counted (λ k. k.items) c.self.inside.table.entries _ c.args.self.now c.self.view_is c.count_full.ensures.unique)

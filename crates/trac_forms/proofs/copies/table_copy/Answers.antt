@@ -3,7 +3,7 @@ use Rattle.std.proofs.Common.{◌∙◌}
 use Rattle.std.specs.Map.Iter.{deref_pair}
 use Rattle.std.proofs.lemmas.Map.Iter.{rest_more}
 use Rattle.trac_forms.proofs.Tables.{entry_new, entry_added}
-use Rattle.trac_forms.proofs.listing.table_copy.Goals as goal
+use Rattle.trac_forms.proofs.copies.table_copy.Goals as goal
 
 pub add_entry-requires : goal.add_entry-requires
 add_entry-requires g c =

@@ -1,0 +1,7 @@
+-- The entries so far are copied.
+use Rattle.std.proofs.Common.{◌≡◌, take}
+use Rattle.trac_forms.specs.Table.{named}
+use Rattle.trac_forms.proofs.block.Block.copy.Given as goal
+
+abbrev pub invariant-loop-key : goal.invariant-loop-key
+invariant-loop-key g l = named (λ k. k.items) l.entries.items ≡ named (λ k. k.items) (take l.key-index l.key-items)
