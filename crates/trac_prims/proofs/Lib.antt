@@ -2,3 +2,9 @@ pub mod Cutting
 pub mod Neutral
 pub mod Ending
 pub mod Peeling
+pub mod Made
+pub mod Calculated
+pub mod FirstPlaces
+pub mod Putting
+pub mod Listed
+pub mod Held

@@ -3,3 +3,5 @@ pub mod Cuts
 pub mod Neutral
 pub mod Frames
 pub mod Tape
+pub mod Effects
+pub mod Plans

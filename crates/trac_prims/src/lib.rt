@@ -2,8 +2,16 @@
 #![tactic(auto)]
 
 pub mod args;
+mod bits;
+pub mod change;
+mod decimals;
+mod decisions;
+pub mod effect;
+mod forms;
 pub mod frames;
+mod io;
 pub mod mark;
+mod name;
 #[cfg(test)]
 mod refusals;
 pub mod tape;
@@ -11,6 +19,8 @@ pub mod tape;
 mod tests;
 
 pub use args::Args;
+pub use change::Change;
+pub use effect::{Effect, Now};
 pub use frames::{Innermost, NeutralText};
 pub use mark::Mark;
 pub use tape::Tape;

@@ -1,0 +1,18 @@
+use Rattle.std.proofs.Common.{◌≡◌, ℕ, List, ap, ◌∙◌}
+use Rattle.trac_rules.specs.Computing.{octal_argument}
+use Rattle.trac_rules.specs.Effect.{argument}
+use Rattle.trac_rules.specs.Octal.{bits_of, meet, octal_tail, text_of}
+use Rattle.trac_rules.proofs.OctalTexts.{text_from_bits}
+use Rattle.trac_prims.proofs.Made.{given}
+use Rattle.trac_prims.proofs.bits.meet_of.Goals as goal
+
+pub returns : goal.returns
+returns g c = λ storage.
+    let first : c.octal_tail.result.now ≡ octal_tail (argument 1 c.args.args.now) = c.octal_tail.ensures.value ∙ ap octal_tail c.get.ensures in
+    let second : c.octal_tail-2.result.now ≡ octal_tail (argument 2 c.args.args.now) = c.octal_tail-2.ensures.value ∙ ap octal_tail c.get-2.ensures in
+    let wanted = meet (octal_argument 1 c.args.args.now) (octal_argument 2 c.args.args.now) in
+    given c.keeping.result storage (c.keeping.ensures storage) c.in_ok-value.value (text_of wanted)
+    (text_from_bits c.in_ok-value.value.items wanted c.in_ok-value.ensures.octal
+    (c.in_ok-value.ensures.bits
+    ∙ ap (λ (text : List ℕ). meet (bits_of text) (bits_of c.octal_tail-2.result.now)) first
+    ∙ ap (λ (text : List ℕ). meet (octal_argument 1 c.args.args.now) (bits_of text)) second))

@@ -1,0 +1,63 @@
+-- What is planned, as the definitions see it.
+use Rattle.std.specs.Prelude.{◌≡◌, ◌&&◌, ℕ, List, [], length, map, nat_le, Bool, Option, None, Some, Vec, Result, Ok, Err}
+use Rattle.std.specs.FinMap as finite
+use Rattle.trac_forms.specs.Stored.{Stored}
+use Rattle.trac_rules.specs.declared.limit.TheConstants.{OUTPUT_LIMIT, TEXT_LIMIT}
+use Rattle.trac_rules.specs.declared.refusal.Refusal.{Refusal}
+use Rattle.trac_rules.specs.Effect.{Effect}
+use Rattle.trac_rules.specs.Form.{Form}
+use Rattle.trac_rules.specs.Handling.{keeping, pointing, without}
+use Rattle.trac_rules.specs.Outcomes.{MayLackMemory, OrMemory, limited}
+use Rattle.trac_rules.specs.State.{Storage}
+use Rattle.trac_prims.specs.declared.change.Change as code
+use Rattle.trac_prims.specs.declared.change.Change.TheVariants.{Keep, Put, Remove, Clear, Point}
+use Rattle.trac_prims.specs.declared.effect.Effect as effect
+
+-- the storage that a store holds
+abbrev pub storage_in : Stored → Storage
+storage_in s = record { forms = s.forms; blocks = [] }
+
+-- texts of the code as lists of bytes
+abbrev pub texts_of : {A : Type 0} → List (Vec ℕ A) → List (List ℕ)
+texts_of texts = map (λ text. text.items) texts
+
+-- the storage where the pointer of a form, if it is there, is set
+abbrev pub pointed : List ℕ → ℕ → Option Form → Storage → Storage
+pointed name place None storage = storage
+pointed name place (Some form) storage = pointing name place form storage
+
+-- the storage after a change
+abbrev pub changed : {A : Type 0} → code.Change A → Storage → Storage
+changed Keep storage = storage
+changed (Put name form) storage = keeping (finite.insert storage.forms name.items form) storage
+changed (Remove names) storage = keeping (without (texts_of names.items) storage.forms) storage
+changed Clear storage = keeping finite.empty storage
+changed (Point name place) storage = pointed name.items place (finite.get storage.forms name.items) storage
+
+-- the effect on a storage of the pieces that were made
+abbrev pub effect_on : {A : Type 0} → Storage → effect.Effect A → Effect
+effect_on storage e = record {
+  value = e.value.items;
+  forced = e.forced;
+  printed = e.print.items;
+  read = e.read;
+  meta = e.meta;
+  trace = e.trace;
+  storage = changed e.change storage;
+}
+
+-- ---- pieces that are too long
+
+-- whether some state within the limits can hold the value and the printed text of an effect; what none can hold is not made
+abbrev pub pieces_fit : Effect → Bool
+pieces_fit e = nat_le (length e.value) TEXT_LIMIT && nat_le (length e.printed) OUTPUT_LIMIT
+
+-- why nothing is made where this is the outcome of the definitions: its refusal, `TooLong` too where no state can hold a piece, or
+-- `Memory` where that may be
+abbrev pub MayFail : Result Effect Refusal → Refusal → Type 0
+MayFail outcome refusal = OrMemory (MayLackMemory outcome) (λ said. limited pieces_fit outcome ≡ Err said) refusal
+
+-- what is made where this is the outcome of the definitions
+abbrev pub IsMade : {A : Type 0} → Storage → Result Effect Refusal → Result (effect.Effect A) Refusal → Type 0
+IsMade storage outcome (Ok e) = outcome ≡ Ok (effect_on storage e)
+IsMade storage outcome (Err refusal) = MayFail outcome refusal

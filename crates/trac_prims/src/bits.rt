@@ -1,0 +1,89 @@
+//! Bit strings: operations on the octal strings of arguments.
+ghost use Rattle.std.specs.Prelude.{◌≡◌, Ok};
+ghost use Rattle.trac_rules.specs.Computing.{computed};
+ghost use Rattle.trac_rules.specs.State.{Storage};
+ghost use Rattle.trac_rules.specs.declared.primitive.Computation.TheVariants.{Complement, Meet, Rotate, Shift, Union};
+ghost use Rattle.trac_prims.specs.Effects.{IsMade};
+
+use crate::args::Args;
+use crate::decimals::number_at;
+use crate::effect::Effect;
+use std::alloc::Allocator;
+use trac_num::{complement, meet, octal_tail, rotate, shift, union};
+use trac_rules::refusal::Refusal;
+
+// `bu`: the bitwise or of two octal strings.
+pub(crate) fn union_of<A: Allocator + Copy>(
+    alloc: A,
+    args: &Args<'_>,
+) -> Result<Effect<A>, Refusal>
+    ensures { (storage : Storage) → IsMade storage (Ok (computed Union args.now storage)) result }
+{
+    let value = union(alloc, octal_tail(args.get(1)), octal_tail(args.get(2)))?;
+    Ok(Effect {
+        value,
+        ..Effect::keeping(alloc)
+    })
+}
+
+// `bi`: the bitwise and of two octal strings.
+pub(crate) fn meet_of<A: Allocator + Copy>(
+    alloc: A,
+    args: &Args<'_>,
+) -> Result<Effect<A>, Refusal>
+    ensures { (storage : Storage) → IsMade storage (Ok (computed Meet args.now storage)) result }
+{
+    let value = meet(alloc, octal_tail(args.get(1)), octal_tail(args.get(2)))?;
+    Ok(Effect {
+        value,
+        ..Effect::keeping(alloc)
+    })
+}
+
+// `bc`: an octal string with each bit turned over.
+pub(crate) fn complement_of<A: Allocator + Copy>(
+    alloc: A,
+    args: &Args<'_>,
+) -> Result<Effect<A>, Refusal>
+    ensures { (storage : Storage) → IsMade storage (Ok (computed Complement args.now storage)) result }
+{
+    let value = complement(alloc, octal_tail(args.get(1)))?;
+    Ok(Effect {
+        value,
+        ..Effect::keeping(alloc)
+    })
+}
+
+// `bs`: an octal string with its bits moved; null where the number does not fit (this project's profile).
+pub(crate) fn shift_of<A: Allocator + Copy>(
+    alloc: A,
+    args: &Args<'_>,
+) -> Result<Effect<A>, Refusal>
+    ensures { (storage : Storage) → IsMade storage (Ok (computed Shift args.now storage)) result }
+{
+    let value = match number_at(args, 1) {
+        Some(by) => shift(alloc, by, octal_tail(args.get(2)))?,
+        None => Vec::new(alloc),
+    };
+    Ok(Effect {
+        value,
+        ..Effect::keeping(alloc)
+    })
+}
+
+// `br`: an octal string with its bits rotated; null where the number does not fit (this project's profile).
+pub(crate) fn rotation_of<A: Allocator + Copy>(
+    alloc: A,
+    args: &Args<'_>,
+) -> Result<Effect<A>, Refusal>
+    ensures { (storage : Storage) → IsMade storage (Ok (computed Rotate args.now storage)) result }
+{
+    let value = match number_at(args, 1) {
+        Some(by) => rotate(alloc, by, octal_tail(args.get(2)))?,
+        None => Vec::new(alloc),
+    };
+    Ok(Effect {
+        value,
+        ..Effect::keeping(alloc)
+    })
+}

@@ -1,0 +1,64 @@
+//! Decimals: an operation on the numbers of two arguments.
+ghost use Rattle.std.specs.Prelude.{◌≡◌, Ok};
+ghost use Rattle.trac_rules.specs.Computing.{computed, number_argument, result_of};
+ghost use Rattle.trac_rules.specs.Number.{on_both};
+ghost use Rattle.trac_rules.specs.State.{Storage};
+ghost use Rattle.trac_rules.specs.declared.primitive.Computation.TheVariants.{Calculate};
+ghost use Rattle.trac_prims.specs.Effects.{IsMade};
+
+use crate::args::Args;
+use crate::effect::Effect;
+use std::alloc::Allocator;
+use trac_num::{add, div, mul, print_into, read_tail, sub, value};
+use trac_rules::primitive::Operation;
+use trac_rules::refusal::Refusal;
+
+// `ad`, `su`, `ml` and `dv`: the prefix of the first number, and then the result; where there is no result the default
+// argument, which is forced.
+pub(crate) fn calculate<A: Allocator + Copy>(
+    alloc: A,
+    operation: Operation,
+    args: &Args<'_>,
+) -> Result<Effect<A>, Refusal>
+    ensures { (storage : Storage) → IsMade storage (Ok (computed (Calculate operation) args.now storage)) result }
+{
+    let Some(n) = result_on(operation, args) else {
+        let value = Vec::from_slice(alloc, args.get(3))?;
+        return Ok(Effect {
+            value,
+            forced: true,
+            ..Effect::keeping(alloc)
+        });
+    };
+    let mut value = Vec::from_slice(alloc, read_tail(args.get(1)).prefix)?;
+    print_into(n, &mut value)?;
+    Ok(Effect {
+        value,
+        ..Effect::keeping(alloc)
+    })
+}
+
+// The number of an argument, its prefix dropped; none where it does not fit.
+pub(crate) fn number_at(args: &Args<'_>, k: usize) -> Option<i64>
+    ensures { result ≡ number_argument k args.now }
+{
+    value(read_tail(args.get(k)).numeral)
+}
+
+// The result of an operation on the numbers of the two arguments behind the name, if it fits.
+fn result_on(operation: Operation, args: &Args<'_>) -> Option<i64>
+    ensures { result ≡ on_both (result_of operation) (number_argument 1 args.now) (number_argument 2 args.now) }
+{
+    operate(operation, number_at(args, 1)?, number_at(args, 2)?)
+}
+
+fn operate(operation: Operation, a: i64, b: i64) -> Option<i64>
+    ensures { result ≡ result_of operation a b }
+{
+    match operation {
+        Operation::Add => add(a, b),
+        Operation::Subtract => sub(a, b),
+        Operation::Multiply => mul(a, b),
+        Operation::Divide => div(a, b),
+    }
+}

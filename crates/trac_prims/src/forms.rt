@@ -1,0 +1,237 @@
+//! Calls that look at the forms or change them.
+ghost use Rattle.std.specs.Prelude.{◌≡◌, ◌≤◌, ◌++◌, length, flat_map, IfOk, IsOkUnless, SomeIff};
+ghost use Rattle.std.specs.FinMap as finite;
+ghost use Rattle.trac_rules.specs.Effect.{leaves};
+ghost use Rattle.trac_rules.specs.Handling.{handled, keeping, putting};
+ghost use Rattle.trac_rules.specs.Limits.{may_be_put};
+ghost use Rattle.trac_rules.specs.State.{Storage};
+ghost use Rattle.trac_rules.specs.declared.primitive.FormAction.TheVariants.{Define, Delete, ListNames, PrintForm, Restore, Segment, Call as CallForm};
+ghost use Rattle.trac_prims.specs.Effects.{IsMade, effect_on, storage_in, texts_of};
+
+use crate::args::{Args, Behind};
+use crate::change::Change;
+use crate::effect::Effect;
+use std::alloc::Allocator;
+use trac_forms::{Form, Store, Texts};
+use trac_rules::limit::{FORM_COUNT_LIMIT, MARK_LIMIT, NAME_LIMIT, TEXT_LIMIT};
+use trac_rules::refusal::Refusal;
+
+// `ds`: a text becomes a form.
+pub(crate) fn define<A: Allocator + Copy>(
+    alloc: A,
+    args: &Args<'_>,
+    store: &Store<A>,
+) -> Result<Effect<A>, Refusal>
+    ensures { IsMade (storage_in store.now) (handled Define args.now (storage_in store.now)) result }
+{
+    let form = Form::new(alloc, args.get(2))?;
+    put(alloc, store, args.get(1), form)
+}
+
+// `dd`: the forms of some names are deleted.
+pub(crate) fn delete<A: Allocator + Copy>(
+    alloc: A,
+    args: &Args<'_>,
+) -> Result<Effect<A>, Refusal>
+    ensures { (storage : Storage) → IsMade storage (handled Delete args.now storage) result }
+{
+    let names = copies(alloc, &args.behind(1))?;
+    Ok(Effect {
+        change: Change::Remove(names),
+        ..Effect::keeping(alloc)
+    })
+}
+
+// `da`: all forms are deleted.
+pub(crate) fn delete_all<A: Allocator + Copy>(alloc: A) -> Effect<A>
+    ensures { (storage : Storage) → effect_on storage result ≡ leaves (keeping finite.empty storage) }
+{
+    Effect {
+        change: Change::Clear,
+        ..Effect::keeping(alloc)
+    }
+}
+
+// `ss`: texts are cut out of a form.
+pub(crate) fn segment<A: Allocator + Copy>(
+    alloc: A,
+    args: &Args<'_>,
+    store: &Store<A>,
+) -> Result<Effect<A>, Refusal>
+    requires { length args.now ≤ MARK_LIMIT }
+    ensures { IsMade (storage_in store.now) (handled Segment args.now (storage_in store.now)) result }
+{
+    let name = args.get(1);
+    let Some(form) = store.get(name) else {
+        return Ok(Effect::keeping(alloc));
+    };
+    let segmented = form.segmented(&args.behind(2))?;
+    put(alloc, store, name, segmented)
+}
+
+// `cr`: the pointer of a form goes before its first item.
+pub(crate) fn restore<A: Allocator + Copy>(
+    alloc: A,
+    args: &Args<'_>,
+    store: &Store<A>,
+) -> Result<Effect<A>, Refusal>
+    ensures { IsMade (storage_in store.now) (handled Restore args.now (storage_in store.now)) result }
+{
+    let name = args.get(1);
+    if store.get(name).is_none() {
+        return Ok(Effect::keeping(alloc));
+    }
+    let name = Vec::from_slice(alloc, name)?;
+    Ok(Effect {
+        change: Change::Point(name, 0),
+        ..Effect::keeping(alloc)
+    })
+}
+
+// `cl`: a form from its pointer on, its gaps filled with texts.
+pub(crate) fn call<A: Allocator + Copy>(
+    alloc: A,
+    args: &Args<'_>,
+    store: &Store<A>,
+) -> Result<Effect<A>, Refusal>
+    ensures { IsMade (storage_in store.now) (handled CallForm args.now (storage_in store.now)) result }
+{
+    let Some(form) = store.get(args.get(1)) else {
+        return Ok(Effect::keeping(alloc));
+    };
+    let texts = args.behind(2);
+    let Some(len) = form.call_len(&texts) else {
+        return Err(Refusal::TooLong);
+    };
+    let mut value = Vec::with_capacity(alloc, len)?;
+    form.call_into(&texts, &mut value)?;
+    Ok(Effect {
+        value,
+        ..Effect::keeping(alloc)
+    })
+}
+
+// `ln`: the names of all forms, each with a text before it.
+pub(crate) fn list_names<A: Allocator + Copy>(
+    alloc: A,
+    args: &Args<'_>,
+    store: &Store<A>,
+) -> Result<Effect<A>, Refusal>
+    ensures { IsMade (storage_in store.now) (handled ListNames args.now (storage_in store.now)) result }
+{
+    let text = args.get(1);
+    let names = store.names()?;
+    let Some(len) = list_len(text, names.as_slice()) else {
+        return Err(Refusal::TooLong);
+    };
+    let value = list(alloc, text, names.as_slice(), len)?;
+    Ok(Effect {
+        value,
+        ..Effect::keeping(alloc)
+    })
+}
+
+// `pf`: a form is printed.
+pub(crate) fn print_form<A: Allocator + Copy>(
+    alloc: A,
+    args: &Args<'_>,
+    store: &Store<A>,
+) -> Result<Effect<A>, Refusal>
+    ensures { IsMade (storage_in store.now) (handled PrintForm args.now (storage_in store.now)) result }
+{
+    let Some(form) = store.get(args.get(1)) else {
+        return Ok(Effect::keeping(alloc));
+    };
+    let Some(len) = form.show_len() else {
+        return Err(Refusal::TooLong);
+    };
+    let mut print = Vec::with_capacity(alloc, len)?;
+    form.show_into(&mut print)?;
+    Ok(Effect {
+        print,
+        ..Effect::keeping(alloc)
+    })
+}
+
+// ---- pieces
+
+// Whether a form may be put under this name.
+fn may_put<A: Allocator + Copy>(store: &Store<A>, name: &[u8], form: &Form<A>) -> bool
+    ensures { result ≡ may_be_put name.now form.now store.now.forms }
+{
+    // `len` is called for its clauses: no form passes the limit on forms.
+    let _len = form.len();
+    if name.len() > NAME_LIMIT {
+        return false;
+    }
+    let count = store.form_count();
+    if store.get(name).is_some() {
+        count <= FORM_COUNT_LIMIT
+    } else {
+        count < FORM_COUNT_LIMIT
+    }
+}
+
+// A form is put under this name.
+fn put<A: Allocator + Copy>(
+    alloc: A,
+    store: &Store<A>,
+    name: &[u8],
+    form: Form<A>,
+) -> Result<Effect<A>, Refusal>
+    ensures { IsMade (storage_in store.now) (putting name.now form (storage_in store.now)) result }
+{
+    if !may_put(store, name, &form) {
+        return Err(Refusal::TooLong);
+    }
+    let name = Vec::from_slice(alloc, name)?;
+    Ok(Effect {
+        change: Change::Put(name, form),
+        ..Effect::keeping(alloc)
+    })
+}
+
+// Texts with memory of their own.
+fn copies<A: Allocator + Copy>(alloc: A, texts: &Behind<'_>) -> Result<Vec<Vec<u8, A>, A>, Refusal>
+    ensures made { IfOk result (λ copies. texts_of copies.items ≡ texts.now) }
+    ensures err { IsOkUnless result Refusal.Memory }
+{
+    let mut copies = Vec::new(alloc);
+    for i in 0..texts.count() {
+        copies.push(Vec::from_slice(alloc, texts.get(i))?)?;
+    }
+    Ok(copies)
+}
+
+// How many bytes the names take, each with a text before it, where that is no more than a text may have.
+fn list_len(text: &[u8], names: &[&[u8]]) -> Option<usize>
+    ensures { SomeIff result (length (flat_map (λ name. text.now ++ name.now) names.now) ≤ TEXT_LIMIT) (length (flat_map (λ name. text.now ++ name.now) names.now)) }
+{
+    let mut total = 0;
+    for name in names {
+        let len = text.len() + name.len();
+        if len > TEXT_LIMIT - total {
+            return None;
+        }
+        total += len;
+    }
+    Some(total)
+}
+
+// The names, each with a text before it, which take so many bytes together.
+fn list<A: Allocator + Copy>(
+    alloc: A,
+    text: &[u8],
+    names: &[&[u8]],
+    len: usize,
+) -> Result<Vec<u8, A>, Refusal>
+    ensures made { IfOk result (λ list. list.items ≡ flat_map (λ name. text.now ++ name.now) names.now) }
+    ensures err { IsOkUnless result Refusal.Memory }
+{
+    let mut list = Vec::with_capacity(alloc, len)?;
+    for name in names {
+        list.extend_from_slice(text)?;
+        list.extend_from_slice(name)?;
+    }
+    Ok(list)
+}
