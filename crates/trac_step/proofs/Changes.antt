@@ -123,35 +123,39 @@ unmatched_ends old cut last n c is l =
     ∙ ap (λ (e : Ends ℕ). record e { left = e.left ++ take (length e.right) e.right; right = drop (length e.right) e.right }) c
     ∙ (λ i. record old { left = old.left ++ take_all (length (drop 1 old.right)) (drop 1 old.right) (omega arith) i; right = drop_all (length (drop 1 old.right)) (drop 1 old.right) (omega arith) i })
 
--- ---- a copy, and the parts at the start
+-- ---- other rooms
 
 -- the same parts with other rooms
-pub copied_parts : {A : Type 0} (old new : Ends ℕ) (ms ns : Ends Mark) (store kept : Stored) (meta : ℕ) (trace : Bool) (position : ℕ) (output copy : Vec ℕ A) →
-    new.left ≡ old.left → new.right ≡ old.right → ns.left ≡ ms.left → kept ≡ store → copy.items ≡ output.items →
+pub rebuilt_parts : {A : Type 0} (old new : Ends ℕ) (ms ns : Ends Mark) (store kept : Stored) (meta : ℕ) (trace : Bool) (position : ℕ) (output copy : Vec ℕ A) →
+    new.left ≡ old.left → new.right ≡ old.right → ns.left ≡ ms.left → storage_in kept ≡ storage_in store → copy.items ≡ output.items →
     parts_of new ns kept meta trace position copy
-    ≡ record (parts_of old ms store meta trace position output) { text_room = new.capacity; mark_room = ns.capacity; output_room = vec_capacity copy }
-copied_parts old new ms ns store kept meta trace position output copy left right marks same items i =
-    record (parts_of old ms (same i) meta trace position output) {
+    ≡ record (parts_of old ms store meta trace position output) { text_room = new.capacity; mark_room = ns.capacity; output_room = vec_capacity copy; known = kept.known }
+rebuilt_parts old new ms ns store kept meta trace position output copy left right marks same items i =
+    record (parts_of old ms store meta trace position output) {
       active = right i;
       text = left i;
       marks = marks i;
+      storage = same i;
       output = items i;
       text_room = new.capacity;
       mark_room = ns.capacity;
       output_room = vec_capacity copy;
+      known = kept.known;
     }
 
-pub sound_roomier : (p : Parts) (text_room mark_room output_room : ℕ) → IsSound p → p.text_room ≤ text_room → p.mark_room ≤ mark_room →
-    IsSound (record p { text_room = text_room; mark_room = mark_room; output_room = output_room })
-sound_roomier p text_room mark_room output_room sound text marked = record {
+pub sound_rebuilt : (p : Parts) (text_room mark_room output_room : ℕ) (known : Names) → IsSound p → length p.active + length p.text ≤ text_room → length p.marks ≤ mark_room →
+    IsSound (record p { text_room = text_room; mark_room = mark_room; output_room = output_room; known = known })
+sound_rebuilt p text_room mark_room output_room known sound text marked = record {
   ordered = sound.ordered;
   text_limit = sound.text_limit;
   mark_limit = sound.mark_limit;
   output_limit = sound.output_limit;
-  text_room = omega (arith, sound.text_room, text);
-  mark_room = omega (arith, sound.mark_room, marked);
+  text_room = text;
+  mark_room = marked;
   storage = sound.storage;
 }
+
+-- ---- the parts at the start
 
 -- the parts of a machine at the start
 abbrev pub first_parts : ℕ → ℕ → Parts
@@ -192,32 +196,3 @@ sound_at_start made reserved filled ms store output made_is left right room fill
     ap (λ (e : Ends ℕ). parts_of e ms store APOSTROPHE false 0 output) filled_is
     ∙ (λ i. record (parts_of (record { left = none_left i; right = idle_program ++ none_right i; capacity = reserved.capacity }) (ms_is i) (store_is i) APOSTROPHE false 0 output) { output = items i })
     )) (sound_first reserved.capacity (vec_capacity output) (omega (arith, room)))
-
--- ---- room that is made
-
-pub grown_parts : {A : Type 0} (old new : Ends ℕ) (ms : Ends Mark) (store kept : Stored) (meta : ℕ) (trace : Bool) (position : ℕ) (output grown : Vec ℕ A) →
-    new.left ≡ old.left → new.right ≡ old.right → storage_in kept ≡ storage_in store → grown.items ≡ output.items →
-    parts_of new ms kept meta trace position grown
-    ≡ record (parts_of old ms store meta trace position output) { text_room = new.capacity; output_room = vec_capacity grown; known = kept.known }
-grown_parts old new ms store kept meta trace position output grown left right same items i =
-    record (parts_of old ms store meta trace position output) {
-      active = right i;
-      text = left i;
-      storage = same i;
-      output = items i;
-      text_room = new.capacity;
-      output_room = vec_capacity grown;
-      known = kept.known;
-    }
-
-pub sound_grown : (p : Parts) (text_room output_room : ℕ) (known : Names) → IsSound p → p.text_room ≤ text_room →
-    IsSound (record p { text_room = text_room; output_room = output_room; known = known })
-sound_grown p text_room output_room known sound text = record {
-  ordered = sound.ordered;
-  text_limit = sound.text_limit;
-  mark_limit = sound.mark_limit;
-  output_limit = sound.output_limit;
-  text_room = omega (arith, sound.text_room, text);
-  mark_room = sound.mark_room;
-  storage = sound.storage;
-}

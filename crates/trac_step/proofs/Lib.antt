@@ -10,3 +10,4 @@ pub mod Calls
 pub mod Beginnings
 pub mod Ended
 pub mod Pointers
+pub mod Planned

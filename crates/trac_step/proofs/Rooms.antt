@@ -1,7 +1,10 @@
 -- The room of a machine, which holds its own state.
-use Rattle.std.proofs.Common.{◌≡◌, ◌≤◌, length, ap, subst, arith, refl}
-use Rattle.std.specs.Prelude.{Result, Ok, Err, OnOk, OnErr}
-use Rattle.trac_forms.specs.Stored.{KnowsAll}
+use Rattle.std.proofs.Common.{◌≡◌, ℕ, ◌≤◌, List, length, ap, ◌∙◌, subst, arith, refl, Bool, true, false}
+use Rattle.std.specs.Prelude.{◌||◌}
+use Rattle.std.specs.Cmp.Lexicographic.{slice_cmp, nat_list_cmp_total}
+use Rattle.std.specs.FinSet as set
+use Rattle.std.specs.Ordering.{nat_cmp, eq_by_cmp}
+use Rattle.trac_forms.specs.Stored.{KnowsAll, Names}
 use Rattle.trac_rules.specs.Limits.{marks, text_bytes}
 use Rattle.trac_rules.specs.State.{State}
 use Rattle.trac_step.specs.Layout.{Parts, state_of, IsSound, Shown, shown_by}
@@ -48,3 +51,14 @@ HasRoom-parts p m sound view output names = subst (λ (n : Shown). HasRoom n n.s
 pub IsNoLess-parts : (p q : Parts) (m : Shown) → shown_by p ≡ m → p.text_room ≤ q.text_room → p.mark_room ≤ q.mark_room → p.output_room ≤ q.output_room → AreAmong p.known q.known →
     IsNoLess m (shown_by q)
 IsNoLess-parts p q m view text marks output names = subst (λ (n : Shown). IsNoLess n (shown_by q)) view (record { text = text; marks = marks; output = output; names = names })
+
+-- ---- names
+
+or_right : (b c : Bool) → c ≡ true → (b || c) ≡ true
+or_right true c h = refl
+or_right false c h = h
+
+-- one more name
+pub among_more : (known more : Names) (name : List ℕ) → more ≡ set.insert known name → AreAmong known more
+among_more known more name is = λ q h.
+    ap (λ (names : Names). set.contains names q) is ∙ set.contains-insert nat_list_cmp_total known name q ∙ or_right (eq_by_cmp (slice_cmp nat_cmp) q name) (set.contains known q) h

@@ -1,5 +1,7 @@
 -- What scanning says of a state, from what its active text begins with.
-use Rattle.std.proofs.Common.{◌≡◌, ◌<◌, List, [], ◌∷◌, length, refl, sym, ap, ◌∙◌, subst, arith}
+use Rattle.std.proofs.Common.{◌≡◌, ◌<◌, List, [], ◌∷◌, length, refl, sym, ap, ◌∙◌, subst, arith, true, false, Bool}
+use Rattle.std.proofs.lemmas.Bool.{eqb-true}
+use Rattle.std.specs.Prelude.{◌==◌, Result, Ok, Err, IfOk, OnOk}
 use Rattle.trac_rules.specs.declared.scan.Front.{Front}
 use Rattle.trac_rules.specs.declared.scan.Front.TheVariants.{Nothing, Opening, Layout, Comma, ActiveCall, NeutralCall, Sharp, Closing, Plain}
 use Rattle.trac_rules.specs.State.{Frame, State}
@@ -37,3 +39,13 @@ is_move s front at none = subst IsMove (sym (scan_front s front (sym at))) (move
     move_at Sharp none = tt
     move_at Plain none = tt
 
+
+-- where there are none, no function is begun
+pub no_frames : (fs : List Frame) (b : Bool) → b ≡ (length fs == 0) → b ≡ true → fs ≡ []
+no_frames [] b is h = refl
+no_frames (f ∷ fs) b is h = absurd (let some : 0 < length (f ∷ fs) = omega arith in let none : length (f ∷ fs) ≡ 0 = eqb-true (length (f ∷ fs)) 0 (sym is ∙ h) in omega (arith, some, none))
+
+-- a fact of what came of it, where something did
+pub if_ok : {X E : Type 0} {P : X → Type 0} {Q : Type 0} (r : Result X E) → ((x : X) → P x → Q) → IfOk r P → OnOk r Q
+if_ok (Ok x) f h = f x h
+if_ok (Err e) f h = h

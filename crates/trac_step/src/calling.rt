@@ -1,7 +1,7 @@
 //! The steps that perform a function.
 ghost use Rattle.std.specs.Prelude.{◌≡◌, ◌<◌, ◌≤◌, ◌+◌, ◌^◌, ◌++◌, length, take, drop, IfErr, IfOk, IsOkUnless, OnOk, Ok, Some, vec_capacity, vec_len};
 ghost use Rattle.trac_gap.specs.Ends.{item_count};
-ghost use Rattle.trac_rules.specs.Outcomes.{Answers, MayRefuse};
+ghost use Rattle.trac_rules.specs.Outcomes.{MayAnswer, MayRefuse};
 ghost use Rattle.trac_rules.specs.Proper.{IsProper};
 ghost use Rattle.trac_rules.specs.Scanning.{front_of, scan};
 ghost use Rattle.trac_rules.specs.Stepping.{step};
@@ -16,7 +16,7 @@ use crate::engine::Core;
 use crate::record::Record;
 use std::alloc::Allocator;
 use trac_gap::{PlainEnds, TwoEnds};
-use trac_prims::{Effect, Kind, Mark, Refusal, Tape};
+use trac_prims::{Effect, Kind, Mark, Now, Refusal, Tape, plan};
 use trac_rules::scan::Front;
 
 // Where a begun function begins.
@@ -79,12 +79,35 @@ impl<E: TwoEnds<u8, A>, A: Allocator + Copy> Core<E, A> {
         requires front { front_of self.now.state.active ≡ Front.Closing }
         requires inside { 0 < length self.now.state.frames }
         requires within { self.now.state.position ≤ length tape.bytes.now }
-        ensures outcome { Answers (λ r. state_after r.1 (scan self.now.state)) (step (environment_of tape.entry) self.now.state) result }
+        ensures outcome { MayAnswer (λ r. state_after r.1 (scan self.now.state)) (step (environment_of tape.entry) self.now.state) result }
         ensures beginning { IfOk result (λ r. BeginsInnermost self.now.state r.0) }
         ensures proper { IfOk result (λ r. IsProper (state_after r.1 (scan self.now.state))) }
         ensures read { IfOk result (λ r. self.now.state.position + r.1.read < 2 ^ 64) }
     {
-        Err(Refusal::Memory)
+        let Some(function) = self.neutral().innermost() else {
+            unreachable!()
+        };
+        let now = Now {
+            meta: self.meta,
+            trace: self.trace,
+            position: self.position,
+            output: self.output.len(),
+            text: self.text.right().len() - 1 + function.place,
+        };
+        let effect = plan(
+            *self.output.allocator(),
+            &function.arguments,
+            function.kind,
+            &self.store,
+            tape,
+            now,
+        )?;
+        let beginning = Beginning {
+            number: function.number,
+            place: function.place,
+            kind: function.kind,
+        };
+        Ok((beginning, effect))
     }
 
     // Makes room for what the call adds, so that finishing it needs no memory. The state stays.

@@ -48,7 +48,7 @@ impl<E: TwoEnds<u8, A>, A: Allocator + Copy> Core<E, A> {
 
     /// The forms by their names, the blocks, and the names that have a place.
     pub fn store(&self) -> &Store<A>
-        ensures { result.now ≡ record { forms = self.now.state.forms; known = self.now.known } }
+        ensures { result.now ≡ record { forms = self.now.state.forms; blocks = self.now.state.blocks; known = self.now.known } }
     {
         &self.store
     }

@@ -26,6 +26,15 @@ impl<E: TwoEnds<u8, A>, A: Allocator + Copy> Core<E, A> {
         ensures room { IsNoLess self.old self.new }
     {
         let Record::Whole(earlier) = taken;
+        self.put_back(earlier);
+    }
+
+    // Shows what an earlier machine shows, in this machine's room.
+    fn put_back(&mut self, earlier: Core<E, A>)
+        requires { HasRoom self.old earlier.state }
+        ensures state { self.new.state ≡ earlier.state }
+        ensures room { IsNoLess self.old self.new }
+    {
         refill(&mut self.text, earlier.text.left(), earlier.text.right());
         refill(&mut self.marks, earlier.marks.left(), &[]);
         self.output.clear();
@@ -33,6 +42,6 @@ impl<E: TwoEnds<u8, A>, A: Allocator + Copy> Core<E, A> {
         self.meta = earlier.meta;
         self.trace = earlier.trace;
         self.position = earlier.position;
-        self.store = earlier.store;
+        self.store.restore(earlier.store);
     }
 }
