@@ -5,7 +5,6 @@ use Rattle.std.proofs.lemmas.List.{take-take, length-take-le, length-drop, take-
 use Rattle.std.proofs.lemmas.Slice.{between_is}
 use Rattle.std.proofs.lemmas.Grind.{reverse_onto}
 use Rattle.trac_rules.specs.declared.kind.Kind.{Kind}
-use Rattle.trac_rules.specs.State.{Frame}
 use Rattle.trac_prims.specs.declared.mark.Mark.{Mark}
 use Rattle.trac_prims.specs.Cuts.{AreCuts, AreArguments, BeginsFunction, cut, no_mark}
 use Rattle.trac_prims.specs.Neutral.{Neutral, neutral, AreMarks, MarkedText, IsOrdered, neutral_of}

@@ -1,5 +1,5 @@
 -- The first place of a byte, as a search finds it.
-use Rattle.std.proofs.Common.{◌≡◌, ℕ, ◌<◌, ◌≤◌, Bool, true, false, cond, List, length, get_or, sym, ap, ◌∙◌, arith, ltb}
+use Rattle.std.proofs.Common.{◌≡◌, ℕ, cond, List, length, get_or, sym, ap, ◌∙◌, arith, ltb}
 use Rattle.std.specs.Prelude.{Option, Some, None, position, ◌==◌}
 use Rattle.std.specs.List.{position_or_len}
 use Rattle.std.proofs.lemmas.Bool.{false_from_ne_true, lt-ltb, le-ltb}

@@ -1,11 +1,10 @@
 -- Forms that are there, and forms that cannot be made.
-use Rattle.std.proofs.Common.{◌≡◌, ℕ, List, length, refl, ap, ◌∙◌, subst}
-use Rattle.std.specs.Prelude.{Option, None, Some, Result, Ok, Err}
+use Rattle.std.proofs.Common.{◌≡◌, ℕ, List, length, refl, ap}
+use Rattle.std.specs.Prelude.{Option, None, Some, Ok}
 use Rattle.trac_forms.specs.declared.error.FormError.{FormError}
 use Rattle.trac_forms.specs.declared.error.FormError.TheVariants.{Memory as NoMemory, TooLong as LongForm}
 use Rattle.trac_forms.specs.Outcomes.{MayRefuseForm, as_refusal}
-use Rattle.trac_rules.specs.declared.refusal.Refusal.{Refusal}
-use Rattle.trac_rules.specs.Effect.{Effect, leaves}
+use Rattle.trac_rules.specs.Effect.{leaves}
 use Rattle.trac_rules.specs.Form.{Form, defined}
 use Rattle.trac_rules.specs.Handling.{on_form, pointing, putting}
 use Rattle.trac_rules.specs.Outcomes.{limited}

@@ -5,9 +5,8 @@ use Rattle.std.proofs.lemmas.List.{take-take, length-take-le, length-reverse}
 use Rattle.trac_rules.specs.declared.kind.Kind.{Kind}
 use Rattle.trac_rules.specs.State.{Frame}
 use Rattle.trac_prims.specs.declared.mark.Mark.{Mark}
-use Rattle.trac_prims.specs.Cuts.{no_mark}
 use Rattle.trac_prims.specs.Frames.{IsFrame, IsInnermost}
-use Rattle.trac_prims.specs.Neutral.{Neutral, marked, neutral, AreMarks, MarkedText, IsOrdered, cut_back, neutral_of}
+use Rattle.trac_prims.specs.Neutral.{Neutral, marked, neutral, AreMarks, MarkedText, cut_back, neutral_of}
 use Rattle.trac_prims.proofs.Ending.{reverse_first}
 
 -- ---- frames by their numbers

@@ -1,7 +1,6 @@
 -- What is planned, as the definitions see it.
-use Rattle.std.specs.Prelude.{◌≡◌, ◌&&◌, ℕ, List, [], length, map, nat_le, Bool, Option, None, Some, Vec, Result, Ok, Err}
+use Rattle.std.specs.Prelude.{◌≡◌, ◌&&◌, ℕ, List, length, map, nat_le, Bool, Option, None, Some, Vec, Result, Ok, Err}
 use Rattle.std.specs.FinMap as finite
-use Rattle.trac_forms.specs.Stored.{Stored}
 use Rattle.trac_rules.specs.declared.limit.TheConstants.{OUTPUT_LIMIT, TEXT_LIMIT}
 use Rattle.trac_rules.specs.declared.refusal.Refusal.{Refusal}
 use Rattle.trac_rules.specs.Effect.{Effect}
@@ -12,10 +11,6 @@ use Rattle.trac_rules.specs.State.{Storage}
 use Rattle.trac_prims.specs.declared.change.Change as code
 use Rattle.trac_prims.specs.declared.change.Change.TheVariants.{Keep, Put, Remove, Clear, Point}
 use Rattle.trac_prims.specs.declared.effect.Effect as effect
-
--- the storage that a store holds
-abbrev pub storage_in : Stored → Storage
-storage_in s = record { forms = s.forms; blocks = [] }
 
 -- texts of the code as lists of bytes
 abbrev pub texts_of : {A : Type 0} → List (Vec ℕ A) → List (List ℕ)

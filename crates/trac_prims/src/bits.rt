@@ -13,10 +13,7 @@ use trac_num::{complement, meet, octal_tail, rotate, shift, union};
 use trac_rules::refusal::Refusal;
 
 // `bu`: the bitwise or of two octal strings.
-pub(crate) fn union_of<A: Allocator + Copy>(
-    alloc: A,
-    args: &Args<'_>,
-) -> Result<Effect<A>, Refusal>
+pub(crate) fn union_of<A: Allocator + Copy>(alloc: A, args: &Args<'_>) -> Result<Effect<A>, Refusal>
     ensures { (storage : Storage) → IsMade storage (Ok (computed Union args.now storage)) result }
 {
     let value = union(alloc, octal_tail(args.get(1)), octal_tail(args.get(2)))?;
@@ -27,10 +24,7 @@ pub(crate) fn union_of<A: Allocator + Copy>(
 }
 
 // `bi`: the bitwise and of two octal strings.
-pub(crate) fn meet_of<A: Allocator + Copy>(
-    alloc: A,
-    args: &Args<'_>,
-) -> Result<Effect<A>, Refusal>
+pub(crate) fn meet_of<A: Allocator + Copy>(alloc: A, args: &Args<'_>) -> Result<Effect<A>, Refusal>
     ensures { (storage : Storage) → IsMade storage (Ok (computed Meet args.now storage)) result }
 {
     let value = meet(alloc, octal_tail(args.get(1)), octal_tail(args.get(2)))?;
@@ -55,10 +49,7 @@ pub(crate) fn complement_of<A: Allocator + Copy>(
 }
 
 // `bs`: an octal string with its bits moved; null where the number does not fit (this project's profile).
-pub(crate) fn shift_of<A: Allocator + Copy>(
-    alloc: A,
-    args: &Args<'_>,
-) -> Result<Effect<A>, Refusal>
+pub(crate) fn shift_of<A: Allocator + Copy>(alloc: A, args: &Args<'_>) -> Result<Effect<A>, Refusal>
     ensures { (storage : Storage) → IsMade storage (Ok (computed Shift args.now storage)) result }
 {
     let value = match number_at(args, 1) {

@@ -35,11 +35,7 @@ pub(crate) fn greater_number<A: Allocator + Copy>(
 }
 
 // The argument that a decision gives.
-fn choice<A: Allocator + Copy>(
-    alloc: A,
-    first: bool,
-    args: &Args<'_>,
-) -> Result<Effect<A>, Refusal>
+fn choice<A: Allocator + Copy>(alloc: A, first: bool, args: &Args<'_>) -> Result<Effect<A>, Refusal>
     ensures { (storage : Storage) → IsMade storage (Ok (gives (chosen first args.now) storage)) result }
 {
     let value = Vec::from_slice(alloc, args.get(if first { 3 } else { 4 }))?;

@@ -1,12 +1,13 @@
 //! Calls that look at the forms or change them.
 ghost use Rattle.std.specs.Prelude.{◌≡◌, ◌≤◌, ◌++◌, length, flat_map, IfOk, IsOkUnless, SomeIff};
 ghost use Rattle.std.specs.FinMap as finite;
+ghost use Rattle.trac_forms.specs.Stored.{storage_in};
 ghost use Rattle.trac_rules.specs.Effect.{leaves};
 ghost use Rattle.trac_rules.specs.Handling.{handled, keeping, putting};
 ghost use Rattle.trac_rules.specs.Limits.{may_be_put};
 ghost use Rattle.trac_rules.specs.State.{Storage};
 ghost use Rattle.trac_rules.specs.declared.primitive.FormAction.TheVariants.{Define, Delete, ListNames, PrintForm, Restore, Segment, Call as CallForm};
-ghost use Rattle.trac_prims.specs.Effects.{IsMade, effect_on, storage_in, texts_of};
+ghost use Rattle.trac_prims.specs.Effects.{IsMade, effect_on, texts_of};
 
 use crate::args::{Args, Behind};
 use crate::change::Change;
@@ -29,10 +30,7 @@ pub(crate) fn define<A: Allocator + Copy>(
 }
 
 // `dd`: the forms of some names are deleted.
-pub(crate) fn delete<A: Allocator + Copy>(
-    alloc: A,
-    args: &Args<'_>,
-) -> Result<Effect<A>, Refusal>
+pub(crate) fn delete<A: Allocator + Copy>(alloc: A, args: &Args<'_>) -> Result<Effect<A>, Refusal>
     ensures { (storage : Storage) → IsMade storage (handled Delete args.now storage) result }
 {
     let names = copies(alloc, &args.behind(1))?;

@@ -12,17 +12,20 @@ pub mod frames;
 mod io;
 pub mod mark;
 mod name;
+mod planning;
 #[cfg(test)]
 mod refusals;
 pub mod tape;
 #[cfg(test)]
 mod tests;
+mod tracing;
 
 pub use args::Args;
 pub use change::Change;
 pub use effect::{Effect, Now};
 pub use frames::{Innermost, NeutralText};
 pub use mark::Mark;
+pub use planning::plan;
 pub use tape::Tape;
 pub use trac_rules::kind::Kind;
 pub use trac_rules::refusal::Refusal;

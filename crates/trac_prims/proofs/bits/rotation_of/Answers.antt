@@ -1,8 +1,8 @@
-use Rattle.std.proofs.Common.{◌≡◌, ℕ, List, ap, sym, ◌∙◌, w64, to_z, of_z}
+use Rattle.std.proofs.Common.{◌≡◌, ℕ, List, ap, ◌∙◌, w64, to_z, of_z}
 use Rattle.std.specs.Prelude.{Vec}
 use Rattle.std.proofs.lemmas.Int.{to_z-of_z}
 use Rattle.trac_rules.specs.Computing.{moved, number_argument, octal_argument}
-use Rattle.trac_rules.specs.Octal.{bits_of, octal_tail, rotate, text_of}
+use Rattle.trac_rules.specs.Octal.{bits_of, octal_tail, rotate}
 use Rattle.trac_rules.proofs.OctalTexts.{text_from_bits}
 use Rattle.trac_prims.proofs.Made.{given}
 use Rattle.trac_prims.proofs.bits.rotation_of.Goals as goal
@@ -16,9 +16,9 @@ returns g c = λ storage.
           let read_back : to_z w64 (of_z w64 w.in-Some.by) ≡ w.in-Some.by = to_z-of_z w64 w.in-Some.by search in
           ap (λ (v : Vec ℕ _). v.items) w.value-is
           ∙ text_from_bits w.in_ok-value-in-Some.value.items (rotate w.in-Some.by (octal_argument 2 c.args.args.now)) w.in_ok-value-in-Some.ensures.octal
-              (w.in_ok-value-in-Some.ensures.bits
-              ∙ ap (λ n. rotate n (bits_of w.octal_tail.result.now)) read_back
-              ∙ ap (λ (text : List ℕ). rotate w.in-Some.by (bits_of text)) (w.octal_tail.ensures.value ∙ ap octal_tail w.get.ensures))
+          (w.in_ok-value-in-Some.ensures.bits
+          ∙ ap (λ n. rotate n (bits_of w.octal_tail.result.now)) read_back
+          ∙ ap (λ (text : List ℕ). rotate w.in-Some.by (bits_of text)) (w.octal_tail.ensures.value ∙ ap octal_tail w.get.ensures))
           ∙ ap (λ n. moved rotate n (octal_argument 2 c.args.args.now)) w.in-Some.ensures
       | in-None w ↦ ap (λ (v : Vec ℕ _). v.items) w.value-is ∙ w.new-value.ensures.items ∙ ap (λ n. moved rotate n (octal_argument 2 c.args.args.now)) w.in-None.ensures
     ] in

@@ -1,8 +1,8 @@
-use Rattle.std.proofs.Common.{◌≡◌, ℕ, List, ◌++◌, Ok, true, refl, ap, sym, subst, ◌∙◌, w64, to_z, of_z}
+use Rattle.std.proofs.Common.{◌≡◌, ℕ, List, ◌++◌, Ok, true, refl, ap, subst, ◌∙◌, w64, to_z, of_z}
 use Rattle.std.proofs.lemmas.Int.{to_z-of_z}
 use Rattle.trac_rules.specs.Computing.{result_of}
 use Rattle.trac_rules.specs.Effect.{argument, gives_or_forces}
-use Rattle.trac_rules.specs.Number.{calculated, number_text, prefix_of}
+use Rattle.trac_rules.specs.Number.{number_text, prefix_of}
 use Rattle.trac_prims.specs.Effects.{IsMade}
 use Rattle.trac_prims.proofs.Calculated.{calculated-None, calculated-Some}
 use Rattle.trac_prims.proofs.Made.{forced, given}

@@ -5,7 +5,8 @@ use Rattle.trac_rules.specs.Effect.{gives}
 use Rattle.trac_rules.specs.Filling.{called}
 use Rattle.trac_rules.specs.Handling.{named_form, on_form}
 use Rattle.trac_rules.specs.Outcomes.{limited}
-use Rattle.trac_prims.specs.Effects.{pieces_fit, storage_in}
+use Rattle.trac_forms.specs.Stored.{storage_in}
+use Rattle.trac_prims.specs.Effects.{pieces_fit}
 use Rattle.trac_prims.proofs.Made.{value_beyond}
 use Rattle.trac_prims.proofs.forms.call.Goals as goal
 

@@ -4,7 +4,8 @@ use Rattle.trac_forms.specs.Outcomes.{MayRefuseForm}
 use Rattle.trac_rules.specs.Effect.{argument}
 use Rattle.trac_rules.specs.Form.{defined}
 use Rattle.trac_rules.specs.Handling.{putting}
-use Rattle.trac_prims.specs.Effects.{MayFail, storage_in}
+use Rattle.trac_forms.specs.Stored.{storage_in}
+use Rattle.trac_prims.specs.Effects.{MayFail}
 use Rattle.trac_prims.proofs.Held.{not_made}
 use Rattle.trac_prims.proofs.forms.define.Goals as goal
 

@@ -2,7 +2,7 @@ use Rattle.std.proofs.Common.{◌≡◌, ℕ, ◌<◌, List, ◌++◌, flat_map,
 use Rattle.trac_rules.specs.declared.limit.TheConstants.{TEXT_LIMIT}
 use Rattle.trac_rules.specs.Effect.{argument}
 use Rattle.trac_rules.specs.Listing.{listed}
-use Rattle.trac_prims.specs.Effects.{storage_in}
+use Rattle.trac_forms.specs.Stored.{storage_in}
 use Rattle.trac_prims.proofs.Listed.{listed_names}
 use Rattle.trac_prims.proofs.Made.{given, value_beyond}
 use Rattle.trac_prims.proofs.forms.list_names.Goals as goal

@@ -3,7 +3,8 @@ use Rattle.std.specs.FinMap as finite
 use Rattle.trac_rules.specs.Effect.{argument, leaves}
 use Rattle.trac_rules.specs.Handling.{named_form}
 use Rattle.trac_prims.specs.declared.change.Change.TheVariants.{Point}
-use Rattle.trac_prims.specs.Effects.{pointed, storage_in}
+use Rattle.trac_forms.specs.Stored.{storage_in}
+use Rattle.trac_prims.specs.Effects.{pointed}
 use Rattle.trac_prims.proofs.Held.{restored}
 use Rattle.trac_prims.proofs.Made.{changing}
 use Rattle.trac_prims.proofs.forms.restore.Goals as goal

@@ -1,4 +1,4 @@
-use Rattle.std.proofs.Common.{rules, ap, ◌∙◌, sym, ◌<◌, length, arith}
+use Rattle.std.proofs.Common.{rules, ap, ◌∙◌, sym, ◌<◌, length}
 use Rattle.trac_prims.specs.Neutral.{MarkedText, neutral_of}
 use Rattle.trac_prims.proofs.Peeling.{base_at}
 use Rattle.trac_prims.proofs.frames.NeutralText.base.Goals as goal

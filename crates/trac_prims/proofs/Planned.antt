@@ -1,0 +1,142 @@
+-- The outcome of a call, from what its primitive made and from the lengths of the pieces.
+use Rattle.std.proofs.Common.{◌≡◌, ℕ, List, length, refl, sym, ap, ◌∙◌, subst, arith, Bool, true, false, ⊎_elim}
+use Rattle.std.specs.Prelude.{Result, Ok, Err, nat_le}
+use Rattle.std.proofs.lemmas.Bool.{and_from, cases_Bool, false_from_ne_true, le-leb, true≢false}
+use Rattle.std.proofs.lemmas.List.{length-append}
+use Rattle.trac_forms.specs.Stored.{Stored}
+use Rattle.trac_rules.specs.declared.kind.Kind.{Kind}
+use Rattle.trac_rules.specs.declared.limit.TheConstants.{OUTPUT_LIMIT, TEXT_LIMIT}
+use Rattle.trac_rules.specs.declared.primitive.Primitive.{Primitive}
+use Rattle.trac_rules.specs.declared.refusal.Refusal.{Refusal}
+use Rattle.trac_rules.specs.declared.refusal.Refusal.TheVariants.{Memory, TooLong}
+use Rattle.trac_rules.specs.Effect.{Effect, argument}
+use Rattle.trac_rules.specs.Limits.{texts_fit}
+use Rattle.trac_rules.specs.Outcomes.{MayAnswer, MayLackMemory, MayRefuse, limited, seen_as}
+use Rattle.trac_rules.specs.Performing.{after_call, effect_of, performed, primitive_of, printed_behind, trace_line}
+use Rattle.trac_rules.specs.Scanning.{Call, Calls, scan}
+use Rattle.trac_rules.specs.State.{Environment, State, storage_of}
+use Rattle.trac_rules.specs.Stepping.{carried_out, step}
+use Rattle.trac_rules.proofs.Outcomes.{limited_beyond, limited_Err, limited_within, limited-seen_as}
+use Rattle.trac_prims.specs.declared.effect.Effect as code
+use Rattle.trac_prims.specs.declared.effect.Now.{Now}
+use Rattle.trac_prims.specs.Effects.{MayFail, effect_on, pieces_fit}
+use Rattle.trac_prims.specs.Plans.{HasPlace, IsGiven, fits_after}
+use Rattle.trac_prims.proofs.Fitting.{FitsAfter, fits_by, fits_then}
+
+-- ---- what is refused
+
+-- memory may be refused whether or not an effect fits
+lacks_limited : {T : Type 0} (fits : T → Bool) (x : T) → MayLackMemory (limited fits (Ok x))
+lacks_limited fits x =
+    ⊎_elim
+    (λ (w : fits x ≡ true). subst MayLackMemory (sym (limited_within fits x w)) tt)
+    (λ (w : fits x ≡ false). subst MayLackMemory (sym (limited_beyond fits x w)) tt)
+    (cases_Bool (fits x))
+
+-- an effect that is there is refused for a limit alone
+for_a_limit : (e : Effect) (refusal : Refusal) → limited pieces_fit (Ok e) ≡ Err refusal → refusal ≡ TooLong
+for_a_limit e refusal h =
+    ⊎_elim (λ (long : refusal ≡ TooLong). long) (λ (said : Ok e ≡ Err refusal). absurd (cc)) (limited_Err pieces_fit (Ok e) refusal h)
+
+module _ (call : Call) (line : List ℕ) where
+  -- what no state can hold does not fit
+  unfit : (e : Effect) → pieces_fit e ≡ false → fits_after call (printed_behind line e) ≡ false
+  unfit e long = false_from_ne_true (fits_after call (printed_behind line e)) (λ fits.
+      let kept = fits_then call (printed_behind line e) fits in
+      let short : pieces_fit e ≡ true =
+      and_from (nat_le (length e.value) TEXT_LIMIT) (nat_le (length e.printed) OUTPUT_LIMIT)
+      (le-leb (length e.value) TEXT_LIMIT (omega (arith, kept.text)))
+      (le-leb (length e.printed) OUTPUT_LIMIT (omega (arith, kept.output, length-append line e.printed))) in
+      true≢false (sym short ∙ long))
+
+  -- why an effect was not made is why the call is refused
+  not_made : (outcome : Result Effect Refusal) (refusal : Refusal) → MayFail outcome refusal →
+      MayRefuse (limited (fits_after call) (seen_as (printed_behind line) outcome)) refusal
+  not_made (Err why) refusal h = h
+  not_made (Ok e) Memory h = lacks_limited (fits_after call) (printed_behind line e)
+  not_made (Ok e) TooLong h =
+      ⊎_elim
+      (λ (short : pieces_fit e ≡ true). absurd (let kept : limited pieces_fit (Ok e) ≡ Ok e = limited_within pieces_fit e short in cc))
+      (λ (long : pieces_fit e ≡ false). limited_beyond (fits_after call) (printed_behind line e) (unfit e long))
+      (cases_Bool (pieces_fit e))
+  not_made (Ok e) refusal h = absurd (let long : refusal ≡ TooLong = for_a_limit e refusal h in cc)
+
+-- ---- the call that is planned
+
+module _ (environment : Environment) (call : Call) (kind : Kind) (arguments : List (List ℕ)) (stored : Stored) (now : Now) (given : IsGiven call kind arguments stored now)
+    (primitive : Primitive) (named : primitive ≡ primitive_of (argument 0 arguments)) where
+  abbrev outcome : Result Effect Refusal
+  outcome = effect_of primitive environment arguments call.state
+
+  abbrev line : List ℕ
+  line = trace_line now.trace kind arguments
+
+  performed_is : performed environment call ≡ seen_as (printed_behind line) outcome
+  unfolding performed
+  performed_is =
+      ap (λ (texts : List (List ℕ)). seen_as (printed_behind (trace_line call.state.trace call.kind texts)) (effect_of (primitive_of (argument 0 texts)) environment texts call.state)) given.arguments_are
+      ∙ ap (λ (k : Kind). seen_as (printed_behind (trace_line call.state.trace k arguments)) (effect_of (primitive_of (argument 0 arguments)) environment arguments call.state)) given.kind_is
+      ∙ ap (λ b. seen_as (printed_behind (trace_line b kind arguments)) (effect_of (primitive_of (argument 0 arguments)) environment arguments call.state)) given.state_is.trace_is
+      ∙ ap (λ (p : Primitive). seen_as (printed_behind line) (effect_of p environment arguments call.state)) (sym named)
+
+  -- no effect was made
+  pub unplanned : (refusal : Refusal) → MayFail outcome refusal → MayRefuse (limited (fits_after call) (performed environment call)) refusal
+  unplanned refusal h = subst (λ o. MayRefuse (limited (fits_after call) o) refusal) (sym performed_is) (not_made call line outcome refusal h)
+
+  -- an effect was made, but memory for the line of the trace was refused
+  pub lacks : (first : Effect) → outcome ≡ Ok first → MayLackMemory (limited (fits_after call) (performed environment call))
+  lacks first is =
+      subst (λ o. MayLackMemory (limited (fits_after call) o)) (sym (performed_is ∙ ap (seen_as (printed_behind line)) is))
+      (lacks_limited (fits_after call) (printed_behind line first))
+
+  -- an effect was made, and the line of the trace put before it
+  module _ {A : Type 0} (made : code.Effect A) (first : Effect) (is : outcome ≡ Ok first) (traced : effect_on (storage_of call.state) made ≡ printed_behind line first) where
+    performs : performed environment call ≡ Ok (effect_on (storage_of call.state) made)
+    performs = performed_is ∙ ap (seen_as (printed_behind line)) is ∙ ap Ok (sym traced)
+
+    place_then : FitsAfter call (effect_on (storage_of call.state) made) → HasPlace now made
+    place_then fits = record {
+      text = omega (arith, fits.text, given.state_is.text_is);
+      output = omega (arith, fits.output, given.state_is.output_is);
+    }
+
+    pub beyond : (HasPlace now made → ⊥) → limited (fits_after call) (performed environment call) ≡ Err TooLong
+    beyond none =
+        ap (limited (fits_after call)) performs
+        ∙ limited_beyond (fits_after call) (effect_on (storage_of call.state) made)
+        (false_from_ne_true (fits_after call (effect_on (storage_of call.state) made)) (λ fits. none (place_then (fits_then call (effect_on (storage_of call.state) made) fits))))
+
+    pub within : HasPlace now made → limited (fits_after call) (performed environment call) ≡ Ok (effect_on (storage_of call.state) made)
+    within place =
+        ap (limited (fits_after call)) performs
+        ∙ limited_within (fits_after call) (effect_on (storage_of call.state) made)
+        (fits_by call (effect_on (storage_of call.state) made) (record {
+          text = omega (arith, place.text, given.state_is.text_is);
+          marked = given.state_is.marks_fit;
+          output = omega (arith, place.output, given.state_is.output_is);
+        }))
+
+-- ---- the step that performs the call
+
+lacks_seen : {T U : Type 0} (view : T → U) (outcome : Result T Refusal) → MayLackMemory outcome → MayLackMemory (seen_as view outcome)
+lacks_seen view (Ok x) h = tt
+lacks_seen view (Err refusal) h = h
+
+refuses_seen : {T U : Type 0} (view : T → U) (outcome : Result T Refusal) (refusal : Refusal) → MayRefuse outcome refusal → MayRefuse (seen_as view outcome) refusal
+refuses_seen view said Memory h = lacks_seen view said h
+refuses_seen view said refusal h = ap (seen_as view) h
+
+-- what may be answered for an outcome may be answered where it is seen in another way
+pub answers_seen : {T U C : Type 0} (view : T → U) (of_code : C → T) (outcome : Result T Refusal) (result : Result C Refusal) →
+    MayAnswer of_code outcome result → MayAnswer (λ made. view (of_code made)) (seen_as view outcome) result
+answers_seen view of_code said (Ok made) h = ap (seen_as view) h
+answers_seen view of_code said (Err refusal) h = refuses_seen view said refusal h
+
+-- what was planned is what comes of the step
+pub planned_step : {C : Type 0} (environment : Environment) (s : State) (call : Call) (of_code : C → Effect) (result : Result C Refusal) → scan s ≡ Calls call →
+    MayAnswer of_code (limited (fits_after call) (performed environment call)) result → MayAnswer (λ made. after_call call (of_code made)) (step environment s) result
+unfolding step
+planned_step environment s call of_code result called h =
+    subst (λ o. MayAnswer (λ made. after_call call (of_code made)) o result)
+    (sym (ap (λ x. limited texts_fit (carried_out environment x)) called ∙ limited-seen_as (fits_after call) texts_fit (after_call call) (λ e. refl) (performed environment call)))
+    (answers_seen (after_call call) of_code (limited (fits_after call) (performed environment call)) result h)

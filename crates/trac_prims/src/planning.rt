@@ -1,0 +1,135 @@
+//! Planning a call.
+ghost use Rattle.std.specs.Prelude.{◌≡◌, ◌+◌, ◌≤◌, length, Ok, ◌↔◌, IfOk, IsTrue};
+ghost use Rattle.trac_forms.specs.Stored.{storage_in};
+ghost use Rattle.trac_rules.specs.Computing.{computed};
+ghost use Rattle.trac_rules.specs.Handling.{handled};
+ghost use Rattle.trac_rules.specs.Outcomes.{MayAnswer, limited};
+ghost use Rattle.trac_rules.specs.Performing.{effect_of, performed};
+ghost use Rattle.trac_rules.specs.Scanning.{Call};
+ghost use Rattle.trac_rules.specs.State.{State, Storage, storage_of};
+ghost use Rattle.trac_prims.specs.Effects.{IsMade, effect_on};
+ghost use Rattle.trac_prims.specs.Plans.{HasPlace, IsGiven, IsNow, fits_after};
+ghost use Rattle.trac_prims.specs.Tape.{environment_of};
+
+use crate::args::Args;
+use crate::bits::{complement_of, meet_of, rotation_of, shift_of, union_of};
+use crate::decimals::calculate;
+use crate::decisions::{equal_texts, greater_number};
+use crate::effect::{Effect, Now};
+use crate::forms::{call, define, delete, delete_all, list_names, print_form, restore, segment};
+use crate::io::{print_string, read_string};
+use crate::name::primitive_named;
+use crate::tape::Tape;
+use crate::tracing::print_line;
+use std::alloc::Allocator;
+use trac_forms::Store;
+use trac_rules::kind::Kind;
+use trac_rules::limit::{MARK_LIMIT, OUTPUT_LIMIT, TEXT_LIMIT};
+use trac_rules::primitive::{Computation, FormAction, Primitive};
+use trac_rules::refusal::Refusal;
+
+/// What the call of these arguments by a function of this kind will do, the first of them being the name: everything,
+/// its pieces already made.
+///
+/// Refused with `NeedInput` or `Ended` where it reads input that is not there; with `TooLong` where the state after the
+/// call would pass a limit, its forms included; and with `Memory` where the allocator refuses. What is longer than any
+/// state may hold is not built. The tape has to hold at least as many bytes as are read, there may be at most 1,048,576
+/// arguments, and text and output have to be within their limits.
+pub fn plan<A: Allocator + Copy>(
+    alloc: A,
+    args: &Args<'_>,
+    kind: Kind,
+    store: &Store<A>,
+    tape: Tape<'_>,
+    now: Now,
+) -> Result<Effect<A>, Refusal>
+    requires position { now.position ≤ length tape.bytes.now }
+    requires count { length args.now ≤ MARK_LIMIT }
+    requires text { now.text ≤ TEXT_LIMIT }
+    requires output { now.output ≤ OUTPUT_LIMIT }
+    ensures outcome { (call : Call) → IsGiven call kind args.now store.now now →
+        MayAnswer (effect_on (storage_of call.state)) (limited (fits_after call) (performed (environment_of tape.entry) call)) result }
+    ensures within { IfOk result (λ e. now.position + e.read ≤ length tape.entry.bytes.now) }
+    ensures place { IfOk result (HasPlace now) }
+{
+    let effect = perform(alloc, primitive_named(args.get(0)), args, store, tape, now)?;
+    let effect = print_line(alloc, now.trace, kind, args, effect)?;
+    if !has_place(now, &effect) {
+        return Err(Refusal::TooLong);
+    }
+    Ok(effect)
+}
+
+// Whether there is place within the limits for what an effect adds.
+fn has_place<A: Allocator + Copy>(now: Now, effect: &Effect<A>) -> bool
+    requires text { now.text ≤ TEXT_LIMIT }
+    requires output { now.output ≤ OUTPUT_LIMIT }
+    ensures { IsTrue result ↔ HasPlace now effect.now }
+{
+    effect.value.len() <= TEXT_LIMIT - now.text && effect.print.len() <= OUTPUT_LIMIT - now.output
+}
+
+// What a primitive does.
+fn perform<A: Allocator + Copy>(
+    alloc: A,
+    primitive: Primitive,
+    args: &Args<'_>,
+    store: &Store<A>,
+    tape: Tape<'_>,
+    now: Now,
+) -> Result<Effect<A>, Refusal>
+    requires position { now.position ≤ length tape.bytes.now }
+    requires count { length args.now ≤ MARK_LIMIT }
+    ensures outcome { (s : State) → IsNow s store.now now → IsMade (storage_of s) (effect_of primitive (environment_of tape.entry) args.now s) result }
+    ensures within { IfOk result (λ e. now.position + e.read ≤ length tape.entry.bytes.now) }
+{
+    match primitive {
+        Primitive::PrintString => print_string(alloc, args),
+        Primitive::ReadString => read_string(alloc, tape, now.position, now.meta),
+        Primitive::Compute(computation) => compute(alloc, computation, args),
+        Primitive::Handle(action) => handle(alloc, action, args, store),
+        Primitive::Unknown => Ok(Effect::keeping(alloc)),
+    }
+}
+
+// What a primitive does that looks at its arguments alone.
+fn compute<A: Allocator + Copy>(
+    alloc: A,
+    computation: Computation,
+    args: &Args<'_>,
+) -> Result<Effect<A>, Refusal>
+    ensures { (storage : Storage) → IsMade storage (Ok (computed computation args.now storage)) result }
+{
+    match computation {
+        Computation::Equal => equal_texts(alloc, args),
+        Computation::Greater => greater_number(alloc, args),
+        Computation::Calculate(operation) => calculate(alloc, operation, args),
+        Computation::Union => union_of(alloc, args),
+        Computation::Meet => meet_of(alloc, args),
+        Computation::Complement => complement_of(alloc, args),
+        Computation::Shift => shift_of(alloc, args),
+        Computation::Rotate => rotation_of(alloc, args),
+    }
+}
+
+// What a primitive does with forms.
+fn handle<A: Allocator + Copy>(
+    alloc: A,
+    action: FormAction,
+    args: &Args<'_>,
+    store: &Store<A>,
+) -> Result<Effect<A>, Refusal>
+    requires { length args.now ≤ MARK_LIMIT }
+    ensures { IsMade (storage_in store.now) (handled action args.now (storage_in store.now)) result }
+{
+    match action {
+        FormAction::Define => define(alloc, args, store),
+        FormAction::Delete => delete(alloc, args),
+        FormAction::DeleteAll => Ok(delete_all(alloc)),
+        FormAction::Segment => segment(alloc, args, store),
+        FormAction::Restore => restore(alloc, args, store),
+        FormAction::Call => call(alloc, args, store),
+        FormAction::ListNames => list_names(alloc, args, store),
+        FormAction::PrintForm => print_form(alloc, args, store),
+    }
+}

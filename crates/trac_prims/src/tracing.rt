@@ -1,0 +1,59 @@
+//! The line that is printed for each call while the trace is on.
+ghost use Rattle.std.specs.Prelude.{◌≡◌, ◌++◌, ◌∷◌, [], IfOk, IsOkUnless, OnOk};
+ghost use Rattle.std.specs.List.{join_with_byte};
+ghost use Rattle.trac_rules.specs.Performing.{beginning_of, printed_behind, trace_line};
+ghost use Rattle.trac_rules.specs.State.{Storage};
+ghost use Rattle.trac_prims.specs.Effects.{effect_on};
+
+use crate::args::Args;
+use crate::effect::Effect;
+use std::alloc::Allocator;
+use trac_rules::byte::{CLOSING, LINE_FEED, STAR};
+use trac_rules::kind::Kind;
+use trac_rules::refusal::Refusal;
+
+// The effect with the line of its call printed first, where the trace is on.
+pub(crate) fn print_line<A: Allocator + Copy>(
+    alloc: A,
+    trace: bool,
+    kind: Kind,
+    args: &Args<'_>,
+    effect: Effect<A>,
+) -> Result<Effect<A>, Refusal>
+    ensures made { IfOk result (λ e. (storage : Storage) → effect_on storage e ≡ printed_behind (trace_line trace kind args.now) (effect_on storage effect)) }
+    ensures err { IsOkUnless result Refusal.Memory }
+{
+    if !trace {
+        return Ok(effect);
+    }
+    let mut print = Vec::new(alloc);
+    print.extend_from_slice(beginning_of(kind))?;
+    join_into(args, &mut print)?;
+    print.push(CLOSING)?;
+    print.push(LINE_FEED)?;
+    print.extend_from_slice(effect.print.as_slice())?;
+    Ok(Effect { print, ..effect })
+}
+
+// How a function of this kind begins.
+fn beginning_of(kind: Kind) -> &'static [u8]
+    ensures { result.now ≡ beginning_of kind }
+{
+    match kind {
+        Kind::Active => b"#(",
+        Kind::Neutral => b"##(",
+    }
+}
+
+// Puts all arguments at the end of `out`, with `*` between them.
+fn join_into<A: Allocator + Copy>(args: &Args<'_>, out: &mut Vec<u8, A>) -> Result<(), Refusal>
+    ensures ok { OnOk result (out.new.items ≡ out.old.items ++ join_with_byte STAR args.now) }
+    ensures err { IsOkUnless result Refusal.Memory }
+{
+    out.extend_from_slice(args.get(0))?;
+    for i in 1..args.count() {
+        out.push(STAR)?;
+        out.extend_from_slice(args.get(i))?;
+    }
+    Ok(())
+}
