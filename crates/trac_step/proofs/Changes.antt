@@ -1,47 +1,53 @@
 -- What each rule does to the parts of a machine: they stay sound, and show the state that the rule names.
 use Rattle.std.proofs.Common.{◌≡◌, ℕ, zero, suc, ◌+◌, ◌<◌, ◌≤◌, List, [], ◌∷◌, ◌++◌, length, take, drop, reverse, refl, sym, ap, ◌∙◌, subst, arith, true, false, Bool}
-use Rattle.std.specs.Prelude.{Option, Some, None, ◌==◌}
+use Rattle.std.specs.Prelude.{Option, Some, None, ◌==◌, Vec, vec_capacity}
 use Rattle.std.proofs.lemmas.List.{length-append, length-drop, drop-drop, take_all, drop_all}
-use Rattle.trac_gap.specs.Ends.{Ends}
+use Rattle.std.specs.FinSet as set
+use Rattle.trac_gap.specs.Ends.{Ends, item_count}
 use Rattle.trac_rules.specs.declared.kind.Kind.{Kind}
 use Rattle.trac_rules.specs.declared.limit.TheConstants.{MARK_LIMIT}
-use Rattle.trac_rules.specs.State.{Frame}
+use Rattle.trac_rules.specs.declared.byte.TheConstants.{APOSTROPHE}
+use Rattle.trac_rules.specs.Bytes.{idle_program}
+use Rattle.trac_rules.specs.State.{Frame, State, initial, storage_of}
+use Rattle.trac_rules.proofs.ProperStates.{initial_proper}
 use Rattle.trac_rules.specs.Matching.{match_of, protected, protected_up_to}
 use Rattle.trac_rules.specs.Scanning.{gather, protect}
 use Rattle.trac_rules.specs.Limits.{marks}
 use Rattle.trac_prims.specs.declared.mark.Mark.{Mark}
-use Rattle.trac_step.specs.Layout.{Parts, parts_of, state_of, IsSound, Shown}
-use Rattle.trac_step.proofs.Neutral.{AreMarks-longer}
+use Rattle.trac_forms.specs.Stored.{Names, Stored, nothing_stored, storage_in}
+use Rattle.trac_step.specs.Layout.{Parts, parts_of, state_of, IsSound}
+use Rattle.trac_prims.proofs.Neutral.{AreMarks-longer}
 use Rattle.trac_step.proofs.Rules.{mark_at, gathers, ordered_push, marks-parts}
-
--- parts that differ in nothing but their texts and marks
-pub same_parts : (p q : Parts) {active text : List ℕ} {ms : List Mark} → q.active ≡ active → q.text ≡ text → q.marks ≡ ms → q.forms ≡ p.forms → q.meta ≡ p.meta → q.position ≡ p.position → q.output ≡ p.output →
-    q ≡ record p { active = active; text = text; marks = ms }
-same_parts p q a t m forms meta position output i = record { active = a i; text = t i; marks = m i; forms = forms i; meta = meta i; position = position i; output = output i }
 
 -- ---- a mark is put at the end of the text
 
-pub sound_push : (p : Parts) (n : ℕ) (o : Option Kind) → IsSound p → length p.marks < MARK_LIMIT → (o ≡ None → 0 < length p.marks) →
-    IsSound (record p { active = drop n p.active; marks = p.marks ++ mark_at (length p.text) o ∷ [] })
-sound_push p n o sound room above = record {
+pub sound_push : (p : Parts) (n : ℕ) (o : Option Kind) (room : ℕ) → IsSound p → length p.marks < MARK_LIMIT → length p.marks < room → (o ≡ None → 0 < length p.marks) →
+    IsSound (record p { active = drop n p.active; marks = p.marks ++ mark_at (length p.text) o ∷ []; mark_room = room })
+sound_push p n o room sound within place above = record {
   ordered = ordered_push p o sound.ordered above;
   text_limit = omega (arith, sound.text_limit, length-drop n p.active);
   mark_limit = omega (arith, length-append p.marks (mark_at (length p.text) o ∷ []));
   output_limit = sound.output_limit;
+  text_room = omega (arith, sound.text_room, length-drop n p.active);
+  mark_room = omega (arith, length-append p.marks (mark_at (length p.text) o ∷ []));
+  storage = sound.storage;
 }
 
 -- the front of the active text is gone, and a mark stands behind all others, at the end of the text
-pub sound_marked : (p : Parts) (n : ℕ) (o : Option Kind) (old cut : Ends ℕ) (reserved kept : Ends Mark) (text : List ℕ) → IsSound p → length p.marks < MARK_LIMIT → (o ≡ None → 0 < length p.marks) →
-    old.left ≡ p.text → old.right ≡ p.active → cut ≡ record old { right = drop n old.right } → text ≡ cut.left →
-    reserved.left ≡ p.marks → kept ≡ record reserved { left = reserved.left ++ mark_at (length text) o ∷ [] } →
-    IsSound (parts_of cut kept p.forms p.meta p.position p.output)
-sound_marked p n o old cut reserved kept text sound room above left right cut_is text_is reserved_is kept_is =
-    let left_is : cut.left ≡ p.text = ap (λ (e : Ends ℕ). e.left) cut_is ∙ left in
-    let right_is : cut.right ≡ drop n p.active = ap (λ (e : Ends ℕ). e.right) cut_is ∙ ap (λ (xs : List ℕ). drop n xs) right in
-    let marked : kept.left ≡ p.marks ++ mark_at (length p.text) o ∷ [] =
-    ap (λ (e : Ends Mark). e.left) kept_is ∙ ap (λ (ms : List Mark). ms ++ mark_at (length text) o ∷ []) reserved_is
-    ∙ ap (λ (xs : List ℕ). p.marks ++ mark_at (length xs) o ∷ []) (text_is ∙ left_is) in
-    subst IsSound (sym (same_parts p (parts_of cut kept p.forms p.meta p.position p.output) right_is left_is marked refl refl refl refl)) (sound_push p n o sound room above)
+pub marked_parts : {A : Type 0} (old cut : Ends ℕ) (ms reserved kept : Ends Mark) (store : Stored) (meta : ℕ) (trace : Bool) (position : ℕ) (output : Vec ℕ A)
+    (n : ℕ) (o : Option Kind) (text : List ℕ) →
+    cut ≡ record old { right = drop n old.right } → text ≡ cut.left → reserved.left ≡ ms.left → kept ≡ record reserved { left = reserved.left ++ mark_at (length text) o ∷ [] } →
+    parts_of cut kept store meta trace position output
+    ≡ record (parts_of old ms store meta trace position output) { active = drop n old.right; marks = ms.left ++ mark_at (length old.left) o ∷ []; mark_room = reserved.capacity }
+marked_parts old cut ms reserved kept store meta trace position output n o text cut_is text_is reserved_is kept_is =
+    let left_is : text ≡ old.left = text_is ∙ ap (λ (e : Ends ℕ). e.left) cut_is in
+    ap (λ (e : Ends ℕ). parts_of e kept store meta trace position output) cut_is
+    ∙ ap (λ (e : Ends Mark). parts_of (record old { right = drop n old.right }) e store meta trace position output) kept_is
+    ∙ (λ i. record (parts_of old ms store meta trace position output) {
+      active = drop n old.right;
+      marks = reserved_is i ++ mark_at (length (left_is i)) o ∷ [];
+      mark_room = reserved.capacity;
+    })
 
 -- ---- the front of the active text goes to the current text
 
@@ -52,6 +58,9 @@ sound_gather p active more sound h = record {
   text_limit = omega (arith, sound.text_limit, length-append p.text more);
   mark_limit = sound.mark_limit;
   output_limit = sound.output_limit;
+  text_room = omega (arith, sound.text_room, length-append p.text more);
+  mark_room = sound.mark_room;
+  storage = sound.storage;
 }
 
 pub gather_parts : (p : Parts) (active more : List ℕ) → IsSound p → state_of (record p { active = active; text = p.text ++ more }) ≡ gather more (record (state_of p) { active = active })
@@ -74,19 +83,19 @@ protect_unmatched p sound e =
 
 -- ---- premises on the state, as premises on the parts
 
-pub marks_of_view : (p : Parts) (s : Shown) → IsSound p → record { state = state_of p } ≡ s → marks s.state.frames ≡ length p.marks
-marks_of_view p s sound view = ap (λ (m : Shown). marks m.state.frames) (sym view) ∙ marks-parts p sound.ordered
+pub marks_of_view : (p : Parts) (s : State) → IsSound p → state_of p ≡ s → marks s.frames ≡ length p.marks
+marks_of_view p s sound view = ap (λ (m : State). marks m.frames) (sym view) ∙ marks-parts p sound.ordered
 
 no_marks : (fs : List Frame) → marks fs ≡ 0 → length fs ≡ 0
 no_marks [] e = refl
 no_marks (f ∷ fs) e = absurd (omega arith)
 
 -- where functions are begun, there are marks
-pub has_marks : (p : Parts) (s : Shown) → IsSound p → record { state = state_of p } ≡ s → 0 < length s.state.frames → 0 < length p.marks
+pub has_marks : (p : Parts) (s : State) → IsSound p → state_of p ≡ s → 0 < length s.frames → 0 < length p.marks
 has_marks p s sound view h = has_marks_by (length p.marks) (marks_of_view p s sound view)
   where
-    has_marks_by : (n : ℕ) → marks s.state.frames ≡ n → 0 < n
-    has_marks_by zero e = absurd (omega (arith, no_marks s.state.frames e))
+    has_marks_by : (n : ℕ) → marks s.frames ≡ n → 0 < n
+    has_marks_by zero e = absurd (omega (arith, no_marks s.frames e))
     has_marks_by (suc n) e = omega arith
 
 -- where a test for no marks fails, there are some
@@ -113,3 +122,77 @@ unmatched_ends old cut last n c is l =
     l ∙ ap (λ (k : ℕ). record cut { left = cut.left ++ take k cut.right; right = drop k cut.right }) is
     ∙ ap (λ (e : Ends ℕ). record e { left = e.left ++ take (length e.right) e.right; right = drop (length e.right) e.right }) c
     ∙ (λ i. record old { left = old.left ++ take_all (length (drop 1 old.right)) (drop 1 old.right) (omega arith) i; right = drop_all (length (drop 1 old.right)) (drop 1 old.right) (omega arith) i })
+
+-- ---- other rooms
+
+-- the same parts with other rooms
+pub rebuilt_parts : {A : Type 0} (old new : Ends ℕ) (ms ns : Ends Mark) (store kept : Stored) (meta : ℕ) (trace : Bool) (position : ℕ) (output copy : Vec ℕ A) →
+    new.left ≡ old.left → new.right ≡ old.right → ns.left ≡ ms.left → storage_in kept ≡ storage_in store → copy.items ≡ output.items →
+    parts_of new ns kept meta trace position copy
+    ≡ record (parts_of old ms store meta trace position output) { text_room = new.capacity; mark_room = ns.capacity; output_room = vec_capacity copy; known = kept.known }
+rebuilt_parts old new ms ns store kept meta trace position output copy left right marks same items i =
+    record (parts_of old ms store meta trace position output) {
+      active = right i;
+      text = left i;
+      marks = marks i;
+      storage = same i;
+      output = items i;
+      text_room = new.capacity;
+      mark_room = ns.capacity;
+      output_room = vec_capacity copy;
+      known = kept.known;
+    }
+
+pub sound_rebuilt : (p : Parts) (text_room mark_room output_room : ℕ) (known : Names) → IsSound p → length p.active + length p.text ≤ text_room → length p.marks ≤ mark_room →
+    IsSound (record p { text_room = text_room; mark_room = mark_room; output_room = output_room; known = known })
+sound_rebuilt p text_room mark_room output_room known sound text marked = record {
+  ordered = sound.ordered;
+  text_limit = sound.text_limit;
+  mark_limit = sound.mark_limit;
+  output_limit = sound.output_limit;
+  text_room = text;
+  mark_room = marked;
+  storage = sound.storage;
+}
+
+-- ---- the parts at the start
+
+-- the parts of a machine at the start
+abbrev pub first_parts : ℕ → ℕ → Parts
+first_parts text_room output_room = record {
+  active = idle_program;
+  text = [];
+  marks = [];
+  storage = storage_of initial;
+  meta = APOSTROPHE;
+  trace = false;
+  position = 0;
+  output = [];
+  text_room = text_room;
+  mark_room = 0;
+  output_room = output_room;
+  known = set.empty;
+}
+
+sound_first : (text_room output_room : ℕ) → 11 ≤ text_room → IsSound (first_parts text_room output_room)
+sound_first text_room output_room room = record {
+  ordered = tt;
+  text_limit = omega arith;
+  mark_limit = omega arith;
+  output_limit = omega arith;
+  text_room = room;
+  mark_room = omega arith;
+  storage = initial_proper.storage;
+}
+
+pub sound_at_start : {A : Type 0} (made reserved filled : Ends ℕ) (ms : Ends Mark) (store : Stored) (output : Vec ℕ A) →
+    made ≡ record { left = []; right = []; capacity = 0 } → reserved.left ≡ made.left → reserved.right ≡ made.right → item_count reserved + 11 ≤ reserved.capacity →
+    filled ≡ record reserved { right = idle_program ++ reserved.right } → ms ≡ record { left = []; right = []; capacity = 0 } → store ≡ nothing_stored → output.items ≡ [] →
+    IsSound (parts_of filled ms store APOSTROPHE false 0 output)
+sound_at_start made reserved filled ms store output made_is left right room filled_is ms_is store_is items =
+    let none_left : reserved.left ≡ [] = left ∙ ap (λ (e : Ends ℕ). e.left) made_is in
+    let none_right : reserved.right ≡ [] = right ∙ ap (λ (e : Ends ℕ). e.right) made_is in
+    subst IsSound (sym (
+    ap (λ (e : Ends ℕ). parts_of e ms store APOSTROPHE false 0 output) filled_is
+    ∙ (λ i. record (parts_of (record { left = none_left i; right = idle_program ++ none_right i; capacity = reserved.capacity }) (ms_is i) (store_is i) APOSTROPHE false 0 output) { output = items i })
+    )) (sound_first reserved.capacity (vec_capacity output) (omega (arith, room)))

@@ -1,152 +1,146 @@
--- A call on the parts of a machine: what scanning asks for, and what stands after it.
-use Rattle.std.proofs.Common.{◌≡◌, ℕ, ◌+◌, ◌-◌, ◌<◌, ◌≤◌, List, [], ◌∷◌, ◌++◌, length, take, drop, get_or, reverse, refl, sym, ap, ◌∙◌, subst, arith, true, false, Bool}
-use Rattle.std.specs.Prelude.{Option, Some, None, is_some, IsSome, Ok}
-use Rattle.std.specs.FinMap as map
+-- The parts of a machine after a call with a known effect: they are sound, and show the state that the rules say.
+use Rattle.std.proofs.Common.{◌≡◌, ℕ, ◌+◌, ◌-◌, ◌<◌, ◌≤◌, List, [], ◌∷◌, ◌++◌, length, take, drop, reverse, refl, sym, ap, ◌∙◌, subst, arith, true, false, Bool}
+use Rattle.std.specs.Prelude.{Vec, vec_capacity}
+use Rattle.std.specs.Option.{unwrap_or}
 use Rattle.std.proofs.lemmas.List.{length-take-le, length-drop, length-append}
+use Rattle.trac_gap.specs.Ends.{Ends, item_count}
 use Rattle.trac_rules.specs.declared.kind.Kind.{Kind}
 use Rattle.trac_rules.specs.declared.kind.Kind.TheVariants.{Active, Neutral}
-use Rattle.trac_rules.specs.declared.limit.TheConstants.{MARK_LIMIT}
-use Rattle.trac_rules.specs.declared.scan.Front.TheVariants.{Closing}
-use Rattle.trac_rules.specs.Bytes.{argument}
-use Rattle.trac_rules.specs.State.{Forms, State, Tape}
-use Rattle.trac_rules.specs.Scanning.{Call, Scanned, Moves, Calls, front_of, scan}
-use Rattle.trac_rules.specs.Performing.{Effect, after_call, effect_of, perform, performed_by, primitive_of}
+use Rattle.trac_rules.specs.declared.scan.Front.TheVariants.{Nothing, Closing}
+use Rattle.trac_rules.specs.Effect.{Effect}
+use Rattle.trac_rules.specs.Limits.{text_bytes}
+use Rattle.trac_rules.specs.Performing.{after_call, changed_by, placed}
+use Rattle.trac_rules.specs.Proper.{IsProper}
+use Rattle.trac_rules.specs.Scanning.{Calls, front_of, gather, scan, deleted}
+use Rattle.trac_rules.specs.State.{Frame, State, storage_of}
+use Rattle.trac_forms.specs.Stored.{Stored, storage_in}
 use Rattle.trac_prims.specs.declared.mark.Mark.{Mark}
-use Rattle.trac_prims.specs.Cuts.{AreArguments, BeginsFunction, cut}
-use Rattle.trac_prims.proofs.Cutting.{length-cut}
-use Rattle.trac_step.specs.Layout.{AreMarks, Parts, state_of, IsSound, Shown}
-use Rattle.trac_step.specs.Calling.{IfCalls, place_of}
-use Rattle.trac_step.proofs.Neutral.{AreMarks-longer}
+use Rattle.trac_prims.specs.declared.effect.Effect as code
+use Rattle.trac_prims.specs.Effects.{effect_on}
+use Rattle.trac_prims.specs.Frames.{IsInnermost, all_arguments}
+use Rattle.trac_prims.specs.Neutral.{AreMarks, cut_back, neutral_of}
+use Rattle.trac_prims.proofs.Neutral.{AreMarks-longer}
+use Rattle.trac_step.specs.Calling.{state_after, with_value}
+use Rattle.trac_step.specs.Layout.{Parts, marked_text, parts_of, state_of, IsSound}
+use Rattle.trac_step.proofs.Calls.{call_of, scan_call}
+use Rattle.trac_step.proofs.Limited.{sound_if_proper}
 use Rattle.trac_step.proofs.Rules.{gathers}
-use Rattle.trac_step.proofs.Closing.{reverse_first}
-use Rattle.trac_step.proofs.Ending.{marks_in_front, place_within, parts_without, scan_closing}
 
-abbrev pub no_mark : Mark
-no_mark = record { place = 0; frame = None }
+-- ---- a value where it goes
 
--- parts of which only the neutral text matters
-abbrev pub with_text : List ℕ → List Mark → Parts
-with_text text marks = record { active = []; text = text; marks = marks; forms = map.empty; meta = 0; position = 0; output = [] }
+pub value_capacity : (kind : Kind) (forced : Bool) (value : List ℕ) (e : Ends ℕ) → (with_value kind forced value e).capacity ≡ e.capacity
+value_capacity Active forced value e = refl
+value_capacity Neutral true value e = refl
+value_capacity Neutral false value e = refl
 
--- ---- the call
+value_length : (kind : Kind) (forced : Bool) (value : List ℕ) (e : Ends ℕ) → item_count (with_value kind forced value e) ≡ item_count e + length value
+value_length Active forced value e = omega (arith, length-append value e.right)
+value_length Neutral true value e = omega (arith, length-append value e.right)
+value_length Neutral false value e = omega (arith, length-append e.left value)
 
-pub IsSome-value : {X : Type 0} → (o : Option X) → IsSome o → (x : X) × (o ≡ Some x)
-IsSome-value {X} None h = absurd (let unset : is_some {T = X} None ≡ true = h in cc)
-IsSome-value (Some x) h = (x, refl)
+value_ordered : (kind : Kind) (forced : Bool) (value : List ℕ) (e : Ends ℕ) (ms : List Mark) → AreMarks (length e.left) ms → AreMarks (length (with_value kind forced value e).left) ms
+value_ordered Active forced value e ms a = a
+value_ordered Neutral true value e ms a = a
+value_ordered Neutral false value e ms a = AreMarks-longer (length e.left) (length (e.left ++ value)) ms (omega (arith, length-append e.left value)) a
 
--- the call of the function that begins at the mark of this number
-abbrev pub call_at : Parts → ℕ → Kind → Call
-call_at p k kind = record {
-  kind = kind;
-  arguments = cut (place_of p.marks k) (drop (k + 1) p.marks) p.text;
-  state = state_of (parts_without p k (get_or p.marks k no_mark));
+-- the parts with a value where it goes
+abbrev parts_with : Kind → Bool → List ℕ → Parts → Parts
+parts_with kind forced value p =
+    let w : Ends ℕ = with_value kind forced value (record { left = p.text; right = p.active; capacity = p.text_room }) in
+    record p { active = w.right; text = w.left }
+
+value_placed : (kind : Kind) (forced : Bool) (value : List ℕ) (p : Parts) → AreMarks (length p.text) (reverse p.marks) →
+    state_of (parts_with kind forced value p) ≡ placed kind forced value (state_of p)
+value_placed Active forced value p a = refl
+value_placed Neutral true value p a = refl
+value_placed Neutral false value p a = gathers p value a
+
+-- ---- a call
+
+-- the parts when the function at this mark is gone, and its `)` too
+abbrev pub parts_without : Parts → ℕ → ℕ → Parts
+parts_without p number place = record p { active = drop 1 p.active; text = take place p.text; marks = take number p.marks }
+
+-- the parts with all that an effect changes, but for its value
+abbrev parts_changed : Effect → Parts → Parts
+parts_changed e p = record p {
+  storage = e.storage;
+  meta = unwrap_or e.meta p.meta;
+  trace = unwrap_or e.trace p.trace;
+  position = p.position + e.read;
+  output = p.output ++ e.printed;
 }
 
--- what is known of the parts where the function that begins at the mark of this number is to be performed
-pub record IsCalling (p : Parts) (s : Shown) (k : ℕ) : Type 0 where
-  pub sound : IsSound p
-  pub view : record { state = state_of p } ≡ s
-  pub begins : BeginsFunction p.marks k
-  pub front : front_of p.active ≡ Closing
+-- the parts after the call of the function at this mark
+abbrev pub ended_parts : Parts → ℕ → ℕ → Kind → Effect → Parts
+ended_parts p number place kind e = parts_with kind e.forced e.value (parts_changed e (parts_without p number place))
 
-pub is_calling : (p : Parts) (s : Shown) (k : ℕ) (ms : List Mark) → IsSound p → record { state = state_of p } ≡ s → front_of s.state.active ≡ Closing → ms ≡ p.marks → BeginsFunction ms k → IsCalling p s k
-is_calling p s k ms sound view front same begins = record {
-  sound = sound;
-  view = view;
-  begins = subst (λ (xs : List Mark). BeginsFunction xs k) same begins;
-  front = ap (λ (m : Shown). front_of m.state.active) view ∙ front;
-}
+some_active : (active : List ℕ) → front_of active ≡ Closing → 1 ≤ length active
+some_active [] e = absurd (let other : Nothing ≡ Closing = e in cc)
+some_active (b ∷ rest) e = omega arith
 
-pub scan_called : (p : Parts) (s : Shown) (k : ℕ) → IsCalling p s k →
-    (kind : Kind) × ((get_or p.marks k no_mark).frame ≡ Some kind) × (scan (state_of p) ≡ Calls (call_at p k kind))
-scan_called p s k at =
-    let kind = IsSome-value (get_or p.marks k no_mark).frame at.begins.begins in
-    (kind.0, kind.1, scan_closing p k no_mark at.sound.ordered at.begins.within kind.0 kind.1 at.begins.behind at.front)
+module _ (p : Parts) (number place : ℕ) (kind : Kind) (texts : List (List ℕ)) (inner : IsInnermost (marked_text p) number place kind texts) (front : front_of p.active ≡ Closing) where
+  abbrev rest : List Frame
+  rest = (neutral_of (cut_back number place (marked_text p))).frames
 
--- the arguments, cut out of a text and marks that are those of the parts
-pub arguments_at : (p : Parts) (k : ℕ) (texts : List (List ℕ)) (ms : List Mark) (text : List ℕ) → texts ≡ cut (place_of ms k) (drop (k + 1) ms) text → ms ≡ p.marks → text ≡ p.text →
-    texts ≡ cut (place_of p.marks k) (drop (k + 1) p.marks) p.text
-arguments_at p k texts ms text is marks_are text_is =
-    is ∙ ap (λ (xs : List Mark). cut (place_of xs k) (drop (k + 1) xs) text) marks_are ∙ ap (λ (xs : List ℕ). cut (place_of p.marks k) (drop (k + 1) p.marks) xs) text_is
+  without_shows : state_of (parts_without p number place) ≡ record (deleted 1 (state_of p)) { frames = rest }
+  without_shows =
+      let same = sym inner.base_is in
+      λ i. record (state_of (parts_without p number place)) { base = same i }
 
--- a call has no more arguments than there may be marks
-pub arguments_limited : (p : Parts) (s : Shown) (k : ℕ) → IsCalling p s k → (texts : List (List ℕ)) (ms : List Mark) (text : List ℕ) → texts ≡ cut (place_of ms k) (drop (k + 1) ms) text → ms ≡ p.marks → length texts ≤ MARK_LIMIT
-arguments_limited p s k at texts ms text is marks_are =
-    let counted : length texts ≡ length (drop (k + 1) ms) + 1 = ap length is ∙ length-cut (place_of ms k) (drop (k + 1) ms) text in
-    let same : length ms ≡ length p.marks = ap length marks_are in
-    omega (arith, counted, same, length-drop (k + 1) ms, at.begins.within, at.sound.mark_limit)
+  pub scanned : scan (state_of p) ≡ Calls (call_of (state_of p) inner.frame rest)
+  scanned = scan_call (state_of p) inner.frame rest front inner.frames_are
 
-pub if_calls : (p : Parts) (s : Shown) (call : Call) (P : Call → Type 0) → record { state = state_of p } ≡ s → scan (state_of p) ≡ Calls call → P call → IfCalls (scan s.state) P
-if_calls p s call P view scanned holds =
-    subst (λ x. IfCalls x P) (sym (ap (λ (m : Shown). scan m.state) (sym view) ∙ scanned)) holds
+  -- the parts after the call show the state that the rules say
+  pub ended_shows : {A : Type 0} (e : code.Effect A) → state_of (ended_parts p number place kind (effect_on p.storage e)) ≡ state_after e (scan (state_of p))
+  ended_shows e =
+      let effect = effect_on p.storage e in
+      value_placed kind effect.forced effect.value (parts_changed effect (parts_without p number place)) inner.ordered
+      ∙ ap (λ (s : State). placed kind effect.forced effect.value (changed_by effect s)) without_shows
+      ∙ ap (λ (k : Kind). placed k effect.forced effect.value (changed_by effect (call_of (state_of p) inner.frame rest).state)) (sym inner.kind_is)
+      ∙ ap (state_after e) (sym scanned)
 
--- where a call is asked for, the fact holds of that one
-pub of_calls : (p : Parts) (s : Shown) (call : Call) (P : Call → Type 0) → record { state = state_of p } ≡ s → scan (state_of p) ≡ Calls call → IfCalls (scan s.state) P → P call
-of_calls p s call P view scanned holds =
-    subst (λ x. IfCalls x P) (ap (λ (m : Shown). scan m.state) (sym view) ∙ scanned) holds
+  -- the places that the code cuts at are there
+  pub closing_there : 1 ≤ length p.active
+  closing_there = some_active p.active front
 
--- where there are marks, one of them begins a function
-pub not_only_arguments : (n : ℕ) (ms : List Mark) → AreMarks n (reverse ms) → 0 < length ms → AreArguments ms → ⊥
-not_only_arguments n [] a h all = omega arith
-not_only_arguments n (m ∷ ms) a h all = first_begins n (reverse ms) (subst (λ xs. AreMarks n xs) (reverse_first m ms) a) all.0
-  where
-    first_begins : (n : ℕ) (xs : List Mark) → AreMarks n (xs ++ m ∷ []) → m.frame ≡ None → ⊥
-    first_begins n [] a e = let some : 0 < 0 = a.1 e in omega arith
-    first_begins n (x ∷ xs) a e = first_begins x.place xs a.2 e
+  pub cut_length : length (take place p.text) + length (drop 1 p.active) ≤ length p.active + length p.text
+  cut_length = omega (arith, length-take-le place p.text inner.place_within, length-drop 1 p.active, inner.place_within)
 
--- a fact of a call, from another one
-pub if_calls_map : (x : Scanned) (P Q : Call → Type 0) → ((call : Call) → P call → Q call) → IfCalls x P → IfCalls x Q
-if_calls_map (Moves t) P Q more h = tt
-if_calls_map (Calls call) P Q more h = more call h
+  -- and they are sound, where the state is a proper one and there is room for the value
+  pub ended_sound : (e : Effect) (text_room output_room : ℕ) (known : _) → IsSound p → IsProper (state_of (ended_parts p number place kind e)) →
+      length p.active + length p.text + length e.value ≤ text_room →
+      IsSound (record (ended_parts p number place kind e) { text_room = text_room; output_room = output_room; known = known })
+  ended_sound e text_room output_room known sound proper room =
+      let w : Ends ℕ = record { left = take place p.text; right = drop 1 p.active; capacity = p.text_room } in
+      sound_if_proper (record (ended_parts p number place kind e) { text_room = text_room; output_room = output_room; known = known })
+      (value_ordered kind e.forced e.value w (reverse (take number p.marks)) inner.ordered)
+      (omega (arith, value_length kind e.forced e.value w, cut_length, room))
+      (omega (arith, length-take-le number p.marks (omega (arith, inner.within)), inner.within, sound.mark_room))
+      proper
 
--- what a primitive does is what is performed
-pub performed : (tape : Tape) (call : Call) (e : Effect) → effect_of (primitive_of (argument 0 call.arguments)) tape call.arguments call.state ≡ Ok e → perform tape call ≡ Ok (after_call call e)
-unfolding perform
-performed tape call e h = ap (performed_by call) h
+-- ---- the same, as the code has the parts
 
--- the state after a call whose effect has these pieces
-abbrev pub ended_by : Bool → List ℕ → List ℕ → ℕ → (Forms → Forms) → Call → State
-ended_by forced printed value position change call =
-    after_call call (record { value = value; forced = forced; printed = printed; state = record call.state { position = position; forms = change call.state.forms } })
-
--- ---- the parts after a call
-
--- with a value where it goes
-abbrev pub parts_with : Kind → Bool → List ℕ → Parts → Parts
-parts_with Active forced value p = record p { active = value ++ p.active }
-parts_with Neutral true value p = record p { active = value ++ p.active }
-parts_with Neutral false value p = record p { text = p.text ++ value }
-
--- the parts when the call has printed a text, read up to a position and got its value
-abbrev pub ended_parts : Parts → ℕ → Kind → Bool → List ℕ → List ℕ → ℕ → (Forms → Forms) → Parts
-ended_parts p k kind forced printed value position change =
-    parts_with kind forced value (record (parts_without p k (get_or p.marks k no_mark)) { forms = change p.forms; position = position; output = p.output ++ printed })
-
-module _ (p : Parts) (k : ℕ) (sound : IsSound p) (within : k < length p.marks) where
-  kept_marks : AreMarks (length (take (place_of p.marks k) p.text)) (reverse (take k p.marks))
-  kept_marks = subst (λ (n : ℕ). AreMarks n (reverse (take k p.marks))) (sym (length-take-le (place_of p.marks k) p.text (place_within p k no_mark sound.ordered within)))
-      (marks_in_front p k no_mark sound.ordered within)
-
-  pub ended_ordered : (kind : Kind) (forced : Bool) (printed value : List ℕ) (position : ℕ) (change : Forms → Forms) →
-      AreMarks (length (ended_parts p k kind forced printed value position change).text) (reverse (ended_parts p k kind forced printed value position change).marks)
-  ended_ordered Active forced printed value position change = kept_marks
-  ended_ordered Neutral true printed value position change = kept_marks
-  ended_ordered Neutral false printed value position change =
-      AreMarks-longer (length (take (place_of p.marks k) p.text)) (length (take (place_of p.marks k) p.text ++ value)) (reverse (take k p.marks))
-      (omega (arith, length-append (take (place_of p.marks k) p.text) value)) kept_marks
-
-  active_length : (value : List ℕ) → length (value ++ drop 1 p.active) + length (take (place_of p.marks k) p.text) ≡ length value + (length p.active - 1 + place_of p.marks k)
-  active_length value = omega (arith, length-append value (drop 1 p.active), length-drop 1 p.active, length-take-le (place_of p.marks k) p.text (place_within p k no_mark sound.ordered within))
-
-  pub ended_length : (kind : Kind) (forced : Bool) (printed value : List ℕ) (position : ℕ) (change : Forms → Forms) →
-      length (ended_parts p k kind forced printed value position change).active + length (ended_parts p k kind forced printed value position change).text ≡ length value + (length p.active - 1 + place_of p.marks k)
-  ended_length Active forced printed value position change = active_length value
-  ended_length Neutral true printed value position change = active_length value
-  ended_length Neutral false printed value position change = omega (arith, length-append (take (place_of p.marks k) p.text) value, length-drop 1 p.active, length-take-le (place_of p.marks k) p.text (place_within p k no_mark sound.ordered within))
-
-  pub ended_call-parts : (kind : Kind) (forced : Bool) (printed value : List ℕ) (position : ℕ) (change : Forms → Forms) →
-      ended_by forced printed value position change (call_at p k kind) ≡ state_of (ended_parts p k kind forced printed value position change)
-  ended_call-parts Active forced printed value position change = refl
-  ended_call-parts Neutral true printed value position change = refl
-  ended_call-parts Neutral false printed value position change =
-      sym (gathers (record (parts_without p k (get_or p.marks k no_mark)) { forms = change p.forms; position = position; output = p.output ++ printed }) value kept_marks)
+pub finished_parts : {A : Type 0} (old cut put : Ends ℕ) (ms kept : Ends Mark) (store after : Stored) (meta new_meta : ℕ) (trace new_trace : Bool) (position : ℕ) (output printed : Vec ℕ A)
+    (number place : ℕ) (kind : Kind) (e : Effect) →
+    cut ≡ record old { left = take place old.left; right = drop 1 old.right } → put ≡ with_value kind e.forced e.value cut → kept ≡ record ms { left = take number ms.left } →
+    storage_in after ≡ e.storage → new_meta ≡ unwrap_or e.meta meta → new_trace ≡ unwrap_or e.trace trace → printed.items ≡ output.items ++ e.printed →
+    parts_of put kept after new_meta new_trace (position + e.read) printed
+    ≡ record (ended_parts (parts_of old ms store meta trace position output) number place kind e) { text_room = put.capacity; output_room = vec_capacity printed; known = after.known }
+finished_parts old cut put ms kept store after meta new_meta trace new_trace position output printed number place kind e cut_is put_is kept_is storage_is meta_is trace_is items =
+    let put_at : put ≡ with_value kind e.forced e.value (record { left = take place old.left; right = drop 1 old.right; capacity = old.capacity }) =
+    put_is ∙ ap (λ (x : Ends ℕ). with_value kind e.forced e.value x) cut_is in
+    λ i. record {
+      active = (put_at i).right;
+      text = (put_at i).left;
+      marks = (kept_is i).left;
+      storage = storage_is i;
+      meta = meta_is i;
+      trace = trace_is i;
+      position = position + e.read;
+      output = items i;
+      text_room = put.capacity;
+      mark_room = (kept_is i).capacity;
+      output_room = vec_capacity printed;
+      known = after.known;
+    }

@@ -13,54 +13,66 @@ use Rattle.trac_rules.specs.Bytes.{idle_program}
 use Rattle.trac_rules.specs.State.{Frame, State}
 use Rattle.trac_rules.specs.Matching.{match_of, protected}
 use Rattle.trac_rules.specs.Scanning.{Moves, front_of, scan, scan_at, protect, deleted, begun, comma_in, closing_in, gather_first}
-use Rattle.trac_rules.specs.Limits.{is_within_limits, marks}
+use Rattle.trac_rules.specs.Limits.{texts_fit, marks}
 use Rattle.trac_prims.specs.declared.mark.Mark.{Mark}
-use Rattle.trac_step.specs.Layout.{Parts, state_of, IsSound, Shown, neutral}
+use Rattle.trac_prims.specs.Neutral.{neutral}
+use Rattle.trac_step.specs.Layout.{Parts, state_of, IsSound}
 use Rattle.trac_step.specs.Calling.{IfMoves, IsMove, adds_mark}
-use Rattle.trac_step.proofs.Rules.{mark_at, within_limits, begins, next_argument, ordered_push, marks-parts}
+use Rattle.trac_step.proofs.Rules.{mark_at, begins, next_argument, ordered_push, marks-parts}
+use Rattle.trac_step.proofs.Limited.{beyond_limits_of_marks, limits_kept, within_limits}
+use Rattle.trac_step.proofs.Scans.{scan_front}
 use Rattle.trac_step.proofs.Changes.{sound_push, sound_gather, gather_parts, protect_matched, protect_unmatched}
-use Rattle.trac_step.proofs.Ending.{scan_front}
-use Rattle.trac_step.proofs.Fitting.{beyond_limits_of_marks, limits_kept}
 
 -- ---- each rule keeps the parts sound
 
-sound_delete : (p : Parts) (n : ℕ) → IsSound p → IsSound (record p { active = drop n p.active })
+pub sound_delete : (p : Parts) (n : ℕ) → IsSound p → IsSound (record p { active = drop n p.active })
 sound_delete p n sound = record {
   ordered = sound.ordered;
   text_limit = omega (arith, sound.text_limit, length-drop n p.active);
   mark_limit = sound.mark_limit;
   output_limit = sound.output_limit;
+  text_room = omega (arith, sound.text_room, length-drop n p.active);
+  mark_room = sound.mark_room;
+  storage = sound.storage;
 }
 
-sound_reload : (p : Parts) → IsSound p → IsSound (record p { active = idle_program; text = []; marks = [] })
-sound_reload p sound = record { ordered = tt; text_limit = omega arith; mark_limit = omega arith; output_limit = sound.output_limit }
+pub sound_reload : (p : Parts) (room : ℕ) → IsSound p → 11 ≤ room → IsSound (record p { active = idle_program; text = []; marks = []; text_room = room })
+sound_reload p room sound place = record {
+  ordered = tt;
+  text_limit = omega arith;
+  mark_limit = omega arith;
+  output_limit = sound.output_limit;
+  text_room = place;
+  mark_room = omega arith;
+  storage = sound.storage;
+}
 
-gathered_limited : (p : Parts) → IsSound p → true ≡ is_within_limits (gather_first (state_of p))
+gathered_limited : (p : Parts) → IsSound p → true ≡ texts_fit (gather_first (state_of p))
 gathered_limited p sound =
-    sym (ap is_within_limits (sym (gather_parts p (drop 1 p.active) (take 1 p.active) sound))
+    sym (ap texts_fit (sym (gather_parts p (drop 1 p.active) (take 1 p.active) sound))
     ∙ within_limits (record p { active = drop 1 p.active; text = p.text ++ take 1 p.active })
     (sound_gather p (drop 1 p.active) (take 1 p.active) sound (omega (arith, length-take 1 p.active, length-drop 1 p.active))))
 
-protected_limited : (p : Parts) → IsSound p → (o : Option ℕ) → match_of (drop 1 p.active) ≡ o → true ≡ is_within_limits (protect (protected (drop 1 p.active)) (state_of p))
+protected_limited : (p : Parts) → IsSound p → (o : Option ℕ) → match_of (drop 1 p.active) ≡ o → true ≡ texts_fit (protect (protected (drop 1 p.active)) (state_of p))
 protected_limited p sound None e =
-    sym (ap is_within_limits (sym (protect_unmatched p sound e))
+    sym (ap texts_fit (sym (protect_unmatched p sound e))
     ∙ within_limits (record p { active = []; text = p.text ++ drop 1 p.active }) (sound_gather p [] (drop 1 p.active) sound (omega (arith, length-drop 1 p.active))))
 protected_limited p sound (Some k) e =
-    sym (ap is_within_limits (sym (protect_matched p k sound e))
+    sym (ap texts_fit (sym (protect_matched p k sound e))
     ∙ within_limits (record p { active = drop 1 (drop k (drop 1 p.active)); text = p.text ++ take k (drop 1 p.active) })
     (sound_gather p (drop 1 (drop k (drop 1 p.active))) (take k (drop 1 p.active)) sound
     (omega (arith, length-take k (drop 1 p.active), length-drop 1 (drop k (drop 1 p.active)), length-drop k (drop 1 p.active), length-drop 1 p.active))))
 
 -- a further mark is within the limits where there was room for one
 pushed_limited : (p : Parts) (n : ℕ) (o : Option Kind) → IsSound p → (o ≡ None → 0 < length p.marks) →
-    nat_lt (length p.marks) MARK_LIMIT ≡ is_within_limits (state_of (record p { active = drop n p.active; marks = p.marks ++ mark_at (length p.text) o ∷ [] }))
-pushed_limited p n o sound above = elim (leb_tells (suc (length p.marks)) MARK_LIMIT) as (λ _. nat_lt (length p.marks) MARK_LIMIT ≡ is_within_limits (state_of q)) [
-  | inl room ↦ room.0 ∙ sym (within_limits q (sound_push p n o sound (omega (arith, room.1)) above))
+    nat_lt (length p.marks) MARK_LIMIT ≡ texts_fit (state_of (record p { active = drop n p.active; marks = p.marks ++ mark_at (length p.text) o ∷ [] }))
+pushed_limited p n o sound above = elim (leb_tells (suc (length p.marks)) MARK_LIMIT) as (λ _. nat_lt (length p.marks) MARK_LIMIT ≡ texts_fit (state_of q)) [
+  | inl room ↦ room.0 ∙ sym (within_limits q (sound_push p n o (length p.marks + 1) sound (omega (arith, room.1)) (omega arith) above))
   | inr full ↦ full.0 ∙ sym (beyond_limits_of_marks (state_of q) (omega (arith, full.1, count)))
 ]
   where
     q : Parts
-    q = record p { active = drop n p.active; marks = p.marks ++ mark_at (length p.text) o ∷ [] }
+    q = record p { active = drop n p.active; marks = p.marks ++ mark_at (length p.text) o ∷ []; mark_room = length p.marks + 1 }
 
     count : marks (state_of q).frames ≡ length p.marks + 1
     count = marks-parts q (ordered_push p o sound.ordered above) ∙ length-append p.marks (mark_at (length p.text) o ∷ [])
@@ -70,7 +82,7 @@ pushed_limited p n o sound above = elim (leb_tells (suc (length p.marks)) MARK_L
 pub no_frames-parts : (p : Parts) → length p.marks ≡ 0 → (state_of p).frames ≡ []
 no_frames-parts p e = ap (λ (ms : List Mark). (neutral p.text (reverse ms)).frames) (nil_from_length p.marks e)
 
-closing_limited : (b : Bool) (fs : List Frame) (t : State) → b ≡ is_within_limits t → IfMoves (closing_in fs t) (λ u. b ≡ is_within_limits u)
+closing_limited : (b : Bool) (fs : List Frame) (t : State) → b ≡ texts_fit t → IfMoves (closing_in fs t) (λ u. b ≡ texts_fit u)
 closing_limited b [] t h = h
 closing_limited b (f ∷ fs) t h = tt
 
@@ -78,32 +90,32 @@ some_none : {X : Type 0} {x : X} → Some x ≡ None → ⊥
 some_none e = cc
 
 module _ (p : Parts) (sound : IsSound p) where
-  by_front : (front : Front) (b : Bool) → front_of p.active ≡ front → IfMoves (scan_at front (state_of p)) (λ t. b ≡ is_within_limits t) → IfMoves (scan (state_of p)) (λ t. b ≡ is_within_limits t)
-  by_front front b e h = subst (λ x. IfMoves x (λ t. b ≡ is_within_limits t)) (sym (scan_front (state_of p) front e)) h
+  by_front : (front : Front) (b : Bool) → front_of p.active ≡ front → IfMoves (scan_at front (state_of p)) (λ t. b ≡ texts_fit t) → IfMoves (scan (state_of p)) (λ t. b ≡ texts_fit t)
+  by_front front b e h = subst (λ x. IfMoves x (λ t. b ≡ texts_fit t)) (sym (scan_front (state_of p) front e)) h
 
-  deleted_limited : true ≡ is_within_limits (deleted 1 (state_of p))
+  deleted_limited : true ≡ texts_fit (deleted 1 (state_of p))
   deleted_limited = sym (within_limits (record p { active = drop 1 p.active }) (sound_delete p 1 sound))
 
-  limited_without_mark : (front : Front) → adds_mark front (length p.marks) ≡ false → IfMoves (scan_at front (state_of p)) (λ t. true ≡ is_within_limits t)
-  limited_without_mark Nothing e = sym (within_limits (record p { active = idle_program; text = []; marks = [] }) (sound_reload p sound))
+  limited_without_mark : (front : Front) → adds_mark front (length p.marks) ≡ false → IfMoves (scan_at front (state_of p)) (λ t. true ≡ texts_fit t)
+  limited_without_mark Nothing e = sym (within_limits (record p { active = idle_program; text = []; marks = []; text_room = 11 }) (sound_reload p 11 sound (omega arith)))
   limited_without_mark Opening e = protected_limited p sound (match_of (drop 1 p.active)) refl
   limited_without_mark Layout e = deleted_limited
   limited_without_mark Comma e =
-      deleted_limited ∙ ap (λ (fs : List Frame). is_within_limits (comma_in fs (deleted 1 (state_of p)))) (sym (no_frames-parts p (let none : length p.marks ≤ 0 = ltb-false 0 (length p.marks) e in omega arith)))
+      deleted_limited ∙ ap (λ (fs : List Frame). texts_fit (comma_in fs (deleted 1 (state_of p)))) (sym (no_frames-parts p (let none : length p.marks ≤ 0 = ltb-false 0 (length p.marks) e in omega arith)))
   limited_without_mark ActiveCall e = absurd (let unset : true ≡ false = e in cc)
   limited_without_mark NeutralCall e = absurd (let unset : true ≡ false = e in cc)
   limited_without_mark Sharp e = gathered_limited p sound
   limited_without_mark Closing e = closing_limited true (state_of p).frames (deleted 1 (state_of p)) deleted_limited
   limited_without_mark Plain e = gathered_limited p sound
 
-  limited_with_mark : (front : Front) → adds_mark front (length p.marks) ≡ true → IfMoves (scan_at front (state_of p)) (λ t. nat_lt (length p.marks) MARK_LIMIT ≡ is_within_limits t)
+  limited_with_mark : (front : Front) → adds_mark front (length p.marks) ≡ true → IfMoves (scan_at front (state_of p)) (λ t. nat_lt (length p.marks) MARK_LIMIT ≡ texts_fit t)
   limited_with_mark Comma e =
       let some : 0 < length p.marks = leb-true 1 (length p.marks) e in
-      pushed_limited p 1 None sound (λ _. some) ∙ ap is_within_limits (next_argument (record p { active = drop 1 p.active }) sound.ordered some)
+      pushed_limited p 1 None sound (λ _. some) ∙ ap texts_fit (next_argument (record p { active = drop 1 p.active }) sound.ordered some)
   limited_with_mark ActiveCall e =
-      pushed_limited p 2 (Some Active) sound (λ h. absurd (some_none h)) ∙ ap is_within_limits (begins (record p { active = drop 2 p.active }) Active)
+      pushed_limited p 2 (Some Active) sound (λ h. absurd (some_none h)) ∙ ap texts_fit (begins (record p { active = drop 2 p.active }) Active)
   limited_with_mark NeutralCall e =
-      pushed_limited p 3 (Some Neutral) sound (λ h. absurd (some_none h)) ∙ ap is_within_limits (begins (record p { active = drop 3 p.active }) Neutral)
+      pushed_limited p 3 (Some Neutral) sound (λ h. absurd (some_none h)) ∙ ap texts_fit (begins (record p { active = drop 3 p.active }) Neutral)
   limited_with_mark Nothing e = absurd (let unset : false ≡ true = e in cc)
   limited_with_mark Opening e = absurd (let unset : false ≡ true = e in cc)
   limited_with_mark Layout e = absurd (let unset : false ≡ true = e in cc)
@@ -111,26 +123,26 @@ module _ (p : Parts) (sound : IsSound p) where
   limited_with_mark Closing e = absurd (let unset : false ≡ true = e in cc)
   limited_with_mark Plain e = absurd (let unset : false ≡ true = e in cc)
 
-  pub move_without_mark : (s : Shown) (front : Front) → record { state = state_of p } ≡ s → front ≡ front_of s.state.active → adds_mark front (length p.marks) ≡ false → IfMoves (scan s.state) (λ t. true ≡ is_within_limits t)
+  pub move_without_mark : (s : State) (front : Front) → state_of p ≡ s → front ≡ front_of s.active → adds_mark front (length p.marks) ≡ false → IfMoves (scan s) (λ t. true ≡ texts_fit t)
   move_without_mark s front view at e =
-      subst (λ (m : Shown). IfMoves (scan m.state) (λ t. true ≡ is_within_limits t)) view
-      (by_front front true (ap (λ (m : Shown). front_of m.state.active) view ∙ sym at) (limited_without_mark front e))
+      subst (λ (m : State). IfMoves (scan m) (λ t. true ≡ texts_fit t)) view
+      (by_front front true (ap (λ (m : State). front_of m.active) view ∙ sym at) (limited_without_mark front e))
 
-  pub move_with_mark : (s : Shown) (front : Front) → record { state = state_of p } ≡ s → front ≡ front_of s.state.active → adds_mark front (length p.marks) ≡ true → IfMoves (scan s.state) (λ t. nat_lt (length p.marks) MARK_LIMIT ≡ is_within_limits t)
+  pub move_with_mark : (s : State) (front : Front) → state_of p ≡ s → front ≡ front_of s.active → adds_mark front (length p.marks) ≡ true → IfMoves (scan s) (λ t. nat_lt (length p.marks) MARK_LIMIT ≡ texts_fit t)
   move_with_mark s front view at e =
-      subst (λ (m : Shown). IfMoves (scan m.state) (λ t. nat_lt (length p.marks) MARK_LIMIT ≡ is_within_limits t)) view
-      (by_front front (nat_lt (length p.marks) MARK_LIMIT) (ap (λ (m : Shown). front_of m.state.active) view ∙ sym at) (limited_with_mark front e))
+      subst (λ (m : State). IfMoves (scan m) (λ t. nat_lt (length p.marks) MARK_LIMIT ≡ texts_fit t)) view
+      (by_front front (nat_lt (length p.marks) MARK_LIMIT) (ap (λ (m : State). front_of m.active) view ∙ sym at) (limited_with_mark front e))
 
 -- ---- what the outcome says of the state before
 
-pub room_to_begin : (s : State) (kind : Kind) (n : ℕ) → is_within_limits (begun kind (deleted n s)) ≡ true → marks s.frames < MARK_LIMIT
+pub room_to_begin : (s : State) (kind : Kind) (n : ℕ) → texts_fit (begun kind (deleted n s)) ≡ true → marks s.frames < MARK_LIMIT
 room_to_begin s kind n e = let kept = limits_kept (begun kind (deleted n s)) e in omega (arith, kept.marked)
 
-room_in : (s : State) (fs : List Frame) → 0 < length fs → is_within_limits (comma_in fs s) ≡ true → marks fs < MARK_LIMIT
+room_in : (s : State) (fs : List Frame) → 0 < length fs → texts_fit (comma_in fs s) ≡ true → marks fs < MARK_LIMIT
 room_in s [] h e = absurd (omega arith)
 room_in s (f ∷ fs) h e = let kept = limits_kept (comma_in (f ∷ fs) s) e in omega (arith, kept.marked, length-append f.arguments (f.gathered ∷ []))
 
-pub room_for_argument : (s : State) → 0 < length s.frames → is_within_limits (comma_in s.frames (deleted 1 s)) ≡ true → marks s.frames < MARK_LIMIT
+pub room_for_argument : (s : State) → 0 < length s.frames → texts_fit (comma_in s.frames (deleted 1 s)) ≡ true → marks s.frames < MARK_LIMIT
 room_for_argument s h e = room_in (deleted 1 s) s.frames h e
 
 -- scanning moves on to this state, so a fact of it holds

@@ -7,7 +7,9 @@ use Rattle.std.specs.Ordering.{nat_cmp, eq_by_cmp}
 use Rattle.std.specs.Prelude.{Option, Some, None}
 use Rattle.trac_rules.specs.Form.{Form, all_items, pointed_at}
 use Rattle.trac_rules.specs.State.{Forms}
-use Rattle.trac_prims.specs.Effects.{with_pointer}
+use Rattle.trac_rules.specs.Handling.{keeping}
+use Rattle.trac_forms.specs.Stored.{Stored, storage_in}
+use Rattle.trac_prims.specs.Effects.{pointed}
 
 abbrev exact : finite.IsAntisymmetric (slice_cmp nat_cmp)
 exact = finite.slice_cmp-IsAntisymmetric finite.nat_cmp-IsAntisymmetric
@@ -31,10 +33,12 @@ pub pointed_within : (place : ℕ) (form : Form) → pointed_at (min place (leng
 pointed_within place form i = record { before = take_min place (all_items form) i; after = drop_min place (all_items form) i }
 
 -- the form that is there gets its pointer
-pub put_back : (forms : Forms) (name : List ℕ) (place n : ℕ) (form moved : Form) → Some form ≡ finite.get forms name →
+pub put_back : (store : Stored) (name : List ℕ) (place n : ℕ) (form moved : Form) → Some form ≡ finite.get store.forms name →
     n ≡ min place (length (all_items form)) → moved ≡ pointed_at n (all_items form) →
-    finite.insert (finite.remove forms name) name moved ≡ with_pointer name place (finite.get forms name) forms
-put_back forms name place n form moved there at is =
-    insert-remove forms name moved
-    ∙ ap (finite.insert forms name) (is ∙ ap (λ k. pointed_at k (all_items form)) at ∙ pointed_within place form)
-    ∙ ap (λ held. with_pointer name place held forms) there
+    keeping (finite.insert (finite.remove store.forms name) name moved) (storage_in store) ≡ pointed name place (finite.get store.forms name) (storage_in store)
+put_back store name place n form moved there at is =
+    ap (λ (forms : Forms). keeping forms (storage_in store)) (
+    insert-remove store.forms name moved
+    ∙ ap (finite.insert store.forms name) (is ∙ ap (λ k. pointed_at k (all_items form)) at ∙ pointed_within place form)
+    )
+    ∙ ap (λ held. pointed name place held (storage_in store)) there

@@ -1,18 +1,16 @@
 -- The rules of scanning on the parts of a machine.
-use Rattle.std.proofs.Common.{◌≡◌, ℕ, suc, add_comm, ◌+◌, ◌<◌, ◌≤◌, List, [], ◌∷◌, ◌++◌, length, take, drop, reverse, refl, sym, ap, ◌∙◌, arith, true, false, Bool}
-use Rattle.std.specs.Prelude.{Option, Some, None, is_some, if◌then◌else◌}
-use Rattle.std.proofs.lemmas.Bool.{le-leb}
+use Rattle.std.proofs.Common.{◌≡◌, ℕ, ◌+◌, ◌<◌, ◌≤◌, List, [], ◌∷◌, ◌++◌, length, take, drop, reverse, refl, sym, ap, ◌∙◌, arith}
+use Rattle.std.specs.Prelude.{Option, Some, None}
 use Rattle.std.proofs.lemmas.List.{reverse-append, length-reverse}
 use Rattle.std.proofs.lemmas.Grind.{reverse_onto}
 use Rattle.trac_rules.specs.declared.kind.Kind.{Kind}
-use Rattle.trac_rules.specs.declared.limit.TheConstants.{TEXT_LIMIT, MARK_LIMIT, OUTPUT_LIMIT}
 use Rattle.trac_rules.specs.State.{Frame, State}
 use Rattle.trac_rules.specs.Scanning.{gather, begun, comma_in}
-use Rattle.trac_rules.specs.Limits.{text_bytes, marks, is_within_limits}
+use Rattle.trac_rules.specs.Limits.{text_bytes, marks}
 use Rattle.trac_prims.specs.declared.mark.Mark.{Mark}
-use Rattle.trac_prims.specs.Cuts.{function_count}
-use Rattle.trac_step.specs.Layout.{Neutral, marked, neutral, AreMarks, Parts, state_of, IsSound}
-use Rattle.trac_step.proofs.Neutral.{bytes-neutral, marks-neutral, longer, neutral-append, neutral-mark, has_frames, length-argument}
+use Rattle.trac_prims.specs.Neutral.{Neutral, marked, neutral, AreMarks}
+use Rattle.trac_prims.proofs.Neutral.{bytes-neutral, marks-neutral, longer, neutral-append, neutral-mark, has_frames}
+use Rattle.trac_step.specs.Layout.{Parts, state_of}
 
 -- ---- sizes
 
@@ -21,15 +19,6 @@ text_bytes-parts p a = omega (arith, bytes-neutral p.text (reverse p.marks) a)
 
 pub marks-parts : (p : Parts) → AreMarks (length p.text) (reverse p.marks) → marks (state_of p).frames ≡ length p.marks
 marks-parts p a = marks-neutral p.text (reverse p.marks) (length p.text) a ∙ length-reverse p.marks
-
-within_limits_by : (s : State) → text_bytes s ≤ TEXT_LIMIT → marks s.frames ≤ MARK_LIMIT → length s.output ≤ OUTPUT_LIMIT → is_within_limits s ≡ true
-unfolding is_within_limits
-within_limits_by s t m o = rw (le-leb _ _ t, le-leb _ _ m, le-leb _ _ o) refl
-
--- a machine's state is within the limits
-pub within_limits : (p : Parts) → IsSound p → is_within_limits (state_of p) ≡ true
-within_limits p sound = within_limits_by (state_of p)
-    (rw (text_bytes-parts p sound.ordered) sound.text_limit) (rw (marks-parts p sound.ordered) sound.mark_limit) sound.output_limit
 
 -- ---- texts go to the current text
 
@@ -79,33 +68,3 @@ next_argument p a h =
 
 pub ordered_push : (p : Parts) (o : Option Kind) → AreMarks (length p.text) (reverse p.marks) → (o ≡ None → 0 < length p.marks) → AreMarks (length p.text) (reverse (p.marks ++ mark_at (length p.text) o ∷ []))
 ordered_push p o a h = rw reverse_push (omega arith, (λ e. rw length-reverse (h e)), a)
-
--- ---- how many functions are begun
-
-marked_length : (o : Option Kind) (text : List ℕ) (n : Neutral) → length (marked o text n).frames ≡ (if is_some o then suc (length n.frames) else length n.frames)
-marked_length (Some kind) text n = refl
-marked_length None text n = length-argument text n.frames
-
-length-neutral : (text : List ℕ) (ms : List Mark) → length (neutral text ms).frames ≡ function_count ms
-length-neutral text [] = refl
-length-neutral text (m ∷ ms) =
-    marked_length m.frame (drop m.place text) (neutral (take m.place text) ms)
-    ∙ ap (λ (n : ℕ). if is_some m.frame then suc n else n) (length-neutral (take m.place text) ms)
-
-function_count-append : (xs ys : List Mark) → function_count (xs ++ ys) ≡ function_count xs + function_count ys
-function_count-append [] ys = omega arith
-function_count-append (x ∷ xs) ys = counted (is_some x.frame) (function_count xs) (function_count ys) (function_count (xs ++ ys)) (function_count-append xs ys)
-  where
-    counted : (b : Bool) (m n all : ℕ) → all ≡ m + n → (if b then suc all else all) ≡ (if b then suc m else m) + n
-    counted true m n all e = omega arith
-    counted false m n all e = e
-
-function_count-reverse : (ms : List Mark) → function_count (reverse ms) ≡ function_count ms
-function_count-reverse [] = refl
-function_count-reverse (m ∷ ms) =
-    ap function_count (reverse_onto ms m [])
-    ∙ function_count-append (reverse ms) (m ∷ [])
-    ∙ (let rest = function_count-reverse ms in ap (λ (n : ℕ). n + function_count (m ∷ [])) rest ∙ add_comm (function_count ms) (function_count (m ∷ [])) ∙ sym (function_count-append (m ∷ []) ms))
-
-pub frames_counted : (p : Parts) → function_count p.marks ≡ length (state_of p).frames
-frames_counted p = sym (length-neutral p.text (reverse p.marks) ∙ function_count-reverse p.marks)

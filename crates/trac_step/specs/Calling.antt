@@ -1,36 +1,21 @@
--- The end of a call whose value is known.
-use Rattle.std.specs.Prelude.{ℕ, List, ◌++◌, Bool, true, false, nat_lt, get_or, Option, Some, None}
+-- The parts of a step: where scanning moves on, and what a call whose effect is known leads to.
+use Rattle.std.specs.Prelude.{◌≡◌, ℕ, ◌+◌, ◌≤◌, List, [], ◌∷◌, ◌++◌, length, drop, Bool, true, false, nat_lt}
 use Rattle.trac_gap.specs.Ends.{Ends}
 use Rattle.trac_rules.specs.declared.kind.Kind.{Kind}
 use Rattle.trac_rules.specs.declared.kind.Kind.TheVariants.{Active, Neutral}
-use Rattle.trac_prims.specs.declared.mark.Mark.{Mark}
 use Rattle.trac_rules.specs.declared.scan.Front.{Front}
 use Rattle.trac_rules.specs.declared.scan.Front.TheVariants.{Comma, ActiveCall, NeutralCall}
-use Rattle.trac_rules.specs.State.{State}
-use Rattle.trac_rules.specs.Scanning.{Call, Scanned, Moves, Calls}
+use Rattle.trac_rules.specs.State.{Frame, State, storage_of}
+use Rattle.trac_rules.specs.Limits.{argument_bytes, marks, text_bytes}
+use Rattle.trac_rules.specs.Scanning.{Scanned, Moves, Calls}
 use Rattle.trac_rules.specs.Performing.{after_call}
 use Rattle.trac_prims.specs.declared.effect.Effect as code
 use Rattle.trac_prims.specs.Effects.{effect_on}
+use Rattle.trac_step.specs.declared.calling.Beginning.{Beginning}
+use Rattle.trac_step.specs.Changing.{HasPlaceFor}
+use Rattle.trac_step.specs.Layout.{Shown}
 
--- a fact of the call that scanning asks for, where it asks for one
-abbrev pub IfCalls : Scanned → (Call → Type 0) → Type 0
-IfCalls (Moves t) P = Unit {0}
-IfCalls (Calls call) P = P call
-
--- the state after a call with this effect
-abbrev pub ended_call : {A : Type 0} → code.Effect A → Call → State
-ended_call e call = after_call call (effect_on call.state e)
-
--- the place of the mark of this number
-abbrev pub place_of : List Mark → ℕ → ℕ
-place_of marks k = (get_or marks k (record { place = 0; frame = None })).place
-
--- the texts with a value where it goes: behind the neutral text for a neutral function, where it is not forced, else before the active text
-abbrev pub with_value : Option Kind → Bool → List ℕ → Ends ℕ → Ends ℕ
-with_value (Some Neutral) false value e = record e { left = e.left ++ value }
-with_value (Some Neutral) true value e = record e { right = value ++ e.right }
-with_value (Some Active) forced value e = record e { right = value ++ e.right }
-with_value None forced value e = record e { right = value ++ e.right }
+-- ---- scanning moves on
 
 -- a fact of the state that scanning moves on to, where it asks for no call
 abbrev pub IfMoves : Scanned → (State → Type 0) → Type 0
@@ -48,3 +33,31 @@ adds_mark ActiveCall marks = true
 adds_mark NeutralCall marks = true
 adds_mark Comma marks = nat_lt 0 marks
 adds_mark front marks = false
+
+-- ---- scanning asks for a call
+
+-- the state after the call that scanning asks for, where the call has this effect
+abbrev pub state_after : {A : Type 0} → code.Effect A → Scanned → State
+state_after e (Moves t) = t
+state_after e (Calls call) = after_call call (effect_on (storage_of call.state) e)
+
+-- the first of the frames, the innermost function, begins here: the base text and the other frames stand before it
+abbrev pub BeginsFirst : List Frame → List ℕ → Beginning → Type 0
+BeginsFirst [] base b = ⊥
+BeginsFirst (f ∷ fs) base b = (b.kind ≡ f.kind) × (b.number ≡ marks fs) × (b.place ≡ length base + argument_bytes fs)
+
+-- the innermost function of a state begins here
+abbrev pub BeginsInnermost : State → Beginning → Type 0
+BeginsInnermost s b = BeginsFirst s.frames s.base b
+
+-- a machine needs no more memory for what a call with this effect adds
+pub record HasRoomFor {A : Type 0} (e : code.Effect A) (m : Shown) : Type 0 where
+  pub text : text_bytes m.state + length e.value.items ≤ m.text_room
+  pub output : length m.state.output + length e.print.items ≤ m.output_room
+  pub names : HasPlaceFor e.change m.known
+
+-- the texts with a value where it goes: behind the neutral text for a neutral function, where it is not forced, else before the active text
+abbrev pub with_value : Kind → Bool → List ℕ → Ends ℕ → Ends ℕ
+with_value Active forced value e = record e { right = value ++ e.right }
+with_value Neutral true value e = record e { right = value ++ e.right }
+with_value Neutral false value e = record e { left = e.left ++ value }

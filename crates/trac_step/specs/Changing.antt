@@ -6,6 +6,6 @@ use Rattle.trac_prims.specs.declared.change.Change.{Change}
 use Rattle.trac_prims.specs.declared.change.Change.TheVariants.{Put}
 
 -- the name under which the change puts a form, if it puts one, is known
-abbrev pub HasPlace : {A : Type 0} → Change A → Names → Type 0
-HasPlace (Put name form) known = IsTrue (set.contains known name.items)
-HasPlace change known = Unit {0}
+abbrev pub HasPlaceFor : {A : Type 0} → Change A → Names → Type 0
+HasPlaceFor (Put name form) known = IsTrue (set.contains known name.items)
+HasPlaceFor change known = Unit {0}

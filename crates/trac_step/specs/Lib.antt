@@ -1,6 +1,6 @@
--- How the machine keeps a state.
+-- How the machine keeps a state, and what its calls promise.
 pub mod Layout
-pub mod Calling
+pub mod Room
 pub mod Changing
-pub mod Frames
+pub mod Calling
 pub mod Record

@@ -1,129 +1,165 @@
-//! Performing a function.
-ghost use Rattle.std.specs.Prelude.{◌≡◌, ◌<◌, ◌≤◌, ◌+◌, length, reverse, drop, IfErr, OnOk, true};
+//! The steps that perform a function.
+ghost use Rattle.std.specs.Prelude.{◌≡◌, ◌<◌, ◌≤◌, ◌+◌, ◌^◌, ◌++◌, length, take, drop, IfErr, IfOk, IsOkUnless, OnOk, Ok, Some, vec_capacity, vec_len};
 ghost use Rattle.trac_gap.specs.Ends.{item_count};
-ghost use Rattle.trac_rules.specs.Bytes.{argument};
+ghost use Rattle.trac_rules.specs.Outcomes.{MayAnswer, MayRefuse};
+ghost use Rattle.trac_rules.specs.Proper.{IsProper};
 ghost use Rattle.trac_rules.specs.Scanning.{front_of, scan};
-ghost use Rattle.trac_rules.specs.Performing.{effect_of, primitive_of};
-ghost use Rattle.trac_rules.specs.Limits.{is_within_limits};
-ghost use Rattle.trac_prims.specs.Cuts.{cut, BeginsFunction};
-ghost use Rattle.trac_prims.specs.Effects.{IsPlanned};
-ghost use Rattle.trac_prims.specs.Tape.{tape_of};
-ghost use Rattle.trac_step.specs.Layout.{AreMarks};
-ghost use Rattle.trac_step.specs.Calling.{IfCalls, ended_call, place_of, with_value};
+ghost use Rattle.trac_rules.specs.Stepping.{step};
+ghost use Rattle.trac_prims.specs.Tape.{environment_of};
+ghost use Rattle.trac_step.specs.Calling.{BeginsInnermost, HasRoomFor, state_after, with_value};
+ghost use Rattle.trac_step.specs.Record.{before};
+ghost use Rattle.trac_step.specs.Room.{HasRoom, IsNoLess};
 
 use crate::changing::{change_forms, make_place};
+use crate::ends;
 use crate::engine::Core;
-use crate::innermost::innermost;
+use crate::record::Record;
 use std::alloc::Allocator;
-use trac_gap::TwoEnds;
-use trac_prims::{Args, Effect, Mark, Now, Tape, plan};
-use trac_rules::kind::Kind;
-use trac_rules::limit::{OUTPUT_LIMIT, TEXT_LIMIT};
-use trac_rules::refusal::Refusal;
+use trac_gap::{PlainEnds, TwoEnds};
+use trac_prims::{Effect, Kind, Mark, Now, Refusal, Tape, plan};
 use trac_rules::scan::Front;
 
-// The arguments behind the mark of this number, to the end of the text.
-pub(crate) fn arguments_behind<'a>(text: &'a [u8], marks: &'a [Mark], k: usize) -> Args<'a>
-    requires ordered { AreMarks (length text.now) (reverse marks.now) }
-    requires within { k < length marks.now }
-    ensures { result ≡ cut (place_of marks.now k) (drop (k + 1) marks.now) text.now }
+// Where a begun function begins.
+#[derive(Clone, Copy)]
+pub(crate) struct Beginning {
+    // the number of its mark
+    pub(crate) number: usize,
+    // how many bytes of the neutral text stand before it
+    pub(crate) place: usize,
+    pub(crate) kind: Kind,
+}
+
+// Cuts off the function that begins here, and its `)`.
+fn cut_function<E: TwoEnds<u8, A>, A: Allocator + Copy>(
+    text: &mut E,
+    marks: &mut PlainEnds<Mark, A>,
+    beginning: Beginning,
+)
+    requires closing { 1 ≤ length (E.ends text.old).right }
+    requires place { beginning.place ≤ length (E.ends text.old).left }
+    requires number { beginning.number ≤ length marks.old.left }
+    ensures text { E.ends text.new ≡ record (E.ends text.old) { left = take beginning.place (E.ends text.old).left; right = drop 1 (E.ends text.old).right } }
+    ensures marks { marks.new ≡ record marks.old { left = take beginning.number marks.old.left } }
 {
-    let place = marks[k].place;
-    Args::new(text, marks.split_at(k + 1).1, place)
+    text.cut_right(1);
+    text.cut_left(text.left().len() - beginning.place);
+    marks.cut_left(marks.left().len() - beginning.number);
 }
 
 // Puts a value where it goes: behind the neutral text for a neutral function, where it is not forced, else before the active text.
 fn put_value<E: TwoEnds<u8, A>, A: Allocator + Copy>(
     text: &mut E,
-    frame: Option<Kind>,
+    kind: Kind,
     forced: bool,
     value: &[u8],
 )
     requires { item_count (E.ends text.old) + length value.now ≤ (E.ends text.old).capacity }
-    ensures { E.ends text.new ≡ with_value frame forced value.now (E.ends text.old) }
+    ensures { E.ends text.new ≡ with_value kind forced value.now (E.ends text.old) }
 {
-    match frame {
-        Some(Kind::Neutral) if !forced => text.put_left(value),
-        Some(Kind::Neutral | Kind::Active) | None => text.put_right(value),
+    match kind {
+        Kind::Neutral if !forced => text.put_left(value),
+        Kind::Neutral | Kind::Active => text.put_right(value),
     }
 }
 
-// The number of the mark at which the innermost function begins.
-pub(crate) fn called(text: &[u8], marks: &[Mark]) -> usize
-    requires ordered { AreMarks (length text.now) (reverse marks.now) }
-    requires some { 0 < length marks.now }
-    ensures { BeginsFunction marks.now result }
+// Puts a text behind a list that has room for it.
+pub(crate) fn append<A: Allocator + Copy>(list: &mut Vec<u8, A>, text: &[u8])
+    requires { vec_len list.old + length text.now ≤ vec_capacity list.old }
+    ensures items { list.new.items ≡ list.old.items ++ text.now }
+    ensures room { vec_capacity list.old ≤ vec_capacity list.new }
 {
-    let Some(k) = innermost(marks) else {
+    let Ok(()) = list.extend_from_slice(text) else {
         unreachable!()
     };
-    k
 }
 
 impl<E: TwoEnds<u8, A>, A: Allocator + Copy> Core<E, A> {
-    // What the call will do that the next step performs, or why it is refused.
-    pub(crate) fn planned(&self, tape: Tape<'_>) -> Result<Effect<A>, Refusal>
+    // What the call will do that the next step performs, and where its function begins; or why it is refused.
+    fn planned(&self, tape: Tape<'_>) -> Result<(Beginning, Effect<A>), Refusal>
         requires front { front_of self.now.state.active ≡ Front.Closing }
         requires inside { 0 < length self.now.state.frames }
         requires within { self.now.state.position ≤ length tape.bytes.now }
-        ensures { IfCalls (scan self.now.state) (λ call.
-            IsPlanned call.state (effect_of (primitive_of (argument 0 call.arguments)) (tape_of tape.entry) call.arguments call.state) result) }
+        ensures outcome { MayAnswer (λ r. state_after r.1 (scan self.now.state)) (step (environment_of tape.entry) self.now.state) result }
+        ensures beginning { IfOk result (λ r. BeginsInnermost self.now.state r.0) }
+        ensures proper { IfOk result (λ r. IsProper (state_after r.1 (scan self.now.state))) }
+        ensures read { IfOk result (λ r. self.now.state.position + r.1.read < 2 ^ 64) }
     {
-        let k = called(self.text.left(), self.marks.left());
-        let arguments = arguments_behind(self.text.left(), self.marks.left(), k);
+        let Some(function) = self.neutral().innermost() else {
+            unreachable!()
+        };
         let now = Now {
             meta: self.meta,
+            trace: self.trace,
             position: self.position,
+            output: self.output.len(),
+            text: self.text.right().len() - 1 + function.place,
         };
-        plan(*self.output.allocator(), &arguments, &self.store, tape, now)
+        let effect = plan(
+            *self.output.allocator(),
+            &function.arguments,
+            function.kind,
+            &self.store,
+            tape,
+            now,
+        )?;
+        let beginning = Beginning {
+            number: function.number,
+            place: function.place,
+            kind: function.kind,
+        };
+        Ok((beginning, effect))
     }
 
-    // Whether the state after the call is within the limits.
-    pub(crate) fn call_fits(&self, effect: &Effect<A>) -> bool
-        requires front { front_of self.now.state.active ≡ Front.Closing }
-        requires inside { 0 < length self.now.state.frames }
-        ensures { IfCalls (scan self.now.state) (λ call. result ≡ is_within_limits (ended_call effect.now call)) }
+    // Makes room for what the call adds, so that finishing it needs no memory. The state stays.
+    fn make_room(&mut self, effect: &Effect<A>) -> Result<(), Refusal>
+        ensures ok { OnOk result (HasRoomFor effect.now self.new) }
+        ensures state { self.new.state ≡ self.old.state }
+        ensures room { IsNoLess self.old self.new }
+        ensures err { IsOkUnless result Refusal.Memory }
     {
-        let k = called(self.text.left(), self.marks.left());
-        let kept = self.text.right().len() - 1 + self.marks.left()[k].place;
-        if effect.value.len() > TEXT_LIMIT - kept {
-            return false;
-        }
-        effect.print.len() <= OUTPUT_LIMIT - self.output.as_slice().len()
+        ends::reserve(&mut self.text, effect.value.len())?;
+        self.output.reserve(effect.print.len())?;
+        make_place(&mut self.store, &effect.change)
     }
 
-    // Performs the call: the function is gone, what it prints is printed, and its value is where it goes.
-    pub(crate) fn end_call(&mut self, effect: Effect<A>) -> Result<(), Refusal>
+    // Performs the call: the function is gone, what it prints is printed, and its value is where it goes. It takes no memory.
+    fn finish_call(&mut self, beginning: Beginning, effect: Effect<A>)
         requires front { front_of self.old.state.active ≡ Front.Closing }
-        requires inside { 0 < length self.old.state.frames }
-        requires fits { IfCalls (scan self.old.state) (λ call. is_within_limits (ended_call effect call) ≡ true) }
-        ensures ok { OnOk result (IfCalls (scan self.old.state) (λ call. self.new.state ≡ ended_call effect call)) }
-        ensures err { IfErr result (λ e. (e ≡ Refusal.Memory) × (self.new ≡ self.old)) }
+        requires beginning { BeginsInnermost self.old.state beginning }
+        requires room { HasRoomFor effect self.old }
+        requires proper { IsProper (state_after effect (scan self.old.state)) }
+        requires read { self.old.state.position + effect.read < 2 ^ 64 }
+        ensures state { self.new.state ≡ state_after effect (scan self.old.state) }
+        ensures room { IsNoLess self.old self.new }
     {
-        let k = called(self.text.left(), self.marks.left());
-        let mark = self.marks.left()[k];
-        let Ok(()) = self.text.reserve(effect.value.len()) else {
-            return Err(Refusal::Memory);
-        };
-        let Ok(()) = self.output.reserve(effect.print.len()) else {
-            return Err(Refusal::Memory);
-        };
-        make_place(&mut self.store, &effect.change)?;
-        // All room is there now, and nothing below can be refused.
-        let Ok(()) = self.output.extend_from_slice(effect.print.as_slice()) else {
-            unreachable!();
-        };
-        self.text.cut_right(1);
-        self.text.cut_left(self.text.left().len() - mark.place);
-        self.marks.cut_left(self.marks.left().len() - k);
+        cut_function(&mut self.text, &mut self.marks, beginning);
         put_value(
             &mut self.text,
-            mark.frame,
+            beginning.kind,
             effect.forced,
             effect.value.as_slice(),
         );
+        append(&mut self.output, effect.print.as_slice());
         change_forms(&mut self.store, effect.change);
-        self.position = effect.position;
-        Ok(())
+        self.meta = effect.meta.unwrap_or(self.meta);
+        self.trace = effect.trace.unwrap_or(self.trace);
+        self.position += effect.read;
+    }
+
+    // The next step, where it performs a function.
+    pub(crate) fn call_step(&mut self, tape: Tape<'_>) -> Result<Record<E, A>, Refusal>
+        requires front { front_of self.old.state.active ≡ Front.Closing }
+        requires inside { 0 < length self.old.state.frames }
+        requires within { self.old.state.position ≤ length tape.bytes.now }
+        ensures taken { IfOk result (λ r. (before r self.new.state ≡ Some self.old.state) × (step (environment_of tape.entry) self.old.state ≡ Ok self.new.state)) }
+        ensures held { OnOk result (HasRoom self.new self.old.state) }
+        ensures refused { IfErr result (λ e. (self.new.state ≡ self.old.state) × MayRefuse (step (environment_of tape.entry) self.old.state) e) }
+        ensures room { IsNoLess self.old self.new }
+    {
+        let (beginning, effect) = self.planned(tape)?;
+        let before = self.copy()?;
+        self.make_room(&effect)?;
+        self.finish_call(beginning, effect);
+        Ok(Record::Whole(before))
     }
 }

@@ -1,8 +1,10 @@
 //! The machine: its parts, and how they are read as a state.
-ghost use Rattle.std.specs.Prelude.{◌≡◌, IfOk, IsOkUnless};
+ghost use Rattle.std.specs.Prelude.{◌≡◌, ◌≤◌, IfOk, IsOkUnless, OnOk, vec_capacity};
 ghost use Rattle.trac_rules.specs.State.{initial};
 ghost use Rattle.trac_rules.specs.Session.{settled};
+ghost use Rattle.trac_step.specs.Room.{HasRoom, IsNoLess};
 
+use crate::ends;
 use std::alloc::{Allocator, Global};
 use std::marker::Model;
 use trac_forms::Store;
@@ -15,7 +17,8 @@ use trac_rules::refusal::Refusal;
 pub(crate) const IDLE_PROGRAM: &[u8; 11] = b"#(ps,#(rs))";
 
 /// A machine over lists with two ends: its neutral text stands on the left, its active text on the right.
-/// It is seen as the state that it shows.
+/// It is seen as the state that it shows, which is always a proper one; how many bytes of texts, how many marks and how many
+/// bytes of output it has room for without more memory; and the names under which it can put a form without more memory.
 #[derive(Drop)]
 pub struct Core<E: TwoEnds<u8, A>, A: Allocator + Copy> {
     pub(crate) text: E,
@@ -23,6 +26,7 @@ pub struct Core<E: TwoEnds<u8, A>, A: Allocator + Copy> {
     pub(crate) marks: PlainEnds<Mark, A>,
     pub(crate) store: Store<A>,
     pub(crate) meta: u8,
+    pub(crate) trace: bool,
     pub(crate) position: usize,
     pub(crate) output: Vec<u8, A>,
 }
@@ -31,15 +35,15 @@ pub struct Core<E: TwoEnds<u8, A>, A: Allocator + Copy> {
 pub type Machine<A = Global> = Core<PlainEnds<u8, A>, A>;
 
 impl<E: TwoEnds<u8, A>, A: Allocator + Copy> Model for Core<E, A> {
-    ghost use Rattle.trac_step.specs.Layout.{Shown, shown_code, IsSound, parts_of, state_of};
+    ghost use Rattle.trac_step.specs.Layout.{Shown, shown_by, shown_code, IsSound, parts_of};
 
     ghost Value = { Shown };
 
     ghost coded = { shown_code };
 
-    ghost view = { λ m. record { state = state_of (parts_of (E.ends m.text) m.marks m.store.forms m.meta m.position m.output.items) } };
+    ghost view = { λ m. shown_by (parts_of (E.ends m.text) m.marks m.store m.meta m.trace m.position m.output) };
 
-    ghost invariant = { λ m. IsSound (parts_of (E.ends m.text) m.marks m.store.forms m.meta m.position m.output.items) };
+    ghost invariant = { λ m. IsSound (parts_of (E.ends m.text) m.marks m.store m.meta m.trace m.position m.output) };
 }
 
 impl<E: TwoEnds<u8, A>, A: Allocator + Copy> Core<E, A> {
@@ -50,55 +54,57 @@ impl<E: TwoEnds<u8, A>, A: Allocator + Copy> Core<E, A> {
         ensures err { IsOkUnless result Refusal.Memory }
     {
         let mut text = E::new(alloc);
-        let Ok(()) = text.reserve(IDLE_PROGRAM.len()) else {
-            return Err(Refusal::Memory);
-        };
+        ends::reserve(&mut text, IDLE_PROGRAM.len())?;
         text.put_right(IDLE_PROGRAM);
         Ok(Core {
             text,
             marks: PlainEnds::new(alloc),
             store: Store::new(alloc),
             meta: byte::APOSTROPHE,
+            trace: false,
             position: 0,
             output: Vec::new(alloc),
         })
     }
 
-    /// A second machine that shows the same state, with memory of its own.
+    /// A second machine that shows the same state, with memory of its own: it has no less room, and knows no fewer names.
     /// Refused with `Memory` where the allocator refuses.
     pub fn copy(&self) -> Result<Self, Refusal>
         ensures same { IfOk result (λ m. m.state ≡ self.now.state) }
+        ensures room { IfOk result (λ m. IsNoLess self.now m) }
+
+        // A machine has room for its own state.
+        ensures holds { OnOk result (HasRoom self.now self.now.state) }
         ensures err { IsOkUnless result Refusal.Memory }
     {
-        let alloc = *self.output.allocator();
-        let Ok(text) = self.text.copy() else {
-            return Err(Refusal::Memory);
-        };
-        let Ok(marks) = self.marks.copy() else {
-            return Err(Refusal::Memory);
-        };
-        let Ok(store) = self.store.copy() else {
-            return Err(Refusal::Memory);
-        };
-        let Ok(output) = Vec::from_slice(alloc, self.output.as_slice()) else {
-            return Err(Refusal::Memory);
-        };
         Ok(Core {
-            text,
-            marks,
-            store,
+            text: ends::copy(&self.text)?,
+            marks: ends::copy(&self.marks)?,
+            store: self.store.copy()?,
             meta: self.meta,
+            trace: self.trace,
             position: self.position,
-            output,
+            output: copy_of(&self.output)?,
         })
     }
 
     /// Empties the output and begins to count the input anew: what is printed is released, and what is read is dropped.
-    /// It takes no memory, and keeps the machine's room.
+    /// It takes no memory, and keeps the machine's room and the names that it knows.
     pub fn settle(&mut self)
-        ensures { self.new.state ≡ settled self.old.state }
+        ensures { self.new ≡ record self.old { state = settled self.old.state } }
     {
         self.output.clear();
         self.position = 0;
     }
+}
+
+// A second list of the same bytes, with no less room.
+fn copy_of<A: Allocator + Copy>(list: &Vec<u8, A>) -> Result<Vec<u8, A>, Refusal>
+    ensures items { IfOk result (λ copy. copy.items ≡ list.now.items) }
+    ensures room { IfOk result (λ copy. vec_capacity list.now ≤ vec_capacity copy) }
+    ensures err { IsOkUnless result Refusal.Memory }
+{
+    let mut copy = Vec::with_capacity(*list.allocator(), list.capacity())?;
+    copy.extend_from_slice(list.as_slice())?;
+    Ok(copy)
 }

@@ -3,21 +3,17 @@
 
 mod calling;
 mod changing;
+mod ends;
 pub mod engine;
-mod frames;
 mod front;
-mod innermost;
 mod matching;
+mod moves;
 mod readers;
 pub mod record;
 mod scanning;
 mod stepping;
-#[cfg(test)]
-mod tests;
 
 pub use engine::{Core, Machine};
 pub use record::Record;
 pub use trac_forms::Store;
-pub use trac_prims::{Args, Mark, Tape};
-pub use trac_rules::kind::Kind;
-pub use trac_rules::refusal::Refusal;
+pub use trac_prims::{Args, Kind, Mark, Refusal, Tape};

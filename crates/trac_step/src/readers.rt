@@ -1,11 +1,13 @@
 //! The readers of a machine's state.
-ghost use Rattle.std.specs.Prelude.{◌≡◌, length};
+ghost use Rattle.std.specs.Prelude.{◌≡◌, ◌≤◌, length, reverse, slice_get, MatchOption};
+ghost use Rattle.trac_prims.specs.Frames.{IsFrame};
+ghost use Rattle.trac_prims.specs.Neutral.{neutral_of};
 
 use crate::engine::Core;
-use crate::innermost::frame_count;
 use std::alloc::Allocator;
 use trac_forms::Store;
 use trac_gap::TwoEnds;
+use trac_prims::{Args, Kind, NeutralText};
 
 impl<E: TwoEnds<u8, A>, A: Allocator + Copy> Core<E, A> {
     /// What is not scanned yet.
@@ -15,16 +17,38 @@ impl<E: TwoEnds<u8, A>, A: Allocator + Copy> Core<E, A> {
         self.text.right()
     }
 
+    // The neutral text with its marks.
+    pub(crate) fn neutral(&self) -> NeutralText<'_>
+        ensures { neutral_of result ≡ record { base = self.now.state.base; frames = self.now.state.frames } }
+    {
+        NeutralText::new(self.text.left(), self.marks.left())
+    }
+
+    /// The neutral text outside all begun functions.
+    pub fn base(&self) -> &[u8]
+        ensures { result.now ≡ self.now.state.base }
+    {
+        self.neutral().base()
+    }
+
     /// How many functions are begun and not ended.
     pub fn depth(&self) -> usize
         ensures { result ≡ length self.now.state.frames }
     {
-        frame_count(self.marks.left())
+        self.neutral().depth()
     }
 
-    /// The forms by their names.
+    /// The begun function of this number, the outermost being number 0: its kind, and all its arguments, of which the
+    /// last is being gathered. None past the innermost.
+    pub fn frame(&self, i: usize) -> Option<(Kind, Args<'_>)>
+        ensures { MatchOption result (length self.now.state.frames ≤ i) (λ r. IsFrame (slice_get (reverse self.now.state.frames) i) r.0 r.1) }
+    {
+        self.neutral().frame(i)
+    }
+
+    /// The forms by their names, the blocks, and the names that have a place.
     pub fn store(&self) -> &Store<A>
-        ensures { result.now.forms ≡ self.now.state.forms }
+        ensures { result.now ≡ record { forms = self.now.state.forms; blocks = self.now.state.blocks; known = self.now.known } }
     {
         &self.store
     }
@@ -40,8 +64,7 @@ impl<E: TwoEnds<u8, A>, A: Allocator + Copy> Core<E, A> {
     pub fn trace(&self) -> bool
         ensures { result ≡ self.now.state.trace }
     {
-        let _parts = &self.marks;
-        false
+        self.trace
     }
 
     /// How many bytes of the tape are read.

@@ -1,4 +1,10 @@
 //! What a step leaves for the way back.
+ghost use Rattle.std.specs.Prelude.{◌≡◌, IsSomeAnd, Some};
+ghost use Rattle.trac_step.specs.Record.{before};
+ghost use Rattle.trac_step.specs.Room.{HasRoom, IsNoLess};
+
+use crate::calling::append;
+use crate::ends::refill;
 use crate::engine::Core;
 use std::alloc::Allocator;
 use trac_gap::TwoEnds;
@@ -11,16 +17,31 @@ pub enum Record<E: TwoEnds<u8, A>, A: Allocator + Copy> {
 }
 
 impl<E: TwoEnds<u8, A>, A: Allocator + Copy> Core<E, A> {
-    ghost use Rattle.std.specs.Prelude.{◌≡◌, IsSome, Some};
-    ghost use Rattle.trac_step.specs.Record.{before};
-
-    /// Goes back over a step: the machine shows the state before it again, all parts as they were.
-    /// It takes no memory and cannot fail.
+    /// Goes back over a step: the machine shows the state before it again, all parts as they were, in its own room.
+    /// It takes no memory and cannot fail, lessens no room and forgets no name. The machine has to have room for that state,
+    /// as it has after the step.
     pub fn undo(&mut self, taken: Record<E, A>)
-        requires { IsSome (before taken self.old.state) }
-        ensures { before taken self.old.state ≡ Some self.new.state }
+        requires { IsSomeAnd (before taken self.old.state) (λ s. HasRoom self.old s) }
+        ensures state { before taken self.old.state ≡ Some self.new.state }
+        ensures room { IsNoLess self.old self.new }
     {
-        let Record::Whole(machine) = taken;
-        *self = machine;
+        let Record::Whole(earlier) = taken;
+        self.put_back(earlier);
+    }
+
+    // Shows what an earlier machine shows, in this machine's room.
+    fn put_back(&mut self, earlier: Core<E, A>)
+        requires { HasRoom self.old earlier.state }
+        ensures state { self.new.state ≡ earlier.state }
+        ensures room { IsNoLess self.old self.new }
+    {
+        refill(&mut self.text, earlier.text.left(), earlier.text.right());
+        refill(&mut self.marks, earlier.marks.left(), &[]);
+        self.output.clear();
+        append(&mut self.output, earlier.output.as_slice());
+        self.meta = earlier.meta;
+        self.trace = earlier.trace;
+        self.position = earlier.position;
+        self.store.restore(earlier.store);
     }
 }

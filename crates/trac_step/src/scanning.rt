@@ -1,10 +1,12 @@
 //! The rules of scanning that perform no function, each on the machine's own parts.
-ghost use Rattle.std.specs.Prelude.{◌≡◌, ◌<◌, ◌≤◌, ◌+◌, [], ◌∷◌, length, drop, Some, IfErr, OnOk};
+ghost use Rattle.std.specs.Prelude.{◌≡◌, ◌<◌, ◌≤◌, ◌+◌, [], ◌∷◌, length, drop, Some, IsOkUnless, OnErr, OnOk};
 ghost use Rattle.trac_rules.specs.Bytes.{idle_program};
 ghost use Rattle.trac_rules.specs.Matching.{protected};
 ghost use Rattle.trac_rules.specs.Scanning.{protect, deleted, begun, comma_in, gather_first};
 ghost use Rattle.trac_rules.specs.Limits.{marks};
+ghost use Rattle.trac_step.specs.Room.{IsNoLess};
 
+use crate::ends;
 use crate::engine::{Core, IDLE_PROGRAM};
 use crate::matching::match_in;
 use std::alloc::Allocator;
@@ -19,11 +21,11 @@ impl<E: TwoEnds<u8, A>, A: Allocator + Copy> Core<E, A> {
     pub(crate) fn reload(&mut self) -> Result<(), Refusal>
         requires { self.old.state.active ≡ [] }
         ensures ok { OnOk result (self.new.state ≡ record self.old.state { active = idle_program; base = []; frames = [] }) }
-        ensures err { IfErr result (λ e. (e ≡ Refusal.Memory) × (self.new ≡ self.old)) }
+        ensures room { IsNoLess self.old self.new }
+        ensures unchanged { OnErr result (self.new ≡ self.old) }
+        ensures err { IsOkUnless result Refusal.Memory }
     {
-        let Ok(()) = self.text.reserve(IDLE_PROGRAM.len()) else {
-            return Err(Refusal::Memory);
-        };
+        ends::reserve(&mut self.text, IDLE_PROGRAM.len())?;
         self.text.cut_left(self.text.left().len());
         self.marks.cut_left(self.marks.left().len());
         self.text.put_right(IDLE_PROGRAM);
@@ -33,7 +35,7 @@ impl<E: TwoEnds<u8, A>, A: Allocator + Copy> Core<E, A> {
     // A `(`: what it protects goes to the current text.
     pub(crate) fn protect(&mut self)
         requires { 0 < length self.old.state.active }
-        ensures { self.new.state ≡ protect (protected (drop 1 self.old.state.active)) self.old.state }
+        ensures { self.new ≡ record self.old { state = protect (protected (drop 1 self.old.state.active)) self.old.state } }
     {
         self.text.cut_right(1);
         if let Some(place) = match_in(self.text.right()) {
@@ -47,7 +49,7 @@ impl<E: TwoEnds<u8, A>, A: Allocator + Copy> Core<E, A> {
     // The first n bytes of the active text are deleted.
     pub(crate) fn delete(&mut self, n: usize)
         requires { n ≤ length self.old.state.active }
-        ensures { self.new.state ≡ deleted n self.old.state }
+        ensures { self.new ≡ record self.old { state = deleted n self.old.state } }
     {
         self.text.cut_right(n);
     }
@@ -57,7 +59,9 @@ impl<E: TwoEnds<u8, A>, A: Allocator + Copy> Core<E, A> {
         requires front { 0 < length self.old.state.active }
         requires room { 0 < length self.old.state.frames → marks self.old.state.frames < MARK_LIMIT }
         ensures ok { OnOk result (self.new.state ≡ comma_in self.old.state.frames (deleted 1 self.old.state)) }
-        ensures err { IfErr result (λ e. (e ≡ Refusal.Memory) × (self.new ≡ self.old)) }
+        ensures room { IsNoLess self.old self.new }
+        ensures unchanged { OnErr result (self.new ≡ self.old) }
+        ensures err { IsOkUnless result Refusal.Memory }
     {
         if self.marks.left().is_empty() {
             self.delete(1);
@@ -71,11 +75,11 @@ impl<E: TwoEnds<u8, A>, A: Allocator + Copy> Core<E, A> {
         requires inside { 0 < length self.old.state.frames }
         requires room { marks self.old.state.frames < MARK_LIMIT }
         ensures ok { OnOk result (self.new.state ≡ comma_in self.old.state.frames (deleted 1 self.old.state)) }
-        ensures err { IfErr result (λ e. (e ≡ Refusal.Memory) × (self.new ≡ self.old)) }
+        ensures room { IsNoLess self.old self.new }
+        ensures unchanged { OnErr result (self.new ≡ self.old) }
+        ensures err { IsOkUnless result Refusal.Memory }
     {
-        let Ok(()) = self.marks.reserve(1) else {
-            return Err(Refusal::Memory);
-        };
+        ends::reserve(&mut self.marks, 1)?;
         self.text.cut_right(1);
         self.marks.push_left(Mark {
             place: self.text.left().len(),
@@ -89,11 +93,11 @@ impl<E: TwoEnds<u8, A>, A: Allocator + Copy> Core<E, A> {
         requires front { n ≤ length self.old.state.active }
         requires room { marks self.old.state.frames < MARK_LIMIT }
         ensures ok { OnOk result (self.new.state ≡ begun kind (deleted n self.old.state)) }
-        ensures err { IfErr result (λ e. (e ≡ Refusal.Memory) × (self.new ≡ self.old)) }
+        ensures room { IsNoLess self.old self.new }
+        ensures unchanged { OnErr result (self.new ≡ self.old) }
+        ensures err { IsOkUnless result Refusal.Memory }
     {
-        let Ok(()) = self.marks.reserve(1) else {
-            return Err(Refusal::Memory);
-        };
+        ends::reserve(&mut self.marks, 1)?;
         self.text.cut_right(n);
         self.marks.push_left(Mark {
             place: self.text.left().len(),
@@ -105,7 +109,7 @@ impl<E: TwoEnds<u8, A>, A: Allocator + Copy> Core<E, A> {
     // The first byte of the active text goes to the current text.
     pub(crate) fn gather_first(&mut self)
         requires { 0 < length self.old.state.active }
-        ensures { self.new.state ≡ gather_first self.old.state }
+        ensures { self.new ≡ record self.old { state = gather_first self.old.state } }
     {
         self.text.shift_left(1);
     }

@@ -5,4 +5,4 @@ use Rattle.trac_prims.specs.Effects.{texts_of}
 use Rattle.trac_step.proofs.changing.remove.Given as goal
 
 abbrev pub invariant-loop-name : goal.invariant-loop-name
-invariant-loop-name g l = without (texts_of (drop l.name-index l.names)) l.store.forms ≡ without (texts_of l.names) l.fn.store.forms
+invariant-loop-name g l = record l.store { forms = without (texts_of (drop l.name-index l.names)) l.store.forms } ≡ record l.fn.store { forms = without (texts_of l.names) l.fn.store.forms }

@@ -2,8 +2,9 @@ use Rattle.std.proofs.Common.{◌≡◌, sym, ap, ◌∙◌, true, inl, inr}
 use Rattle.trac_rules.specs.declared.kind.Kind.TheVariants.{Active, Neutral}
 use Rattle.trac_rules.specs.declared.scan.Front.TheVariants.{Nothing, Opening, Layout, Comma, ActiveCall, NeutralCall, Sharp, Plain}
 use Rattle.trac_rules.specs.Scanning.{Moves, deleted, begun, comma_in}
-use Rattle.trac_rules.specs.Limits.{is_within_limits}
-use Rattle.trac_step.proofs.Ending.{scan_front}
+use Rattle.trac_rules.specs.Limits.{texts_fit}
+use Rattle.trac_step.specs.Layout.{Shown}
+use Rattle.trac_step.proofs.Scans.{scan_front}
 use Rattle.trac_step.proofs.Moving.{room_to_begin, room_for_argument, of_moves, closing_move, on_ok}
 use Rattle.trac_step.proofs.engine.Core.move_on.Goals as goal
 
@@ -11,19 +12,19 @@ pub comma-requires-clause-room : goal.comma-requires-clause-room
 comma-requires-clause-room g c =
     let s = c.args.self.now.state in
     let scanned = scan_front s Comma (sym c.requires.front ∙ c.in-Comma.is) in
-    λ inside. room_for_argument s inside (of_moves s (comma_in s.frames (deleted 1 s)) (λ t. is_within_limits t ≡ true) scanned c.requires.fits)
+    λ inside. room_for_argument s inside (of_moves s (comma_in s.frames (deleted 1 s)) (λ t. texts_fit t ≡ true) scanned c.requires.fits)
 
 pub begin-requires-clause-room : goal.begin-requires-clause-room
 begin-requires-clause-room g c =
     let s = c.args.self.now.state in
     let scanned = scan_front s ActiveCall (sym c.requires.front ∙ c.in-ActiveCall.is) in
-    room_to_begin s Active 2 (of_moves s (begun Active (deleted 2 s)) (λ t. is_within_limits t ≡ true) scanned c.requires.fits)
+    room_to_begin s Active 2 (of_moves s (begun Active (deleted 2 s)) (λ t. texts_fit t ≡ true) scanned c.requires.fits)
 
 pub begin-requires-in-NeutralCall-clause-room : goal.begin-requires-in-NeutralCall-clause-room
 begin-requires-in-NeutralCall-clause-room g c =
     let s = c.args.self.now.state in
     let scanned = scan_front s NeutralCall (sym c.requires.front ∙ c.in-NeutralCall.is) in
-    room_to_begin s Neutral 3 (of_moves s (begun Neutral (deleted 3 s)) (λ t. is_within_limits t ≡ true) scanned c.requires.fits)
+    room_to_begin s Neutral 3 (of_moves s (begun Neutral (deleted 3 s)) (λ t. texts_fit t ≡ true) scanned c.requires.fits)
 
 pub returns-in-Nothing-clause-ok : goal.returns-in-Nothing-clause-ok
 returns-in-Nothing-clause-ok g c =
@@ -31,7 +32,7 @@ returns-in-Nothing-clause-ok g c =
     on_ok c.reload.result (λ e. scanned ∙ ap Moves (sym e)) c.reload.ensures.ok
 
 pub returns-in-Opening-clause-ok : goal.returns-in-Opening-clause-ok
-returns-in-Opening-clause-ok g c = scan_front c.args.self.now.state Opening (sym c.requires.front ∙ c.in-Opening.is) ∙ ap Moves (sym c.protect.ensures)
+returns-in-Opening-clause-ok g c = scan_front c.args.self.now.state Opening (sym c.requires.front ∙ c.in-Opening.is) ∙ ap (λ (m : Shown). Moves m.state) (sym c.protect.ensures)
 
 pub returns-in-Comma-clause-ok : goal.returns-in-Comma-clause-ok
 returns-in-Comma-clause-ok g c =
@@ -50,12 +51,12 @@ returns-in-NeutralCall-clause-ok g c =
 
 pub returns-in-Sharp-clause-ok : goal.returns-in-Sharp-clause-ok
 returns-in-Sharp-clause-ok g c = elim c.in-Sharp.is [
-  | inl is ↦ scan_front c.args.self.now.state Sharp (sym c.requires.front ∙ is) ∙ ap Moves (sym c.gather_first.ensures)
-  | inr is ↦ scan_front c.args.self.now.state Plain (sym c.requires.front ∙ is) ∙ ap Moves (sym c.gather_first.ensures)
+  | inl is ↦ scan_front c.args.self.now.state Sharp (sym c.requires.front ∙ is) ∙ ap (λ (m : Shown). Moves m.state) (sym c.gather_first.ensures)
+  | inr is ↦ scan_front c.args.self.now.state Plain (sym c.requires.front ∙ is) ∙ ap (λ (m : Shown). Moves m.state) (sym c.gather_first.ensures)
 ]
 
 pub returns-in-Layout-clause-ok : goal.returns-in-Layout-clause-ok
 returns-in-Layout-clause-ok g c = elim c.in-Layout.is [
-  | inl is ↦ scan_front c.args.self.now.state Layout (sym c.requires.front ∙ is) ∙ ap Moves (sym c.delete.ensures)
-  | inr is ↦ closing_move c.args.self.now.state (sym c.requires.front ∙ is) c.requires.moves ∙ ap Moves (sym c.delete.ensures)
+  | inl is ↦ scan_front c.args.self.now.state Layout (sym c.requires.front ∙ is) ∙ ap (λ (m : Shown). Moves m.state) (sym c.delete.ensures)
+  | inr is ↦ closing_move c.args.self.now.state (sym c.requires.front ∙ is) c.requires.moves ∙ ap (λ (m : Shown). Moves m.state) (sym c.delete.ensures)
 ]

@@ -1,12 +1,16 @@
-use Rattle.std.proofs.Common.{refl, arith}
-use Rattle.std.specs.Prelude.{None}
-use Rattle.trac_step.specs.Layout.{parts_of}
-use Rattle.trac_step.proofs.Changes.{sound_marked, marks_of_view, has_marks}
+use Rattle.std.proofs.Common.{List, length, ◌≡◌, refl, sym, ap, subst, arith}
+use Rattle.std.specs.Prelude.{Some, None}
+use Rattle.trac_prims.specs.declared.mark.Mark.{Mark}
+use Rattle.trac_step.specs.Layout.{parts_of, IsSound, Shown}
+use Rattle.trac_step.proofs.Changes.{marked_parts, sound_push, marks_of_view, has_marks}
 use Rattle.trac_step.proofs.engine.Core.next_argument.Goals as goal
 
 pub invariant_of-self-2 : goal.invariant_of-self-2
 invariant_of-self-2 g c =
-    let p = parts_of (g.E.TwoEnds.ends c.self.inside.text) c.self.inside.marks c.self.inside.store.forms c.self.inside.meta c.self.inside.position c.self.inside.output.items in
-    sound_marked p 1 None (g.E.TwoEnds.ends c.self.inside.text) (g.E.TwoEnds.ends c.cut_right.new.self) c.reserve.new.self c.push_left.new.self c.left.result.now c.self.invariant
-    (omega (arith, marks_of_view p c.args.self.now c.self.invariant c.self.view_is, c.requires.room)) (λ _. has_marks p c.args.self.now c.self.invariant c.self.view_is c.requires.inside)
-    refl refl c.cut_right.ensures c.left.ensures.left c.reserve.ensures.left c.push_left.ensures
+    let p = parts_of (g.E.TwoEnds.ends c.self.inside.text) c.self.inside.marks c.self.inside.store c.self.inside.meta c.self.inside.trace c.self.inside.position c.self.inside.output in
+    let state_is = ap (λ (m : Shown). m.state) c.self.view_is in
+    let count = marks_of_view p c.args.self.now.state c.self.invariant state_is in
+    subst IsSound (sym (marked_parts (g.E.TwoEnds.ends c.self.inside.text) (g.E.TwoEnds.ends c.cut_right.new.self) c.self.inside.marks c.reserve.new.list c.push_left.new.self
+    c.self.inside.store c.self.inside.meta c.self.inside.trace c.self.inside.position c.self.inside.output 1 None c.left.result.now
+    c.cut_right.ensures c.left.ensures.left c.reserve.ensures.left c.push_left.ensures))
+    (sound_push p 1 None c.reserve.new.list.capacity c.self.invariant (omega (arith, count, c.requires.room)) (omega (arith, c.in_ok-reserve.ensures.ok, ap (λ (ms : List Mark). length ms) c.reserve.ensures.left)) (λ _. has_marks p c.args.self.now.state c.self.invariant state_is c.requires.inside))

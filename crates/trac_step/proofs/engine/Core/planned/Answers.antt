@@ -1,29 +1,113 @@
-use Rattle.std.proofs.Common.{ℕ, List, refl, subst}
-use Rattle.trac_rules.specs.Bytes.{argument}
-use Rattle.trac_rules.specs.Performing.{effect_of, primitive_of}
-use Rattle.trac_prims.specs.Effects.{IsPlanned}
-use Rattle.trac_prims.specs.Tape.{tape_of}
-use Rattle.trac_step.specs.Layout.{parts_of}
-use Rattle.trac_step.proofs.Ended.{call_at, is_calling, scan_called, arguments_at, arguments_limited, if_calls}
+use Rattle.std.proofs.Common.{List, ℕ, ◌+◌, ◌-◌, length, sym, ap, ◌∙◌, subst, arith}
+use Rattle.std.proofs.lemmas.Result.{err_from_is_err_and}
+use Rattle.trac_rules.specs.Proper.{IsProper}
+use Rattle.trac_rules.specs.Scanning.{scan}
+use Rattle.trac_rules.specs.State.{State, storage_of}
+use Rattle.trac_rules.proofs.ProperStates.{step_proper}
+use Rattle.trac_prims.specs.Tape.{environment_of}
+use Rattle.trac_step.specs.Calling.{state_after}
+use Rattle.trac_step.specs.Layout.{parts_of, Shown}
+use Rattle.trac_step.proofs.Beginnings.{begins_innermost}
+use Rattle.trac_step.proofs.Calls.{step_planned, step_unplanned}
+use Rattle.trac_step.proofs.Limited.{proper_of_sound}
+use Rattle.trac_step.proofs.Planned.{behind, count_within, frames_of, given_call, text_within}
 use Rattle.trac_step.proofs.engine.Core.planned.Goals as goal
 
 pub plan-requires-clause-count : goal.plan-requires-clause-count
 plan-requires-clause-count g c =
-    let p = parts_of (g.E.TwoEnds.ends c.self.inside.text) c.self.inside.marks c.self.inside.store.forms c.self.inside.meta c.self.inside.position c.self.inside.output.items in
-    let k = c.called-k.result in
-    let at = is_calling p c.args.self.now k c.left-2.result.now c.self.invariant c.self.view_is c.requires.front c.left-2.ensures.left c.called-k.ensures in
-    arguments_limited p c.args.self.now k at c.arguments_behind-arguments.result c.left-4.result.now c.left-3.result.now c.arguments_behind-arguments.ensures c.left-4.ensures.left
+    let s = c.args.self.now.state in
+    let p = parts_of (g.E.TwoEnds.ends c.self.inside.text) c.self.inside.marks c.self.inside.store c.self.inside.meta c.self.inside.trace c.self.inside.position c.self.inside.output in
+    let state_is = ap (λ (m : Shown). m.state) c.self.view_is in
+    let proper = subst IsProper state_is (proper_of_sound p c.self.invariant) in
+    let f = c.in-Some.function in
+    count_within s c.neutral.result f.number f.place f.kind f.arguments proper c.neutral.ensures c.in-Some.ensures
 
-pub returns : goal.returns
-returns g c =
-    let p = parts_of (g.E.TwoEnds.ends c.self.inside.text) c.self.inside.marks c.self.inside.store.forms c.self.inside.meta c.self.inside.position c.self.inside.output.items in
-    let k = c.called-k.result in
-    let at = is_calling p c.args.self.now k c.left-2.result.now c.self.invariant c.self.view_is c.requires.front c.left-2.ensures.left c.called-k.ensures in
-    let called = scan_called p c.args.self.now k at in
-    let s = (call_at p k called.0).state in
-    let arguments_are = arguments_at p k c.arguments_behind-arguments.result c.left-4.result.now c.left-3.result.now c.arguments_behind-arguments.ensures c.left-4.ensures.left c.left-3.ensures.left in
-    if_calls p c.args.self.now (call_at p k called.0)
-    (λ call. IsPlanned call.state (effect_of (primitive_of (argument 0 call.arguments)) (tape_of c.args.tape) call.arguments call.state) c.plan.result)
-    c.self.view_is called.2
-    (subst (λ (texts : List (List ℕ)). IsPlanned s (effect_of (primitive_of (argument 0 texts)) (tape_of c.args.tape) texts s) c.plan.result) arguments_are
-    (c.plan.ensures.outcome s refl refl refl))
+pub plan-requires-clause-text : goal.plan-requires-clause-text
+plan-requires-clause-text g c =
+    let s = c.args.self.now.state in
+    let p = parts_of (g.E.TwoEnds.ends c.self.inside.text) c.self.inside.marks c.self.inside.store c.self.inside.meta c.self.inside.trace c.self.inside.position c.self.inside.output in
+    let state_is = ap (λ (m : Shown). m.state) c.self.view_is in
+    let proper = subst IsProper state_is (proper_of_sound p c.self.invariant) in
+    let f = c.in-Some.function in
+    omega (
+      arith,
+      text_within s c.neutral.result f.number f.place f.kind f.arguments proper c.neutral.ensures c.in-Some.ensures,
+      ap (λ (xs : List ℕ). length xs) c.right.ensures.right,
+      ap (λ (t : State). length t.active) state_is,
+    )
+
+pub returns-in_err-effect-clause-outcome : goal.returns-in_err-effect-clause-outcome
+returns-in_err-effect-clause-outcome g c =
+    let s = c.args.self.now.state in
+    let p = parts_of (g.E.TwoEnds.ends c.self.inside.text) c.self.inside.marks c.self.inside.store c.self.inside.meta c.self.inside.trace c.self.inside.position c.self.inside.output in
+    let state_is = ap (λ (m : Shown). m.state) c.self.view_is in
+    let proper = subst IsProper state_is (proper_of_sound p c.self.invariant) in
+    let f = c.in-Some.function in
+    let frames = frames_of s c.neutral.result f.number f.place f.kind f.arguments proper c.neutral.ensures c.in-Some.ensures in
+    let given = given_call s c.neutral.result f.number f.place f.kind f.arguments proper c.neutral.ensures c.in-Some.ensures c.self.inside.store
+    (record {
+      meta = c.self.inside.meta;
+      trace = c.self.inside.trace;
+      position = c.self.inside.position;
+      output = c.len.result;
+      text = length c.right.result.now - 1 + f.place;
+    })
+    (ap (λ (t : State). storage_of t) (sym state_is)) (ap (λ (t : State). t.meta) (sym state_is)) (ap (λ (t : State). t.trace) (sym state_is)) (ap (λ (t : State). t.position) (sym state_is))
+    (ap (λ (t : State). length t.output) (sym state_is) ∙ sym (c.len.ensures ∙ c.self.inside.output.ok.0))
+    (ap (λ (t : State). length t.active - 1 + f.place) (sym state_is) ∙ ap (λ (xs : List ℕ). length xs - 1 + f.place) (sym c.right.ensures.right)) in
+    let rest = behind s c.neutral.result f.number f.place f.kind f.arguments proper c.neutral.ensures c.in-Some.ensures in
+    let e = environment_of c.args.tape in
+    let err = err_from_is_err_and c.from_residual.result c.from_residual.ensures.1 in
+    rw (err.1, err.2) (step_unplanned e s c.in-Some.ensures.frame rest c.requires.front frames _ (c.in_err-effect.ensures.outcome _ given))
+
+pub returns-clause-outcome : goal.returns-clause-outcome
+returns-clause-outcome g c =
+    let s = c.args.self.now.state in
+    let p = parts_of (g.E.TwoEnds.ends c.self.inside.text) c.self.inside.marks c.self.inside.store c.self.inside.meta c.self.inside.trace c.self.inside.position c.self.inside.output in
+    let state_is = ap (λ (m : Shown). m.state) c.self.view_is in
+    let proper = subst IsProper state_is (proper_of_sound p c.self.invariant) in
+    let f = c.in-Some.function in
+    let frames = frames_of s c.neutral.result f.number f.place f.kind f.arguments proper c.neutral.ensures c.in-Some.ensures in
+    let given = given_call s c.neutral.result f.number f.place f.kind f.arguments proper c.neutral.ensures c.in-Some.ensures c.self.inside.store
+    (record {
+      meta = c.self.inside.meta;
+      trace = c.self.inside.trace;
+      position = c.self.inside.position;
+      output = c.len.result;
+      text = length c.right.result.now - 1 + f.place;
+    })
+    (ap (λ (t : State). storage_of t) (sym state_is)) (ap (λ (t : State). t.meta) (sym state_is)) (ap (λ (t : State). t.trace) (sym state_is)) (ap (λ (t : State). t.position) (sym state_is))
+    (ap (λ (t : State). length t.output) (sym state_is) ∙ sym (c.len.ensures ∙ c.self.inside.output.ok.0))
+    (ap (λ (t : State). length t.active - 1 + f.place) (sym state_is) ∙ ap (λ (xs : List ℕ). length xs - 1 + f.place) (sym c.right.ensures.right)) in
+    let rest = behind s c.neutral.result f.number f.place f.kind f.arguments proper c.neutral.ensures c.in-Some.ensures in
+    let e = environment_of c.args.tape in
+    step_planned e s c.in-Some.ensures.frame rest c.requires.front frames c.in_ok-effect.effect (c.in_ok-effect.ensures.outcome _ given)
+
+pub returns-clause-beginning : goal.returns-clause-beginning
+returns-clause-beginning g c =
+    let f = c.in-Some.function in
+    begins_innermost c.args.self.now.state c.neutral.result f.number f.place f.kind f.arguments c.neutral.ensures c.in-Some.ensures
+
+pub returns-clause-proper : goal.returns-clause-proper
+returns-clause-proper g c =
+    let s = c.args.self.now.state in
+    let p = parts_of (g.E.TwoEnds.ends c.self.inside.text) c.self.inside.marks c.self.inside.store c.self.inside.meta c.self.inside.trace c.self.inside.position c.self.inside.output in
+    let state_is = ap (λ (m : Shown). m.state) c.self.view_is in
+    let proper = subst IsProper state_is (proper_of_sound p c.self.invariant) in
+    let f = c.in-Some.function in
+    let frames = frames_of s c.neutral.result f.number f.place f.kind f.arguments proper c.neutral.ensures c.in-Some.ensures in
+    let given = given_call s c.neutral.result f.number f.place f.kind f.arguments proper c.neutral.ensures c.in-Some.ensures c.self.inside.store
+    (record {
+      meta = c.self.inside.meta;
+      trace = c.self.inside.trace;
+      position = c.self.inside.position;
+      output = c.len.result;
+      text = length c.right.result.now - 1 + f.place;
+    })
+    (ap (λ (t : State). storage_of t) (sym state_is)) (ap (λ (t : State). t.meta) (sym state_is)) (ap (λ (t : State). t.trace) (sym state_is)) (ap (λ (t : State). t.position) (sym state_is))
+    (ap (λ (t : State). length t.output) (sym state_is) ∙ sym (c.len.ensures ∙ c.self.inside.output.ok.0))
+    (ap (λ (t : State). length t.active - 1 + f.place) (sym state_is) ∙ ap (λ (xs : List ℕ). length xs - 1 + f.place) (sym c.right.ensures.right)) in
+    let rest = behind s c.neutral.result f.number f.place f.kind f.arguments proper c.neutral.ensures c.in-Some.ensures in
+    let e = environment_of c.args.tape in
+    step_proper e s (state_after c.in_ok-effect.effect (scan s)) proper
+    (step_planned e s c.in-Some.ensures.frame rest c.requires.front frames c.in_ok-effect.effect (c.in_ok-effect.ensures.outcome _ given))

@@ -1,0 +1,64 @@
+-- Limits on a state, and what is true of the parts of a machine, from one another.
+use Rattle.std.proofs.Common.{◌≡◌, ◌+◌, ◌<◌, ◌≤◌, length, reverse, refl, sym, arith, true, false, Bool, ◌&&◌}
+use Rattle.std.specs.Prelude.{nat_le}
+use Rattle.std.proofs.lemmas.Bool.{and_parts, le-leb, leb-true}
+use Rattle.trac_rules.specs.declared.limit.TheConstants.{TEXT_LIMIT, MARK_LIMIT, OUTPUT_LIMIT}
+use Rattle.trac_rules.specs.State.{State}
+use Rattle.trac_rules.specs.Limits.{text_bytes, marks, texts_fit}
+use Rattle.trac_rules.specs.Proper.{IsProper}
+use Rattle.trac_prims.specs.Neutral.{AreMarks}
+use Rattle.trac_step.specs.Layout.{Parts, state_of, IsSound}
+use Rattle.trac_step.proofs.Rules.{text_bytes-parts, marks-parts}
+
+-- ---- the three limits
+
+pub record IsLimited (s : State) : Type 0 where
+  pub text : text_bytes s ≤ TEXT_LIMIT
+  pub marked : marks s.frames ≤ MARK_LIMIT
+  pub output : length s.output ≤ OUTPUT_LIMIT
+
+pub limits_kept : (s : State) → texts_fit s ≡ true → IsLimited s
+unfolding texts_fit
+limits_kept s e =
+    let parts = and_parts (nat_le (text_bytes s) TEXT_LIMIT && nat_le (marks s.frames) MARK_LIMIT) (nat_le (length s.output) OUTPUT_LIMIT) e in
+    let texts = and_parts (nat_le (text_bytes s) TEXT_LIMIT) (nat_le (marks s.frames) MARK_LIMIT) parts.0 in
+    record { text = leb-true _ _ texts.0; marked = leb-true _ _ texts.1; output = leb-true _ _ parts.1 }
+
+-- one more mark than there may be
+pub beyond_limits_of_marks : (s : State) → MARK_LIMIT < marks s.frames → texts_fit s ≡ false
+beyond_limits_of_marks s h = not_true (texts_fit s) (λ e. let kept = limits_kept s e in absurd (omega (arith, kept.marked)))
+  where
+    not_true : (b : Bool) → (b ≡ true → ⊥) → b ≡ false
+    not_true true h = absurd (h refl)
+    not_true false h = refl
+
+-- ---- the parts of a machine
+
+within_limits_by : (s : State) → text_bytes s ≤ TEXT_LIMIT → marks s.frames ≤ MARK_LIMIT → length s.output ≤ OUTPUT_LIMIT → texts_fit s ≡ true
+unfolding texts_fit
+within_limits_by s t m o = rw (le-leb _ _ t, le-leb _ _ m, le-leb _ _ o) refl
+
+-- a machine's state is within the limits
+pub within_limits : (p : Parts) → IsSound p → texts_fit (state_of p) ≡ true
+within_limits p sound = within_limits_by (state_of p)
+    (rw (text_bytes-parts p sound.ordered) sound.text_limit) (rw (marks-parts p sound.ordered) sound.mark_limit) sound.output_limit
+
+
+-- the state that a machine shows is proper
+pub proper_of_sound : (p : Parts) → IsSound p → IsProper (state_of p)
+proper_of_sound p sound = record { texts = within_limits p sound; storage = sound.storage }
+
+-- parts in order, for which there is room, are those of a machine where they show a proper state
+pub sound_if_proper : (p : Parts) → AreMarks (length p.text) (reverse p.marks) → length p.active + length p.text ≤ p.text_room → length p.marks ≤ p.mark_room →
+    IsProper (state_of p) → IsSound p
+sound_if_proper p ordered text_room mark_room proper =
+    let kept = limits_kept (state_of p) proper.texts in
+    record {
+      ordered = ordered;
+      text_limit = omega (arith, kept.text, text_bytes-parts p ordered);
+      mark_limit = omega (arith, kept.marked, marks-parts p ordered);
+      output_limit = kept.output;
+      text_room = text_room;
+      mark_room = mark_room;
+      storage = proper.storage;
+    }

@@ -1,0 +1,64 @@
+-- The room of a machine, which holds its own state.
+use Rattle.std.proofs.Common.{◌≡◌, ℕ, ◌≤◌, List, length, ap, ◌∙◌, subst, arith, refl, Bool, true, false}
+use Rattle.std.specs.Prelude.{◌||◌}
+use Rattle.std.specs.Cmp.Lexicographic.{slice_cmp, nat_list_cmp_total}
+use Rattle.std.specs.FinSet as set
+use Rattle.std.specs.Ordering.{nat_cmp, eq_by_cmp}
+use Rattle.trac_forms.specs.Stored.{KnowsAll, Names}
+use Rattle.trac_rules.specs.Limits.{marks, text_bytes}
+use Rattle.trac_rules.specs.State.{State}
+use Rattle.trac_step.specs.Layout.{Parts, state_of, IsSound, Shown, shown_by}
+use Rattle.trac_step.specs.Room.{AreAmong, HasRoom, IsNoLess}
+use Rattle.trac_step.proofs.Rules.{text_bytes-parts, marks-parts}
+
+-- ---- no less room
+
+pub no_less : (m : Shown) → IsNoLess m m
+no_less m = record { text = omega arith; marks = omega arith; output = omega arith; names = λ name h. h }
+
+pub no_less_same : (m n : Shown) → n ≡ m → IsNoLess m n
+no_less_same m n e = subst (λ x. IsNoLess x n) e (no_less n)
+
+pub no_less_then : (m n k : Shown) → IsNoLess m n → IsNoLess n k → IsNoLess m k
+no_less_then m n k first second = record {
+  text = omega (arith, first.text, second.text);
+  marks = omega (arith, first.marks, second.marks);
+  output = omega (arith, first.output, second.output);
+  names = λ name h. second.names name (first.names name h);
+}
+
+-- rooms that are no less hold what the earlier ones held
+pub HasRoom-kept : (m n : Shown) (s : State) → IsNoLess m n → HasRoom m s → HasRoom n s
+HasRoom-kept m n s more room = record {
+  text = omega (arith, more.text, room.text);
+  marks = omega (arith, more.marks, room.marks);
+  output = omega (arith, more.output, room.output);
+  names = λ name h. more.names name (room.names name h);
+}
+
+-- ---- the room of parts
+
+-- a machine has room for its own state
+pub HasRoom-parts : (p : Parts) (m : Shown) → IsSound p → shown_by p ≡ m → length p.output ≤ p.output_room → KnowsAll p.known p.storage.forms → HasRoom m m.state
+HasRoom-parts p m sound view output names = subst (λ (n : Shown). HasRoom n n.state) view (record {
+  text = omega (arith, text_bytes-parts p sound.ordered, sound.text_room);
+  marks = omega (arith, marks-parts p sound.ordered, sound.mark_room);
+  output = output;
+  names = names;
+})
+
+-- parts with no less room than those of a machine
+pub IsNoLess-parts : (p q : Parts) (m : Shown) → shown_by p ≡ m → p.text_room ≤ q.text_room → p.mark_room ≤ q.mark_room → p.output_room ≤ q.output_room → AreAmong p.known q.known →
+    IsNoLess m (shown_by q)
+IsNoLess-parts p q m view text marks output names = subst (λ (n : Shown). IsNoLess n (shown_by q)) view (record { text = text; marks = marks; output = output; names = names })
+
+-- ---- names
+
+or_right : (b c : Bool) → c ≡ true → (b || c) ≡ true
+or_right true c h = refl
+or_right false c h = h
+
+-- one more name
+pub among_more : (known more : Names) (name : List ℕ) → more ≡ set.insert known name → AreAmong known more
+among_more known more name is = λ q h.
+    ap (λ (names : Names). set.contains names q) is ∙ set.contains-insert nat_list_cmp_total known name q ∙ or_right (eq_by_cmp (slice_cmp nat_cmp) q name) (set.contains known q) h

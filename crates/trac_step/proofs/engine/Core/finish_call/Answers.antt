@@ -1,0 +1,70 @@
+use Rattle.std.proofs.Common.{List, ℕ, ◌++◌, length, sym, ap, ◌∙◌, subst, arith}
+use Rattle.std.specs.Prelude.{vec_capacity}
+use Rattle.trac_gap.specs.Ends.{Ends}
+use Rattle.trac_rules.specs.Limits.{text_bytes}
+use Rattle.trac_rules.specs.Proper.{IsProper}
+use Rattle.trac_rules.specs.Scanning.{front_of, scan}
+use Rattle.trac_rules.specs.State.{State}
+use Rattle.trac_forms.specs.Stored.{storage_in}
+use Rattle.trac_prims.specs.Effects.{effect_on}
+use Rattle.trac_step.specs.Calling.{state_after, with_value}
+use Rattle.trac_step.specs.Layout.{parts_of, state_of, IsSound, Shown}
+use Rattle.trac_step.proofs.Beginnings.{innermost_parts}
+use Rattle.trac_step.proofs.Ended.{ended_shows, ended_sound, finished_parts, value_capacity}
+use Rattle.trac_step.proofs.Rules.{text_bytes-parts}
+use Rattle.trac_step.proofs.engine.Core.finish_call.Goals as goal
+
+pub cut_function-requires-clause-place : goal.cut_function-requires-clause-place
+cut_function-requires-clause-place g c =
+    let p = parts_of (g.E.TwoEnds.ends c.self.inside.text) c.self.inside.marks c.self.inside.store c.self.inside.meta c.self.inside.trace c.self.inside.position c.self.inside.output in
+    let state_is = ap (λ (m : Shown). m.state) c.self.view_is in
+    let found = innermost_parts p c.args.self.now.state c.args.beginning c.self.invariant state_is c.requires.beginning in
+    found.1.place_within
+
+pub cut_function-requires-clause-number : goal.cut_function-requires-clause-number
+cut_function-requires-clause-number g c =
+    let p = parts_of (g.E.TwoEnds.ends c.self.inside.text) c.self.inside.marks c.self.inside.store c.self.inside.meta c.self.inside.trace c.self.inside.position c.self.inside.output in
+    let state_is = ap (λ (m : Shown). m.state) c.self.view_is in
+    let found = innermost_parts p c.args.self.now.state c.args.beginning c.self.invariant state_is c.requires.beginning in
+    omega (arith, found.1.within)
+
+pub invariant_of-self : goal.invariant_of-self
+invariant_of-self g c =
+    let p = parts_of (g.E.TwoEnds.ends c.self.inside.text) c.self.inside.marks c.self.inside.store c.self.inside.meta c.self.inside.trace c.self.inside.position c.self.inside.output in
+    let state_is = ap (λ (m : Shown). m.state) c.self.view_is in
+    let found = innermost_parts p c.args.self.now.state c.args.beginning c.self.invariant state_is c.requires.beginning in
+    let front = ap (λ (s : State). front_of s.active) state_is ∙ c.requires.front in
+    let e = effect_on (storage_in c.self.inside.store) c.args.effect in
+    let put_is = c.put_value.ensures ∙ ap (λ (value : List ℕ). with_value c.args.beginning.kind e.forced value (g.E.TwoEnds.ends c.cut_function.new.text)) c.as_slice.ensures.value in
+    let q_is = finished_parts (g.E.TwoEnds.ends c.self.inside.text) (g.E.TwoEnds.ends c.cut_function.new.text) (g.E.TwoEnds.ends c.put_value.new.text)
+    c.self.inside.marks c.cut_function.new.marks c.self.inside.store c.change_forms.new.store c.self.inside.meta c.unwrap_or-self-inside.result
+    c.self.inside.trace c.unwrap_or-self-inside-2.result c.self.inside.position c.self.inside.output c.append.new.list
+    c.args.beginning.number c.args.beginning.place c.args.beginning.kind e
+    c.cut_function.ensures.text put_is c.cut_function.ensures.marks c.change_forms.ensures.storage c.unwrap_or-self-inside.ensures c.unwrap_or-self-inside-2.ensures
+    (c.append.ensures.items ∙ ap (λ (text : List ℕ). c.self.inside.output.items ++ text) c.as_slice-2.ensures.value) in
+    let shows = ended_shows p c.args.beginning.number c.args.beginning.place c.args.beginning.kind found.0 found.1 front c.args.effect
+    ∙ ap (λ (s : State). state_after c.args.effect (scan s)) state_is in
+    let kept = ap (λ (x : Ends ℕ). x.capacity) put_is ∙ value_capacity c.args.beginning.kind e.forced e.value (g.E.TwoEnds.ends c.cut_function.new.text)
+    ∙ ap (λ (x : Ends ℕ). x.capacity) c.cut_function.ensures.text in
+    subst IsSound (sym q_is)
+    (ended_sound p c.args.beginning.number c.args.beginning.place c.args.beginning.kind found.0 found.1 front e (g.E.TwoEnds.ends c.put_value.new.text).capacity
+    (vec_capacity c.append.new.list) c.change_forms.new.store.known c.self.invariant (subst IsProper (sym shows) c.requires.proper)
+    (omega (arith, c.requires.room.text, ap (λ (m : Shown). m.text_room) c.self.view_is, ap (λ (s : State). text_bytes s) state_is, text_bytes-parts p c.self.invariant.ordered, kept)))
+
+pub returns-clause-state : goal.returns-clause-state
+returns-clause-state g c =
+    let p = parts_of (g.E.TwoEnds.ends c.self.inside.text) c.self.inside.marks c.self.inside.store c.self.inside.meta c.self.inside.trace c.self.inside.position c.self.inside.output in
+    let state_is = ap (λ (m : Shown). m.state) c.self.view_is in
+    let found = innermost_parts p c.args.self.now.state c.args.beginning c.self.invariant state_is c.requires.beginning in
+    let front = ap (λ (s : State). front_of s.active) state_is ∙ c.requires.front in
+    let e = effect_on (storage_in c.self.inside.store) c.args.effect in
+    let put_is = c.put_value.ensures ∙ ap (λ (value : List ℕ). with_value c.args.beginning.kind e.forced value (g.E.TwoEnds.ends c.cut_function.new.text)) c.as_slice.ensures.value in
+    let q_is = finished_parts (g.E.TwoEnds.ends c.self.inside.text) (g.E.TwoEnds.ends c.cut_function.new.text) (g.E.TwoEnds.ends c.put_value.new.text)
+    c.self.inside.marks c.cut_function.new.marks c.self.inside.store c.change_forms.new.store c.self.inside.meta c.unwrap_or-self-inside.result
+    c.self.inside.trace c.unwrap_or-self-inside-2.result c.self.inside.position c.self.inside.output c.append.new.list
+    c.args.beginning.number c.args.beginning.place c.args.beginning.kind e
+    c.cut_function.ensures.text put_is c.cut_function.ensures.marks c.change_forms.ensures.storage c.unwrap_or-self-inside.ensures c.unwrap_or-self-inside-2.ensures
+    (c.append.ensures.items ∙ ap (λ (text : List ℕ). c.self.inside.output.items ++ text) c.as_slice-2.ensures.value) in
+    let shows = ended_shows p c.args.beginning.number c.args.beginning.place c.args.beginning.kind found.0 found.1 front c.args.effect
+    ∙ ap (λ (s : State). state_after c.args.effect (scan s)) state_is in
+    ap state_of q_is ∙ shows

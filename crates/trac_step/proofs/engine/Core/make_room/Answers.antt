@@ -1,0 +1,30 @@
+use Rattle.std.proofs.Common.{List, ℕ, length, refl, ap, ◌∙◌, arith}
+use Rattle.trac_rules.specs.Limits.{text_bytes}
+use Rattle.trac_step.specs.Layout.{Parts, parts_of, state_of}
+use Rattle.trac_step.proofs.Changes.{rebuilt_parts}
+use Rattle.trac_step.proofs.Moving.{on_ok}
+use Rattle.trac_step.proofs.Rules.{text_bytes-parts}
+use Rattle.trac_step.proofs.engine.Core.make_room.Goals as goal
+
+pub returns-clause-ok : goal.returns-clause-ok
+returns-clause-ok g c =
+    let p = parts_of (g.E.TwoEnds.ends c.self.inside.text) c.self.inside.marks c.self.inside.store c.self.inside.meta c.self.inside.trace c.self.inside.position c.self.inside.output in
+    let same = rebuilt_parts (g.E.TwoEnds.ends c.self.inside.text) (g.E.TwoEnds.ends c.reserve.new.list) c.self.inside.marks c.self.inside.marks c.self.inside.store c.make_place.new.store
+    c.self.inside.meta c.self.inside.trace c.self.inside.position c.self.inside.output c.reserve-2.new.self
+    c.reserve.ensures.left c.reserve.ensures.right refl c.make_place.ensures.kept c.reserve-2.ensures.items in
+    let bytes = ap (λ (q : Parts). text_bytes (state_of q)) same in
+    let counted = text_bytes-parts p c.self.invariant.ordered in
+    on_ok c.make_place.result (λ place. record {
+      text = omega (
+        arith,
+        bytes,
+        counted,
+        ap (λ (xs : List ℕ). length xs) c.reserve.ensures.left,
+        ap (λ (xs : List ℕ). length xs) c.reserve.ensures.right,
+        c.in_ok-reserve.ensures.ok,
+        c.len.ensures,
+        c.args.effect.now.value.ok.0,
+      );
+      output = omega (arith, c.in_ok-reserve-2.ensures.ok, c.reserve-2.new.self.ok.0, c.len-2.ensures, c.args.effect.now.print.ok.0);
+      names = place;
+    }) c.make_place.ensures.place

@@ -1,0 +1,25 @@
+-- The room of a machine.
+use Rattle.std.specs.Prelude.{ℕ, ◌≤◌, List, length, IsTrue}
+use Rattle.std.specs.FinSet as set
+use Rattle.trac_forms.specs.Stored.{KnowsAll, Names}
+use Rattle.trac_rules.specs.Limits.{marks, text_bytes}
+use Rattle.trac_rules.specs.State.{State}
+use Rattle.trac_step.specs.Layout.{Shown}
+
+-- each name of the first set is in the second
+abbrev pub AreAmong : Names → Names → Type 0
+AreAmong names others = (name : List ℕ) → IsTrue (set.contains names name) → IsTrue (set.contains others name)
+
+-- a machine can hold this state without more memory
+pub record HasRoom (m : Shown) (s : State) : Type 0 where
+  pub text : text_bytes s ≤ m.text_room
+  pub marks : marks s.frames ≤ m.mark_room
+  pub output : length s.output ≤ m.output_room
+  pub names : KnowsAll m.known s.forms
+
+-- a machine has no less room than it had, and has forgotten no name
+pub record IsNoLess (old new : Shown) : Type 0 where
+  pub text : old.text_room ≤ new.text_room
+  pub marks : old.mark_room ≤ new.mark_room
+  pub output : old.output_room ≤ new.output_room
+  pub names : AreAmong old.known new.known

@@ -1,0 +1,47 @@
+//! Lists with two ends, where a want of memory is the machine's refusal.
+ghost use Rattle.std.specs.Prelude.{◌≡◌, ◌+◌, ◌≤◌, length, IfOk, IsOkUnless, OnErr, OnOk};
+ghost use Rattle.trac_gap.specs.Ends.{item_count};
+
+use std::alloc::Allocator;
+use trac_gap::TwoEnds;
+use trac_prims::Refusal;
+
+// Makes room for n more items.
+pub(crate) fn reserve<T: Copy, A: Allocator + Copy, E: TwoEnds<T, A>>(
+    list: &mut E,
+    n: usize,
+) -> Result<(), Refusal>
+    ensures left { (E.ends list.new).left ≡ (E.ends list.old).left }
+    ensures right { (E.ends list.new).right ≡ (E.ends list.old).right }
+    ensures grows { (E.ends list.old).capacity ≤ (E.ends list.new).capacity }
+    ensures ok { OnOk result (item_count (E.ends list.new) + n ≤ (E.ends list.new).capacity) }
+    ensures unchanged { OnErr result (E.ends list.new ≡ E.ends list.old) }
+    ensures err { IsOkUnless result Refusal.Memory }
+{
+    list.reserve(n).map_err(|_| Refusal::Memory)
+}
+
+// A second pair of the same lists, with no less room.
+pub(crate) fn copy<T: Copy, A: Allocator + Copy, E: TwoEnds<T, A>>(list: &E) -> Result<E, Refusal>
+    ensures left { IfOk result (λ c. (E.ends c).left ≡ (E.ends list.now).left) }
+    ensures right { IfOk result (λ c. (E.ends c).right ≡ (E.ends list.now).right) }
+    ensures grows { IfOk result (λ c. (E.ends list.now).capacity ≤ (E.ends c).capacity) }
+    ensures err { IsOkUnless result Refusal.Memory }
+{
+    list.copy().map_err(|_| Refusal::Memory)
+}
+
+// Puts these items in the place of all that the lists hold.
+pub(crate) fn refill<T: Copy, A: Allocator + Copy, E: TwoEnds<T, A>>(
+    list: &mut E,
+    left: &[T],
+    right: &[T],
+)
+    requires { length left.now + length right.now ≤ (E.ends list.old).capacity }
+    ensures { E.ends list.new ≡ record (E.ends list.old) { left = left.now; right = right.now } }
+{
+    list.cut_left(list.left().len());
+    list.cut_right(list.right().len());
+    list.put_left(left);
+    list.put_right(right);
+}
