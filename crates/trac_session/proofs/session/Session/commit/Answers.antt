@@ -1,4 +1,5 @@
-use Rattle.std.proofs.Common.{◌≡◌, ◌-◌, ◌∙◌, length, drop, subst, arith}
+use Rattle.std.proofs.Common.{◌≡◌, ◌-◌, ◌∙◌, length, drop, ap, subst, arith}
+use Rattle.trac_step.specs.Layout.{Shown}
 use Rattle.trac_step.specs.Record.{before}
 use Rattle.trac_session.proofs.Journaled.{Commit_of_fields, turned_and_cut}
 use Rattle.trac_session.proofs.session.Session.commit.Goals as goal
@@ -12,4 +13,4 @@ returns g c =
     (subst (λ k. c.truncate.new.self.items ≡ drop k c.self.inside.tape.items) read
     (turned_and_cut c.self.inside.tape.items c.rotate_left.new.self.items c.truncate.new.self.items c.position-read.result (c.len.result - c.position-read.result)
     (omega (arith, c.self.invariant.on_tape)) c.rotate_left.ensures.items (omega arith) c.truncate.ensures.items))
-    c.clear.ensures.items c.settle.ensures
+    c.clear.ensures.items (ap (λ (m : Shown). m.state) c.settle.ensures)

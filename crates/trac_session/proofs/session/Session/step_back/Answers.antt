@@ -13,8 +13,8 @@ returns-in_default g c =
 
 pub invariant_of-self-2 : goal.invariant_of-self-2
 invariant_of-self-2 g c =
-    IsSound-back before _ _ c.self.inside.journal.items c.pop.new.self.items c.in-Some.record _ _ c.in-Some.ensures.items c.undo.ensures c.self.invariant
+    IsSound-back before _ _ c.self.inside.journal.items c.pop.new.self.items c.in-Some.record _ _ c.in-Some.ensures.items c.undo.ensures.state c.undo.ensures.room c.self.invariant
 
 pub returns : goal.returns
 returns g c =
-    Back_of_fields before _ _ _ c.self.inside.journal.items c.pop.new.self.items c.in-Some.record _ _ _ c.self.view_is c.in-Some.ensures.items c.undo.ensures
+    Back_of_fields before _ _ _ c.self.inside.journal.items c.pop.new.self.items c.in-Some.record _ _ _ c.self.view_is c.in-Some.ensures.items c.undo.ensures.state
