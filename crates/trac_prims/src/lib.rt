@@ -13,11 +13,7 @@ mod io;
 pub mod mark;
 mod name;
 mod planning;
-#[cfg(test)]
-mod refusals;
 pub mod tape;
-#[cfg(test)]
-mod tests;
 mod tracing;
 
 pub use args::Args;
