@@ -127,12 +127,12 @@ fn calls_without_memory(rt: HostRuntime) -> Result<(), Fail> {
     Ok(())
 }
 
-// What `rs` gives at each place of a tape that has ended, or has not, with how much is read then.
+// What `rs` gives at each place of a tape that has ended, or has not, with how many bytes that reads.
 const READINGS: [(bool, usize, Result<&[u8], Refusal>); 5] = [
     (false, 0, Ok(b"AB||keep 3")),
     (false, 3, Err(Refusal::NeedInput)),
     (true, 0, Ok(b"AB||keep 3")),
-    (true, 3, Ok(b"C||keep 4")),
+    (true, 3, Ok(b"C||keep 1")),
     (true, 4, Err(Refusal::Ended)),
 ];
 
