@@ -193,16 +193,17 @@ IsSound-step before limit bytes ended old new m k (Ok done_) room sound more bac
       (AreRecords-weaker before (IsWithinReach m (length bytes)) (IsWithinReach k (length bytes)) (reverse old) m.state
       (IsWithinReach-more m k (length bytes) (length bytes) more (omega arith)) sound.records);
 }
-IsSound-step before limit bytes ended old new m k (Err refusal) room sound more back taken kept same = record {
+IsSound-step {R} before limit bytes ended old new m k (Err refusal) room sound more back taken kept same = record {
   some_records = sound.some_records;
   not_too_many = sound.not_too_many;
-  within_limit = rw same.1 sound.within_limit;
+  within_limit = omega (arith, ap length same.1, sound.within_limit);
   tape_limit = sound.tape_limit;
-  on_tape = rw same.0 sound.on_tape;
+  on_tape = omega (arith, ap (λ (s : State). s.position) same.0, sound.on_tape);
   records =
-      rw (same.0, same.1)
+      subst (λ (s : State). AreRecords before (IsWithinReach k (length bytes)) (reverse new) s) (sym same.0)
+      (subst (λ (journal : List R). AreRecords before (IsWithinReach k (length bytes)) (reverse journal) m.state) (sym same.1)
       (AreRecords-weaker before (IsWithinReach m (length bytes)) (IsWithinReach k (length bytes)) (reverse old) m.state
-      (IsWithinReach-more m k (length bytes) (length bytes) more (omega arith)) sound.records);
+      (IsWithinReach-more m k (length bytes) (length bytes) more (omega arith)) sound.records));
 }
 
 -- a step with a full journal
