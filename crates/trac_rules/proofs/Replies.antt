@@ -222,38 +222,12 @@ pub answer_Back_from : (p : PlainSession) (s : State) (earlier : List State) →
 unfolding answer
 answer_Back_from p s earlier e = ap (λ states. backed_to states p) e
 
--- the outcome of a step back, where these are the states before the last one
-pub backed_to_done : (earlier : List State) (p q : PlainSession) → backed_to earlier p ≡ done q →
-    (s : State) × (rest : List State) × (earlier ≡ s ∷ rest) × (q ≡ record p { earlier = rest; last = s })
-backed_to_done [] p q h = absurd (done_of_refused AtStart p q h)
-backed_to_done (s ∷ rest) p q h = (s, rest, refl, sym (ap (λ a. a.session) h))
-
 -- the refusal of a step back, where these are the states before the last one
 pub backed_to_refused : (earlier : List State) (p q : PlainSession) (refusal : Refusal) → backed_to earlier p ≡ refused refusal q → (q ≡ p) × (refusal ≡ AtStart) × (earlier ≡ [])
 backed_to_refused [] p q r h = let same = refused_alike AtStart r p q h in (same.1, sym same.0, refl)
 backed_to_refused (s ∷ rest) p q r h = absurd (done_of_refused r q (record p { earlier = rest; last = s }) (sym h))
 
--- a step back that was done took the last state away
-pub Back_done : (p q : PlainSession) → answer Back p ≡ done q →
-    (s : State) × (rest : List State) × (p.earlier ≡ s ∷ rest) × (q ≡ record p { earlier = rest; last = s })
-unfolding answer
-Back_done p q h = backed_to_done p.earlier p q h
-
 -- a step back that was refused was at the first state
 pub Back_refused : (p q : PlainSession) (refusal : Refusal) → answer Back p ≡ refused refusal q → (q ≡ p) × (refusal ≡ AtStart) × (p.earlier ≡ [])
 unfolding answer
 Back_refused p q r h = backed_to_refused p.earlier p q r h
-
--- a step back undoes a step
-pub Back_of_Step : (p q : PlainSession) → answer Step p ≡ done q → answer Back q ≡ done p
-Back_of_Step p q h =
-    let at = Step_done p q h in
-    ap (answer Back) at.2 ∙ answer_Back_from (with_next p at.0) p.last p.earlier refl
-
--- the end is never refused
-pub End_not_refused : (p q : PlainSession) (refusal : Refusal) → answer End p ≡ refused refusal q → ⊥
-End_not_refused p q r h = done_of_refused r q (with_end p) (sym h ∙ answer_End p)
-
--- a commit is never refused
-pub Commit_not_refused : (p q : PlainSession) (refusal : Refusal) → answer Commit p ≡ refused refusal q → ⊥
-Commit_not_refused p q r h = done_of_refused r q (committed p) (sym h ∙ answer_Commit p)
