@@ -17,8 +17,3 @@ join-take b texts i some l =
     pushed : (front : List (List ℕ)) → 0 < length front → join_with_byte b (front ++ get_or texts i [] ∷ []) ≡ join_with_byte b front ++ b ∷ get_or texts i []
     pushed [] h = absurd (omega arith)
     pushed (text ∷ front) h = join-push b text front (get_or texts i [])
-
--- the first text alone
-pub join-first : (b : ℕ) (texts : List (List ℕ)) → join_with_byte b (take 1 texts) ≡ get_or texts 0 []
-join-first b [] = refl
-join-first b (text ∷ texts) = refl

@@ -1,7 +1,7 @@
 -- Effects that differ by a piece from one that keeps all.
 use Rattle.std.proofs.Common.{◌≡◌, ℕ, ◌<◌, List, length, sym, ap, ◌∙◌}
 use Rattle.std.specs.Prelude.{Ok, Err, Vec, true, nat_le}
-use Rattle.std.proofs.lemmas.Bool.{and_left, and_right, lt-leb}
+use Rattle.std.proofs.lemmas.Bool.{and_left, lt-leb}
 use Rattle.trac_rules.specs.declared.limit.TheConstants.{OUTPUT_LIMIT, TEXT_LIMIT}
 use Rattle.trac_rules.specs.declared.refusal.Refusal.TheVariants.{TooLong}
 use Rattle.trac_rules.specs.Effect.{Effect, forces, gives, leaves, prints, reads}
@@ -39,7 +39,3 @@ changing kept storage keeps change = ap (λ (e : Effect). record e { storage = c
 -- a value that no state can hold is not made
 pub value_beyond : (text : List ℕ) (storage : Storage) → TEXT_LIMIT < length text → limited pieces_fit (Ok (gives text storage)) ≡ Err TooLong
 value_beyond text storage long = limited_beyond pieces_fit (gives text storage) (and_left (nat_le (length text) TEXT_LIMIT) (nat_le 0 OUTPUT_LIMIT) (lt-leb (length text) TEXT_LIMIT long))
-
--- nor is such a printed text
-pub printed_beyond : (text : List ℕ) (storage : Storage) → OUTPUT_LIMIT < length text → limited pieces_fit (Ok (prints text storage)) ≡ Err TooLong
-printed_beyond text storage long = limited_beyond pieces_fit (prints text storage) (and_right (nat_le 0 TEXT_LIMIT) (nat_le (length text) OUTPUT_LIMIT) (lt-leb (length text) OUTPUT_LIMIT long))

@@ -4,20 +4,21 @@ use Rattle.std.specs.Prelude.{Option, None, Some, Err, ◌&&◌, nat_le, nat_lt,
 use Rattle.std.specs.Borrow.{Bor}
 use Rattle.std.specs.Cmp.Lexicographic.{nat_list_cmp_total}
 use Rattle.std.specs.FinMap as map
-use Rattle.std.specs.List.{All}
 use Rattle.std.specs.Option.{option_copied}
 use Rattle.std.proofs.lemmas.Bool.{le-leb, lt-leb, and_left, and_right}
 use Rattle.std.proofs.lemmas.List.{length-map}
 use Rattle.trac_rules.specs.declared.item.Item.TheVariants.{Byte}
 use Rattle.trac_rules.specs.declared.limit.TheConstants.{FORM_LIMIT, FORM_COUNT_LIMIT, NAME_LIMIT}
 use Rattle.trac_rules.specs.declared.refusal.Refusal.TheVariants.{TooLong}
-use Rattle.trac_rules.specs.Form.{Form, IsWide, all_items, defined, extent}
+use Rattle.trac_rules.specs.Form.{Form, all_items, defined, extent}
 use Rattle.trac_rules.specs.Effect.{leaves}
 use Rattle.trac_rules.specs.Handling.{keeping, putting}
 use Rattle.trac_rules.specs.Outcomes.{MayLackMemory}
 use Rattle.trac_rules.specs.Limits.{form_fits, may_be_put}
+use Rattle.trac_rules.specs.Segmenting.{segmented}
 use Rattle.trac_rules.specs.State.{Forms, Storage}
-use Rattle.trac_rules.proofs.Cutting.{count_within_extent}
+use Rattle.trac_rules.proofs.Cutting.{count_within_extent, extent-as_items, extent-segmented, wide-as_items, wide-segmented_from}
+use Rattle.trac_forms.specs.Layout.{IsSound}
 
 -- what a reference is made of is there where the reference is
 pub there_behind : {X : Type 0} (found : Option (Bor X)) (held : Option X) → option_copied found ≡ held → is_some found ≡ is_some held
@@ -34,12 +35,12 @@ not_under_long name form forms l =
     sym (and_left (form_fits name form) (nat_le (map.len (map.insert forms name form)) FORM_COUNT_LIMIT) fitting)
 
 -- a form of the code under a name that is not: the number of forms alone decides
-module _ (name : List ℕ) (form : Form) (forms : Forms) (count : ℕ) (named : length name ≤ NAME_LIMIT) (kept : extent (all_items form) ≤ FORM_LIMIT) (wide : All IsWide (all_items form)) (is : count ≡ map.len forms) where
+module _ (name : List ℕ) (form : Form) (forms : Forms) (count : ℕ) (named : length name ≤ NAME_LIMIT) (sound : IsSound form) (is : count ≡ map.len forms) where
   fits : form_fits name form ≡ true
   fits =
       ap (λ b. b && nat_le (length (all_items form)) FORM_LIMIT && nat_le (extent (all_items form)) FORM_LIMIT) (le-leb (length name) NAME_LIMIT named)
-      ∙ ap (λ b. b && nat_le (extent (all_items form)) FORM_LIMIT) (le-leb (length (all_items form)) FORM_LIMIT (omega (arith, kept, count_within_extent (all_items form) wide)))
-      ∙ le-leb (extent (all_items form)) FORM_LIMIT kept
+      ∙ ap (λ b. b && nat_le (extent (all_items form)) FORM_LIMIT) (le-leb (length (all_items form)) FORM_LIMIT (omega (arith, sound.within, count_within_extent (all_items form) sound.wide)))
+      ∙ le-leb (extent (all_items form)) FORM_LIMIT sound.within
 
   by_count : (there : Bool) → is_some (map.get forms name) ≡ there → nat_le (cond there count (count + 1)) FORM_COUNT_LIMIT ≡ may_be_put name form forms
   unfolding may_be_put
@@ -56,6 +57,19 @@ module _ (name : List ℕ) (form : Form) (forms : Forms) (count : ℕ) (named : 
   put_new e =
       let one_more : suc count ≡ count + 1 = omega arith in
       ap (λ n. nat_le n FORM_COUNT_LIMIT) one_more ∙ by_count false e
+
+-- ---- forms as the code has them
+
+-- a text that is short enough makes one
+pub sound_defined : (text : List ℕ) → length text ≤ FORM_LIMIT → IsSound (defined text)
+sound_defined text h = record { within = omega (arith, extent-as_items text); wide = wide-as_items text }
+
+-- what is cut out of one leaves one
+pub sound_segmented : (texts : List (List ℕ)) (form : Form) → IsSound form → IsSound (segmented texts form)
+sound_segmented texts form sound = record {
+  within = omega (arith, sound.within, extent-segmented texts form);
+  wide = wide-segmented_from 1 texts (all_items form) sound.wide;
+}
 
 -- a text that is too long for a form
 pub long_text : (name text : List ℕ) (forms : Forms) → FORM_LIMIT < length text → may_be_put name (defined text) forms ≡ false

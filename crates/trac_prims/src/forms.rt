@@ -1,6 +1,7 @@
 //! Calls that look at the forms or change them.
 ghost use Rattle.std.specs.Prelude.{◌≡◌, ◌≤◌, ◌++◌, length, flat_map, IfOk, IsOkUnless, SomeIff};
 ghost use Rattle.std.specs.FinMap as finite;
+ghost use Rattle.trac_forms.specs.Layout.{IsSound};
 ghost use Rattle.trac_forms.specs.Stored.{storage_in};
 ghost use Rattle.trac_rules.specs.Effect.{leaves};
 ghost use Rattle.trac_rules.specs.Handling.{handled, keeping, putting};
@@ -155,10 +156,9 @@ pub(crate) fn print_form<A: Allocator + Copy>(
 
 // Whether a form may be put under this name.
 fn may_put<A: Allocator + Copy>(store: &Store<A>, name: &[u8], form: &Form<A>) -> bool
+    requires { IsSound form.now }
     ensures { result ≡ may_be_put name.now form.now store.now.forms }
 {
-    // `len` is called for its clauses: no form passes the limit on forms.
-    let _len = form.len();
     if name.len() > NAME_LIMIT {
         return false;
     }
@@ -177,6 +177,7 @@ fn put<A: Allocator + Copy>(
     name: &[u8],
     form: Form<A>,
 ) -> Result<Effect<A>, Refusal>
+    requires { IsSound form }
     ensures { IsMade (storage_in store.now) (putting name.now form (storage_in store.now)) result }
 {
     if !may_put(store, name, &form) {

@@ -1,5 +1,5 @@
 //! The line that is printed for each call while the trace is on.
-ghost use Rattle.std.specs.Prelude.{◌≡◌, ◌++◌, ◌∷◌, [], IfOk, IsOkUnless, OnOk};
+ghost use Rattle.std.specs.Prelude.{◌≡◌, ◌++◌, ◌∷◌, [], IfOk, IsOkUnless, OnOk, true};
 ghost use Rattle.std.specs.List.{join_with_byte};
 ghost use Rattle.trac_rules.specs.Performing.{beginning_of, printed_behind, trace_line};
 ghost use Rattle.trac_rules.specs.State.{Storage};
@@ -26,13 +26,25 @@ pub(crate) fn print_line<A: Allocator + Copy>(
     if !trace {
         return Ok(effect);
     }
-    let mut print = Vec::new(alloc);
-    print.extend_from_slice(beginning_of(kind))?;
-    join_into(args, &mut print)?;
-    print.push(CLOSING)?;
-    print.push(LINE_FEED)?;
+    let mut print = line_of(alloc, kind, args)?;
     print.extend_from_slice(effect.print.as_slice())?;
     Ok(Effect { print, ..effect })
+}
+
+// The line of a call by a function of this kind.
+fn line_of<A: Allocator + Copy>(
+    alloc: A,
+    kind: Kind,
+    args: &Args<'_>,
+) -> Result<Vec<u8, A>, Refusal>
+    ensures made { IfOk result (λ line. line.items ≡ trace_line true kind args.now) }
+    ensures err { IsOkUnless result Refusal.Memory }
+{
+    let mut line = Vec::from_slice(alloc, beginning_of(kind))?;
+    join_into(args, &mut line)?;
+    line.push(CLOSING)?;
+    line.push(LINE_FEED)?;
+    Ok(line)
 }
 
 // How a function of this kind begins.

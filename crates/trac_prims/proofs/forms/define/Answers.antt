@@ -1,5 +1,6 @@
 use Rattle.std.proofs.Common.{ℕ, List, length, sym, subst}
 use Rattle.std.proofs.lemmas.Result.{err_from_is_err_and}
+use Rattle.trac_forms.specs.Layout.{IsSound}
 use Rattle.trac_forms.specs.Outcomes.{MayRefuseForm}
 use Rattle.trac_rules.specs.Effect.{argument}
 use Rattle.trac_rules.specs.Form.{defined}
@@ -7,6 +8,7 @@ use Rattle.trac_rules.specs.Handling.{putting}
 use Rattle.trac_forms.specs.Stored.{storage_in}
 use Rattle.trac_prims.specs.Effects.{MayFail}
 use Rattle.trac_prims.proofs.Held.{not_made}
+use Rattle.trac_prims.proofs.Putting.{sound_defined}
 use Rattle.trac_prims.proofs.forms.define.Goals as goal
 
 pub returns-in_err-form : goal.returns-in_err-form
@@ -17,3 +19,6 @@ returns-in_err-form g c =
     let why = err_from_is_err_and c.from_residual.result c.from_residual.ensures.1 in
     let over = subst (λ (t : List ℕ). MayRefuseForm (length t) c.in_err-form.field-0.0) c.get.ensures c.in_err-form.ensures.err in
     rw why.1 (subst (MayFail (putting name (defined text) storage)) (sym why.2) (not_made name text storage c.in_err-form.field-0.0 over))
+
+pub put-requires : goal.put-requires
+put-requires g c = subst IsSound (sym c.in_ok-form.ensures.made) (sound_defined c.get.result.now c.in_ok-form.ensures.fits)

@@ -7,10 +7,10 @@ returns-then-name-gt-NAME_LIMIT g c = not_under_long c.args.name.now c.args.form
 
 pub returns-then-is_some : goal.returns-then-is_some
 returns-then-is_some g c =
-    put_again c.args.name.now c.args.form.now c.args.store.now.forms c.form_count-count.result (omega (arith, c.if-name-gt-NAME_LIMIT.false)) c.len-len.ensures.within c.len-len.ensures.wide c.form_count-count.ensures
+    put_again c.args.name.now c.args.form.now c.args.store.now.forms c.form_count-count.result (omega (arith, c.if-name-gt-NAME_LIMIT.false)) c.requires c.form_count-count.ensures
     (sym (there_behind c.get.result _ c.get.ensures.value) ∙ sym c.is_some.ensures ∙ c.if-is_some.true)
 
 pub returns-else-is_some : goal.returns-else-is_some
 returns-else-is_some g c =
-    put_new c.args.name.now c.args.form.now c.args.store.now.forms c.form_count-count.result (omega (arith, c.if-name-gt-NAME_LIMIT.false)) c.len-len.ensures.within c.len-len.ensures.wide c.form_count-count.ensures
+    put_new c.args.name.now c.args.form.now c.args.store.now.forms c.form_count-count.result (omega (arith, c.if-name-gt-NAME_LIMIT.false)) c.requires c.form_count-count.ensures
     (sym (there_behind c.get.result _ c.get.ensures.value) ∙ sym c.is_some.ensures ∙ c.if-is_some.false)
