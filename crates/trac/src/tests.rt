@@ -1,10 +1,5 @@
-//! Worked rows: their values come from the definition of the language, not from this program.
+//! The program's own tests: its runs over readers and writers that fail, its command line, and how endings show. What whole
+//! programs print stands in `tests/programs`, and how sessions go back in `trac_machine_tests`.
 
-mod commands;
-mod faults;
-mod forms;
-mod numbers;
 mod program;
-mod rows;
-mod shown;
-mod walks;
+mod runs;

@@ -131,6 +131,3 @@ impl<W: Write, A: Allocator> Write for Logged<'_, W, A> {
         flushed
     }
 }
-
-#[cfg(test)]
-mod tests;

@@ -81,6 +81,3 @@ unsafe impl<B: Allocator> Allocator for Refusing<B> {
         unsafe { self.backing.deallocate(ptr, size, align) };
     }
 }
-
-#[cfg(test)]
-mod tests;

@@ -195,6 +195,3 @@ impl Read for RepeatingReader<'_> {
         Ok(n)
     }
 }
-
-#[cfg(test)]
-mod tests;

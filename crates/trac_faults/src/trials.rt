@@ -73,6 +73,3 @@ pub fn each_fault<E, F: FnMut(u64) -> Result<bool, E>>(
     }
     Ok(None)
 }
-
-#[cfg(test)]
-mod tests;

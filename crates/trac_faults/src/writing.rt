@@ -144,6 +144,3 @@ impl<A: Allocator> Write for FaultyWriter<A> {
         Ok(())
     }
 }
-
-#[cfg(test)]
-mod tests;

@@ -7,12 +7,8 @@ pub mod error;
 mod filling;
 pub mod form;
 mod listing;
-#[cfg(test)]
-mod refusals;
 mod showing;
 pub mod store;
-#[cfg(test)]
-mod tests;
 pub mod texts;
 
 pub use error::FormError;

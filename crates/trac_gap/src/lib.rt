@@ -7,11 +7,7 @@ pub mod error;
 pub mod gap_buf;
 mod places;
 pub mod plain;
-#[cfg(test)]
-mod refusals;
 mod runs;
-#[cfg(test)]
-mod tests;
 pub mod two_ends;
 
 // A crate above can name a buffer in a contract only if the types of its fields are exported.

@@ -8,13 +8,9 @@ pub mod comparison;
 pub mod error;
 pub mod numeral;
 pub mod octal;
-#[cfg(test)]
-mod octal_tests;
 pub mod places;
 pub mod print;
 pub mod tail;
-#[cfg(test)]
-mod tests;
 
 pub use arithmetic::{add, div, mul, sub};
 pub use bitwise::{complement, meet, union};

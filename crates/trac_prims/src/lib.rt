@@ -13,11 +13,7 @@ pub mod mark;
 mod name;
 mod planning;
 mod reading;
-#[cfg(test)]
-mod refusals;
 pub mod tape;
-#[cfg(test)]
-mod tests;
 
 pub use args::Args;
 pub use change::Change;

@@ -12,8 +12,6 @@ mod readers;
 pub mod record;
 mod scanning;
 mod stepping;
-#[cfg(test)]
-mod tests;
 
 pub use engine::{Core, Machine};
 pub use record::Record;

@@ -1,0 +1,109 @@
+//! A reader and a writer that share a log.
+use std::alloc::Global;
+use std::io::{Read, Result, Write};
+use std::process::Abort;
+use trac_faults::{Call, CallLog, FaultyReader, FaultyWriter, Logged, Refusing};
+
+// Writes what it reads, a piece at a time, and flushes before each read.
+fn echo<R: Read, W: Write>(reader: &mut R, writer: &mut W) -> Result<()> {
+    let mut room = [0; 8];
+    for _ in 0..100u8 {
+        writer.flush()?;
+        let n = reader.read(&mut room)?;
+        if n == 0 {
+            break;
+        }
+        writer.write_all(&room[..n])?;
+    }
+    Ok(())
+}
+
+// The calls of so many rounds, each of which may fail. In the end this is written.
+fn noted(
+    rt: &(impl Abort + AllocGlobal),
+    reader: FaultyReader<'_>,
+    writer: FaultyWriter,
+    rounds: u8,
+    written: &[u8],
+) -> Option<Vec<Call>> {
+    let log = CallLog::new(rt.alloc());
+    let mut reader = Logged::new(reader, &log);
+    let mut writer = Logged::new(writer, &log);
+    for _ in 0..rounds {
+        let _ = echo(&mut reader, &mut writer);
+    }
+    assert_eq!(rt; writer.inner().contents(), written);
+    log.take_calls()
+}
+
+fn expect_calls(rt: &impl Abort, calls: Option<Vec<Call>>, wanted: &[Call]) {
+    let Some(calls) = calls else {
+        panic!(rt; "there was memory")
+    };
+    assert_eq!(rt; calls.as_slice(), wanted);
+}
+
+const IN_THEIR_ORDER: &[Call] = &[
+    Call::Flush,
+    Call::Read(2),
+    Call::Write(1),
+    Call::Write(1),
+    Call::Flush,
+    Call::Read(1),
+    Call::Write(1),
+    Call::Flush,
+    Call::Read(0),
+];
+
+#[test]
+fn notes_calls_in_their_order(rt: HostRuntime) {
+    let reader = FaultyReader::new(b"abc").at_most(2);
+    let writer = FaultyWriter::new(rt.alloc()).at_most(1);
+    expect_calls(&rt, noted(&rt, reader, writer, 1, b"abc"), IN_THEIR_ORDER);
+}
+
+const EACH_FAULT: &[Call] = &[
+    Call::FlushFault,
+    Call::Flush,
+    Call::ReadFault,
+    Call::Flush,
+    Call::Read(3),
+    Call::WriteFault,
+    Call::Flush,
+    Call::Read(0),
+];
+
+#[test]
+fn notes_each_fault(rt: HostRuntime) {
+    let reader = FaultyReader::new(b"abc").failing_at(1);
+    let writer = FaultyWriter::new(rt.alloc())
+        .failing_at(1)
+        .failing_flush_at(1);
+    expect_calls(&rt, noted(&rt, reader, writer, 4, b""), EACH_FAULT);
+}
+
+// Whether a read succeeds.
+fn reads<R: Read>(reader: &mut R) -> bool {
+    reader.read(&mut [0; 4]).is_ok()
+}
+
+fn count(calls: Option<Vec<Call, &Refusing<Global>>>) -> Option<usize> {
+    match calls {
+        Some(calls) => Some(calls.len()),
+        None => None,
+    }
+}
+
+// A call is missing where there was no memory to note it, and the call itself is as ever. The next log is a new one.
+#[test]
+fn says_where_a_call_is_missing(rt: HostRuntime) {
+    let memory = Refusing::new(rt.alloc());
+    let log = CallLog::new(&memory);
+    let mut reader = Logged::new(FaultyReader::new(b"abc"), &log);
+    memory.refuse_all();
+    assert!(rt; reads(&mut reader));
+    memory.accept_all();
+    assert!(rt; reads(&mut reader));
+    assert_eq!(rt; count(log.take_calls()), None);
+    assert_eq!(rt; count(log.take_calls()), Some(0));
+}

@@ -1,0 +1,318 @@
+//! Lists with two ends: rows of calls with what each must leave, on both types that have the calls. Each request for memory
+//! is refused in turn.
+ghost use Rattle.std.specs.Prelude.{◌<◌};
+
+use std::alloc::{AllocError, Allocator, Global};
+use std::process::Abort;
+use std::test::Fail;
+use trac_faults::Refusing;
+use trac_gap::{GapBuf, GapError, PlainEnds, TwoEnds};
+
+type Memory<'a> = &'a Refusing<Global>;
+
+// One call. Room is made before an item is put in; no more is taken than is there.
+#[derive(Clone, Copy)]
+enum Act {
+    Reserve(usize),
+    PushLeft(u8),
+    PushRight(u8),
+    PutLeft(&'static [u8]),
+    PutRight(&'static [u8]),
+    PopLeft,
+    PopRight,
+    CutLeft(usize),
+    CutRight(usize),
+    ShiftLeft(usize),
+    ShiftRight(usize),
+    Copy,
+}
+
+fn put<E: TwoEnds<u8, A>, A: Allocator + Copy>(
+    ends: &mut E,
+    items: &[u8],
+    on_the_left: bool,
+) -> Result<(), GapError> {
+    ends.reserve(items.len())?;
+    if on_the_left {
+        ends.put_left(items);
+    } else {
+        ends.put_right(items);
+    }
+    Ok(())
+}
+
+fn push<E: TwoEnds<u8, A>, A: Allocator + Copy>(
+    ends: &mut E,
+    item: u8,
+    on_the_left: bool,
+) -> Result<(), GapError> {
+    ends.reserve(1)?;
+    if on_the_left {
+        ends.push_left(item);
+    } else {
+        ends.push_right(item);
+    }
+    Ok(())
+}
+
+fn shift_left<E: TwoEnds<u8, A>, A: Allocator + Copy>(ends: &mut E, count: usize) {
+    ends.shift_left(count.min(ends.right().len()));
+}
+
+fn shift_right<E: TwoEnds<u8, A>, A: Allocator + Copy>(ends: &mut E, count: usize) {
+    ends.shift_right(count.min(ends.left().len()));
+}
+
+// Carries out one call, and gives the item that was taken out.
+fn carry_out<E: TwoEnds<u8, A>, A: Allocator + Copy>(
+    ends: &mut E,
+    act: Act,
+) -> Result<Option<u8>, GapError> {
+    match act {
+        Act::Reserve(count) => ends.reserve(count)?,
+        Act::PushLeft(item) => push(ends, item, true)?,
+        Act::PushRight(item) => push(ends, item, false)?,
+        Act::PutLeft(items) => put(ends, items, true)?,
+        Act::PutRight(items) => put(ends, items, false)?,
+        Act::PopLeft => return Ok(ends.pop_left()),
+        Act::PopRight => return Ok(ends.pop_right()),
+        Act::CutLeft(count) => ends.cut_left(count.min(ends.left().len())),
+        Act::CutRight(count) => ends.cut_right(count.min(ends.right().len())),
+        Act::ShiftLeft(count) => shift_left(ends, count),
+        Act::ShiftRight(count) => shift_right(ends, count),
+        Act::Copy => *ends = ends.copy()?,
+    }
+    Ok(None)
+}
+
+// The lists are these.
+fn expect_lists<E: TwoEnds<u8, A>, A: Allocator + Copy>(
+    rt: &impl Abort,
+    ends: &E,
+    left: &[u8],
+    right: &[u8],
+) {
+    assert_eq!(rt; ends.left(), left);
+    assert_eq!(rt; ends.right(), right);
+}
+
+// A call, the item that it takes out, and both lists after it.
+const ROW: &[(Act, Option<u8>, &[u8], &[u8])] = &[
+    (Act::Copy, None, b"", b""),
+    (Act::PopLeft, None, b"", b""),
+    (Act::PopRight, None, b"", b""),
+    (Act::Reserve(4), None, b"", b""),
+    (Act::PutLeft(b"ab"), None, b"ab", b""),
+    (Act::PutRight(b"cd"), None, b"ab", b"cd"),
+    (Act::ShiftLeft(1), None, b"abc", b"d"),
+    (Act::ShiftRight(2), None, b"a", b"bcd"),
+    (Act::CutRight(1), None, b"a", b"cd"),
+    (Act::PopLeft, Some(b'a'), b"", b"cd"),
+    (Act::PushRight(b'x'), None, b"", b"xcd"),
+    (Act::PopLeft, None, b"", b"xcd"),
+    (Act::PopRight, Some(b'x'), b"", b"cd"),
+    (Act::ShiftLeft(3), None, b"cd", b""),
+    (Act::CutLeft(1), None, b"c", b""),
+    (Act::Copy, None, b"c", b""),
+    (Act::PushLeft(b','), None, b"c,", b""),
+    (Act::PutRight(b"abcdefg"), None, b"c,", b"abcdefg"),
+    (Act::ShiftRight(2), None, b"", b"c,abcdefg"),
+    (Act::PushRight(b'y'), None, b"", b"yc,abcdefg"),
+    (Act::PushLeft(b'z'), None, b"z", b"yc,abcdefg"),
+    (Act::Copy, None, b"z", b"yc,abcdefg"),
+];
+
+// Carries out one call. Where it is refused, both lists and the room are as before, and the next try is accepted.
+fn carry_out_once<E: TwoEnds<u8, A>, A: Allocator + Copy>(
+    rt: &impl Abort,
+    ends: &mut E,
+    act: Act,
+    (left, right): (&[u8], &[u8]),
+) -> Result<Option<u8>, GapError> {
+    let room = ends.room();
+    let taken = carry_out(ends, act);
+    if taken.is_ok() {
+        return taken;
+    }
+    expect_lists(rt, ends, left, right);
+    assert_eq!(rt; ends.room(), room);
+    carry_out(ends, act)
+}
+
+fn play_row<E: TwoEnds<u8, A>, A: Allocator + Copy>(
+    rt: &impl Abort,
+    alloc: A,
+) -> Result<E, GapError> {
+    let mut ends = E::new(alloc);
+    let mut earlier = (b"".as_slice(), b"".as_slice());
+    for (act, item, left, right) in ROW.iter() {
+        assert_eq!(rt; carry_out_once(rt, &mut ends, *act, earlier)?, *item);
+        expect_lists(rt, &ends, left, right);
+        earlier = (*left, *right);
+    }
+    Ok(ends)
+}
+
+#[test]
+fn each_request_over_vectors(rt: HostRuntime) -> Result<(), Fail> {
+    let memory = Refusing::new(rt.alloc());
+    let runs = memory.refuse_each(1_000, |_| -> Result<(), GapError> {
+        let _ends: PlainEnds<u8, Memory<'_>> = play_row(&rt, &memory)?;
+        Ok(())
+    })?;
+    assert!(rt; runs > Some(5), "{runs:?} runs");
+    Ok(())
+}
+
+#[test]
+fn each_request_over_a_block(rt: HostRuntime) -> Result<(), Fail> {
+    let memory = Refusing::new(rt.alloc());
+    let runs = memory.refuse_each(1_000, |_| -> Result<(), GapError> {
+        let _ends: GapBuf<u8, Memory<'_>> = play_row(&rt, &memory)?;
+        Ok(())
+    })?;
+    assert!(rt; runs > Some(5), "{runs:?} runs");
+    Ok(())
+}
+
+// Where the long sequence takes its calls and amounts from.
+static TABLE: [u8; 64] = [
+    0x9c, 0x1f, 0x62, 0xe7, 0x35, 0x8b, 0xd0, 0x4a, 0x73, 0xf8, 0x06, 0xad, 0x51, 0xc4, 0x2e, 0x99,
+    0xb7, 0x10, 0x6d, 0xea, 0x84, 0x3b, 0xcf, 0x58, 0x21, 0xf6, 0x7a, 0x93, 0x0d, 0xbe, 0x45, 0xd2,
+    0x68, 0xaf, 0x14, 0xe1, 0x3c, 0x87, 0xdb, 0x50, 0x2b, 0x96, 0xf4, 0x79, 0x03, 0xc8, 0x5e, 0xa1,
+    0x17, 0xec, 0x40, 0xb5, 0x8e, 0x33, 0xda, 0x6f, 0x98, 0x05, 0xf1, 0x4c, 0xc7, 0x7d, 0x22, 0xbb,
+];
+
+// The `index`-th number below `below` of the sequence.
+fn drawn(index: usize, below: usize) -> usize
+    requires { 0 < below }
+{
+    let first = TABLE[index % 64] as usize;
+    let second = TABLE[index / 64 % 64] as usize;
+    (first * 7 + second * 13 + index % 11) % below
+}
+
+// The `index`-th call of the long sequence.
+fn drawn_act(index: usize) -> Act {
+    let amount = drawn(index.wrapping_add(29), 97);
+    let items = &TABLE[..amount.min(64)];
+    match drawn(index, 13) {
+        0 => Act::PushLeft(items.len() as u8),
+        1 => Act::PushRight(items.len() as u8),
+        2 | 3 => Act::PutLeft(items),
+        4 | 5 => Act::PutRight(items),
+        6 => Act::PopLeft,
+        7 => Act::PopRight,
+        8 => Act::CutLeft(amount),
+        9 => Act::CutRight(amount),
+        10 => Act::ShiftLeft(amount),
+        11 => Act::ShiftRight(amount),
+        _ => Act::Copy,
+    }
+}
+
+#[test]
+fn a_long_sequence(rt: HostRuntime) -> Result<(), Fail> {
+    let mut plain: PlainEnds<u8> = PlainEnds::new(rt.alloc());
+    let mut gap: GapBuf<u8> = GapBuf::new(rt.alloc());
+    let mut most = 0;
+    for index in 0..4000 {
+        let act = drawn_act(index);
+        let item = carry_out(&mut plain, act)?;
+        assert_eq!(rt; carry_out(&mut gap, act)?, item);
+        expect_lists(&rt, &gap, plain.left(), plain.right());
+        most = gap.left().len().max(gap.right().len()).max(most);
+    }
+    assert!(rt; most > 64, "the lists stay too short");
+    Ok(())
+}
+
+// Bytes up to this number, and then so many that one place is left: on the left, or on the right.
+fn fill<E: TwoEnds<u8, A>, A: Allocator + Copy>(ends: &mut E, count: usize, on_the_left: bool) {
+    for i in 0..count {
+        if ends.room() > 1 {
+            let item = (drawn(i, 256) & 0xff) as u8;
+            if on_the_left {
+                ends.push_left(item);
+            } else {
+                ends.push_right(item);
+            }
+        }
+    }
+}
+
+// So many items go from the left to the right and back, over a gap that on `GapBuf` is one place.
+fn over_one_place<E: TwoEnds<u8, A>, A: Allocator + Copy>(
+    rt: &impl Abort,
+    alloc: A,
+    places: usize,
+    lefts: usize,
+    moved: usize,
+) -> Result<E, GapError> {
+    let mut ends = E::new(alloc);
+    ends.reserve(places)?;
+    fill(&mut ends, lefts, true);
+    fill(&mut ends, places.saturating_mul(2), false);
+    assert_eq!(rt; ends.room(), 1);
+    let before = ends.copy()?;
+    let (front, back) = before
+        .left()
+        .split_at(before.left().len().saturating_sub(moved));
+    assert_eq!(rt; back.len(), moved);
+    shift_right(&mut ends, moved);
+    assert_eq!(rt; ends.left(), front);
+    let (first, rest) = ends.right().split_at(moved.min(ends.right().len()));
+    assert_eq!(rt; first, back);
+    assert_eq!(rt; rest, before.right());
+    shift_left(&mut ends, moved);
+    expect_lists(rt, &ends, before.left(), before.right());
+    Ok(ends)
+}
+
+#[test]
+fn nearly_full_blocks(rt: HostRuntime) -> Result<(), Fail> {
+    for (places, lefts, moved) in [(16, 8, 7), (5_000, 4_999, 4_999)] {
+        let _plain: PlainEnds<u8> = over_one_place(&rt, rt.alloc(), places, lefts, moved)?;
+        let _gap: GapBuf<u8> = over_one_place(&rt, rt.alloc(), places, lefts, moved)?;
+    }
+    Ok(())
+}
+
+#[test]
+fn other_items(rt: HostRuntime) -> Result<(), Fail> {
+    let mut wide: GapBuf<(u64, u8)> = GapBuf::new(rt.alloc());
+    wide.reserve(3)?;
+    wide.push_left((7, 1));
+    wide.push_right((8, 2));
+    wide.put_left(&[(9, 3)]);
+    wide.shift_right(1);
+    assert_eq!(rt; wide.left(), [(7, 1)].as_slice());
+    assert_eq!(rt; wide.right(), [(9, 3), (8, 2)].as_slice());
+    let mut bare: GapBuf<(), Global> = GapBuf::new(rt.alloc());
+    bare.reserve(2)?;
+    bare.push_left(());
+    bare.push_right(());
+    bare.shift_left(1);
+    assert_eq!(rt; bare.left().len(), 2);
+    Ok(())
+}
+
+#[test]
+fn no_room_for_so_many(rt: HostRuntime) -> Result<(), Fail> {
+    let mut gap: GapBuf<u64> = GapBuf::new(rt.alloc());
+    gap.reserve(1)?;
+    gap.push_left(5);
+    let room = gap.room();
+    assert_eq!(rt; gap.reserve(usize::MAX), Err(GapError::Memory));
+    assert_eq!(rt; gap.reserve(usize::MAX / 8), Err(GapError::Memory));
+    assert_eq!(rt; gap.left(), [5].as_slice());
+    assert_eq!(rt; gap.room(), room);
+    Ok(())
+}
+
+#[test]
+fn names_the_refusal(rt: HostRuntime) -> Result<(), Fail> {
+    let text = format!(in rt.alloc(); "{}", GapError::from(AllocError))?;
+    assert_eq!(rt; text.as_str(), "out of memory");
+    Ok(())
+}

@@ -1,0 +1,218 @@
+//! Forms: what is cut out of them, what a call of them gives, and how they are printed. Each request for memory is refused
+//! in turn.
+use crate::stores::divided;
+use std::alloc::{Allocator, Global};
+use std::process::Abort;
+use std::test::Fail;
+use trac_faults::Refusing;
+use trac_forms::{Form, FormError, Item, Texts};
+use trac_rules::limit::MARK_LIMIT;
+
+type Memory<'a> = &'a Refusing<Global>;
+
+/// The form is printed so, and says the length of this before. What is printed may be refused once.
+pub(crate) fn expect_shown<A: Allocator + Copy>(
+    rt: &impl Abort,
+    alloc: A,
+    form: &Form<A>,
+    text: &[u8],
+) -> Result<(), FormError> {
+    assert_eq!(rt; form.show_len(), Some(text.len()));
+    let mut out = Vec::new(alloc);
+    if form.show_into(&mut out).is_err() {
+        out.clear();
+        form.show_into(&mut out)?;
+    }
+    assert_eq!(rt; out.as_slice(), text);
+    Ok(())
+}
+
+// A call of the form with these texts gives this value, and says its length before. The value may be refused once.
+fn expect_called<A: Allocator + Copy, T: Texts>(
+    rt: &impl Abort,
+    alloc: A,
+    form: &Form<A>,
+    texts: &T,
+    value: &[u8],
+) -> Result<(), FormError> {
+    assert_eq!(rt; form.call_len(texts), Some(value.len()));
+    let mut out = Vec::new(alloc);
+    if form.call_into(texts, &mut out).is_err() {
+        out.clear();
+        form.call_into(texts, &mut out)?;
+    }
+    assert_eq!(rt; out.as_slice(), value);
+    Ok(())
+}
+
+// A text, the lists of texts that are cut out of it in turn, the form as it is printed then, and a call of it.
+struct Case {
+    text: &'static [u8],
+    cuts: &'static [&'static [&'static [u8]]],
+    shown: &'static [u8],
+    fillings: &'static [&'static [u8]],
+    value: &'static [u8],
+}
+
+const CASES: &[Case] = &[
+    // Each text in turn; a call with the texts that were cut out gives the first text again.
+    Case {
+        text: b"abcabc",
+        cuts: &[&[b"b", b"ca"]],
+        shown: b"<^>a<1><2><1>c",
+        fillings: &[b"-", b"+"],
+        value: b"a-+-c",
+    },
+    Case {
+        text: b"abcabc",
+        cuts: &[&[b"b", b"ca"]],
+        shown: b"<^>a<1><2><1>c",
+        fillings: &[b"b", b"ca"],
+        value: b"abcabc",
+    },
+    // A null text uses up its number; a text that is not given is null.
+    Case {
+        text: b"banana",
+        cuts: &[&[b"", b"a"]],
+        shown: b"<^>b<2>n<2>n<2>",
+        fillings: &[b"x"],
+        value: b"bnn",
+    },
+    // Occurrences do not overlap, and the leftmost counts.
+    Case {
+        text: b"aaa",
+        cuts: &[&[b"aa"]],
+        shown: b"<^><1>a",
+        fillings: &[b"xy"],
+        value: b"xya",
+    },
+    // Earlier gaps stay, and no occurrence crosses one.
+    Case {
+        text: b"yxb",
+        cuts: &[&[b"y"], &[b"x"]],
+        shown: b"<^><1><1>b",
+        fillings: &[b"-"],
+        value: b"--b",
+    },
+    Case {
+        text: b"yxb",
+        cuts: &[&[b"y"], &[b"yx"]],
+        shown: b"<^><1>xb",
+        fillings: &[b"-"],
+        value: b"-xb",
+    },
+];
+
+// The form with these texts cut out, where one request may be refused: it is as it was then. It stays so in any case.
+fn cut<'a>(
+    rt: &impl Abort,
+    form: &Form<Memory<'a>>,
+    texts: &[&[u8]],
+) -> Result<Form<Memory<'a>>, FormError> {
+    assert!(rt; texts.len() <= MARK_LIMIT);
+    match form.segmented(&texts) {
+        Err(FormError::Memory) => form.segmented(&texts),
+        other => other,
+    }
+}
+
+fn made<'a>(memory: Memory<'a>, text: &[u8]) -> Result<Form<Memory<'a>>, FormError> {
+    match Form::new(memory, text) {
+        Err(FormError::Memory) => Form::new(memory, text),
+        other => other,
+    }
+}
+
+fn expect_case(rt: &impl Abort, memory: Memory<'_>, case: &Case) -> Result<(), FormError> {
+    let mut form = made(memory, case.text)?;
+    for texts in case.cuts.iter() {
+        form = cut(rt, &form, texts)?;
+    }
+    expect_shown(rt, memory, &form, case.shown)?;
+    expect_called(rt, memory, &form, &case.fillings, case.value)
+}
+
+#[test]
+fn each_request(rt: HostRuntime) -> Result<(), Fail> {
+    let memory = Refusing::new(rt.alloc());
+    for case in CASES.iter() {
+        let runs = memory.refuse_each(1_000, |_| expect_case(&rt, &memory, case))?;
+        assert!(rt; runs > Some(3), "{runs:?} runs");
+    }
+    Ok(())
+}
+
+// A copy, where one request may be refused.
+fn copied<'a>(form: &Form<Memory<'a>>) -> Result<Form<Memory<'a>>, FormError> {
+    match form.copy() {
+        Err(FormError::Memory) => form.copy(),
+        other => other,
+    }
+}
+
+// The pointer goes to another place, while a copy keeps the old one.
+fn point(
+    rt: &impl Abort,
+    form: &mut Form<Memory<'_>>,
+    place: usize,
+    old: usize,
+) -> Result<(), FormError> {
+    let copy = copied(form)?;
+    assert!(rt; place <= form.len());
+    assert_eq!(rt; form.set_pointer(place), old);
+    assert_eq!(rt; form.pointer(), place);
+    assert_eq!(rt; copy.pointer(), old);
+    Ok(())
+}
+
+// The pointer of `a<^><1>bc<2>` at three places, one after another, with what is printed and what a call gives from there.
+const POINTERS: &[(usize, usize, &[u8], &[u8])] = &[
+    (1, 1, b"a<^><1>bc<2>", b"XbcY"),
+    (1, 5, b"a<1>bc<2><^>", b""),
+    (5, 0, b"<^>a<1>bc<2>", b"aXbcY"),
+];
+
+const TWO_TEXTS: &[&[u8]] = &[b"X", b"Y"];
+
+fn pointed(rt: &impl Abort, memory: Memory<'_>) -> Result<(), FormError> {
+    let mut form = divided_once(memory)?;
+    for (old, place, shown, value) in POINTERS.iter() {
+        point(rt, &mut form, *place, *old)?;
+        expect_shown(rt, memory, &form, shown)?;
+        expect_called(rt, memory, &form, &TWO_TEXTS, value)?;
+    }
+    Ok(())
+}
+
+#[test]
+fn items_of_a_form(rt: HostRuntime) -> Result<(), Fail> {
+    let form = divided(rt.alloc())?;
+    assert_eq!(rt; form.len(), 5);
+    assert_eq!(rt; form.item(2), Some(Item::Byte(b'b')));
+    assert_eq!(rt; form.item(5), None);
+    Ok(())
+}
+
+fn divided_once(memory: Memory<'_>) -> Result<Form<Memory<'_>>, FormError> {
+    match divided(memory) {
+        Err(FormError::Memory) => divided(memory),
+        other => other,
+    }
+}
+
+#[test]
+fn each_request_at_pointers(rt: HostRuntime) -> Result<(), Fail> {
+    let memory = Refusing::new(rt.alloc());
+    let runs = memory.refuse_each(1_000, |_| pointed(&rt, &memory))?;
+    assert!(rt; runs > Some(3), "{runs:?} runs");
+    Ok(())
+}
+
+// A vector of texts that has one too few: the second is null.
+#[test]
+fn texts_in_a_vector(rt: HostRuntime) -> Result<(), Fail> {
+    let mut texts: Vec<&[u8]> = Vec::new(rt.alloc());
+    texts.push(b"X")?;
+    expect_called(&rt, rt.alloc(), &divided(rt.alloc())?, &texts, b"Xbc")?;
+    Ok(())
+}

@@ -1,0 +1,151 @@
+//! Sessions that go forwards and backwards.
+use crate::acts::Act::{self, *};
+use crate::acts::play;
+use std::test::Fail;
+use trac_rules::limit::JOURNAL_LIMIT;
+use trac_rules::refusal::Refusal::{Closed, JournalFull, NeedInput, TooLong};
+
+const ELEVEN_STEPS_AND_BACK: &[Act] = &[
+    Feed(b"AB'"),
+    Initial,
+    Forward(11),
+    Shows(b"^"),
+    Pending(b"AB"),
+    Position(3),
+    Records(11),
+    Back(1),
+    Shows(b"#(ps,AB^)"),
+    Pending(b""),
+    Back(10),
+    Initial,
+    BackToStart(1, 0),
+    Initial,
+];
+
+// A stray `)` ends the idle program's `ps`: what is read behind it goes to the base text.
+const A_STRAY_CLOSING: &[Act] = &[Feed(b"a)b,c'"), Forward(14), Shows(b"bc^"), Pending(b"a")];
+
+// A `(` without a match protects all the rest.
+const AN_UNMATCHED_OPENING: &[Act] = &[Feed(b"((a'"), Forward(9), Shows(b"#(ps,(a)^")];
+
+// After seven steps `ps` has one finished argument, and `rs` inside it is about to be performed.
+const TWO_FUNCTIONS_ARE_BEGUN: &[Act] = &[Feed(b"AB'"), Forward(7), Shows(b"#(ps,#(rs^))")];
+
+// `rs` has read `AB`: it goes before the active text, and `ps` gathers its second argument. The same is read again after
+// one step back, though the tape has grown.
+const MORE_INPUT_IS_WAITED_FOR: &[Act] = &[
+    Feed(b"AB"),
+    ForwardRefused(8, 7, NeedInput),
+    Feed(b"'"),
+    Forward(1),
+    Shows(b"#(ps,^AB)"),
+    Position(3),
+    Pending(b""),
+    Back(1),
+    Feed(b"C'"),
+    Forward(1),
+    Shows(b"#(ps,^AB)"),
+    Position(3),
+    Pending(b""),
+];
+
+const NOTHING_BEHIND_THE_END: &[Act] = &[
+    Feed(b"A"),
+    End,
+    End,
+    FeedRefused(b"B", Closed),
+    Forward(8),
+    Shows(b"#(ps,^A)"),
+    Position(1),
+];
+
+const A_COMMIT_KEEPS_WHAT_IS_UNREAD: &[Act] = &[
+    Feed(b"AB'C'"),
+    Forward(11),
+    Position(3),
+    Commit,
+    Pending(b""),
+    Position(0),
+    BackToStart(1, 0),
+    Forward(11),
+    Pending(b"C"),
+    Position(2),
+];
+
+// Until the called text is printed, the rules take 17, 15, 17 and 16 steps for the four texts, and one between any two, which
+// loads the idle program again.
+const FORMS_COME_AND_GO: &[Act] = &[
+    Feed(b"#(ds,a,1)'#(dd,a)'#(ds,a,2)'#(cl,a)'"),
+    Forward(68),
+    Shows(b"^"),
+    Pending(b"2"),
+    Forms(1),
+    Back(68),
+    Initial,
+];
+
+#[test]
+fn forwards_and_backwards(rt: HostRuntime) -> Result<(), Fail> {
+    for acts in [
+        ELEVEN_STEPS_AND_BACK,
+        A_STRAY_CLOSING,
+        AN_UNMATCHED_OPENING,
+        TWO_FUNCTIONS_ARE_BEGUN,
+        MORE_INPUT_IS_WAITED_FOR,
+        NOTHING_BEHIND_THE_END,
+        A_COMMIT_KEEPS_WHAT_IS_UNREAD,
+        FORMS_COME_AND_GO,
+    ] {
+        play(&rt, rt.alloc(), JOURNAL_LIMIT, acts)?;
+    }
+    Ok(())
+}
+
+const A_FULL_JOURNAL: &[Act] = &[
+    Feed(b"AB'"),
+    ForwardRefused(5, 4, JournalFull),
+    Records(4),
+    Commit,
+    Records(0),
+    Forward(1),
+    BackToStart(2, 1),
+    Forward(0),
+    Back(0),
+];
+
+#[test]
+fn a_full_journal(rt: HostRuntime) -> Result<(), Fail> {
+    play(&rt, rt.alloc(), 4, A_FULL_JOURNAL)
+}
+
+// A tape one byte too long is refused, and a value one byte longer than the texts may be.
+const LIMITS_ARE_KEPT: &[Act] = &[
+    FeedLetters(16_777_217),
+    FeedLetters(16_777_215),
+    FeedRefused(b"a", TooLong),
+    Feed(b""),
+    End,
+    ForwardRefused(8, 7, TooLong),
+    Position(0),
+    Shows(b"#(ps,#(rs^))"),
+];
+
+// A call that would give 4,096 times 4,097 bytes is refused, and nothing changes.
+const A_VALUE_THAT_IS_TOO_LONG: &[Act] = &[
+    Feed(b"#(ds,F,("),
+    FeedLetters(4_096),
+    Feed(b"))#(ss,F,a)#(cl,F,("),
+    FeedLetters(4_097),
+    Feed(b"))'"),
+    ForwardUntil(TooLong),
+    Active(b"))"),
+    Forms(1),
+    ForwardUntil(TooLong),
+    Active(b"))"),
+];
+
+#[test]
+fn limits_are_kept(rt: HostRuntime) -> Result<(), Fail> {
+    play(&rt, rt.alloc(), 64, LIMITS_ARE_KEPT)?;
+    play(&rt, rt.alloc(), JOURNAL_LIMIT, A_VALUE_THAT_IS_TOO_LONG)
+}

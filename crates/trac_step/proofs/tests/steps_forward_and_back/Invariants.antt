@@ -1,5 +1,0 @@
-use Rattle.std.proofs.Common.{vec_len}
-use Rattle.trac_step.proofs.tests.steps_forward_and_back.Given as goal
-
-abbrev pub decreases-loop-taken : goal.decreases-loop-taken
-decreases-loop-taken g l = vec_len l.records
