@@ -6,8 +6,9 @@ use std::alloc::{AllocError, Allocator, Global};
 use std::process::Abort;
 use std::test::Fail;
 use trac_forms::{FormError, Store};
-use trac_prims::{Args, Change, Effect, Kind, Mark, Now, Refusal, Tape, plan};
+use trac_prims::{Args, Change, Effect, Kind, Mark, Now, Tape, plan};
 use trac_rules::limit::MARK_LIMIT;
+use trac_rules::refusal::Refusal;
 
 /// The input of a call, and how many of its bytes are read.
 #[derive(Clone, Copy)]

@@ -94,6 +94,7 @@ fn eleven_steps<E: TwoEnds<u8, A>, A: Allocator + Copy>(
     }
     expect_copy(rt, plain, &machine)?;
     assert_eq!(rt; machine.output(), b"AB".as_slice());
+    assert!(rt; machine.frame(0).is_none());
     settled(rt, &mut machine);
     Ok(machine)
 }
