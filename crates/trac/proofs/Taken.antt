@@ -8,7 +8,7 @@ use Rattle.trac_rules.specs.declared.limit.TheConstants.{TEXT_LIMIT, TAPE_LIMIT}
 use Rattle.trac_rules.specs.declared.refusal.Refusal.{Refusal}
 use Rattle.trac_rules.specs.declared.refusal.Refusal.TheVariants as refusals
 use Rattle.trac_rules.specs.declared.reply.Reply.TheVariants.{Refused}
-use Rattle.trac_rules.specs.Session.{PlainSession, Step, Commit, Feed, End, done, refused, answer, Answers}
+use Rattle.trac_rules.specs.Session.{PlainSession, Step, Commit, Feed, End, done, refused, answer, Answers, over}
 use Rattle.trac_rules.specs.GoingOn.{prepended, going_on_from}
 use Rattle.trac_rules.proofs.GoingOn.{after_Commit, going_on-Commit, after_Feed, going_on-Feed, after_End, going_on-End, going_on_hopeless}
 use Rattle.trac_rules.proofs.Refusals.{wants_input_of_open}
@@ -72,7 +72,7 @@ takes_end in_old in_new p q buffer n none took end h = record {
 
 -- what is wanted is wanted of a tape that has not ended
 pub wanted_open : (q : PlainSession) → answer Step q ≡ refused refusals.NeedInput q → q.tape.ended ≡ false
-wanted_open q h = wants_input_of_open q.tape q.last (Step_refused_NeedInput q q h)
+wanted_open q h = wants_input_of_open (over q.tape) q.last (Step_refused_NeedInput q q h)
 
 -- also after the commit
 pub wanted_open_after : (q r : PlainSession) → answer Step q ≡ refused refusals.NeedInput q → answer Commit q ≡ done r → r.tape.ended ≡ false
