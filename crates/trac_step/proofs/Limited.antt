@@ -43,7 +43,6 @@ pub within_limits : (p : Parts) → IsSound p → texts_fit (state_of p) ≡ tru
 within_limits p sound = within_limits_by (state_of p)
     (rw (text_bytes-parts p sound.ordered) sound.text_limit) (rw (marks-parts p sound.ordered) sound.mark_limit) sound.output_limit
 
-
 -- the state that a machine shows is proper
 pub proper_of_sound : (p : Parts) → IsSound p → IsProper (state_of p)
 proper_of_sound p sound = record { texts = within_limits p sound; storage = sound.storage }

@@ -39,7 +39,6 @@ is_move s front at none = subst IsMove (sym (scan_front s front (sym at))) (move
     move_at Sharp none = tt
     move_at Plain none = tt
 
-
 -- where there are none, no function is begun
 pub no_frames : (fs : List Frame) (b : Bool) → b ≡ (length fs == 0) → b ≡ true → fs ≡ []
 no_frames [] b is h = refl
