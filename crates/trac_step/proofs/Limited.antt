@@ -1,5 +1,5 @@
 -- Limits on a state, and what is true of the parts of a machine, from one another.
-use Rattle.std.proofs.Common.{◌≡◌, ◌+◌, ◌<◌, ◌≤◌, length, reverse, refl, sym, arith, true, false, Bool, ◌&&◌}
+use Rattle.std.proofs.Common.{◌≡◌, ◌+◌, ◌<◌, ◌≤◌, length, reverse, refl, arith, true, false, ◌&&◌}
 use Rattle.std.specs.Prelude.{nat_le}
 use Rattle.std.proofs.lemmas.Bool.{and_parts, false_from_ne_true, le-leb, leb-true}
 use Rattle.trac_rules.specs.declared.limit.TheConstants.{TEXT_LIMIT, MARK_LIMIT, OUTPUT_LIMIT}
@@ -38,7 +38,6 @@ within_limits_by s t m o = rw (le-leb _ _ t, le-leb _ _ m, le-leb _ _ o) refl
 pub within_limits : (p : Parts) → IsSound p → texts_fit (state_of p) ≡ true
 within_limits p sound = within_limits_by (state_of p)
     (rw (text_bytes-parts p sound.ordered) sound.text_limit) (rw (marks-parts p sound.ordered) sound.mark_limit) sound.output_limit
-
 
 -- the state that a machine shows is proper
 pub proper_of_sound : (p : Parts) → IsSound p → IsProper (state_of p)

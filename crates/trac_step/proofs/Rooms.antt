@@ -1,13 +1,13 @@
 -- The room of a machine, which holds its own state.
-use Rattle.std.proofs.Common.{◌≡◌, ℕ, ◌≤◌, List, length, ap, ◌∙◌, subst, arith, refl, Bool, true, false}
+use Rattle.std.proofs.Common.{◌≡◌, ℕ, ◌≤◌, List, length, ap, ◌∙◌, subst, arith}
 use Rattle.std.proofs.lemmas.Bool.{or_right}
 use Rattle.std.specs.Cmp.Lexicographic.{slice_cmp, nat_list_cmp_total}
 use Rattle.std.specs.FinSet as set
 use Rattle.std.specs.Ordering.{nat_cmp, eq_by_cmp}
 use Rattle.trac_forms.specs.Stored.{KnowsAll, Names}
-use Rattle.trac_rules.specs.Limits.{marks, text_bytes}
+use Rattle.trac_rules.specs.Limits.{marks}
 use Rattle.trac_rules.specs.State.{State}
-use Rattle.trac_step.specs.Layout.{Parts, state_of, IsSound, Shown, shown_by}
+use Rattle.trac_step.specs.Layout.{Parts, IsSound, Shown, shown_by}
 use Rattle.trac_step.specs.Room.{AreAmong, HasRoom, IsNoLess}
 use Rattle.trac_step.proofs.Rules.{text_bytes-parts, marks-parts}
 

@@ -1,11 +1,11 @@
 -- What scanning says of a state, from what its active text begins with.
-use Rattle.std.proofs.Common.{◌≡◌, ◌<◌, List, [], ◌∷◌, length, refl, sym, ap, ◌∙◌, subst, arith, true, false, Bool}
+use Rattle.std.proofs.Common.{◌≡◌, ◌<◌, List, [], ◌∷◌, length, refl, sym, ap, ◌∙◌, subst, arith, true, Bool}
 use Rattle.std.proofs.lemmas.Bool.{eqb-true}
 use Rattle.std.specs.Prelude.{◌==◌}
 use Rattle.trac_rules.specs.declared.scan.Front.{Front}
 use Rattle.trac_rules.specs.declared.scan.Front.TheVariants.{Nothing, Opening, Layout, Comma, ActiveCall, NeutralCall, Sharp, Closing, Plain}
 use Rattle.trac_rules.specs.State.{Frame, State}
-use Rattle.trac_rules.specs.Scanning.{Call, Scanned, Moves, Calls, front_of, scan, scan_at, closing_in, deleted}
+use Rattle.trac_rules.specs.Scanning.{Scanned, Moves, Calls, front_of, scan, scan_at, closing_in, deleted}
 use Rattle.trac_step.specs.Calling.{IsMove}
 
 pub scan_front : (s : State) (front : _) → front_of s.active ≡ front → scan s ≡ scan_at front s
@@ -29,7 +29,6 @@ is_move s front at none = subst IsMove (sym (scan_front s front (sym at))) (move
     move_at NeutralCall none = tt
     move_at Sharp none = tt
     move_at Plain none = tt
-
 
 -- where there are none, no function is begun
 pub no_frames : (fs : List Frame) (b : Bool) → b ≡ (length fs == 0) → b ≡ true → fs ≡ []

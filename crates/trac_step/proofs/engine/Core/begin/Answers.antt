@@ -1,7 +1,6 @@
-use Rattle.std.proofs.Common.{List, length, ◌≡◌, refl, sym, ap, subst, arith}
+use Rattle.std.proofs.Common.{List, length, sym, ap, subst, arith}
 use Rattle.std.proofs.lemmas.Option.{none-some}
 use Rattle.std.specs.Prelude.{Some}
-use Rattle.trac_rules.specs.State.{State}
 use Rattle.trac_prims.specs.declared.mark.Mark.{Mark}
 use Rattle.trac_step.specs.Layout.{parts_of, IsSound, Shown}
 use Rattle.trac_step.proofs.Changes.{marked_parts, sound_push, marks_of_view}

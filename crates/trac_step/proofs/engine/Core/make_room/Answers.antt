@@ -1,4 +1,4 @@
-use Rattle.std.proofs.Common.{List, ℕ, length, refl, ap, ◌∙◌, arith}
+use Rattle.std.proofs.Common.{List, ℕ, length, refl, ap, arith}
 use Rattle.std.proofs.lemmas.Result.{on_ok_weaker}
 use Rattle.trac_rules.specs.Limits.{text_bytes}
 use Rattle.trac_step.specs.Layout.{Parts, parts_of, state_of}
