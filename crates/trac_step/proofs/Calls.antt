@@ -1,6 +1,6 @@
 -- The call that scanning asks for, and the outcome of a step that performs it.
 use Rattle.std.proofs.Common.{◌≡◌, ◌∷◌, List, sym, ap, ◌∙◌}
-use Rattle.std.specs.Prelude.{Result, Ok, Err}
+use Rattle.std.specs.Prelude.{Ok, Err}
 use Rattle.trac_rules.specs.declared.refusal.Refusal.{Refusal}
 use Rattle.trac_rules.specs.declared.scan.Front.TheVariants.{Closing}
 use Rattle.trac_rules.specs.Effect.{Effect}

@@ -1,5 +1,5 @@
 -- The parts of a machine after a call with a known effect: they are sound, and show the state that the rules say.
-use Rattle.std.proofs.Common.{◌≡◌, ℕ, ◌+◌, ◌-◌, ◌<◌, ◌≤◌, List, [], ◌∷◌, ◌++◌, length, take, drop, reverse, refl, sym, ap, ◌∙◌, subst, arith, true, false, Bool}
+use Rattle.std.proofs.Common.{◌≡◌, ℕ, ◌+◌, ◌≤◌, List, [], ◌∷◌, ◌++◌, length, take, drop, reverse, refl, sym, ap, ◌∙◌, arith, true, false, Bool}
 use Rattle.std.specs.Prelude.{Vec, vec_capacity}
 use Rattle.std.specs.Option.{unwrap_or}
 use Rattle.std.proofs.lemmas.List.{length-take-le, length-drop, length-append}
@@ -8,16 +8,15 @@ use Rattle.trac_rules.specs.declared.kind.Kind.{Kind}
 use Rattle.trac_rules.specs.declared.kind.Kind.TheVariants.{Active, Neutral}
 use Rattle.trac_rules.specs.declared.scan.Front.TheVariants.{Nothing, Closing}
 use Rattle.trac_rules.specs.Effect.{Effect}
-use Rattle.trac_rules.specs.Limits.{text_bytes}
-use Rattle.trac_rules.specs.Performing.{after_call, changed_by, placed}
+use Rattle.trac_rules.specs.Performing.{changed_by, placed}
 use Rattle.trac_rules.specs.Proper.{IsProper}
-use Rattle.trac_rules.specs.Scanning.{Calls, front_of, gather, scan, deleted}
-use Rattle.trac_rules.specs.State.{Frame, State, storage_of}
+use Rattle.trac_rules.specs.Scanning.{Calls, front_of, scan, deleted}
+use Rattle.trac_rules.specs.State.{Frame, State}
 use Rattle.trac_forms.specs.Stored.{Stored, storage_in}
 use Rattle.trac_prims.specs.declared.mark.Mark.{Mark}
 use Rattle.trac_prims.specs.declared.effect.Effect as code
 use Rattle.trac_prims.specs.Effects.{effect_on}
-use Rattle.trac_prims.specs.Frames.{IsInnermost, all_arguments}
+use Rattle.trac_prims.specs.Frames.{IsInnermost}
 use Rattle.trac_prims.specs.Neutral.{AreMarks, cut_back, neutral_of}
 use Rattle.trac_prims.proofs.Neutral.{AreMarks-longer}
 use Rattle.trac_step.specs.Calling.{state_after, with_value}

@@ -1,7 +1,7 @@
 -- Limits on a state, and what is true of the parts of a machine, from one another.
-use Rattle.std.proofs.Common.{◌≡◌, ◌+◌, ◌<◌, ◌≤◌, length, reverse, refl, sym, arith, true, false, Bool, ◌&&◌}
+use Rattle.std.proofs.Common.{◌≡◌, ◌+◌, ◌<◌, ◌≤◌, length, reverse, refl, arith, true, false, ◌&&◌}
 use Rattle.std.specs.Prelude.{nat_le}
-use Rattle.std.proofs.lemmas.Bool.{and_parts, le-leb, leb-true}
+use Rattle.std.proofs.lemmas.Bool.{and_parts, false_from_ne_true, le-leb, leb-true}
 use Rattle.trac_rules.specs.declared.limit.TheConstants.{TEXT_LIMIT, MARK_LIMIT, OUTPUT_LIMIT}
 use Rattle.trac_rules.specs.State.{State}
 use Rattle.trac_rules.specs.Limits.{text_bytes, marks, texts_fit}
@@ -26,11 +26,7 @@ limits_kept s e =
 
 -- one more mark than there may be
 pub beyond_limits_of_marks : (s : State) → MARK_LIMIT < marks s.frames → texts_fit s ≡ false
-beyond_limits_of_marks s h = not_true (texts_fit s) (λ e. let kept = limits_kept s e in absurd (omega (arith, kept.marked)))
-  where
-    not_true : (b : Bool) → (b ≡ true → ⊥) → b ≡ false
-    not_true true h = absurd (h refl)
-    not_true false h = refl
+beyond_limits_of_marks s h = false_from_ne_true (texts_fit s) (λ e. let kept = limits_kept s e in absurd (omega (arith, kept.marked)))
 
 -- ---- the parts of a machine
 

@@ -1,6 +1,7 @@
 -- Where scanning moves on: what the state after it is, and whether it is within the limits.
 use Rattle.std.proofs.Common.{◌≡◌, ℕ, suc, ◌+◌, ◌<◌, ◌≤◌, List, [], ◌∷◌, ◌++◌, length, take, drop, reverse, refl, sym, ap, ◌∙◌, subst, arith, true, false, Bool, inl, inr}
-use Rattle.std.specs.Prelude.{Option, Some, None, Result, Ok, Err, OnOk, nat_lt}
+use Rattle.std.specs.Prelude.{Option, Some, None, nat_lt}
+use Rattle.std.proofs.lemmas.Option.{none-some}
 use Rattle.std.proofs.lemmas.Bool.{ltb-false, leb-true}
 use Rattle.std.proofs.lemmas.Bool.Decides.{leb_tells}
 use Rattle.std.proofs.lemmas.List.{length-append, length-take, length-drop, nil_from_length}
@@ -86,9 +87,6 @@ closing_limited : (b : Bool) (fs : List Frame) (t : State) → b ≡ texts_fit t
 closing_limited b [] t h = h
 closing_limited b (f ∷ fs) t h = tt
 
-some_none : {X : Type 0} {x : X} → Some x ≡ None → ⊥
-some_none e = cc
-
 module _ (p : Parts) (sound : IsSound p) where
   by_front : (front : Front) (b : Bool) → front_of p.active ≡ front → IfMoves (scan_at front (state_of p)) (λ t. b ≡ texts_fit t) → IfMoves (scan (state_of p)) (λ t. b ≡ texts_fit t)
   by_front front b e h = subst (λ x. IfMoves x (λ t. b ≡ texts_fit t)) (sym (scan_front (state_of p) front e)) h
@@ -113,9 +111,9 @@ module _ (p : Parts) (sound : IsSound p) where
       let some : 0 < length p.marks = leb-true 1 (length p.marks) e in
       pushed_limited p 1 None sound (λ _. some) ∙ ap texts_fit (next_argument (record p { active = drop 1 p.active }) sound.ordered some)
   limited_with_mark ActiveCall e =
-      pushed_limited p 2 (Some Active) sound (λ h. absurd (some_none h)) ∙ ap texts_fit (begins (record p { active = drop 2 p.active }) Active)
+      pushed_limited p 2 (Some Active) sound (λ h. absurd (none-some _ (sym h))) ∙ ap texts_fit (begins (record p { active = drop 2 p.active }) Active)
   limited_with_mark NeutralCall e =
-      pushed_limited p 3 (Some Neutral) sound (λ h. absurd (some_none h)) ∙ ap texts_fit (begins (record p { active = drop 3 p.active }) Neutral)
+      pushed_limited p 3 (Some Neutral) sound (λ h. absurd (none-some _ (sym h))) ∙ ap texts_fit (begins (record p { active = drop 3 p.active }) Neutral)
   limited_with_mark Nothing e = absurd (let unset : false ≡ true = e in cc)
   limited_with_mark Opening e = absurd (let unset : false ≡ true = e in cc)
   limited_with_mark Layout e = absurd (let unset : false ≡ true = e in cc)
@@ -155,10 +153,3 @@ closing_move s e moves = scan_front s Closing e ∙ closing_by s.frames (subst I
     closing_by : (fs : List Frame) → IsMove (closing_in fs (deleted 1 s)) → closing_in fs (deleted 1 s) ≡ Moves (deleted 1 s)
     closing_by [] h = refl
     closing_by (f ∷ fs) h = absurd h
-
-pub comma_move : (s : State) → front_of s.active ≡ Comma → s.frames ≡ [] → scan s ≡ Moves (deleted 1 s)
-comma_move s e none = scan_front s Comma e ∙ ap (λ (fs : List Frame). Moves (comma_in fs (deleted 1 s))) none
-
-pub on_ok : {X E P Q : Type 0} (r : Result X E) → (P → Q) → OnOk r P → OnOk r Q
-on_ok (Ok x) f h = f h
-on_ok (Err e) f h = h

@@ -8,11 +8,9 @@ use Rattle.std.specs.Prelude.{Option, Some, None}
 use Rattle.trac_rules.specs.Form.{Form, all_items, pointed_at}
 use Rattle.trac_rules.specs.State.{Forms}
 use Rattle.trac_rules.specs.Handling.{keeping}
+use Rattle.trac_rules.proofs.NamedForms.{only_equal_tie}
 use Rattle.trac_forms.specs.Stored.{Stored, storage_in}
 use Rattle.trac_prims.specs.Effects.{pointed}
-
-abbrev exact : finite.IsAntisymmetric (slice_cmp nat_cmp)
-exact = finite.slice_cmp-IsAntisymmetric finite.nat_cmp-IsAntisymmetric
 
 -- what is found in place of what was taken away
 again : {X : Type 0} (b : Bool) (found : Option X) (other : Option X) → cond b found (cond b None other) ≡ cond b found other
@@ -22,7 +20,7 @@ again false found other = refl
 -- a form put under a name whose form was taken away is put in its place
 pub insert-remove : (forms : Forms) (name : List ℕ) (form : Form) → finite.insert (finite.remove forms name) name form ≡ finite.insert forms name form
 insert-remove forms name form =
-    finite.same_map nat_list_cmp_total exact (finite.insert (finite.remove forms name) name form) (finite.insert forms name form) (λ q.
+    finite.same_map nat_list_cmp_total only_equal_tie (finite.insert (finite.remove forms name) name form) (finite.insert forms name form) (λ q.
     finite.get-insert nat_list_cmp_total (finite.remove forms name) name form q
     ∙ ap (cond (eq_by_cmp (slice_cmp nat_cmp) q name) (Some form)) (finite.get-remove nat_list_cmp_total forms name q)
     ∙ again (eq_by_cmp (slice_cmp nat_cmp) q name) (Some form) (finite.get forms q)

@@ -1,13 +1,13 @@
 -- The room of a machine, which holds its own state.
-use Rattle.std.proofs.Common.{◌≡◌, ℕ, ◌≤◌, List, length, ap, ◌∙◌, subst, arith, refl, Bool, true, false}
-use Rattle.std.specs.Prelude.{◌||◌}
+use Rattle.std.proofs.Common.{◌≡◌, ℕ, ◌≤◌, List, length, ap, ◌∙◌, subst, arith}
+use Rattle.std.proofs.lemmas.Bool.{or_right}
 use Rattle.std.specs.Cmp.Lexicographic.{slice_cmp, nat_list_cmp_total}
 use Rattle.std.specs.FinSet as set
 use Rattle.std.specs.Ordering.{nat_cmp, eq_by_cmp}
 use Rattle.trac_forms.specs.Stored.{KnowsAll, Names}
-use Rattle.trac_rules.specs.Limits.{marks, text_bytes}
+use Rattle.trac_rules.specs.Limits.{marks}
 use Rattle.trac_rules.specs.State.{State}
-use Rattle.trac_step.specs.Layout.{Parts, state_of, IsSound, Shown, shown_by}
+use Rattle.trac_step.specs.Layout.{Parts, IsSound, Shown, shown_by}
 use Rattle.trac_step.specs.Room.{AreAmong, HasRoom, IsNoLess}
 use Rattle.trac_step.proofs.Rules.{text_bytes-parts, marks-parts}
 
@@ -53,10 +53,6 @@ pub IsNoLess-parts : (p q : Parts) (m : Shown) → shown_by p ≡ m → p.text_r
 IsNoLess-parts p q m view text marks output names = subst (λ (n : Shown). IsNoLess n (shown_by q)) view (record { text = text; marks = marks; output = output; names = names })
 
 -- ---- names
-
-or_right : (b c : Bool) → c ≡ true → (b || c) ≡ true
-or_right true c h = refl
-or_right false c h = h
 
 -- one more name
 pub among_more : (known more : Names) (name : List ℕ) → more ≡ set.insert known name → AreAmong known more

@@ -1,25 +1,16 @@
 -- What scanning says of a state, from what its active text begins with.
-use Rattle.std.proofs.Common.{◌≡◌, ◌<◌, List, [], ◌∷◌, length, refl, sym, ap, ◌∙◌, subst, arith, true, false, Bool}
+use Rattle.std.proofs.Common.{◌≡◌, ◌<◌, List, [], ◌∷◌, length, refl, sym, ap, ◌∙◌, subst, arith, true, Bool}
 use Rattle.std.proofs.lemmas.Bool.{eqb-true}
-use Rattle.std.specs.Prelude.{◌==◌, Result, Ok, Err, IfOk, OnOk}
+use Rattle.std.specs.Prelude.{◌==◌}
 use Rattle.trac_rules.specs.declared.scan.Front.{Front}
 use Rattle.trac_rules.specs.declared.scan.Front.TheVariants.{Nothing, Opening, Layout, Comma, ActiveCall, NeutralCall, Sharp, Closing, Plain}
 use Rattle.trac_rules.specs.State.{Frame, State}
-use Rattle.trac_rules.specs.Scanning.{Call, Scanned, Moves, Calls, front_of, scan, scan_at, closing_in, deleted}
+use Rattle.trac_rules.specs.Scanning.{Scanned, Moves, Calls, front_of, scan, scan_at, closing_in, deleted}
 use Rattle.trac_step.specs.Calling.{IsMove}
 
 pub scan_front : (s : State) (front : _) → front_of s.active ≡ front → scan s ≡ scan_at front s
 unfolding scan
 scan_front s front e = ap (λ f. scan_at f s) e
-
-pub calls_of : (s : State) → front_of s.active ≡ Closing → 0 < length s.frames → (call : Call) × (scan s ≡ Calls call)
-calls_of s front inside =
-    let called = calls_in s.frames inside in
-    (called.0, scan_front s Closing front ∙ called.1)
-  where
-    calls_in : (fs : List Frame) → 0 < length fs → (call : Call) × (closing_in fs (deleted 1 s) ≡ Calls call)
-    calls_in [] h = absurd (omega arith)
-    calls_in (f ∷ fs) h = (_, refl)
 
 pub moves_of : (scanned : Scanned) → IsMove scanned → (t : State) × (scanned ≡ Moves t)
 moves_of (Moves t) h = (t, refl)
@@ -43,8 +34,3 @@ is_move s front at none = subst IsMove (sym (scan_front s front (sym at))) (move
 pub no_frames : (fs : List Frame) (b : Bool) → b ≡ (length fs == 0) → b ≡ true → fs ≡ []
 no_frames [] b is h = refl
 no_frames (f ∷ fs) b is h = absurd (let some : 0 < length (f ∷ fs) = omega arith in let none : length (f ∷ fs) ≡ 0 = eqb-true (length (f ∷ fs)) 0 (sym is ∙ h) in omega (arith, some, none))
-
--- a fact of what came of it, where something did
-pub if_ok : {X E : Type 0} {P : X → Type 0} {Q : Type 0} (r : Result X E) → ((x : X) → P x → Q) → IfOk r P → OnOk r Q
-if_ok (Ok x) f h = f x h
-if_ok (Err e) f h = h

@@ -157,8 +157,8 @@ impl<E: TwoEnds<u8, A>, A: Allocator + Copy> Core<E, A> {
         ensures room { IsNoLess self.old self.new }
     {
         let (beginning, effect) = self.planned(tape)?;
-        let before = self.copy()?;
         self.make_room(&effect)?;
+        let before = self.copy()?;
         self.finish_call(beginning, effect);
         Ok(Record::Whole(before))
     }

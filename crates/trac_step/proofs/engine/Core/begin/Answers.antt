@@ -1,13 +1,10 @@
-use Rattle.std.proofs.Common.{List, length, ◌≡◌, refl, sym, ap, subst, arith}
-use Rattle.std.specs.Prelude.{Some, None}
-use Rattle.trac_rules.specs.State.{State}
+use Rattle.std.proofs.Common.{List, length, sym, ap, subst, arith}
+use Rattle.std.proofs.lemmas.Option.{none-some}
+use Rattle.std.specs.Prelude.{Some}
 use Rattle.trac_prims.specs.declared.mark.Mark.{Mark}
 use Rattle.trac_step.specs.Layout.{parts_of, IsSound, Shown}
 use Rattle.trac_step.proofs.Changes.{marked_parts, sound_push, marks_of_view}
 use Rattle.trac_step.proofs.engine.Core.begin.Goals as goal
-
-some_none : {X : Type 0} {x : X} → Some x ≡ None → ⊥
-some_none e = cc
 
 pub invariant_of-self-2 : goal.invariant_of-self-2
 invariant_of-self-2 g c =
@@ -16,4 +13,4 @@ invariant_of-self-2 g c =
     subst IsSound (sym (marked_parts (g.E.TwoEnds.ends c.self.inside.text) (g.E.TwoEnds.ends c.cut_right.new.self) c.self.inside.marks c.reserve.new.list c.push_left.new.self
     c.self.inside.store c.self.inside.meta c.self.inside.trace c.self.inside.position c.self.inside.output c.args.n (Some c.args.kind) c.left.result.now
     c.cut_right.ensures c.left.ensures.left c.reserve.ensures.left c.push_left.ensures))
-    (sound_push p c.args.n (Some c.args.kind) c.reserve.new.list.capacity c.self.invariant (omega (arith, count, c.requires.room)) (omega (arith, c.in_ok-reserve.ensures.ok, ap (λ (ms : List Mark). length ms) c.reserve.ensures.left)) (λ e. absurd (some_none e)))
+    (sound_push p c.args.n (Some c.args.kind) c.reserve.new.list.capacity c.self.invariant (omega (arith, count, c.requires.room)) (omega (arith, c.in_ok-reserve.ensures.ok, ap (λ (ms : List Mark). length ms) c.reserve.ensures.left)) (λ e. absurd (none-some c.args.kind (sym e))))

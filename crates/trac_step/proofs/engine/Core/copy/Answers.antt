@@ -1,4 +1,4 @@
-use Rattle.std.proofs.Common.{List, ℕ, sym, ap, subst, ◌∙◌, arith, length, IsTrue}
+use Rattle.std.proofs.Common.{sym, ap, subst, ◌∙◌, arith, IsTrue}
 use Rattle.std.specs.FinSet as set
 use Rattle.trac_forms.specs.Stored.{Stored, storage_in}
 use Rattle.trac_step.specs.Layout.{parts_of, state_of, IsSound, Shown}

@@ -1,8 +1,8 @@
-use Rattle.std.proofs.Common.{List, ℕ, length, refl, ap, ◌∙◌, arith}
+use Rattle.std.proofs.Common.{List, ℕ, length, refl, ap, arith}
+use Rattle.std.proofs.lemmas.Result.{on_ok_weaker}
 use Rattle.trac_rules.specs.Limits.{text_bytes}
 use Rattle.trac_step.specs.Layout.{Parts, parts_of, state_of}
 use Rattle.trac_step.proofs.Changes.{rebuilt_parts}
-use Rattle.trac_step.proofs.Moving.{on_ok}
 use Rattle.trac_step.proofs.Rules.{text_bytes-parts}
 use Rattle.trac_step.proofs.engine.Core.make_room.Goals as goal
 
@@ -14,7 +14,7 @@ returns-clause-ok g c =
     c.reserve.ensures.left c.reserve.ensures.right refl c.make_place.ensures.kept c.reserve-2.ensures.items in
     let bytes = ap (λ (q : Parts). text_bytes (state_of q)) same in
     let counted = text_bytes-parts p c.self.invariant.ordered in
-    on_ok c.make_place.result (λ place. record {
+    on_ok_weaker c.make_place.result (λ place. record {
       text = omega (
         arith,
         bytes,

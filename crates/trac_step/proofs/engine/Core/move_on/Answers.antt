@@ -1,11 +1,12 @@
 use Rattle.std.proofs.Common.{◌≡◌, sym, ap, ◌∙◌, true, inl, inr}
+use Rattle.std.proofs.lemmas.Result.{on_ok_weaker}
 use Rattle.trac_rules.specs.declared.kind.Kind.TheVariants.{Active, Neutral}
 use Rattle.trac_rules.specs.declared.scan.Front.TheVariants.{Nothing, Opening, Layout, Comma, ActiveCall, NeutralCall, Sharp, Plain}
 use Rattle.trac_rules.specs.Scanning.{Moves, deleted, begun, comma_in}
 use Rattle.trac_rules.specs.Limits.{texts_fit}
 use Rattle.trac_step.specs.Layout.{Shown}
 use Rattle.trac_step.proofs.Scans.{scan_front}
-use Rattle.trac_step.proofs.Moving.{room_to_begin, room_for_argument, of_moves, closing_move, on_ok}
+use Rattle.trac_step.proofs.Moving.{room_to_begin, room_for_argument, of_moves, closing_move}
 use Rattle.trac_step.proofs.engine.Core.move_on.Goals as goal
 
 pub comma-requires-clause-room : goal.comma-requires-clause-room
@@ -29,7 +30,7 @@ begin-requires-in-NeutralCall-clause-room g c =
 pub returns-in-Nothing-clause-ok : goal.returns-in-Nothing-clause-ok
 returns-in-Nothing-clause-ok g c =
     let scanned = scan_front c.args.self.now.state Nothing (sym c.requires.front ∙ c.in-Nothing.is) in
-    on_ok c.reload.result (λ e. scanned ∙ ap Moves (sym e)) c.reload.ensures.ok
+    on_ok_weaker c.reload.result (λ e. scanned ∙ ap Moves (sym e)) c.reload.ensures.ok
 
 pub returns-in-Opening-clause-ok : goal.returns-in-Opening-clause-ok
 returns-in-Opening-clause-ok g c = scan_front c.args.self.now.state Opening (sym c.requires.front ∙ c.in-Opening.is) ∙ ap (λ (m : Shown). Moves m.state) (sym c.protect.ensures)
@@ -37,17 +38,17 @@ returns-in-Opening-clause-ok g c = scan_front c.args.self.now.state Opening (sym
 pub returns-in-Comma-clause-ok : goal.returns-in-Comma-clause-ok
 returns-in-Comma-clause-ok g c =
     let scanned = scan_front c.args.self.now.state Comma (sym c.requires.front ∙ c.in-Comma.is) in
-    on_ok c.comma.result (λ e. scanned ∙ ap Moves (sym e)) c.comma.ensures.ok
+    on_ok_weaker c.comma.result (λ e. scanned ∙ ap Moves (sym e)) c.comma.ensures.ok
 
 pub returns-in-ActiveCall-clause-ok : goal.returns-in-ActiveCall-clause-ok
 returns-in-ActiveCall-clause-ok g c =
     let scanned = scan_front c.args.self.now.state ActiveCall (sym c.requires.front ∙ c.in-ActiveCall.is) in
-    on_ok c.begin.result (λ e. scanned ∙ ap Moves (sym e)) c.begin.ensures.ok
+    on_ok_weaker c.begin.result (λ e. scanned ∙ ap Moves (sym e)) c.begin.ensures.ok
 
 pub returns-in-NeutralCall-clause-ok : goal.returns-in-NeutralCall-clause-ok
 returns-in-NeutralCall-clause-ok g c =
     let scanned = scan_front c.args.self.now.state NeutralCall (sym c.requires.front ∙ c.in-NeutralCall.is) in
-    on_ok c.begin-in-NeutralCall.result (λ e. scanned ∙ ap Moves (sym e)) c.begin-in-NeutralCall.ensures.ok
+    on_ok_weaker c.begin-in-NeutralCall.result (λ e. scanned ∙ ap Moves (sym e)) c.begin-in-NeutralCall.ensures.ok
 
 pub returns-in-Sharp-clause-ok : goal.returns-in-Sharp-clause-ok
 returns-in-Sharp-clause-ok g c = elim c.in-Sharp.is [

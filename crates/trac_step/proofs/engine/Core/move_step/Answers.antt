@@ -2,7 +2,7 @@ use Rattle.std.proofs.Common.{Some, refl, ap, ◌∙◌}
 use Rattle.std.proofs.lemmas.Result.{err_from_is_err_and}
 use Rattle.trac_step.specs.Layout.{Shown}
 use Rattle.trac_step.proofs.Outcomes.{move_beyond, move_lacks, move_taken, refuses_memory}
-use Rattle.trac_step.proofs.Rooms.{no_less, no_less_same, HasRoom-kept}
+use Rattle.trac_step.proofs.Rooms.{no_less, HasRoom-kept}
 use Rattle.trac_step.proofs.engine.Core.move_step.Goals as goal
 
 pub returns-then-not-move_fits-clause-refused : goal.returns-then-not-move_fits-clause-refused

@@ -1,4 +1,3 @@
-use Rattle.std.proofs.Common.{refl}
 use Rattle.trac_step.proofs.Changes.{sound_at_start}
 use Rattle.trac_step.proofs.engine.Core.new.Goals as goal
 

@@ -1,5 +1,5 @@
-use Rattle.std.proofs.Common.{List, length, ◌≡◌, refl, sym, ap, subst, arith}
-use Rattle.std.specs.Prelude.{Some, None}
+use Rattle.std.proofs.Common.{List, length, sym, ap, subst, arith}
+use Rattle.std.specs.Prelude.{None}
 use Rattle.trac_prims.specs.declared.mark.Mark.{Mark}
 use Rattle.trac_step.specs.Layout.{parts_of, IsSound, Shown}
 use Rattle.trac_step.proofs.Changes.{marked_parts, sound_push, marks_of_view, has_marks}

@@ -1,4 +1,5 @@
 use Rattle.std.proofs.Common.{◌≡◌, ◌==◌, length, sym, ap, ◌∙◌, subst, true, false}
+use Rattle.std.proofs.lemmas.Result.{IfOk-weaker}
 use denote.Enum.Bare.{sameb}
 use Rattle.trac_rules.specs.contracts.scan.Front.{the_type}
 use Rattle.trac_rules.specs.declared.scan.Front.TheVariants.{Closing}
@@ -9,7 +10,7 @@ use Rattle.trac_prims.specs.Neutral.{Neutral}
 use Rattle.trac_prims.specs.Tape.{environment_of}
 use Rattle.trac_step.specs.Layout.{parts_of, Shown}
 use Rattle.trac_step.proofs.Limited.{proper_of_sound}
-use Rattle.trac_step.proofs.Scans.{is_move, no_frames, if_ok}
+use Rattle.trac_step.proofs.Scans.{is_move, no_frames}
 use Rattle.trac_step.proofs.engine.Core.step.Goals as goal
 use Rattle.trac_step.proofs.engine.Core.step.Goals.{else-eq-via-then-eq+else-not-is_outside, else-eq-via-else-eq}
 
@@ -17,7 +18,7 @@ pub returns-then-not-is_outside-clause-proper : goal.returns-then-not-is_outside
 returns-then-not-is_outside-clause-proper g c =
     let p = parts_of (g.E.TwoEnds.ends c.self.inside.text) c.self.inside.marks c.self.inside.store c.self.inside.meta c.self.inside.trace c.self.inside.position c.self.inside.output in
     let proper = subst IsProper (ap (λ (m : Shown). m.state) c.self.view_is) (proper_of_sound p c.self.invariant) in
-    if_ok c.call_step.result (λ r h. step_proper (environment_of c.args.tape) c.args.self.now.state c.call_step.new.self.state proper h.1) c.call_step.ensures.taken
+    IfOk-weaker c.call_step.result _ (λ _. IsProper c.call_step.new.self.state) (λ r h. step_proper (environment_of c.args.tape) c.args.self.now.state c.call_step.new.self.state proper h.1) c.call_step.ensures.taken
 
 pub move_step-requires-clause-moves : goal.move_step-requires-clause-moves
 move_step-requires-clause-moves g c =
@@ -32,4 +33,4 @@ pub returns-clause-proper : goal.returns-clause-proper
 returns-clause-proper g c =
     let p = parts_of (g.E.TwoEnds.ends c.self.inside.text) c.self.inside.marks c.self.inside.store c.self.inside.meta c.self.inside.trace c.self.inside.position c.self.inside.output in
     let proper = subst IsProper (ap (λ (m : Shown). m.state) c.self.view_is) (proper_of_sound p c.self.invariant) in
-    if_ok c.move_step.result (λ r h. step_proper (environment_of c.args.tape) c.args.self.now.state c.move_step.new.self.state proper (h.1 (environment_of c.args.tape))) c.move_step.ensures.taken
+    IfOk-weaker c.move_step.result _ (λ _. IsProper c.move_step.new.self.state) (λ r h. step_proper (environment_of c.args.tape) c.args.self.now.state c.move_step.new.self.state proper (h.1 (environment_of c.args.tape))) c.move_step.ensures.taken
