@@ -18,17 +18,25 @@ fn echo<R: Read, W: Write>(reader: &mut R, writer: &mut W) -> Result<()> {
     Ok(())
 }
 
-// The calls of so many rounds, each of which may fail. In the end this is written.
+// The calls of so many rounds over a reader of `abc` and a writer that move at most so many bytes a call, of which the read,
+// the write and the flush of one number fail, or none at 0. In the end this is written.
 fn noted(
     rt: &(impl Abort + AllocGlobal),
-    reader: FaultyReader<'_>,
-    writer: FaultyWriter,
+    (most_read, most_written): (usize, usize),
+    fails_at: u64,
     rounds: u8,
     written: &[u8],
 ) -> Option<Vec<Call>> {
     let log = CallLog::new(rt.alloc());
-    let mut reader = Logged::new(reader, &log);
-    let mut writer = Logged::new(writer, &log);
+    let bytes = FaultyReader::new(b"abc")
+        .at_most(most_read)
+        .failing_at(fails_at);
+    let taken = FaultyWriter::new(rt.alloc())
+        .at_most(most_written)
+        .failing_at(fails_at)
+        .failing_flush_at(fails_at);
+    let mut reader = Logged::new(bytes, &log);
+    let mut writer = Logged::new(taken, &log);
     for _ in 0..rounds {
         let _ = echo(&mut reader, &mut writer);
     }
@@ -57,9 +65,7 @@ const IN_THEIR_ORDER: &[Call] = &[
 
 #[test]
 fn notes_calls_in_their_order(rt: HostRuntime) {
-    let reader = FaultyReader::new(b"abc").at_most(2);
-    let writer = FaultyWriter::new(rt.alloc()).at_most(1);
-    expect_calls(&rt, noted(&rt, reader, writer, 1, b"abc"), IN_THEIR_ORDER);
+    expect_calls(&rt, noted(&rt, (2, 1), 0, 1, b"abc"), IN_THEIR_ORDER);
 }
 
 const EACH_FAULT: &[Call] = &[
@@ -75,11 +81,7 @@ const EACH_FAULT: &[Call] = &[
 
 #[test]
 fn notes_each_fault(rt: HostRuntime) {
-    let reader = FaultyReader::new(b"abc").failing_at(1);
-    let writer = FaultyWriter::new(rt.alloc())
-        .failing_at(1)
-        .failing_flush_at(1);
-    expect_calls(&rt, noted(&rt, reader, writer, 4, b""), EACH_FAULT);
+    expect_calls(&rt, noted(&rt, (8, 8), 1, 4, b""), EACH_FAULT);
 }
 
 // Whether a read succeeds.

@@ -251,10 +251,12 @@ fn over_one_place<E: TwoEnds<u8, A>, A: Allocator + Copy>(
 ) -> Result<E, GapError> {
     let mut ends = E::new(alloc);
     ends.reserve(places)?;
+    assert!(rt; ends.room() >= places);
     fill(&mut ends, lefts, true);
     fill(&mut ends, places.saturating_mul(2), false);
     assert_eq!(rt; ends.room(), 1);
     let before = ends.copy()?;
+    assert!(rt; before.room() >= 1);
     let (front, back) = before
         .left()
         .split_at(before.left().len().saturating_sub(moved));

@@ -103,7 +103,7 @@ const CASES: &[Case] = &[
     },
 ];
 
-// The form with these texts cut out, where one request may be refused: it is as it was then. It stays so in any case.
+// The form with these texts cut out, where one request may be refused.
 fn cut<'a>(
     rt: &impl Abort,
     form: &Form<Memory<'a>>,
@@ -123,8 +123,15 @@ fn made<'a>(memory: Memory<'a>, text: &[u8]) -> Result<Form<Memory<'a>>, FormErr
     }
 }
 
+// The pointer goes behind two bytes; where texts are cut out it goes to the start again.
+fn move_pointer(rt: &impl Abort, form: &mut Form<Memory<'_>>) {
+    assert!(rt; form.len() >= 2);
+    form.set_pointer(2);
+}
+
 fn expect_case(rt: &impl Abort, memory: Memory<'_>, case: &Case) -> Result<(), FormError> {
     let mut form = made(memory, case.text)?;
+    move_pointer(rt, &mut form);
     for texts in case.cuts.iter() {
         form = cut(rt, &form, texts)?;
     }

@@ -134,7 +134,7 @@ fn the_budget_is_kept(rt: HostRuntime) -> Result<(), Fail> {
 // end. Output is written and flushed before each read, and before the end.
 const INPUT: &[u8; 10] = b"#(ps,A)'B'";
 
-const FAULTS: [(Fault, &[u8], Ending); 19] = [
+const FAULTS: [(Fault, &[u8], Ending); 20] = [
     (Fault::Read(1), b"", Ending::Read),
     (Fault::Read(8), b"", Ending::Read),
     (Fault::Read(9), b"A", Ending::Read),
@@ -151,6 +151,7 @@ const FAULTS: [(Fault, &[u8], Ending); 19] = [
     (Fault::Flush(1), b"", Ending::Write),
     (Fault::Flush(8), b"", Ending::Write),
     (Fault::Flush(9), b"A", Ending::Write),
+    (Fault::Flush(10), b"A", Ending::Write),
     (Fault::Flush(11), b"AB", Ending::Write),
     (Fault::Flush(12), b"AB", Ending::Write),
     (Fault::Flush(13), b"AB", Ending::Ended),
