@@ -11,7 +11,7 @@
 //!     ..
 //! }
 //!
-//! #[test]
+//! // a test
 //! fn each_request_refused(rt: HostRuntime) -> Result<(), Fail> {
 //!     let memory = Refusing::new(rt.alloc());
 //!     let runs = memory.refuse_each(10_000, |_| run_once(&rt, &memory))?;
