@@ -32,9 +32,10 @@ use trac_rules::refusal::Refusal;
 /// its pieces already made.
 ///
 /// Refused with `NeedInput` or `Ended` where it reads input that is not there; with `TooLong` where the state after the
-/// call would pass a limit, its forms included; and with `Memory` where the allocator refuses. What is longer than any
-/// state may hold is not built. The tape has to hold at least as many bytes as are read, there may be at most 1,048,576
-/// arguments, and text and output have to be within their limits.
+/// call would pass a limit, its forms included; and with `Memory` where the allocator refuses. The value of a form, a
+/// printed form and a list of names are not built where they are longer than any state may hold. The tape has to hold at
+/// least as many bytes as are read, there may be at most 1,048,576 arguments, and text and output have to be within
+/// their limits.
 pub fn plan<A: Allocator + Copy>(
     alloc: A,
     args: &Args<'_>,
