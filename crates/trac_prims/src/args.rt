@@ -42,7 +42,7 @@ impl<'a> Args<'a> {
         self.marks.len() + 1
     }
 
-    /// The argument of this number, from 0 on; null past the last.
+    /// The argument of this number, from 0 on; null past the last, as T-64 has it.
     pub fn get(&self, i: usize) -> &'a [u8]
         ensures { result.now ≡ get_or self.now i [] }
     {

@@ -29,7 +29,7 @@ use trac_rules::primitive::{Computation, FormAction, Primitive};
 use trac_rules::refusal::Refusal;
 
 /// What the call of these arguments by a function of this kind will do, the first of them being the name: everything,
-/// its pieces already made.
+/// its pieces already made. The primitives are those of T-64, with this project's profile.
 ///
 /// Refused with `NeedInput` or `Ended` where it reads input that is not there; with `TooLong` where the state after the
 /// call would pass a limit, its forms included; and with `Memory` where the allocator refuses. The value of a form, a

@@ -5,7 +5,7 @@ ghost use Rattle.trac_rules.specs.declared.refusal.Refusal.TheVariants.{Memory};
 use std::alloc::{AllocError, AllocFailed};
 use thiserror::Error;
 
-/// Why a call was refused. A refused step, backward step or feed changes nothing;
+/// Why a call was refused. A refused step, backward step or feed leaves the state as it was;
 /// after a walk that a refusal ended, the steps that it counted stand.
 #[derive(Clone, Copy, Debug, PartialEq, Eq, Error)]
 pub enum Refusal {

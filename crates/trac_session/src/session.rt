@@ -76,7 +76,7 @@ impl<A: Allocator + Copy> Session<A> {
         Ok(())
     }
 
-    /// The input ends behind what was fed. A second time this changes nothing.
+    /// The input ends behind what was fed. A second time this changes nothing (this project's profile).
     pub fn end(&mut self)
         ensures { answer End self.old ≡ record { reply = Done; session = self.new } }
     {
@@ -112,7 +112,8 @@ impl<A: Allocator + Copy> Session<A> {
         Ok(())
     }
 
-    /// Goes forward by up to `n` steps, until one is refused.
+    /// Goes forward by up to `n` steps, until one is refused: as `JournalFull`, `NeedInput`, `Ended`, `TooLong` or `Memory`,
+    /// which the walk answers (this project's profile).
     pub fn forward(&mut self, n: u64) -> Walk
         ensures { IsWalk Step no_goal n self.old result.done result.why self.new }
     {
@@ -127,7 +128,8 @@ impl<A: Allocator + Copy> Session<A> {
         Walk { done: n, why: None }
     }
 
-    /// Goes back over up to `n` steps, until there is no record left. It takes no memory.
+    /// Goes back over up to `n` steps, until there is no record left, which the walk answers as `AtStart`. It takes no memory
+    /// (this project's profile).
     pub fn back(&mut self, n: u64) -> Walk
         ensures { IsWalk Back no_goal n self.old result.done result.why self.new }
     {
@@ -150,7 +152,7 @@ impl<A: Allocator + Copy> Session<A> {
     }
 
     /// Makes the last state the first one: what is pending is released, so read it before, and what is read of the
-    /// tape is dropped. It takes no memory and always succeeds.
+    /// tape is dropped. It takes no memory and always succeeds (this project's profile).
     pub fn commit(&mut self)
         ensures { answer Commit self.old ≡ record { reply = Done; session = self.new } }
     {

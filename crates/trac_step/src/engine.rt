@@ -47,7 +47,7 @@ impl<E: TwoEnds<u8, A>, A: Allocator + Copy> Model for Core<E, A> {
 }
 
 impl<E: TwoEnds<u8, A>, A: Allocator + Copy> Core<E, A> {
-    /// A machine in the state in which a processor begins: it is about to run the idle program.
+    /// A machine in the state in which a processor begins: it is about to run the idle program of T-64.
     /// Refused with `Memory` where the allocator refuses.
     pub fn new(alloc: A) -> Result<Self, Refusal>
         ensures made { IfOk result (λ m. m.state ≡ initial) }
@@ -89,7 +89,7 @@ impl<E: TwoEnds<u8, A>, A: Allocator + Copy> Core<E, A> {
     }
 
     /// Empties the output and begins to count the input anew: what is printed is released, and what is read is dropped.
-    /// It takes no memory, and keeps the machine's room and the names that it knows.
+    /// It takes no memory, and keeps the machine's room and the names that it knows (this project's profile).
     pub fn settle(&mut self)
         ensures { self.new ≡ record self.old { state = settled self.old.state } }
     {

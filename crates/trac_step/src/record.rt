@@ -18,7 +18,7 @@ pub enum Record<E: TwoEnds<u8, A>, A: Allocator + Copy> {
 
 impl<E: TwoEnds<u8, A>, A: Allocator + Copy> Core<E, A> {
     /// Goes back over a step: the machine shows the state before it again, all parts as they were, in its own room.
-    /// It takes no memory and cannot fail, lessens no room and forgets no name. The machine has to have room for that state,
+    /// It takes no memory and cannot fail, lessens no room and forgets no name (this project's profile). The machine has to have room for that state,
     /// as it has after the step.
     pub fn undo(&mut self, taken: Record<E, A>)
         requires { IsSomeAnd (before taken self.old.state) (λ s. HasRoom self.old s) }

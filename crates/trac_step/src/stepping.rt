@@ -16,7 +16,7 @@ use trac_prims::{Refusal, Tape};
 use trac_rules::scan::Front;
 
 impl<E: TwoEnds<u8, A>, A: Allocator + Copy> Core<E, A> {
-    /// Takes the next step of the rules over this tape, and gives what the way back needs. The state after it is a proper one:
+    /// Takes the next step of T-64's rules over this tape, and gives what the way back needs. The state after it is a proper one:
     /// a step is refused where its new state would pass any limit.
     ///
     /// Refused with `NeedInput` or `Ended` where a function reads input that is not there, with `TooLong` where the
