@@ -1,11 +1,11 @@
 //! Calls, what is planned for them, and each request for memory refused in turn.
 use crate::planned::{Call, Input, planned};
-use crate::stores::with_forms;
 use std::alloc::Global;
 use std::process::Abort;
 use std::test::Fail;
 use trac_faults::Refusing;
 use trac_forms::Store;
+use trac_language_tests::samples::with_forms;
 use trac_rules::refusal::Refusal;
 
 type Memory<'a> = &'a Refusing<Global>;
@@ -16,7 +16,7 @@ const UNREAD: Input = Input {
     position: 0,
 };
 
-// A call over the forms `B`, `F` and `R` (`stores.rt`): its arguments one behind another, the places where the further ones
+// A call over the forms `B`, `F` and `R` (`with_forms`): its arguments one behind another, the places where the further ones
 // begin, and what is planned. Each makes a request for memory.
 const CALLS: [(&[u8], &[usize], &[u8]); 16] = [
     (b"adapples5pears3", &[2, 9], b"apples8||keep 0"),

@@ -1,10 +1,10 @@
 //! A session, told what to do by a table: what each act must answer, and what the session must show.
 ghost use Rattle.std.specs.Prelude.{◌≤◌};
 
-use crate::shown::texts_shown;
 use std::alloc::{AllocError, Global};
 use std::process::Abort;
 use std::test::Fail;
+use trac_machine_tests::shown::texts_shown;
 use trac_rules::limit::JOURNAL_LIMIT;
 use trac_rules::refusal::Refusal;
 use trac_session::{Session, Walk};

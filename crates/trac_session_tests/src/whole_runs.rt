@@ -1,10 +1,10 @@
 //! Whole runs of a session: to the end, and all the way back, where each state is the one on the way out. Each request for
 //! memory is refused in turn, and then all of them on the way back.
-use crate::shown::state_shown;
 use std::alloc::{AllocError, Global};
 use std::process::Abort;
 use std::test::Fail;
 use trac_faults::Refusing;
+use trac_machine_tests::shown::state_shown;
 use trac_rules::limit::JOURNAL_LIMIT;
 use trac_rules::refusal::Refusal;
 use trac_session::{Session, Walk};
