@@ -9,6 +9,7 @@ pub mod error;
 mod filling;
 pub mod form;
 mod listing;
+mod looking;
 mod showing;
 pub mod store;
 pub mod texts;
