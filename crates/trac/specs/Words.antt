@@ -4,9 +4,9 @@ use Rattle.trac_rules.specs.declared.limit.TheConstants.{JOURNAL_LIMIT}
 use Rattle.trac_run.specs.declared.running.TheConstants.{BUDGET_LIMIT}
 use Rattle.trac_run.specs.declared.running.Options.{Options}
 use Rattle.trac.specs.declared.words.Line.{Line}
-use Rattle.trac.specs.declared.words.Line.TheVariants.{Run, Help, Bad}
+use Rattle.trac.specs.declared.words.Line.TheVariants.{Run, Debug, Help, Bad}
 
--- the options of a run are within their ranges
+-- the options of a run or of the debugger are within their ranges
 pub record AreWithin (options : Options) : Type 0 where
   pub some_steps : 1 ≤ options.budget
   pub most_steps : options.budget ≤ BUDGET_LIMIT
@@ -15,5 +15,6 @@ pub record AreWithin (options : Options) : Type 0 where
 
 abbrev pub IsLine : Line → Type 0
 IsLine (Run options) = AreWithin options
+IsLine (Debug path options) = AreWithin options
 IsLine (Help text) = Unit {0}
 IsLine (Bad text) = Unit {0}

@@ -1,11 +1,12 @@
 //! The program `trac`: a processor for the language TRAC T-64.
 #![tactic(auto)]
 
+pub mod tape;
 #[cfg(test)]
 mod tests;
 pub mod words;
 
-ghost use Rattle.std.specs.Prelude.{◌≡◌, IfOk};
+ghost use Rattle.std.specs.Prelude.{◌≡◌, ◌≤◌, IfOk};
 ghost use Rattle.std.specs.Process.{exit_status};
 ghost use Rattle.trac_run.specs.Runs.{status_of};
 ghost use Rattle.trac.specs.Words.{IsLine};
@@ -13,8 +14,11 @@ ghost use Rattle.trac.specs.Words.{IsLine};
 use std::alloc::AllocError;
 use std::process::ExitCode;
 use std::rt::Env;
-use std::{env, io};
-use trac_run::{Ending, run};
+use std::{env, fs, io};
+use tape::read_tape;
+use trac_debug::debug;
+use trac_rules::limit::JOURNAL_LIMIT;
+use trac_run::{Ending, Options, run};
 use words::{Line, read_line};
 
 /// The status of a command line that is not understood.
@@ -24,6 +28,10 @@ fn main(rt: HostRuntime) -> ExitCode {
     match asked_line(&rt) {
         Ok(Line::Run(options)) => {
             let ending = run(rt.alloc(), &mut rt.stdin(), &mut rt.stdout(), options);
+            say(&rt, ending)
+        }
+        Ok(Line::Debug(path, options)) => {
+            let ending = debug_file(&rt, path.as_str(), options);
             say(&rt, ending)
         }
         Ok(Line::Help(text)) => match print!(rt; "{text}") {
@@ -53,6 +61,28 @@ fn asked_line(rt: &(impl Env + AllocGlobal)) -> Result<Line, AllocError>
     };
     let texts: Vec<&str> = words.iter().map(|word| word.as_str()).collect(alloc)?;
     read_line(alloc, texts.as_slice())
+}
+
+// Debugs the program in the file at this path, which is read before any command is.
+fn debug_file(rt: &HostRuntime, path: &str, options: Options) -> Ending
+    requires some_records { 1 ≤ options.journal }
+    requires most_records { options.journal ≤ JOURNAL_LIMIT }
+{
+    let mut file = match fs::File::open(rt, path) {
+        Ok(file) => file,
+        Err(error) if error.kind() == io::ErrorKind::OutOfMemory => return Ending::Memory,
+        Err(_) => return Ending::Read,
+    };
+    match read_tape(rt.alloc(), &mut file) {
+        Ok(tape) => debug(
+            rt.alloc(),
+            tape.as_slice(),
+            &mut rt.stdin(),
+            &mut rt.stdout(),
+            options,
+        ),
+        Err(ending) => ending,
+    }
 }
 
 // Says on standard error how the run ended, and gives the status for it. A print that fails changes nothing.

@@ -3,23 +3,67 @@ use crate::words::{Line, read_line};
 use std::test::Fail;
 use trac_run::Options;
 
+// Words, and the options of the run that they ask for.
+const RUNS: [(&[&str], Options); 3] = [
+    (
+        &["trac", "run"],
+        Options {
+            budget: 1_000_000_000,
+            journal: 64,
+        },
+    ),
+    (
+        &["trac", "run", "--budget", "19", "--journal", "7"],
+        Options {
+            budget: 19,
+            journal: 7,
+        },
+    ),
+    (
+        &["trac", "run", "--journal=1048576", "--budget=1000000000000"],
+        Options {
+            budget: 1_000_000_000_000,
+            journal: 1_048_576,
+        },
+    ),
+];
+
 #[test]
-fn command_lines(rt: HostRuntime) -> Result<(), Fail> {
-    let alloc = rt.alloc();
-    match read_line(alloc, ["trac", "run"].as_slice())? {
-        Line::Run(options) => {
+fn runs(rt: HostRuntime) -> Result<(), Fail> {
+    for (words, options) in RUNS {
+        match read_line(rt.alloc(), words)? {
+            Line::Run(met) => assert_eq!(rt; met, options),
+            _ => panic!(rt; "it is understood"),
+        }
+    }
+    Ok(())
+}
+
+#[test]
+fn debuggers(rt: HostRuntime) -> Result<(), Fail> {
+    let words = ["trac", "debug", "F", "--journal", "9"];
+    match read_line(rt.alloc(), words.as_slice())? {
+        Line::Debug(path, options) => {
             let wanted = Options {
                 budget: 1_000_000_000,
-                journal: 64,
+                journal: 9,
             };
+            assert_eq!(rt; path.as_str(), "F");
             assert_eq!(rt; options, wanted);
         }
         _ => panic!(rt; "it is understood"),
     }
+    Ok(())
+}
+
+#[test]
+fn command_lines(rt: HostRuntime) -> Result<(), Fail> {
+    let alloc = rt.alloc();
     for words in [
         ["trac", "--help"].as_slice(),
         ["trac", "-h"].as_slice(),
         ["trac", "run", "--help"].as_slice(),
+        ["trac", "debug", "--help"].as_slice(),
     ] {
         match read_line(alloc, words)? {
             Line::Help(text) => assert!(rt; text.contains("Usage: trac")),
@@ -37,6 +81,14 @@ fn command_lines(rt: HostRuntime) -> Result<(), Fail> {
         ["trac", "run", "file"].as_slice(),
         ["trac", "run", "--fast"].as_slice(),
         ["trac", "run", "--version"].as_slice(),
+        ["trac", "run", "--budget", "0"].as_slice(),
+        ["trac", "run", "--budget", "1000000000001"].as_slice(),
+        ["trac", "run", "--journal", "0"].as_slice(),
+        ["trac", "run", "--journal", "1048577"].as_slice(),
+        ["trac", "run", "--budget", "x"].as_slice(),
+        ["trac", "debug"].as_slice(),
+        ["trac", "debug", "F", "G"].as_slice(),
+        ["trac", "debug", "F", "--budget", "1"].as_slice(),
     ] {
         match read_line(alloc, words)? {
             Line::Bad(text) => assert!(rt; text.starts_with("error: ")),

@@ -1,11 +1,12 @@
 //! The command line.
-ghost use Rattle.std.specs.Prelude.{IfOk};
+ghost use Rattle.std.specs.Prelude.{◌≤◌, IfOk};
 ghost use Rattle.trac.specs.Words.{IsLine};
 
-use clap::Command;
 use clap::error::ErrorKind;
+use clap::{Arg, ArgMatches, Command, value_parser};
 use std::alloc::{AllocError, Global};
-use trac_run::Options;
+use trac_rules::limit::JOURNAL_LIMIT;
+use trac_run::{BUDGET_LIMIT, Options};
 
 /// How many steps a run may take where nothing else is said (this project's profile).
 pub const DEFAULT_BUDGET: u64 = 1_000_000_000;
@@ -20,27 +21,39 @@ pub const VERSION: &str = "0.1.0 (rattle-kit-13b logic dac8208d650f15bf)";
 
 // What stands at the end of each help: where a program comes from, and what each exit status says.
 const USE: &str = "\
-The program comes from standard input, so a file is given by `<` and not named:
+trac run takes the program from standard input, so a file is given by `<` and not named:
   trac run < FILE
   printf \"#(ps,Hello)'\" | trac run
 
 Each text of the program ends in '. At a terminal, type ' and then Enter; the end of the input
 (Ctrl-D) ends the run.
 
+trac debug names the FILE that holds the program, and takes commands from standard input, one a line:
+  s COUNT       COUNT steps forward
+  b COUNT       COUNT steps back
+  u NAME COUNT  forward to a call of NAME, by COUNT steps at most
+  r NAME        back to a call of NAME
+  p             show the state
+  c             show what was printed, and forget the steps so far
+  q             end
+
 Exit status:
-  0  the input has ended, or help or the version is shown
+  0  the input or the commands have ended, or help or the version is shown
   2  the command line is not understood
-  3  the budget is spent: 1000000000 steps
+  3  the budget is spent
   4  a limit is passed
   5  there is no memory
   6  the input cannot be read
-  7  the output cannot be written";
+  7  the output cannot be written
+  8  a command of the debugger is not understood";
 
 /// What a command line asks for.
 #[derive(Drop)]
 pub enum Line {
     /// To run the standard input.
     Run(Options),
+    /// To debug the program in this file. The budget is the default one, and not used.
+    Debug(String, Options),
     /// To be shown this text: help, or the version.
     Help(String),
     /// Nothing that is understood: this text says why.
@@ -52,25 +65,78 @@ pub enum Line {
 pub fn read_line(alloc: Global, words: &[&str]) -> Result<Line, AllocError>
     ensures { IfOk result IsLine }
 {
-    let Err(error) = command(alloc)?.try_get_matches_from(words) else {
-        return Ok(Line::Run(Options {
+    match command(alloc)?.try_get_matches_from(words) {
+        Ok(matches) => line_of(alloc, &matches),
+        Err(error) => match error.kind() {
+            ErrorKind::OutOfMemory => Err(AllocError),
+            ErrorKind::DisplayHelp | ErrorKind::DisplayVersion => {
+                Ok(Line::Help(error.to_string(alloc)?))
+            }
+            _ => Ok(Line::Bad(error.to_string(alloc)?)),
+        },
+    }
+}
+
+// What a command line that was understood asks for.
+fn line_of(alloc: Global, matches: &ArgMatches<'_>) -> Result<Line, AllocError>
+    ensures { IfOk result IsLine }
+{
+    if let Some(("debug", found)) = matches.subcommand() {
+        let path = found.get_str("FILE").unwrap_or("");
+        let options = Options {
             budget: DEFAULT_BUDGET,
-            journal: DEFAULT_JOURNAL,
-        }));
+            journal: journal_in(found),
+        };
+        return Ok(Line::Debug(String::from_str(alloc, path)?, options));
+    }
+    let (budget, journal) = match matches.subcommand() {
+        Some((_, found)) => (budget_in(found), journal_in(found)),
+        None => (DEFAULT_BUDGET, DEFAULT_JOURNAL),
     };
-    match error.kind() {
-        ErrorKind::OutOfMemory => Err(AllocError),
-        ErrorKind::DisplayHelp | ErrorKind::DisplayVersion => {
-            Ok(Line::Help(error.to_string(alloc)?))
-        }
-        _ => Ok(Line::Bad(error.to_string(alloc)?)),
+    Ok(Line::Run(Options { budget, journal }))
+}
+
+// The budget that was asked for, or the default one. `clap` has judged its range; the bounds here only say so again.
+fn budget_in(matches: &ArgMatches<'_>) -> u64
+    ensures some { 1 ≤ result }
+    ensures most { result ≤ BUDGET_LIMIT }
+{
+    match matches.get_one::<u64>("budget") {
+        Some(budget) => budget.clamp(1, BUDGET_LIMIT),
+        None => DEFAULT_BUDGET,
+    }
+}
+
+// How many records were asked for, or the default number. `clap` has judged its range; the bounds here only say so again.
+fn journal_in(matches: &ArgMatches<'_>) -> usize
+    ensures some { 1 ≤ result }
+    ensures most { result ≤ JOURNAL_LIMIT }
+{
+    match matches.get_one::<u64>("journal") {
+        Some(journal) => (journal as usize).clamp(1, JOURNAL_LIMIT),
+        None => DEFAULT_JOURNAL,
     }
 }
 
 // The program's commands.
 fn command<'a>(alloc: Global) -> Result<Command<'a>, AllocError> {
+    let budget = Arg::new(alloc, "budget")
+        .long("budget")
+        .value_name("N")
+        .value_parser(value_parser!(u64).range(1..=BUDGET_LIMIT as i64))
+        .help("How many steps the run may take: 1 to 1000000000000 [default: 1000000000]");
     let run = Command::new(alloc, "run")
         .about("Runs the program on standard input")
+        .arg(budget)?
+        .arg(journal(alloc)?)?
+        .after_help(USE);
+    let file = Arg::new(alloc, "FILE")
+        .required(true)
+        .help("The file that holds the program");
+    let debug = Command::new(alloc, "debug")
+        .about("Steps through the program in FILE, forwards and backwards")
+        .arg(file)?
+        .arg(journal(alloc)?)?
         .after_help(USE);
     Command::new(alloc, "trac")
         .about("A processor for TRAC T-64")
@@ -78,5 +144,17 @@ fn command<'a>(alloc: Global) -> Result<Command<'a>, AllocError> {
         .after_help(USE)
         .subcommand_required(true)
         .disable_help_subcommand(true)
-        .subcommand(run)
+        .subcommand(run)?
+        .subcommand(debug)
+}
+
+// The option that says how many records a journal may hold.
+fn journal<'a>(alloc: Global) -> Result<Arg<'a>, AllocError> {
+    Ok(
+        Arg::new(alloc, "journal")
+            .long("journal")
+            .value_name("N")
+            .value_parser(value_parser!(u64).range(1..=JOURNAL_LIMIT as i64))
+            .help("How many steps can be gone back over: 1 to 1048576 [default: 64]"),
+    )
 }
