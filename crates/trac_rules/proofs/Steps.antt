@@ -15,8 +15,8 @@ use Rattle.trac_rules.specs.declared.primitive.Primitive.{Primitive}
 use Rattle.trac_rules.specs.declared.primitive.Primitive.TheVariants.{PrintString, ReadString, ReadByte, Halt, SetMeta, SetTrace, Compute, Handle, Unknown}
 use Rattle.trac_rules.specs.declared.refusal.Refusal.{Refusal}
 use Rattle.trac_rules.specs.declared.refusal.Refusal.TheVariants.{TooLong, NeedInput}
-use Rattle.trac_rules.specs.State.{Environment, Frame, State, Storage, Tape, storage_of}
-use Rattle.trac_rules.specs.Scanning.{Call, Scanned, Moves, Calls, gathered_in, scan}
+use Rattle.trac_rules.specs.State.{Environment, State, Storage, Tape, storage_of}
+use Rattle.trac_rules.specs.Scanning.{Call, Scanned, Moves, Calls, scan}
 use Rattle.trac_rules.specs.Limits.{may_be_put, texts_fit}
 use Rattle.trac_rules.specs.Effect.{Effect, argument, gives, gives_or_forces, leaves, prints}
 use Rattle.trac_rules.specs.Form.{Form, defined}
