@@ -24,7 +24,7 @@ use Rattle.trac_rules.specs.Filling.{called}
 use Rattle.trac_rules.specs.Segmenting.{segmented}
 use Rattle.trac_rules.specs.Showing.{shown}
 use Rattle.trac_rules.specs.Computing.{computed}
-use Rattle.trac_rules.specs.Handling.{default_argument, gives_piece, handled, keeping, named_form, on_form, piece_read, pointing, putting}
+use Rattle.trac_rules.specs.Handling.{default_argument, form_read, gives_piece, handled, keeping, named_form, on_form, piece_read, pointing, putting}
 use Rattle.trac_rules.specs.Pieces.{Piece}
 use Rattle.trac_rules.specs.Outcomes.{limited, seen_as}
 use Rattle.trac_rules.specs.Reading.{byte_read, read_up_to, rest_read, string_read, unread}
@@ -107,8 +107,7 @@ handled_looks Restore arguments storage =
 handled_looks CallForm arguments storage =
     on_form_looks (named_form arguments storage) (λ form. Ok (gives (called (drop 2 arguments) form) storage)) storage (λ form. refl)
 handled_looks (Read reading) arguments storage =
-    on_form_looks (named_form arguments storage)
-    (λ form. Ok (gives_piece (piece_read reading arguments form) (default_argument reading arguments) (argument 1 arguments) form storage)) storage
+    on_form_looks (named_form arguments storage) (λ form. Ok (form_read reading arguments form storage)) storage
     (λ form. piece_looks (piece_read reading arguments form) (default_argument reading arguments) (argument 1 arguments) form storage)
 handled_looks ListNames arguments storage = refl
 handled_looks PrintForm arguments storage =

@@ -18,7 +18,7 @@ pub enum Primitive {
     ReadByte,
     /// `hl`: halts the processor.
     Halt,
-    /// `cm`: sets the meta character.
+    /// `cm`: sets the meta character, where a text is given.
     SetMeta,
     /// `tn` and `tf`: from now on each call is printed, or none is.
     SetTrace(bool),
@@ -80,7 +80,7 @@ pub enum FormAction {
     Restore,
     /// `cl`: a form from its pointer on, its gaps filled with texts.
     Call,
-    /// `cs`, `cc`, `cn`, `in`: a form is read at its pointer, which moves.
+    /// `cs`, `cc`, `cn`, `in`: a form is read at its pointer, which may move.
     Read(FormReading),
     /// `ln`: the names of all forms, each with a text before it.
     ListNames,
@@ -93,7 +93,7 @@ pub enum FormAction {
 pub enum FormReading {
     /// `cs`: up to the next gap.
     ReadSegment,
-    /// `cc`: one byte.
+    /// `cc`: the next byte.
     ReadChar,
     /// `cn`: so many bytes, onward or back.
     ReadCount,
