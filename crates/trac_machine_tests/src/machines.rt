@@ -3,11 +3,11 @@
 ghost use Rattle.std.specs.Prelude.{◌≤◌, length};
 
 use crate::shown::state_shown;
-use std::alloc::{Allocator, Global};
+use std::alloc::{AllocError, Allocator, Global};
 use std::process::Abort;
 use std::test::Fail;
 use trac_faults::Refusing;
-use trac_gap::{PlainEnds, TwoEnds};
+use trac_gap::{GapBuf, PlainEnds, TwoEnds};
 use trac_rules::refusal::Refusal;
 use trac_step::{Core, Machine, Mark, Record, Tape};
 
@@ -80,23 +80,36 @@ fn made<E: TwoEnds<u8, A>, M: TwoEnds<Mark, A>, A: Allocator + Copy>(
     Core::new(alloc)
 }
 
-// A machine, once each request for it was refused in turn.
-fn made_at_last<E: TwoEnds<u8, A>, M: TwoEnds<Mark, A>, A: Allocator + Copy>(
+// Why no machine is made.
+fn unmade<E: TwoEnds<u8, A>, M: TwoEnds<Mark, A>, A: Allocator + Copy>(
+    alloc: A,
+) -> Option<Refusal> {
+    match made::<E, M, A>(alloc) {
+        Ok(_machine) => None,
+        Err(refusal) => Some(refusal),
+    }
+}
+
+// Each request for a machine is refused in turn.
+fn expect_refusals_at_start<E: TwoEnds<u8, A>, M: TwoEnds<Mark, A>, A: Allocator + Copy>(
     rt: &impl Abort,
     memory: Memory<'_>,
     alloc: A,
-) -> Result<Core<E, M, A>, Refusal> {
+) {
     for nth in 1..MOST_REQUESTS {
         let refusals = memory.refusals();
         memory.refuse_nth(nth);
-        let machine = made(alloc);
+        let refusal = unmade::<E, M, A>(alloc);
         memory.accept_all();
         if memory.refusals() == refusals {
-            return machine;
+            return;
         }
-        assert!(rt; matches!(machine, Err(Refusal::Memory)));
+        assert!(rt; refusal == Some(Refusal::Memory));
     }
-    Err(Refusal::Memory)
+}
+
+fn expect_text(rt: &impl Abort, text: &[u8], wanted: &[u8], input: &[u8]) {
+    assert_eq!(rt; text, wanted, "from {input:?}");
 }
 
 fn step<E: TwoEnds<u8, A>, M: TwoEnds<Mark, A>, A: Allocator + Copy>(
@@ -131,42 +144,51 @@ fn step_and_undo<E: TwoEnds<u8, A>, M: TwoEnds<Mark, A>, A: Allocator + Copy>(
     }
 }
 
-// The next step, with each request for memory refused in turn: whether it is refused or undone, nothing changes. The answer is
-// why the step is refused with ample memory, and how many requests it makes then.
+// A machine shows this.
+fn expect_shown<E: TwoEnds<u8, A>, M: TwoEnds<Mark, A>, A: Allocator + Copy>(
+    rt: &impl Abort,
+    plain: Global,
+    machine: &Core<E, M, A>,
+    wanted: &[u8],
+    input: &[u8],
+) -> Result<(), AllocError> {
+    let text = state_shown(plain, machine)?;
+    expect_text(rt, text.as_slice(), wanted, input);
+    Ok(())
+}
+
+// The next step, with each request for memory refused in turn: whether it is refused or undone, the machine shows the same as
+// before. The answer is why the step is refused with ample memory, and how many requests it makes then.
 fn try_step<E: TwoEnds<u8, A>, M: TwoEnds<Mark, A>, A: Allocator + Copy>(
     rt: &impl Abort,
     plain: Global,
     memory: Memory<'_>,
     machine: &mut Core<E, M, A>,
+    before: &[u8],
     input: &[u8],
-) -> Result<(Option<Refusal>, u64), Fail> {
-    let before = state_shown(plain, machine)?;
+) -> Result<(Option<Refusal>, u64), AllocError> {
     for made in 0..MOST_REQUESTS {
         let refusals = memory.refusals();
         memory.refuse_nth(made + 1);
         let refused = step_and_undo(rt, machine, input);
         memory.accept_all();
-        assert_eq!(rt; state_shown(plain, machine)?, before);
+        expect_shown(rt, plain, machine, before, input)?;
         if memory.refusals() == refusals {
             return Ok((refused, made));
         }
-        assert_eq!(rt; refused, Some(Refusal::Memory));
+        assert!(rt; refused.is_none() || refused == Some(Refusal::Memory));
     }
     Ok((Some(Refusal::Memory), MOST_REQUESTS))
 }
 
 // How many requests a copy makes, as the record of a step keeps one.
 fn requests_of_copy<E: TwoEnds<u8, A>, M: TwoEnds<Mark, A>, A: Allocator + Copy>(
-    rt: &impl Abort,
-    plain: Global,
     memory: Memory<'_>,
     machine: &Core<E, M, A>,
-) -> Result<u64, Fail> {
+) -> Result<u64, Refusal> {
     let before = memory.requests();
-    let copied = machine.copy()?;
-    let made = memory.requests().saturating_sub(before);
-    assert_eq!(rt; state_shown(plain, &copied)?, state_shown(plain, machine)?);
-    Ok(made)
+    let _copied = machine.copy()?;
+    Ok(memory.requests().saturating_sub(before))
 }
 
 // How many requests the next step makes.
@@ -205,36 +227,55 @@ fn advance<E: TwoEnds<u8, A>, M: TwoEnds<Mark, A>, A: Allocator + Copy>(
     plain: Global,
     memory: Memory<'_>,
     machine: &mut Core<E, M, A>,
+    before: &[u8],
     input: &[u8],
 ) -> Result<Option<Refusal>, Fail> {
     let moves = only_moves(machine);
     let marks = makes_mark(machine);
-    let for_record = requests_of_copy(rt, plain, memory, machine)?;
-    let (refused, first) = try_step(rt, plain, memory, machine, input)?;
+    let for_record = requests_of_copy(memory, machine)?;
+    let (refused, first) = try_step(rt, plain, memory, machine, before, input)?;
     if refused.is_some() {
         return Ok(refused);
     }
-    assert!(rt; !moves || marks || first == for_record, "{first} requests");
-    let for_record = requests_of_copy(rt, plain, memory, machine)?;
+    assert!(rt; !moves || marks || first == for_record);
+    let for_record = requests_of_copy(memory, machine)?;
     let again = requests_of_step(rt, memory, machine, input)?;
-    assert!(rt; !moves || again == for_record, "{again} requests");
+    assert!(rt; !moves || again == for_record);
     Ok(None)
 }
 
-// Both machines show the same.
-fn expect_same(
+// One step on, on both machines, which show the same before it; or why there is none.
+fn advance_both(
     rt: &impl Abort,
     plain: Global,
-    machine: &Machine<Memory<'_>>,
-    vectors: &PlainMachine<'_>,
+    memory: Memory<'_>,
+    machine: &mut Machine<Memory<'_>>,
+    vectors: &mut PlainMachine<'_>,
+    input: &[u8],
+) -> Result<Option<Refusal>, Fail> {
+    let shown = state_shown(plain, machine)?;
+    let why = advance(rt, plain, memory, machine, shown.as_slice(), input)?;
+    let other = advance(rt, plain, memory, vectors, shown.as_slice(), input)?;
+    assert!(rt; other == why);
+    Ok(why)
+}
+
+// A whole run, step by step on both machines.
+fn walk_both(
+    rt: &impl Abort,
+    plain: Global,
+    memory: Memory<'_>,
+    machine: &mut Machine<Memory<'_>>,
+    vectors: &mut PlainMachine<'_>,
     input: &[u8],
 ) -> Result<(), Fail> {
-    assert_eq!(rt;
-        state_shown(plain, machine)?,
-        state_shown(plain, vectors)?,
-        "from {input:?}"
-    );
-    assert_eq!(rt; machine.at_call(), vectors.at_call(), "from {input:?}");
+    for _ in 0..5_000 {
+        if let Some(why) = advance_both(rt, plain, memory, machine, vectors, input)? {
+            assert!(rt; why == Refusal::Ended);
+            return Ok(());
+        }
+    }
+    assert!(rt; false);
     Ok(())
 }
 
@@ -245,7 +286,6 @@ fn expect_settled(rt: &impl Abort, machine: &mut Machine<Memory<'_>>, output: &[
     assert_eq!(rt; machine.output(), b"".as_slice());
 }
 
-// A whole run, step by step on both machines.
 fn run_both(
     rt: &impl Abort,
     plain: Global,
@@ -253,18 +293,9 @@ fn run_both(
     input: &[u8],
     output: &[u8],
 ) -> Result<(), Fail> {
-    let mut machine: Machine<Memory<'_>> = made_at_last(rt, memory, memory)?;
-    let mut vectors: PlainMachine<'_> = made_at_last(rt, memory, memory)?;
-    let mut why = None;
-    for _ in 0..5_000 {
-        expect_same(rt, plain, &machine, &vectors, input)?;
-        why = advance(rt, plain, memory, &mut machine, input)?;
-        assert_eq!(rt; advance(rt, plain, memory, &mut vectors, input)?, why);
-        if why.is_some() {
-            break;
-        }
-    }
-    assert_eq!(rt; why, Some(Refusal::Ended), "from {input:?}");
+    let mut machine: Machine<Memory<'_>> = made(memory)?;
+    let mut vectors: PlainMachine<'_> = made(memory)?;
+    walk_both(rt, plain, memory, &mut machine, &mut vectors, input)?;
     expect_settled(rt, &mut machine, output);
     Ok(())
 }
@@ -272,6 +303,12 @@ fn run_both(
 #[test]
 fn both_representations(rt: HostRuntime) -> Result<(), Fail> {
     let memory = Refusing::new(rt.alloc());
+    expect_refusals_at_start::<GapBuf<u8, Memory<'_>>, GapBuf<Mark, Memory<'_>>, Memory<'_>>(
+        &rt, &memory, &memory,
+    );
+    expect_refusals_at_start::<PlainEnds<u8, Memory<'_>>, PlainEnds<Mark, Memory<'_>>, Memory<'_>>(
+        &rt, &memory, &memory,
+    );
     for (input, output) in RUNS {
         run_both(&rt, rt.alloc(), &memory, input, output)?;
     }
