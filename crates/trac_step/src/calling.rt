@@ -73,6 +73,16 @@ pub(crate) fn append<A: Allocator + Copy>(list: &mut Vec<u8, A>, text: &[u8])
     };
 }
 
+// Puts a text in the place of all that the list holds; the list has to have room for it.
+pub(crate) fn overwrite<A: Allocator + Copy>(list: &mut Vec<u8, A>, text: &[u8])
+    requires { length text.now ≤ vec_capacity list.old }
+    ensures items { list.new.items ≡ text.now }
+    ensures room { vec_capacity list.old ≤ vec_capacity list.new }
+{
+    list.clear();
+    append(list, text);
+}
+
 impl<E: TwoEnds<u8, A>, M: TwoEnds<Mark, A>, A: Allocator + Copy> Core<E, M, A> {
     // What the call will do that the next step performs, and where its function begins; or why it is refused.
     fn planned(&self, tape: Tape<'_>) -> Result<(Beginning, Effect<A>), Refusal>

@@ -3,7 +3,7 @@ ghost use Rattle.std.specs.Prelude.{◌≡◌, IsSomeAnd, Some};
 ghost use Rattle.trac_step.specs.Record.{before};
 ghost use Rattle.trac_step.specs.Room.{HasRoom, IsNoLess};
 
-use crate::calling::append;
+use crate::calling::overwrite;
 use crate::ends::refill;
 use crate::engine::Core;
 use std::alloc::Allocator;
@@ -38,8 +38,7 @@ impl<E: TwoEnds<u8, A>, M: TwoEnds<Mark, A>, A: Allocator + Copy> Core<E, M, A> 
     {
         refill(&mut self.text, earlier.text.left(), earlier.text.right());
         refill(&mut self.marks, earlier.marks.left(), &[]);
-        self.output.clear();
-        append(&mut self.output, earlier.output.as_slice());
+        overwrite(&mut self.output, earlier.output.as_slice());
         self.meta = earlier.meta;
         self.trace = earlier.trace;
         self.position = earlier.position;
