@@ -1,12 +1,18 @@
 -- Walks, step by step.
-use Rattle.std.proofs.Common.{◌≡◌, ℕ, suc, ◌+◌, ◌<◌, refl, sym, ap, subst, ◌∙◌, arith, inl}
+use Rattle.std.proofs.Common.{◌≡◌, ℕ, suc, ◌+◌, ◌<◌, ◌≤◌, Bool, true, false, refl, sym, ap, subst, ◌∙◌, arith, inl, inr, ⊎_elim}
+use Rattle.std.proofs.lemmas.Bool.{cases_lt}
 use Rattle.std.specs.Prelude.{None, Some, option_and_then}
 use Rattle.trac_rules.specs.declared.refusal.Refusal.{Refusal}
 use Rattle.trac_rules.specs.declared.refusal.Refusal.TheVariants.{Memory, TooLong, NeedInput, Ended, JournalFull, AtStart, Closed, NotMet}
 use Rattle.trac_rules.specs.declared.reply.Reply.{Reply}
 use Rattle.trac_rules.specs.declared.reply.Reply.TheVariants.{Done, Refused}
-use Rattle.trac_rules.specs.Session.{PlainSession, Command, Step, Back, done, refused, answer, accepted_by, Answers, no_goal, repeated, IsWalk}
+use Rattle.trac_rules.specs.Session.{PlainSession, Command, Step, Back, Goal, HasEnded, done, refused, answer, accepted_by, Answers, repeated, IsWalk}
 use Rattle.trac_rules.proofs.Replies.{Step_refused, Back_refused}
+use Rattle.trac_session.specs.declared.walking.Direction.{Direction}
+use Rattle.trac_session.specs.declared.walking.Direction.TheVariants as towards
+use Rattle.trac_session.specs.Directions.{command_towards}
+
+-- ---- one step
 
 -- one accepted command more
 pub repeated-more : (command : Command) (n : ℕ) (p q t : PlainSession) → repeated command n p ≡ Some q → answer command q ≡ done t → repeated command (n + 1) p ≡ Some t
@@ -17,7 +23,7 @@ repeated-more command n p q t walked h =
     ∙ ap accepted_by h
 
 -- a refused step leaves the session as it was
-pub Step_refused_same : (p q : PlainSession) (refusal : Refusal) → Answers Step p (Refused refusal) q → q ≡ p
+Step_refused_same : (p q : PlainSession) (refusal : Refusal) → Answers Step p (Refused refusal) q → q ≡ p
 Step_refused_same p q Memory h = h.1
 Step_refused_same p q TooLong h = (Step_refused p q TooLong h).0
 Step_refused_same p q NeedInput h = (Step_refused p q NeedInput h).0
@@ -27,8 +33,23 @@ Step_refused_same p q AtStart h = (Step_refused p q AtStart h).0
 Step_refused_same p q Closed h = (Step_refused p q Closed h).0
 Step_refused_same p q NotMet h = (Step_refused p q NotMet h).0
 
+-- so does a refused step back
+Back_refused_same : (p q : PlainSession) (refusal : Refusal) → Answers Back p (Refused refusal) q → q ≡ p
+Back_refused_same p q Memory h = h.1
+Back_refused_same p q TooLong h = (Back_refused p q TooLong h).0
+Back_refused_same p q NeedInput h = (Back_refused p q NeedInput h).0
+Back_refused_same p q Ended h = (Back_refused p q Ended h).0
+Back_refused_same p q JournalFull h = (Back_refused p q JournalFull h).0
+Back_refused_same p q AtStart h = (Back_refused p q AtStart h).0
+Back_refused_same p q Closed h = (Back_refused p q Closed h).0
+Back_refused_same p q NotMet h = (Back_refused p q NotMet h).0
+
+refused_same : (direction : Direction) (p q : PlainSession) (refusal : Refusal) → Answers (command_towards direction) p (Refused refusal) q → q ≡ p
+refused_same towards.Forward p q refusal h = Step_refused_same p q refusal h
+refused_same towards.Backward p q refusal h = Back_refused_same p q refusal h
+
 -- a step back is answered as the plain session says, since memory is no answer of it
-pub Back_refused_as : (p q : PlainSession) (refusal : Refusal) → answer Back p ≡ refused refusal q → Answers Back p (Refused refusal) q
+Back_refused_as : (p q : PlainSession) (refusal : Refusal) → answer Back p ≡ refused refusal q → Answers Back p (Refused refusal) q
 Back_refused_as p q Memory h = let at : Memory ≡ AtStart = (Back_refused p q Memory h).1 in absurd (cc)
 Back_refused_as p q TooLong h = h
 Back_refused_as p q NeedInput h = h
@@ -38,40 +59,70 @@ Back_refused_as p q AtStart h = h
 Back_refused_as p q Closed h = h
 Back_refused_as p q NotMet h = h
 
--- a walk of steps that a refusal ended
-pub stopped_Step_walk : (n k : ℕ) (old p q : PlainSession) (refusal : Refusal) → repeated Step k old ≡ Some p → k < n → Answers Step p (Refused refusal) q →
-    IsWalk Step no_goal n old k (Some refusal) q
-stopped_Step_walk n k old p q refusal walked l h =
-    let same = Step_refused_same p q refusal h in
-    record {
-      within = omega arith;
-      walked = walked ∙ ap (λ t. Some t) (sym same);
-      unmet = λ j p some fewer there. refl;
-      stopped = (l, λ some. refl, subst (λ t. Answers Step t (Refused refusal) q) (sym same) h);
-    }
-
--- a walk of steps back that a refusal ended
-pub stopped_Back_walk : (n k : ℕ) (old p q : PlainSession) (refusal : Refusal) → repeated Back k old ≡ Some p → k < n → answer Back p ≡ refused refusal q →
-    IsWalk Back no_goal n old k (Some refusal) q
-stopped_Back_walk n k old p q refusal walked l h =
-    let same = (Back_refused p q refusal h).0 in
-    record {
-      within = omega arith;
-      walked = walked ∙ ap (λ t. Some t) (sym same);
-      unmet = λ j p some fewer there. refl;
-      stopped = (l, λ some. refl, subst (λ t. Answers Back t (Refused refusal) q) (sym same) (Back_refused_as p q refusal h));
-    }
-
--- a walk whose steps were all accepted
-pub whole_walk : (command : Command) (n : ℕ) (old new : PlainSession) → repeated command n old ≡ Some new → IsWalk command no_goal n old n None new
-whole_walk command n old new walked = record {
-  within = omega arith;
-  walked = walked;
-  unmet = λ j p some fewer there. refl;
-  stopped = inl refl;
-}
-
--- a step back is answered as the plain session says, whatever it answers
+-- whatever it answers
 pub Back_answered : (p q : PlainSession) (reply : Reply) → answer Back p ≡ record { reply = reply; session = q } → Answers Back p reply q
 Back_answered p q Done h = h
 Back_answered p q (Refused refusal) h = Back_refused_as p q refusal h
+
+-- ---- walks
+
+-- a walk goes on: so many steps were accepted, and the goal was not met after any of them
+pub record GoesOn (command : Command) (goal : Goal) (old : PlainSession) (steps : ℕ) (now : PlainSession) : Type 0 where
+  pub walked : repeated command steps old ≡ Some now
+  pub unmet : (k : ℕ) → (p : PlainSession) → 0 < k → k ≤ steps → repeated command k old ≡ Some p → goal p.last ≡ false
+
+-- before its first step
+pub goes_on_first : (command : Command) (goal : Goal) (old : PlainSession) → GoesOn command goal old 0 old
+goes_on_first command goal old = record { walked = refl; unmet = λ k p some few there. absurd (omega arith) }
+
+-- so many commands lead to one session
+same_after : (command : Command) (k n : ℕ) (old p q : PlainSession) → k ≡ n → repeated command k old ≡ Some p → repeated command n old ≡ Some q → p ≡ q
+same_after command k n old p q e walked there =
+    let both : Some p ≡ Some q = sym walked ∙ ap (λ m. repeated command m old) e ∙ there in cc
+
+-- after one accepted step more
+pub goes_on_more : (command : Command) (goal : Goal) (old p q : PlainSession) (n : ℕ) → GoesOn command goal old n p → answer command p ≡ done q → goal q.last ≡ false → GoesOn command goal old (n + 1) q
+goes_on_more command goal old p q n on h not_met =
+    let more = repeated-more command n old p q on.walked h in
+    record {
+      walked = more;
+      unmet = λ k r some few there. ⊎_elim
+          (λ (l : k < n + 1). on.unmet k r some (omega arith) there)
+          (λ (l : n + 1 ≤ k). ap (λ (s : PlainSession). goal s.last) (same_after command k (n + 1) old r q (omega arith) there more) ∙ not_met)
+          (cases_lt k (n + 1));
+    }
+
+-- a refusal ends it
+pub stopped_walk : (direction : Direction) (goal : Goal) (n k : ℕ) (old p q : PlainSession) (refusal : Refusal) → GoesOn (command_towards direction) goal old k p → k < n →
+    Answers (command_towards direction) p (Refused refusal) q → IsWalk (command_towards direction) goal n old k (Some refusal) q
+stopped_walk direction goal n k old p q refusal on l h =
+    let same = refused_same direction p q refusal h in
+    record {
+      within = omega arith;
+      walked = on.walked ∙ ap (λ t. Some t) (sym same);
+      unmet = λ j r some fewer there. on.unmet j r some (omega arith) there;
+      stopped = (
+        l,
+        λ some. ap (λ (s : PlainSession). goal s.last) same ∙ on.unmet k p some (omega arith) on.walked,
+        subst (λ t. Answers (command_towards direction) t (Refused refusal) q) (sym same) h,
+      );
+    }
+
+-- the goal is met
+pub met_walk : (command : Command) (goal : Goal) (n k : ℕ) (old p q : PlainSession) → GoesOn command goal old k p → k < n → answer command p ≡ done q → goal q.last ≡ true →
+    IsWalk command goal n old (k + 1) None q
+met_walk command goal n k old p q on l h met = record {
+  within = omega arith;
+  walked = repeated-more command k old p q on.walked h;
+  unmet = λ j r some fewer there. on.unmet j r some (omega arith) there;
+  stopped = inr (omega arith, met);
+}
+
+-- all steps are taken
+pub whole_walk : (command : Command) (goal : Goal) (n : ℕ) (old new : PlainSession) → GoesOn command goal old n new → IsWalk command goal n old n None new
+whole_walk command goal n old new on = record {
+  within = omega arith;
+  walked = on.walked;
+  unmet = λ j r some fewer there. on.unmet j r some (omega arith) there;
+  stopped = inl refl;
+}

@@ -2,5 +2,7 @@
 pub mod Replies
 pub mod Commands
 pub mod Journal
+pub mod Goals
+pub mod Directions
 -- How proofs store these values.
 pub mod Codes

@@ -5,6 +5,7 @@ mod commands;
 mod journal;
 pub mod session;
 mod walk;
+mod walking;
 
 pub use commands::{Command, Replies, Reply};
 pub use session::Session;

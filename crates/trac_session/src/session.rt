@@ -112,38 +112,6 @@ impl<A: Allocator + Copy> Session<A> {
         Ok(())
     }
 
-    /// Goes forward by up to `n` steps, until one is refused: as `JournalFull`, `NeedInput`, `Ended`, `TooLong` or `Memory`,
-    /// which the walk answers (this project's profile).
-    pub fn forward(&mut self, n: u64) -> Walk
-        ensures { IsWalk Step no_goal n self.old result.done result.why self.new }
-    {
-        for done in 0..n {
-            if let Err(refusal) = self.step() {
-                return Walk {
-                    done,
-                    why: Some(refusal),
-                };
-            }
-        }
-        Walk { done: n, why: None }
-    }
-
-    /// Goes back over up to `n` steps, until there is no record left, which the walk answers as `AtStart`. It takes no memory
-    /// (this project's profile).
-    pub fn back(&mut self, n: u64) -> Walk
-        ensures { IsWalk Back no_goal n self.old result.done result.why self.new }
-    {
-        for done in 0..n {
-            if let Err(refusal) = self.step_back() {
-                return Walk {
-                    done,
-                    why: Some(refusal),
-                };
-            }
-        }
-        Walk { done: n, why: None }
-    }
-
     /// What is printed and not released yet.
     pub fn pending(&self) -> &[u8]
         ensures { result.now ≡ self.now.last.output }

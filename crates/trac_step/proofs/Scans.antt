@@ -1,11 +1,12 @@
 -- What scanning says of a state, from what its active text begins with.
 use Rattle.std.proofs.Common.{◌≡◌, ◌<◌, List, [], ◌∷◌, length, refl, sym, ap, ◌∙◌, subst, arith, true, Bool}
 use Rattle.std.proofs.lemmas.Bool.{eqb-true}
-use Rattle.std.specs.Prelude.{◌==◌}
+use Rattle.std.specs.Prelude.{◌==◌, None}
 use Rattle.trac_rules.specs.declared.scan.Front.{Front}
 use Rattle.trac_rules.specs.declared.scan.Front.TheVariants.{Nothing, Opening, Layout, Comma, ActiveCall, NeutralCall, Sharp, Closing, Plain}
 use Rattle.trac_rules.specs.State.{Frame, State}
 use Rattle.trac_rules.specs.Scanning.{Scanned, Moves, Calls, front_of, scan, scan_at, closing_in, deleted}
+use Rattle.trac_rules.specs.Stepping.{call_at, name_called}
 use Rattle.trac_step.specs.Calling.{IsMove}
 
 pub scan_front : (s : State) (front : _) → front_of s.active ≡ front → scan s ≡ scan_at front s
@@ -34,3 +35,24 @@ is_move s front at none = subst IsMove (sym (scan_front s front (sym at))) (move
 pub no_frames : (fs : List Frame) (b : Bool) → b ≡ (length fs == 0) → b ≡ true → fs ≡ []
 no_frames [] b is h = refl
 no_frames (f ∷ fs) b is h = absurd (let some : 0 < length (f ∷ fs) = omega arith in let none : length (f ∷ fs) ≡ 0 = eqb-true (length (f ∷ fs)) 0 (sym is ∙ h) in omega (arith, some, none))
+
+-- ---- the call at which a state stands
+
+-- where the active text does not begin with `)`, there is none
+pub no_call_before : (s : State) (front : Front) → front ≡ front_of s.active → (front ≡ Closing → ⊥) → call_at s ≡ None
+no_call_before s front at other = ap name_called (scan_front s front (sym at)) ∙ none_at front other
+  where
+    none_at : (front : Front) → (front ≡ Closing → ⊥) → name_called (scan_at front s) ≡ None
+    none_at Closing other = absurd (other refl)
+    none_at Nothing other = refl
+    none_at Opening other = refl
+    none_at Layout other = refl
+    none_at Comma other = refl
+    none_at ActiveCall other = refl
+    none_at NeutralCall other = refl
+    none_at Sharp other = refl
+    none_at Plain other = refl
+
+-- nor outside any function
+pub no_call_outside : (s : State) → front_of s.active ≡ Closing → s.frames ≡ [] → call_at s ≡ None
+no_call_outside s at none = ap name_called (scan_front s Closing at) ∙ ap (λ fs. name_called (closing_in fs (deleted 1 s))) none

@@ -1,5 +1,5 @@
 -- The parts of a step: where scanning moves on, and what a call whose effect is known leads to.
-use Rattle.std.specs.Prelude.{◌≡◌, ℕ, ◌+◌, ◌≤◌, List, [], ◌∷◌, ◌++◌, length, Bool, true, false, nat_lt}
+use Rattle.std.specs.Prelude.{◌≡◌, ℕ, ◌+◌, ◌≤◌, List, [], ◌∷◌, ◌++◌, length, Bool, true, false, nat_lt, Option, Some, None}
 use Rattle.trac_gap.specs.Ends.{Ends}
 use Rattle.trac_rules.specs.declared.kind.Kind.{Kind}
 use Rattle.trac_rules.specs.declared.kind.Kind.TheVariants.{Active, Neutral}
@@ -7,7 +7,7 @@ use Rattle.trac_rules.specs.declared.scan.Front.{Front}
 use Rattle.trac_rules.specs.declared.scan.Front.TheVariants.{Comma, ActiveCall, NeutralCall}
 use Rattle.trac_rules.specs.State.{Frame, State, storage_of}
 use Rattle.trac_rules.specs.Limits.{argument_bytes, marks, text_bytes}
-use Rattle.trac_rules.specs.Scanning.{Scanned, Moves, Calls}
+use Rattle.trac_rules.specs.Scanning.{Scanned, Moves, Calls, begun, comma_in}
 use Rattle.trac_rules.specs.Performing.{after_call}
 use Rattle.trac_prims.specs.declared.effect.Effect as code
 use Rattle.trac_prims.specs.Effects.{effect_on}
@@ -33,6 +33,11 @@ adds_mark ActiveCall marks = true
 adds_mark NeutralCall marks = true
 adds_mark Comma marks = nat_lt 0 marks
 adds_mark front marks = false
+
+-- the state with a function of this kind begun, or, where none is named, with a further argument of the innermost one
+abbrev pub with_mark : Option Kind → State → State
+with_mark (Some kind) s = begun kind s
+with_mark None s = comma_in s.frames s
 
 -- ---- scanning asks for a call
 

@@ -15,7 +15,7 @@ use crate::ends;
 use crate::engine::Core;
 use crate::record::Record;
 use std::alloc::Allocator;
-use trac_gap::{PlainEnds, TwoEnds};
+use trac_gap::TwoEnds;
 use trac_prims::{Effect, Kind, Mark, Now, Refusal, Tape, plan};
 use trac_rules::scan::Front;
 
@@ -30,16 +30,16 @@ pub(crate) struct Beginning {
 }
 
 // Cuts off the function that begins here, and its `)`.
-fn cut_function<E: TwoEnds<u8, A>, A: Allocator + Copy>(
+fn cut_function<E: TwoEnds<u8, A>, M: TwoEnds<Mark, A>, A: Allocator + Copy>(
     text: &mut E,
-    marks: &mut PlainEnds<Mark, A>,
+    marks: &mut M,
     beginning: Beginning,
 )
     requires closing { 1 ≤ length (E.ends text.old).right }
     requires place { beginning.place ≤ length (E.ends text.old).left }
-    requires number { beginning.number ≤ length marks.old.left }
+    requires number { beginning.number ≤ length (M.ends marks.old).left }
     ensures text { E.ends text.new ≡ record (E.ends text.old) { left = take beginning.place (E.ends text.old).left; right = drop 1 (E.ends text.old).right } }
-    ensures marks { marks.new ≡ record marks.old { left = take beginning.number marks.old.left } }
+    ensures marks { M.ends marks.new ≡ record (M.ends marks.old) { left = take beginning.number (M.ends marks.old).left } }
 {
     text.cut_right(1);
     text.cut_left(text.left().len() - beginning.place);
@@ -73,7 +73,17 @@ pub(crate) fn append<A: Allocator + Copy>(list: &mut Vec<u8, A>, text: &[u8])
     };
 }
 
-impl<E: TwoEnds<u8, A>, A: Allocator + Copy> Core<E, A> {
+// Puts a text in the place of all that the list holds; the list has to have room for it.
+pub(crate) fn overwrite<A: Allocator + Copy>(list: &mut Vec<u8, A>, text: &[u8])
+    requires { length text.now ≤ vec_capacity list.old }
+    ensures items { list.new.items ≡ text.now }
+    ensures room { vec_capacity list.old ≤ vec_capacity list.new }
+{
+    list.clear();
+    append(list, text);
+}
+
+impl<E: TwoEnds<u8, A>, M: TwoEnds<Mark, A>, A: Allocator + Copy> Core<E, M, A> {
     // What the call will do that the next step performs, and where its function begins; or why it is refused.
     fn planned(&self, tape: Tape<'_>) -> Result<(Beginning, Effect<A>), Refusal>
         requires front { front_of self.now.state.active ≡ Front.Closing }
@@ -147,7 +157,7 @@ impl<E: TwoEnds<u8, A>, A: Allocator + Copy> Core<E, A> {
     }
 
     // The next step, where it performs a function.
-    pub(crate) fn call_step(&mut self, tape: Tape<'_>) -> Result<Record<E, A>, Refusal>
+    pub(crate) fn call_step(&mut self, tape: Tape<'_>) -> Result<Record<Self>, Refusal>
         requires front { front_of self.old.state.active ≡ Front.Closing }
         requires inside { 0 < length self.old.state.frames }
         requires within { self.old.state.position ≤ length tape.bytes.now }

@@ -1,15 +1,18 @@
 //! The readers of a machine's state.
-ghost use Rattle.std.specs.Prelude.{◌≡◌, ◌≤◌, length, reverse, slice_get, MatchOption};
+ghost use Rattle.std.specs.Prelude.{◌≡◌, ◌≤◌, length, reverse, slice_get, None, Some, MatchOption};
 ghost use Rattle.trac_prims.specs.Frames.{IsFrame};
 ghost use Rattle.trac_prims.specs.Neutral.{neutral_of};
+ghost use Rattle.trac_rules.specs.Stepping.{call_at};
 
 use crate::engine::Core;
+use crate::front::front_at;
 use std::alloc::Allocator;
 use trac_forms::Store;
 use trac_gap::TwoEnds;
-use trac_prims::{Args, Kind, NeutralText};
+use trac_prims::{Args, Kind, Mark, NeutralText};
+use trac_rules::scan::Front;
 
-impl<E: TwoEnds<u8, A>, A: Allocator + Copy> Core<E, A> {
+impl<E: TwoEnds<u8, A>, M: TwoEnds<Mark, A>, A: Allocator + Copy> Core<E, M, A> {
     /// What is not scanned yet.
     pub fn active(&self) -> &[u8]
         ensures { result.now ≡ self.now.state.active }
@@ -44,6 +47,18 @@ impl<E: TwoEnds<u8, A>, A: Allocator + Copy> Core<E, A> {
         ensures { MatchOption result (length self.now.state.frames ≤ i) (λ r. IsFrame (slice_get (reverse self.now.state.frames) i) r.0 r.1) }
     {
         self.neutral().frame(i)
+    }
+
+    /// The name of the function that the next step would perform; none where it would perform none. It takes no memory
+    /// (this project's profile).
+    pub fn at_call(&self) -> Option<&[u8]>
+        ensures { MatchOption result (call_at self.now.state ≡ None) (λ name. call_at self.now.state ≡ Some name.now) }
+    {
+        if front_at(self.active()) != Front::Closing {
+            return None;
+        }
+        let function = self.neutral().innermost()?;
+        Some(function.arguments.get(0))
     }
 
     /// The forms by their names, the blocks, and the names that have a place.

@@ -16,7 +16,7 @@ use Rattle.trac_step.proofs.engine.Core.planned.Goals as goal
 pub plan-requires-clause-count : goal.plan-requires-clause-count
 plan-requires-clause-count g c =
     let s = c.args.self.now.state in
-    let p = parts_of (g.E.TwoEnds.ends c.self.inside.text) c.self.inside.marks c.self.inside.store c.self.inside.meta c.self.inside.trace c.self.inside.position c.self.inside.output in
+    let p = parts_of (g.E.TwoEnds.ends c.self.inside.text) (g.M.TwoEnds.ends c.self.inside.marks) c.self.inside.store c.self.inside.meta c.self.inside.trace c.self.inside.position c.self.inside.output in
     let state_is = ap (λ (m : Shown). m.state) c.self.view_is in
     let proper = subst IsProper state_is (proper_of_sound p c.self.invariant) in
     let f = c.in-Some.function in
@@ -25,7 +25,7 @@ plan-requires-clause-count g c =
 pub plan-requires-clause-text : goal.plan-requires-clause-text
 plan-requires-clause-text g c =
     let s = c.args.self.now.state in
-    let p = parts_of (g.E.TwoEnds.ends c.self.inside.text) c.self.inside.marks c.self.inside.store c.self.inside.meta c.self.inside.trace c.self.inside.position c.self.inside.output in
+    let p = parts_of (g.E.TwoEnds.ends c.self.inside.text) (g.M.TwoEnds.ends c.self.inside.marks) c.self.inside.store c.self.inside.meta c.self.inside.trace c.self.inside.position c.self.inside.output in
     let state_is = ap (λ (m : Shown). m.state) c.self.view_is in
     let proper = subst IsProper state_is (proper_of_sound p c.self.invariant) in
     let f = c.in-Some.function in
@@ -39,7 +39,7 @@ plan-requires-clause-text g c =
 pub returns-in_err-effect-clause-outcome : goal.returns-in_err-effect-clause-outcome
 returns-in_err-effect-clause-outcome g c =
     let s = c.args.self.now.state in
-    let p = parts_of (g.E.TwoEnds.ends c.self.inside.text) c.self.inside.marks c.self.inside.store c.self.inside.meta c.self.inside.trace c.self.inside.position c.self.inside.output in
+    let p = parts_of (g.E.TwoEnds.ends c.self.inside.text) (g.M.TwoEnds.ends c.self.inside.marks) c.self.inside.store c.self.inside.meta c.self.inside.trace c.self.inside.position c.self.inside.output in
     let state_is = ap (λ (m : Shown). m.state) c.self.view_is in
     let proper = subst IsProper state_is (proper_of_sound p c.self.invariant) in
     let f = c.in-Some.function in
@@ -63,7 +63,7 @@ returns-in_err-effect-clause-outcome g c =
 pub returns-clause-outcome : goal.returns-clause-outcome
 returns-clause-outcome g c =
     let s = c.args.self.now.state in
-    let p = parts_of (g.E.TwoEnds.ends c.self.inside.text) c.self.inside.marks c.self.inside.store c.self.inside.meta c.self.inside.trace c.self.inside.position c.self.inside.output in
+    let p = parts_of (g.E.TwoEnds.ends c.self.inside.text) (g.M.TwoEnds.ends c.self.inside.marks) c.self.inside.store c.self.inside.meta c.self.inside.trace c.self.inside.position c.self.inside.output in
     let state_is = ap (λ (m : Shown). m.state) c.self.view_is in
     let proper = subst IsProper state_is (proper_of_sound p c.self.invariant) in
     let f = c.in-Some.function in
@@ -91,7 +91,7 @@ returns-clause-beginning g c =
 pub returns-clause-proper : goal.returns-clause-proper
 returns-clause-proper g c =
     let s = c.args.self.now.state in
-    let p = parts_of (g.E.TwoEnds.ends c.self.inside.text) c.self.inside.marks c.self.inside.store c.self.inside.meta c.self.inside.trace c.self.inside.position c.self.inside.output in
+    let p = parts_of (g.E.TwoEnds.ends c.self.inside.text) (g.M.TwoEnds.ends c.self.inside.marks) c.self.inside.store c.self.inside.meta c.self.inside.trace c.self.inside.position c.self.inside.output in
     let state_is = ap (λ (m : Shown). m.state) c.self.view_is in
     let proper = subst IsProper state_is (proper_of_sound p c.self.invariant) in
     let f = c.in-Some.function in

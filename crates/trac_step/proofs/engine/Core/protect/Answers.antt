@@ -11,7 +11,7 @@ use Rattle.trac_step.proofs.engine.Core.protect.Goals as goal
 pub invariant_of-self : goal.invariant_of-self
 invariant_of-self g c =
     let old = g.E.TwoEnds.ends c.self.inside.text in
-    let moved = λ (e : Ends ℕ). parts_of e c.self.inside.marks c.self.inside.store c.self.inside.meta c.self.inside.trace c.self.inside.position c.self.inside.output in
+    let moved = λ (e : Ends ℕ). parts_of e (g.M.TwoEnds.ends c.self.inside.marks) c.self.inside.store c.self.inside.meta c.self.inside.trace c.self.inside.position c.self.inside.output in
     let k = c.in-Some.place in
     let last = protected_ends old (g.E.TwoEnds.ends c.cut_right.new.self) (g.E.TwoEnds.ends c.shift_left.new.self) (g.E.TwoEnds.ends c.cut_right-in-Some.new.self) k c.cut_right.ensures c.shift_left.ensures c.cut_right-in-Some.ensures in
     subst (λ (e : Ends ℕ). IsSound (moved e)) (sym last)
@@ -21,7 +21,7 @@ invariant_of-self g c =
 pub invariant_of-self-in_default : goal.invariant_of-self-in_default
 invariant_of-self-in_default g c =
     let old = g.E.TwoEnds.ends c.self.inside.text in
-    let moved = λ (e : Ends ℕ). parts_of e c.self.inside.marks c.self.inside.store c.self.inside.meta c.self.inside.trace c.self.inside.position c.self.inside.output in
+    let moved = λ (e : Ends ℕ). parts_of e (g.M.TwoEnds.ends c.self.inside.marks) c.self.inside.store c.self.inside.meta c.self.inside.trace c.self.inside.position c.self.inside.output in
     let cut = g.E.TwoEnds.ends c.cut_right.new.self in
     let last = unmatched_ends old cut (g.E.TwoEnds.ends c.shift_left-in_default.new.self) (length c.right-in_default.result.now) c.cut_right.ensures (ap length c.right-in_default.ensures.right) c.shift_left-in_default.ensures in
     subst (λ (e : Ends ℕ). IsSound (moved e)) (sym last)
@@ -30,7 +30,7 @@ invariant_of-self-in_default g c =
 pub returns-in-Some : goal.returns-in-Some
 returns-in-Some g c =
     let old = g.E.TwoEnds.ends c.self.inside.text in
-    let moved = λ (e : Ends ℕ). parts_of e c.self.inside.marks c.self.inside.store c.self.inside.meta c.self.inside.trace c.self.inside.position c.self.inside.output in
+    let moved = λ (e : Ends ℕ). parts_of e (g.M.TwoEnds.ends c.self.inside.marks) c.self.inside.store c.self.inside.meta c.self.inside.trace c.self.inside.position c.self.inside.output in
     let k = c.in-Some.place in
     let last = protected_ends old (g.E.TwoEnds.ends c.cut_right.new.self) (g.E.TwoEnds.ends c.shift_left.new.self) (g.E.TwoEnds.ends c.cut_right-in-Some.new.self) k c.cut_right.ensures c.shift_left.ensures c.cut_right-in-Some.ensures in
     let behind : c.right.result.now ≡ drop 1 old.right = c.right.ensures.right ∙ ap (λ (e : Ends ℕ). e.right) c.cut_right.ensures in
@@ -41,7 +41,7 @@ returns-in-Some g c =
 pub returns-in_default : goal.returns-in_default
 returns-in_default g c =
     let old = g.E.TwoEnds.ends c.self.inside.text in
-    let moved = λ (e : Ends ℕ). parts_of e c.self.inside.marks c.self.inside.store c.self.inside.meta c.self.inside.trace c.self.inside.position c.self.inside.output in
+    let moved = λ (e : Ends ℕ). parts_of e (g.M.TwoEnds.ends c.self.inside.marks) c.self.inside.store c.self.inside.meta c.self.inside.trace c.self.inside.position c.self.inside.output in
     let cut = g.E.TwoEnds.ends c.cut_right.new.self in
     let last = unmatched_ends old cut (g.E.TwoEnds.ends c.shift_left-in_default.new.self) (length c.right-in_default.result.now) c.cut_right.ensures (ap length c.right-in_default.ensures.right) c.shift_left-in_default.ensures in
     let behind : c.right.result.now ≡ drop 1 old.right = c.right.ensures.right ∙ ap (λ (e : Ends ℕ). e.right) c.cut_right.ensures in

@@ -1,4 +1,4 @@
-use Rattle.std.proofs.Common.{List, ℕ, ◌++◌, length, sym, ap, ◌∙◌, subst, arith, IsTrue}
+use Rattle.std.proofs.Common.{List, ℕ, length, sym, ap, ◌∙◌, subst, arith, IsTrue}
 use Rattle.std.specs.FinSet as set
 use Rattle.trac_gap.specs.Ends.{Ends}
 use Rattle.trac_rules.specs.Limits.{marks, text_bytes}
@@ -12,7 +12,7 @@ use Rattle.trac_step.proofs.engine.Core.put_back.Goals as goal
 
 pub refill-requires : goal.refill-requires
 refill-requires g c =
-    let e = parts_of (g.E.TwoEnds.ends c.earlier.inside.text) c.earlier.inside.marks c.earlier.inside.store c.earlier.inside.meta c.earlier.inside.trace c.earlier.inside.position c.earlier.inside.output in
+    let e = parts_of (g.E.TwoEnds.ends c.earlier.inside.text) (g.M.TwoEnds.ends c.earlier.inside.marks) c.earlier.inside.store c.earlier.inside.meta c.earlier.inside.trace c.earlier.inside.position c.earlier.inside.output in
     omega (
       arith,
       c.requires.text,
@@ -25,7 +25,7 @@ refill-requires g c =
 
 pub refill-requires-2 : goal.refill-requires-2
 refill-requires-2 g c =
-    let e = parts_of (g.E.TwoEnds.ends c.earlier.inside.text) c.earlier.inside.marks c.earlier.inside.store c.earlier.inside.meta c.earlier.inside.trace c.earlier.inside.position c.earlier.inside.output in
+    let e = parts_of (g.E.TwoEnds.ends c.earlier.inside.text) (g.M.TwoEnds.ends c.earlier.inside.marks) c.earlier.inside.store c.earlier.inside.meta c.earlier.inside.trace c.earlier.inside.position c.earlier.inside.output in
     omega (
       arith,
       c.requires.marks,
@@ -42,12 +42,12 @@ restore-requires g c =
 
 pub invariant_of-self : goal.invariant_of-self
 invariant_of-self g c =
-    let e = parts_of (g.E.TwoEnds.ends c.earlier.inside.text) c.earlier.inside.marks c.earlier.inside.store c.earlier.inside.meta c.earlier.inside.trace c.earlier.inside.position c.earlier.inside.output in
-    let q_is = rebuilt_parts (g.E.TwoEnds.ends c.earlier.inside.text) (g.E.TwoEnds.ends c.refill.new.list) c.earlier.inside.marks c.refill-2.new.list c.earlier.inside.store c.restore.new.self
-    c.earlier.inside.meta c.earlier.inside.trace c.earlier.inside.position c.earlier.inside.output c.append.new.list
+    let e = parts_of (g.E.TwoEnds.ends c.earlier.inside.text) (g.M.TwoEnds.ends c.earlier.inside.marks) c.earlier.inside.store c.earlier.inside.meta c.earlier.inside.trace c.earlier.inside.position c.earlier.inside.output in
+    let q_is = rebuilt_parts (g.E.TwoEnds.ends c.earlier.inside.text) (g.E.TwoEnds.ends c.refill.new.list) (g.M.TwoEnds.ends c.earlier.inside.marks) (g.M.TwoEnds.ends c.refill-2.new.list) c.earlier.inside.store c.restore.new.self
+    c.earlier.inside.meta c.earlier.inside.trace c.earlier.inside.position c.earlier.inside.output c.overwrite.new.list
     (ap (λ (x : Ends ℕ). x.left) c.refill.ensures ∙ c.left.ensures.left) (ap (λ (x : Ends ℕ). x.right) c.refill.ensures ∙ c.right.ensures.right)
     (ap (λ (x : Ends Mark). x.left) c.refill-2.ensures ∙ c.left-2.ensures.left) (ap storage_in c.restore.ensures)
-    (c.append.ensures.items ∙ ap (λ (xs : List ℕ). xs ++ c.as_slice.result.now) c.clear.ensures.items ∙ c.as_slice.ensures.value) in
+    (c.overwrite.ensures.items ∙ c.as_slice.ensures.value) in
     subst IsSound (sym q_is) (sound_rebuilt e _ _ _ _ c.earlier.invariant
     (omega (
       arith,
@@ -68,19 +68,19 @@ invariant_of-self g c =
 
 pub returns-clause-state : goal.returns-clause-state
 returns-clause-state g c =
-    let q_is = rebuilt_parts (g.E.TwoEnds.ends c.earlier.inside.text) (g.E.TwoEnds.ends c.refill.new.list) c.earlier.inside.marks c.refill-2.new.list c.earlier.inside.store c.restore.new.self
-    c.earlier.inside.meta c.earlier.inside.trace c.earlier.inside.position c.earlier.inside.output c.append.new.list
+    let q_is = rebuilt_parts (g.E.TwoEnds.ends c.earlier.inside.text) (g.E.TwoEnds.ends c.refill.new.list) (g.M.TwoEnds.ends c.earlier.inside.marks) (g.M.TwoEnds.ends c.refill-2.new.list) c.earlier.inside.store c.restore.new.self
+    c.earlier.inside.meta c.earlier.inside.trace c.earlier.inside.position c.earlier.inside.output c.overwrite.new.list
     (ap (λ (x : Ends ℕ). x.left) c.refill.ensures ∙ c.left.ensures.left) (ap (λ (x : Ends ℕ). x.right) c.refill.ensures ∙ c.right.ensures.right)
     (ap (λ (x : Ends Mark). x.left) c.refill-2.ensures ∙ c.left-2.ensures.left) (ap storage_in c.restore.ensures)
-    (c.append.ensures.items ∙ ap (λ (xs : List ℕ). xs ++ c.as_slice.result.now) c.clear.ensures.items ∙ c.as_slice.ensures.value) in
+    (c.overwrite.ensures.items ∙ c.as_slice.ensures.value) in
     ap state_of q_is ∙ ap (λ (m : Shown). m.state) c.earlier.view_is
 
 pub returns-clause-room : goal.returns-clause-room
 returns-clause-room g c =
-    let p = parts_of (g.E.TwoEnds.ends c.self.inside.text) c.self.inside.marks c.self.inside.store c.self.inside.meta c.self.inside.trace c.self.inside.position c.self.inside.output in
-    let q = parts_of (g.E.TwoEnds.ends c.refill.new.list) c.refill-2.new.list c.restore.new.self c.earlier.inside.meta c.earlier.inside.trace c.earlier.inside.position c.append.new.list in
+    let p = parts_of (g.E.TwoEnds.ends c.self.inside.text) (g.M.TwoEnds.ends c.self.inside.marks) c.self.inside.store c.self.inside.meta c.self.inside.trace c.self.inside.position c.self.inside.output in
+    let q = parts_of (g.E.TwoEnds.ends c.refill.new.list) (g.M.TwoEnds.ends c.refill-2.new.list) c.restore.new.self c.earlier.inside.meta c.earlier.inside.trace c.earlier.inside.position c.overwrite.new.list in
     IsNoLess-parts p q c.args.self.now c.self.view_is
     (omega (arith, ap (λ (x : Ends ℕ). x.capacity) c.refill.ensures))
     (omega (arith, ap (λ (x : Ends Mark). x.capacity) c.refill-2.ensures))
-    (omega (arith, c.clear.ensures.capacity, c.append.ensures.room))
+    c.overwrite.ensures.room
     (λ name h. subst (λ (s : Stored). IsTrue (set.contains s.known name)) (sym c.restore.ensures) h)

@@ -1,8 +1,0 @@
-use Rattle.std.proofs.Common.{◌≡◌}
-use Rattle.std.specs.Prelude.{Some}
-use Rattle.trac_rules.specs.Session.{Step, repeated}
-use Rattle.trac_session.proofs.session.Session.forward.Given as goal
-
--- so many steps are done
-abbrev pub invariant-loop-done : goal.invariant-loop-done
-invariant-loop-done g l = repeated Step l.done l.fn.self ≡ Some l.self

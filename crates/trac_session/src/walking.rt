@@ -1,0 +1,122 @@
+//! Walks over several steps.
+ghost use Rattle.std.specs.Prelude.{◌≡◌, ◌&&◌, length, max, nat_lt, option_copied};
+ghost use Rattle.trac_rules.specs.Session.{Step, Back, Answers, IsWalk, no_goal};
+ghost use Rattle.trac_session.specs.Directions.{command_towards};
+ghost use Rattle.trac_session.specs.Goals.{IsSearch, goal_of, is_call_of, outcome};
+ghost use Rattle.trac_session.specs.Replies.{reply_of};
+
+use crate::session::Session;
+use crate::walk::Walk;
+use std::alloc::Allocator;
+use trac_rules::refusal::Refusal;
+
+// Which way a walk goes.
+#[derive(Clone, Copy, PartialEq, Eq)]
+enum Direction {
+    Forward,
+    Backward,
+}
+
+impl<A: Allocator + Copy> Session<A> {
+    // Takes one step this way.
+    fn go(&mut self, direction: Direction) -> Result<(), Refusal>
+        ensures { Answers (command_towards direction) self.old (reply_of result) self.new }
+    {
+        match direction {
+            Direction::Forward => self.step(),
+            Direction::Backward => self.step_back(),
+        }
+    }
+
+    // Whether the next step would perform a function of this name.
+    fn is_at(&self, name: &[u8]) -> bool
+        ensures { result ≡ is_call_of name.now self.now.last }
+    {
+        match self.machine().at_call() {
+            Some(called) => called == name,
+            None => false,
+        }
+    }
+
+    // Whether a walk has come to a call of the name that it looks for, where there is one.
+    fn has_met(&self, name: Option<&[u8]>) -> bool
+        ensures { result ≡ goal_of (option_copied name.entry) self.now.last }
+    {
+        match name {
+            Some(name) => self.is_at(name),
+            None => false,
+        }
+    }
+
+    // Goes this way by up to `n` steps, until one is refused, which the walk answers, or the goal is met.
+    fn walk(&mut self, direction: Direction, name: Option<&[u8]>, n: u64) -> Walk
+        ensures { IsWalk (command_towards direction) (goal_of (option_copied name.entry)) n self.old result.done result.why self.new }
+    {
+        for done in 0..n {
+            if let Err(refusal) = self.go(direction) {
+                return Walk {
+                    done,
+                    why: Some(refusal),
+                };
+            }
+            if self.has_met(name) {
+                return Walk {
+                    done: done + 1,
+                    why: None,
+                };
+            }
+        }
+        Walk { done: n, why: None }
+    }
+
+    // The same walk, which answers `NotMet` where no refusal ended it and its goal is not met.
+    fn searched(&self, name: &[u8], walk: Walk) -> Walk
+        ensures done { result.done ≡ walk.done }
+        ensures why { result.why ≡ outcome (nat_lt 0 walk.done && is_call_of name.now self.now.last) walk.why }
+    {
+        if walk.why.is_some() || walk.done > 0 && self.is_at(name) {
+            return walk;
+        }
+        Walk {
+            done: walk.done,
+            why: Some(Refusal::NotMet),
+        }
+    }
+
+    /// Goes forward by up to `n` steps, until one is refused: as `JournalFull`, `NeedInput`, `Ended`, `TooLong` or `Memory`,
+    /// which the walk answers (this project's profile).
+    pub fn forward(&mut self, n: u64) -> Walk
+        ensures { IsWalk Step no_goal n self.old result.done result.why self.new }
+    {
+        self.walk(Direction::Forward, None, n)
+    }
+
+    /// Goes back over up to `n` steps, until there is no record left, which the walk answers as `AtStart`. It takes no memory
+    /// (this project's profile).
+    pub fn back(&mut self, n: u64) -> Walk
+        ensures { IsWalk Back no_goal n self.old result.done result.why self.new }
+    {
+        self.walk(Direction::Backward, None, n)
+    }
+
+    /// Goes forward by up to `n` steps, and by one at least, until the next step would perform a function of this name, which is
+    /// compared byte for byte. A refused step ends the walk as in `forward`; where `n` steps were taken and the name was not
+    /// met, the walk answers `NotMet`, also where `n` is 0 (this project's profile).
+    pub fn until(&mut self, name: &[u8], n: u64) -> Walk
+        ensures { IsSearch Step (is_call_of name.now) n self.old result.done result.why self.new }
+    {
+        let walk = self.walk(Direction::Forward, Some(name), n);
+        self.searched(name, walk)
+    }
+
+    /// Goes back over steps, over one at least, until the next step would perform a function of this name, which is compared byte
+    /// for byte; the first state is tested too. Where all steps are gone back over and the name was not met, the walk answers
+    /// `NotMet`, and where there is no step to go back over, `AtStart`. It takes no memory (this project's profile).
+    pub fn back_until(&mut self, name: &[u8]) -> Walk
+        ensures { IsSearch Back (is_call_of name.now) (max 1 (length self.old.earlier)) self.old result.done result.why self.new }
+    {
+        let records = self.len().max(1) as u64;
+        let walk = self.walk(Direction::Backward, Some(name), records);
+        self.searched(name, walk)
+    }
+}
