@@ -1,4 +1,5 @@
 pub mod Cuts
+pub mod Divided
 pub mod Extents
 pub mod Going
 pub mod Tables
