@@ -1,4 +1,2 @@
--- What a run reads and writes, and what a command line asks for.
-pub mod Written
-pub mod Runs
+-- What a command line asks for.
 pub mod Words

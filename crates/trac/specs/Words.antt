@@ -1,8 +1,8 @@
 -- What a command line may ask for.
 use Rattle.std.specs.Prelude.{◌≤◌}
 use Rattle.trac_rules.specs.declared.limit.TheConstants.{JOURNAL_LIMIT}
-use Rattle.trac.specs.declared.running.TheConstants.{BUDGET_LIMIT}
-use Rattle.trac.specs.declared.running.Options.{Options}
+use Rattle.trac_run.specs.declared.running.TheConstants.{BUDGET_LIMIT}
+use Rattle.trac_run.specs.declared.running.Options.{Options}
 use Rattle.trac.specs.declared.words.Line.{Line}
 use Rattle.trac.specs.declared.words.Line.TheVariants.{Run, Help, Bad}
 

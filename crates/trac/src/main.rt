@@ -1,21 +1,20 @@
 //! The program `trac`: a processor for the language TRAC T-64.
 #![tactic(auto)]
 
-pub mod running;
 #[cfg(test)]
 mod tests;
 pub mod words;
 
 ghost use Rattle.std.specs.Prelude.{◌≡◌, IfOk};
 ghost use Rattle.std.specs.Process.{exit_status};
-ghost use Rattle.trac.specs.Runs.{status_of};
+ghost use Rattle.trac_run.specs.Runs.{status_of};
 ghost use Rattle.trac.specs.Words.{IsLine};
 
-use running::{Ending, run};
 use std::alloc::AllocError;
 use std::process::ExitCode;
 use std::rt::Env;
 use std::{env, io};
+use trac_run::{Ending, run};
 use words::{Line, read_line};
 
 /// The status of a command line that is not understood.

@@ -2,10 +2,10 @@
 ghost use Rattle.std.specs.Prelude.{IfOk};
 ghost use Rattle.trac.specs.Words.{IsLine};
 
-use crate::running::Options;
 use clap::Command;
 use clap::error::ErrorKind;
 use std::alloc::{AllocError, Global};
+use trac_run::Options;
 
 /// How many steps a run may take where nothing else is said (this project's profile).
 pub const DEFAULT_BUDGET: u64 = 1_000_000_000;

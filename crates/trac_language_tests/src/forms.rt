@@ -1,6 +1,6 @@
 //! Forms: what is cut out of them, what a call of them gives, and how they are printed. Each request for memory is refused
 //! in turn.
-use crate::stores::divided;
+use crate::samples::divided;
 use std::alloc::{Allocator, Global};
 use std::process::Abort;
 use std::test::Fail;

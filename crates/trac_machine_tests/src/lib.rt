@@ -1,19 +1,9 @@
-//! Tests of the machine, and of the session above it. The library itself is empty.
+//! Tests of the machine, and what it shows as texts, which tests of sessions use too.
 //!
-//! All that a session is told stands in tables, and one loop carries it out: what a test's proof costs grows with the calls
-//! that stand in it. Each call stands in a helper that promises nothing. Expected values come from the definition of the
-//! language, not from this program.
+//! Each call stands in a helper that promises nothing. Expected values come from the definition of the language, not from
+//! this program.
 #![tactic(auto)]
 
 #[cfg(test)]
-mod acts;
-#[cfg(test)]
-mod commands;
-#[cfg(test)]
 mod machines;
-#[cfg(test)]
-mod shown;
-#[cfg(test)]
-mod walks;
-#[cfg(test)]
-mod whole_runs;
+pub mod shown;

@@ -29,7 +29,7 @@ fn add_function(out: &mut Vec<u8>, kind: Kind, arguments: &Args<'_>) -> Result<(
 }
 
 /// The texts of a machine: its base text, the begun functions from the outermost on, a `^`, and what is not scanned yet.
-pub(crate) fn texts_shown<E: TwoEnds<u8, A>, A: Allocator + Copy>(
+pub fn texts_shown<E: TwoEnds<u8, A>, A: Allocator + Copy>(
     alloc: Global,
     machine: &Core<E, A>,
 ) -> Result<Vec<u8>, AllocError> {
@@ -73,7 +73,7 @@ fn add_forms<A: Allocator + Copy>(out: &mut Vec<u8>, store: &Store<A>) -> Result
 }
 
 /// All that a machine shows: its texts, its numbers, its forms, and what is printed. Blocks cannot be there yet.
-pub(crate) fn state_shown<E: TwoEnds<u8, A>, A: Allocator + Copy>(
+pub fn state_shown<E: TwoEnds<u8, A>, A: Allocator + Copy>(
     alloc: Global,
     machine: &Core<E, A>,
 ) -> Result<Vec<u8>, AllocError> {

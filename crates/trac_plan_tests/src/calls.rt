@@ -1,0 +1,172 @@
+//! Calls, what is planned for them, and each request for memory refused in turn.
+use crate::planned::{Call, Input, planned};
+use std::alloc::Global;
+use std::process::Abort;
+use std::test::Fail;
+use trac_faults::Refusing;
+use trac_forms::Store;
+use trac_language_tests::samples::with_forms;
+use trac_rules::refusal::Refusal;
+
+type Memory<'a> = &'a Refusing<Global>;
+
+const UNREAD: Input = Input {
+    bytes: b"AB'C",
+    ended: false,
+    position: 0,
+};
+
+// A call over the forms `B`, `F` and `R` (`with_forms`): its arguments one behind another, the places where the further ones
+// begin, and what is planned. Each makes a request for memory.
+const CALLS: [(&[u8], &[usize], &[u8]); 16] = [
+    (b"adapples5pears3", &[2, 9], b"apples8||keep 0"),
+    // A quotient by zero: the default argument, forced.
+    (b"DV10none", &[2, 3, 4], b"none!||keep 0"),
+    (b"psX", &[2], b"|X|keep 0"),
+    (b"rs", &[], b"AB||keep 3"),
+    (b"dsAACat", &[2, 4], b"||put AA <^>Cat 0"),
+    // An earlier form is replaced, its gaps and its pointer too.
+    (b"dsFCat", &[2, 3], b"||put F <^>Cat 0"),
+    (b"ssRbca", &[2, 3, 4], b"||put R <^>a<1><2><1>c 0"),
+    (b"ssBa", &[2, 3, 3], b"||put B <^>b<2>n<2>n<2> 0"),
+    (b"crF", &[2], b"||point F 0 0"),
+    // A form is called from its pointer.
+    (b"clFXY", &[2, 3, 4], b"XbcY||keep 0"),
+    (b"CLF", &[2], b"bc||keep 0"),
+    (b"ln;", &[2], b";B;F;R||keep 0"),
+    (b"pfF", &[2], b"|a<^><1>bc<2>|keep 0"),
+    // The names that the call gives, the null name among them, and no other.
+    (b"ddF", &[2], b"||remove F; 0"),
+    (b"ddF", &[2, 3], b"||remove F;; 0"),
+    (b"ddFG", &[2, 3], b"||remove F;G; 0"),
+];
+
+// Calls that make no request for memory. Where there is no form of the name, the value is null and nothing changes.
+const CALLS_WITHOUT_MEMORY: [(&[u8], &[usize], &[u8]); 8] = [
+    (b"ssGb", &[2, 3], b"||keep 0"),
+    (b"crGb", &[2, 3], b"||keep 0"),
+    (b"clGb", &[2, 3], b"||keep 0"),
+    (b"pfGb", &[2, 3], b"||keep 0"),
+    (b"ds", &[2], b"||put  <^> 0"),
+    (b"nosuch", &[], b"||keep 0"),
+    (b"dd", &[], b"||remove  0"),
+    (b"da", &[], b"||clear 0"),
+];
+
+fn call_of<'a>(text: &'a [u8], places: &'a [usize]) -> Call<'a> {
+    Call {
+        text,
+        places,
+        input: UNREAD,
+    }
+}
+
+// The call is planned so, where one request may be refused.
+fn expect_planned<'a>(
+    rt: &impl Abort,
+    plain: Global,
+    memory: Memory<'a>,
+    store: &Store<Memory<'a>>,
+    call: &Call<'_>,
+    wanted: &[u8],
+) -> Result<(), Fail> {
+    let mut outcome = planned(rt, plain, memory, store, call)?;
+    if outcome == Err(Refusal::Memory) {
+        outcome = planned(rt, plain, memory, store, call)?;
+    }
+    assert_eq!(rt; outcome?.as_slice(), wanted, "for {:?}", call.text);
+    Ok(())
+}
+
+// Plans a call again and again, with one more request accepted before the refused one each time, until none is refused:
+// how often that was. The store is made before, and lent to each call, which no closure may do here.
+fn runs_of(
+    rt: &(impl Abort + AllocGlobal),
+    memory: &Refusing<Global>,
+    call: &Call<'_>,
+    wanted: &[u8],
+) -> Result<u64, Fail> {
+    let store = with_forms(memory)?;
+    for nth in 1..100 {
+        let refusals = memory.refusals();
+        memory.refuse_nth(nth);
+        expect_planned(rt, rt.alloc(), memory, &store, call, wanted)?;
+        memory.accept_all();
+        if memory.refusals() == refusals {
+            return Ok(nth);
+        }
+    }
+    panic!(rt; "too few runs")
+}
+
+#[test]
+fn each_request_of_a_call(rt: HostRuntime) -> Result<(), Fail> {
+    let memory = Refusing::new(rt.alloc());
+    for (text, places, wanted) in CALLS {
+        let runs = runs_of(&rt, &memory, &call_of(text, places), wanted)?;
+        assert!(rt; runs > 1, "{runs} runs for {text:?}");
+    }
+    Ok(())
+}
+
+#[test]
+fn calls_without_memory(rt: HostRuntime) -> Result<(), Fail> {
+    let memory = Refusing::new(rt.alloc());
+    let store = with_forms(&memory)?;
+    memory.refuse_all();
+    for (text, places, wanted) in CALLS_WITHOUT_MEMORY {
+        expect_planned(
+            &rt,
+            rt.alloc(),
+            &memory,
+            &store,
+            &call_of(text, places),
+            wanted,
+        )?;
+    }
+    Ok(())
+}
+
+// What `rs` gives at each place of a tape that has ended, or has not, with how many bytes that reads.
+const READINGS: [(bool, usize, Result<&[u8], Refusal>); 5] = [
+    (false, 0, Ok(b"AB||keep 3")),
+    (false, 3, Err(Refusal::NeedInput)),
+    (true, 0, Ok(b"AB||keep 3")),
+    (true, 3, Ok(b"C||keep 1")),
+    (true, 4, Err(Refusal::Ended)),
+];
+
+fn expect_outcome(
+    rt: &impl Abort,
+    outcome: Result<Vec<u8>, Refusal>,
+    wanted: Result<&[u8], Refusal>,
+) {
+    match (outcome, wanted) {
+        (Ok(text), Ok(wanted)) => assert_eq!(rt; text.as_slice(), wanted),
+        (Err(refusal), Err(wanted)) => assert_eq!(rt; refusal, wanted),
+        _ => panic!(rt; "one is refused and the other is not"),
+    }
+}
+
+#[test]
+fn a_text_is_read(rt: HostRuntime) -> Result<(), Fail> {
+    let store = Store::new(rt.alloc());
+    for (ended, position, wanted) in READINGS {
+        let input = Input {
+            bytes: b"AB'C",
+            ended,
+            position,
+        };
+        let call = Call {
+            text: b"rs",
+            places: &[],
+            input,
+        };
+        expect_outcome(
+            &rt,
+            planned(&rt, rt.alloc(), rt.alloc(), &store, &call)?,
+            wanted,
+        );
+    }
+    Ok(())
+}

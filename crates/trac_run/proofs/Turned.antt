@@ -1,0 +1,297 @@
+-- One turn of a run, from a session with nothing to go back over and nothing pending.
+use Rattle.std.proofs.Common.{◌≡◌, ℕ, zero, suc, ◌+◌, ◌-◌, ◌<◌, ◌≤◌, Bool, true, false, List, [], ◌++◌, length, refl, sym, ap, subst, ◌∙◌, arith, ⊎_elim}
+use Rattle.std.specs.Prelude.{Option, None, Some, MatchOption, Result, Ok, Err, OnOk, IfErr, if◌then◌else◌, ◌⊎◌, ◌==◌}
+use Rattle.std.specs.Io.KnownBytes.{Appends, IsAtEnd}
+use Rattle.std.proofs.lemmas.Bool.{false≢true}
+use Rattle.std.proofs.lemmas.Bool.Decides.{nat_tests}
+use Rattle.trac_rules.specs.declared.refusal.Refusal.{Refusal}
+use Rattle.trac_rules.specs.declared.refusal.Refusal.TheVariants as refusals
+use Rattle.trac_rules.specs.declared.reply.Reply.TheVariants.{Refused}
+use Rattle.trac_rules.specs.Session.{PlainSession, Step, Commit, done, refused, answer, Answers, repeated, HasEnded, IsWalk, no_goal}
+use Rattle.trac_rules.specs.Running.{Output, LimitPassed}
+use Rattle.trac_rules.specs.GoingOn.{prepended, going_on_from}
+use Rattle.trac_rules.proofs.GoingOn.{after_repeated, going_on-repeated, after_Commit, going_on-Commit, going_on_spent, going_on_ended, going_on_too_long}
+use Rattle.trac_rules.proofs.Replies.{Commit_done, Step_refused_JournalFull, Step_refusals}
+use Rattle.trac_run.specs.declared.ending.Ending.{Ending}
+use Rattle.trac_run.specs.declared.ending.Ending.TheVariants.{Ended, Budget, Limit, Write}
+use Rattle.trac_rules.specs.Fronts.{IsFrontOf}
+use Rattle.trac_run.specs.Written.{WritesFront, Closes}
+use Rattle.trac_run.specs.Runs.{Shows, IsFresh, turns_left, GoesOn, Finishes}
+use Rattle.trac_run.proofs.Known.{Consumes-nothing, front_of_front}
+
+-- ---- the walk
+
+-- what k accepted steps of at most m leave
+pub record AfterWalk (p : PlainSession) (m k : ℕ) (q : PlainSession) : Type 0 where
+  pub within : k ≤ m
+  pub tape : q.tape ≡ p.tape
+  pub some_records : 1 ≤ q.limit
+  pub on_tape : q.last.position ≤ length q.tape.bytes
+  pub taken : length q.earlier ≡ k
+  pub unmoved : k ≡ 0 → q ≡ p
+  pub rest : (more : List ℕ) → (p.tape.ended ≡ true → more ≡ []) → going_on_from p more m ≡ going_on_from q more (m - k)
+
+-- no step at all
+pub unmoved_by_none : (k : ℕ) (p q : PlainSession) → repeated Step k p ≡ Some q → k ≡ 0 → q ≡ p
+unmoved_by_none zero p q h e = cc
+unmoved_by_none (suc k) p q h e = absurd (omega arith)
+
+-- what a walk leaves
+pub after_walk : (p : PlainSession) (m k : ℕ) (why : Option Refusal) (q : PlainSession) → IsFresh p → IsWalk Step no_goal m p k why q → AfterWalk p m k q
+after_walk p m k why q fresh walk =
+    let start : p.last.position ≤ length p.tape.bytes = omega (arith, fresh.nothing_read) in
+    let after = after_repeated k p q start walk.walked in
+    let count : m ≡ (m - k) + k = omega (arith, walk.within) in
+    record {
+      within = walk.within;
+      tape = after.tape;
+      some_records = omega (arith, after.limit, fresh.some_records);
+      on_tape = after.within;
+      taken = omega (arith, after.earlier, ap length fresh.first);
+      unmoved = unmoved_by_none k p q walk.walked;
+      rest = λ more none. ap (going_on_from p more) count ∙ going_on-repeated k (m - k) p q more start none walk.walked;
+    }
+
+-- why a walk was stopped
+pub stopped_for : (p : PlainSession) (m k : ℕ) (why : Option Refusal) (q : PlainSession) (refusal r : Refusal) → IsWalk Step no_goal m p k why q → why ≡ Some refusal → refusal ≡ r →
+    (k < m) × Answers Step q (Refused r) q
+stopped_for p m k why q refusal r walk e same =
+    let stop = subst (λ w. MatchOption w (HasEnded no_goal m k q) (λ x. (k < m) × (0 < k → no_goal q.last ≡ false) × Answers Step q (Refused x) q))
+    (e ∙ ap (λ x. Some x) same) walk.stopped in
+    (stop.0, stop.2)
+
+-- a walk that was not stopped
+pub not_stopped : (p : PlainSession) (m k : ℕ) (why : Option Refusal) (q : PlainSession) → IsWalk Step no_goal m p k why q → why ≡ None → k ≡ m
+not_stopped p m k why q walk e =
+    ⊎_elim
+    (λ (all : k ≡ m). all)
+    (λ (met : (0 < k) × (no_goal q.last ≡ true)). absurd (false≢true met.1))
+    (subst (λ w. MatchOption w (HasEnded no_goal m k q) (λ x. (k < m) × (0 < k → no_goal q.last ≡ false) × Answers Step q (Refused x) q)) e walk.stopped)
+
+-- a step is refused for nothing else
+pub refused_for_none : (q : PlainSession) (refusal : Refusal) → answer Step q ≡ refused refusal q →
+    (refusal ≡ refusals.JournalFull → ⊥) → (refusal ≡ refusals.TooLong → ⊥) → (refusal ≡ refusals.NeedInput → ⊥) → (refusal ≡ refusals.Ended → ⊥) → ⊥
+refused_for_none q refusal h not_full not_long not_input not_ended =
+    ⊎_elim not_full
+    (λ (others : (refusal ≡ refusals.TooLong) ⊎ (((refusal ≡ refusals.NeedInput) × (q.tape.ended ≡ false)) ⊎ (refusal ≡ refusals.Ended))).
+    ⊎_elim not_long
+    (λ (wants : ((refusal ≡ refusals.NeedInput) × (q.tape.ended ≡ false)) ⊎ (refusal ≡ refusals.Ended)).
+    ⊎_elim (λ (input : (refusal ≡ refusals.NeedInput) × (q.tape.ended ≡ false)). not_input input.0) not_ended wants)
+    others)
+    (Step_refusals q q refusal h)
+
+-- the input is known to be whole on the one tape where it is on the other
+pub none_after : (p q : PlainSession) (more : List ℕ) → q.tape ≡ p.tape → (p.tape.ended ≡ true → more ≡ []) → q.tape.ended ≡ true → more ≡ []
+none_after p q more same none ended = none (sym (ap (λ t. t.ended) same) ∙ ended)
+
+-- ---- the end of a run
+
+-- what is pending is a front of what is written
+pub front_pending : (q : PlainSession) (more : List ℕ) (n : ℕ) → IsFrontOf q.last.output (going_on_from q more n).bytes
+front_pending q more n = (_, refl)
+
+-- a fault of the writer ends every run
+pub Shows-Write : (result : Ending) (written : List ℕ) (o : Output) → result ≡ Write → Shows result written o
+Shows-Write result written o e = rw e tt
+
+-- the stated ending, with all written
+pub Shows-closed : (ending result : Ending) (written text : List ℕ) (o : Output) → ((result ≡ ending) × (written ≡ text)) ⊎ (result ≡ Write) → Shows ending text o → Shows result written o
+Shows-closed ending result written text o ends shows =
+    ⊎_elim
+    (λ (all : (result ≡ ending) × (written ≡ text)). rw (all.0, all.1) shows)
+    (λ (fault : result ≡ Write). Shows-Write result written o fault)
+    ends
+
+-- a run that ends after the walk
+pub closed_run : (input : Option (List ℕ)) (out_old out_new : Option (List ℕ)) (p : PlainSession) (m k : ℕ) (q : PlainSession) (text : List ℕ) (ending result : Ending) →
+    AfterWalk p m k q → (p.tape.ended ≡ true → IsAtEnd input) → text ≡ q.last.output → Closes out_old out_new text ending result →
+    ((more : List ℕ) → (q.tape.ended ≡ true → more ≡ []) → Shows ending q.last.output (going_on_from q more (m - k))) →
+    Finishes input input out_old out_new p m result
+closed_run input out_old out_new p m k q text ending result after at_end pending closes shows = record {
+  got = [];
+  written = closes.written;
+  took = Consumes-nothing input;
+  gave = closes.gave;
+  closed = λ _. refl;
+  at_end = at_end;
+  front = λ more none. subst (λ (o : Output). IsFrontOf closes.written o.bytes) (sym (after.rest more none))
+      (front_of_front closes.written q.last.output (going_on_from q more (m - k)).bytes (subst (IsFrontOf closes.written) pending closes.front) (front_pending q more (m - k)));
+  shows = λ more none. subst (λ (o : Output). Shows result closes.written o) (sym (after.rest more none))
+      (Shows-closed ending result closes.written q.last.output (going_on_from q more (m - k))
+      (subst (λ t. ((result ≡ ending) × (closes.written ≡ t)) ⊎ (result ≡ Write)) pending closes.ends) (shows more (none_after p q more after.tape none)));
+}
+
+-- the budget is spent
+pub shows_spent : (q : PlainSession) (n : ℕ) → n ≡ 0 → (more : List ℕ) → (q.tape.ended ≡ true → more ≡ []) → Shows Budget q.last.output (going_on_from q more n)
+shows_spent q n e more none = rw e (going_on_spent q more)
+
+-- a number above 0
+pub one_above : (n : ℕ) → 0 < n → (k : ℕ) × (n ≡ suc k)
+one_above n l = (n - 1, omega arith)
+
+-- the input has ended
+pub shows_ended : (q : PlainSession) (n : ℕ) → 0 < n → q.last.position ≤ length q.tape.bytes → answer Step q ≡ refused refusals.Ended q →
+    (more : List ℕ) → (q.tape.ended ≡ true → more ≡ []) → Shows Ended q.last.output (going_on_from q more n)
+shows_ended q n l on_tape h more none =
+    let count = one_above n l in
+    rw count.1 (going_on_ended q q more count.0 on_tape h none)
+
+-- a limit is passed, with nothing pending
+pub shows_limit : (q : PlainSession) (n : ℕ) → 0 < n → q.last.position ≤ length q.tape.bytes → answer Step q ≡ refused refusals.TooLong q → q.last.output ≡ [] →
+    (more : List ℕ) → (q.tape.ended ≡ true → more ≡ []) → Shows Limit q.last.output (going_on_from q more n)
+shows_limit q n l on_tape h nothing more none =
+    let count = one_above n l in
+    rw count.1 (going_on_too_long q q more count.0 on_tape h none nothing ∙ ap (λ (bytes : List ℕ). record { bytes = bytes; stop = LimitPassed }) (sym nothing))
+
+-- without a step taken nothing is pending
+pub nothing_pending_unmoved : (p : PlainSession) (m k : ℕ) (q : PlainSession) → IsFresh p → AfterWalk p m k q → length q.earlier ≡ 0 → q.last.output ≡ []
+nothing_pending_unmoved p m k q fresh after none =
+    let same : q ≡ p = after.unmoved (omega (arith, after.taken)) in
+    ap (λ (s : PlainSession). s.last.output) same ∙ fresh.nothing_pending
+
+-- whether there is a step to go back over, as it is tested
+pub taken_of_test : (p : PlainSession) (m k : ℕ) (q : PlainSession) (empty : Bool) → AfterWalk p m k q → empty ≡ (length q.earlier == 0) → empty ≡ false → 0 < k
+taken_of_test p m k q empty after is none = grind (arith, nat_tests, after.taken)
+
+pub none_taken_of_test : (q : PlainSession) (empty : Bool) → empty ≡ (length q.earlier == 0) → empty ≡ true → length q.earlier ≡ 0
+none_taken_of_test q empty is none = grind (arith, nat_tests)
+
+-- ---- a commit after the walk
+
+-- what was to be written is the pending output, and what is to be written from the committed session on
+pub released_rest : (p : PlainSession) (m k : ℕ) (q r : PlainSession) → AfterWalk p m k q → answer Commit q ≡ done r →
+    (more : List ℕ) → (p.tape.ended ≡ true → more ≡ []) → going_on_from p more m ≡ prepended q.last.output (going_on_from r more (m - k))
+released_rest p m k q r after h more none = after.rest more none ∙ going_on-Commit q r more (m - k) after.on_tape h
+
+-- the tape of the committed session has ended where the first one had
+pub ended_after_Commit : (q r : PlainSession) → answer Commit q ≡ done r → r.tape.ended ≡ q.tape.ended
+ended_after_Commit q r h = ap (λ (s : PlainSession). s.tape.ended) (Commit_done q r h)
+
+-- a release
+pub released_on : (input : Option (List ℕ)) (out_old out_new : Option (List ℕ)) (p : PlainSession) (m k : ℕ) (q r : PlainSession) (result : Result (Unit {0}) Ending) →
+    AfterWalk p m k q → (p.tape.ended ≡ true → IsAtEnd input) → OnOk result (Appends out_old out_new q.last.output) → OnOk result (answer Commit q ≡ done r) →
+    OnOk result (GoesOn input input out_old out_new p m r (m - k))
+released_on input out_old out_new p m k q r (Err e) after at_end gave h = tt
+released_on input out_old out_new p m k q r (Ok u) after at_end gave h =
+    let ended : r.tape.ended ≡ p.tape.ended = ended_after_Commit q r h ∙ ap (λ t. t.ended) after.tape in
+    record {
+      got = [];
+      written = q.last.output;
+      took = Consumes-nothing input;
+      gave = gave;
+      closed = λ over. (refl, ended ∙ over);
+      at_end = λ over. at_end (sym ended ∙ over);
+      rest = λ more none. released_rest p m k q r after h more (λ over. none (ended ∙ over));
+    }
+
+-- a front of what is pending was written
+pub finished_front : (input : Option (List ℕ)) (out_old out_new : Option (List ℕ)) (p : PlainSession) (m k : ℕ) (q : PlainSession) (ending : Ending) →
+    AfterWalk p m k q → (p.tape.ended ≡ true → IsAtEnd input) → ending ≡ Write → WritesFront out_old out_new q.last.output → Finishes input input out_old out_new p m ending
+finished_front input out_old out_new p m k q ending after at_end fault front = record {
+  got = [];
+  written = front.written;
+  took = Consumes-nothing input;
+  gave = front.gave;
+  closed = λ _. refl;
+  at_end = at_end;
+  front = λ more none. subst (λ (o : Output). IsFrontOf front.written o.bytes) (sym (after.rest more none))
+      (front_of_front front.written q.last.output (going_on_from q more (m - k)).bytes front.front (front_pending q more (m - k)));
+  shows = λ more none. Shows-Write ending front.written (going_on_from p more m) fault;
+}
+
+-- a release that failed
+pub released_failed : (input : Option (List ℕ)) (out_old out_new : Option (List ℕ)) (p : PlainSession) (m k : ℕ) (q : PlainSession) (result : Result (Unit {0}) Ending) →
+    AfterWalk p m k q → (p.tape.ended ≡ true → IsAtEnd input) → IfErr result (λ ending. (ending ≡ Write) × WritesFront out_old out_new q.last.output) →
+    IfErr result (Finishes input input out_old out_new p m)
+released_failed input out_old out_new p m k q (Ok u) after at_end failed = tt
+released_failed input out_old out_new p m k q (Err e) after at_end failed = finished_front input out_old out_new p m k q e after at_end failed.0 failed.1
+
+-- the committed session is fresh
+pub released_fresh : (p : PlainSession) (m k : ℕ) (q r : PlainSession) (result : Result (Unit {0}) Ending) → AfterWalk p m k q → OnOk result (answer Commit q ≡ done r) → OnOk result (IsFresh r)
+released_fresh p m k q r (Err e) after h = tt
+released_fresh p m k q r (Ok u) after h =
+    let left = after_Commit q r h in
+    record {
+      some_records = omega (arith, left.3, after.some_records);
+      first = left.1;
+      nothing_pending = left.0;
+      nothing_read = left.2;
+    }
+
+-- ---- the turns
+
+-- the end adds at most one
+pub end_turns : (b : Bool) → (if b then 0 else 1) ≤ 1
+end_turns true = omega arith
+end_turns false = omega arith
+
+-- with a step taken there are fewer turns left, whatever became of the tape
+pub fewer_by_step : (p r : PlainSession) (m n : ℕ) → n < m → turns_left r n < turns_left p m
+fewer_by_step p r m n l = omega (arith, end_turns r.tape.ended)
+
+-- after a release, a step having been taken
+pub released_fewer : (p q r : PlainSession) (m k : ℕ) (result : Result (Unit {0}) Ending) → AfterWalk p m k q → 0 < k → OnOk result (turns_left r (m - k) < turns_left p m)
+released_fewer p q r m k (Err e) after some = tt
+released_fewer p q r m k (Ok u) after some = fewer_by_step p r m (m - k) (omega (arith, after.within))
+
+-- a full journal has a step
+pub taken_when_full : (p q : PlainSession) (m k : ℕ) → AfterWalk p m k q → answer Step q ≡ refused refusals.JournalFull q → 0 < k
+taken_when_full p q m k after h = omega (arith, after.taken, after.some_records, Step_refused_JournalFull q q h)
+
+-- ---- input after the walk
+
+-- going on from the session after the walk
+pub walked_on : (in_old in_new out_old out_new : Option (List ℕ)) (p : PlainSession) (m k : ℕ) (q r : PlainSession) (result : Result (Unit {0}) Ending) →
+    AfterWalk p m k q → OnOk result (GoesOn in_old in_new out_old out_new q (m - k) r (m - k)) → OnOk result (GoesOn in_old in_new out_old out_new p m r (m - k))
+walked_on in_old in_new out_old out_new p m k q r (Err e) after on = tt
+walked_on in_old in_new out_old out_new p m k q r (Ok u) after on =
+    let ended : q.tape.ended ≡ p.tape.ended = ap (λ t. t.ended) after.tape in
+    record {
+      got = on.got;
+      written = on.written;
+      took = on.took;
+      gave = on.gave;
+      closed = λ over. on.closed (ended ∙ over);
+      at_end = on.at_end;
+      rest = λ more none.
+          after.rest (on.got ++ more) (λ over. let at = on.closed (ended ∙ over) in ap (λ g. g ++ more) at.0 ∙ none at.1)
+          ∙ on.rest more none;
+    }
+
+-- finishing from the session after the walk
+pub walked_finish : (in_old in_new out_old out_new : Option (List ℕ)) (p : PlainSession) (m k : ℕ) (q : PlainSession) (result : Result (Unit {0}) Ending) →
+    AfterWalk p m k q → IfErr result (Finishes in_old in_new out_old out_new q (m - k)) → IfErr result (Finishes in_old in_new out_old out_new p m)
+walked_finish in_old in_new out_old out_new p m k q (Ok u) after on = tt
+walked_finish in_old in_new out_old out_new p m k q (Err e) after on =
+    let ended : q.tape.ended ≡ p.tape.ended = ap (λ t. t.ended) after.tape in
+    let all : (more : List ℕ) → (p.tape.ended ≡ true → more ≡ []) → going_on_from p (on.got ++ more) m ≡ going_on_from q (on.got ++ more) (m - k) =
+    λ more none. after.rest (on.got ++ more) (λ over. ap (λ g. g ++ more) (on.closed (ended ∙ over)) ∙ none over) in
+    record {
+      got = on.got;
+      written = on.written;
+      took = on.took;
+      gave = on.gave;
+      closed = λ over. on.closed (ended ∙ over);
+      at_end = λ over. on.at_end (ended ∙ over);
+      front = λ more none. subst (λ (o : Output). IsFrontOf on.written o.bytes) (sym (all more none)) (on.front more (λ over. none (sym ended ∙ over)));
+      shows = λ more none. subst (λ (o : Output). Shows e on.written o) (sym (all more none)) (on.shows more (λ over. none (sym ended ∙ over)));
+    }
+
+-- the same with at least one step left, which the input says with a number behind it
+pub walked_finish_one : (in_old in_new out_old out_new : Option (List ℕ)) (p : PlainSession) (m k : ℕ) (q : PlainSession) (result : Result (Unit {0}) Ending) →
+    AfterWalk p m k q → k < m → ((n : ℕ) → IfErr result (Finishes in_old in_new out_old out_new q (n + 1))) → IfErr result (Finishes in_old in_new out_old out_new p m)
+walked_finish_one in_old in_new out_old out_new p m k q result after l on =
+    let count : (m - k - 1) + 1 ≡ m - k = omega arith in
+    walked_finish in_old in_new out_old out_new p m k q result after
+    (subst (λ (n : ℕ). IfErr result (Finishes in_old in_new out_old out_new q n)) count (on (m - k - 1)))
+
+-- fewer turns after input
+pub walked_fewer : (p : PlainSession) (m k : ℕ) (q r : PlainSession) (result : Result (Unit {0}) Ending) → IsFresh p → AfterWalk p m k q →
+    (q.last.position ≡ 0 → OnOk result (turns_left r (m - k) < turns_left q (m - k))) → OnOk result (turns_left r (m - k) < turns_left p m)
+walked_fewer p m zero q r result fresh after fewer =
+    let same : q ≡ p = after.unmoved refl in
+    let start : q.last.position ≡ 0 = ap (λ (s : PlainSession). s.last.position) same ∙ fresh.nothing_read in
+    let count : m - 0 ≡ m = omega arith in
+    subst (λ (s : PlainSession). OnOk result (turns_left r (m - 0) < turns_left s m)) same
+    (subst (λ (n : ℕ). OnOk result (turns_left r (m - 0) < turns_left q n)) count (fewer start))
+walked_fewer p m (suc k) q r result fresh after fewer = released_fewer p q r m (suc k) result after (omega arith)

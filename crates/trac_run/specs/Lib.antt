@@ -1,0 +1,3 @@
+-- What a run reads and writes.
+pub mod Written
+pub mod Runs

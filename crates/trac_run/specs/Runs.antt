@@ -1,0 +1,113 @@
+-- What a run reads and writes.
+use Rattle.std.specs.Prelude.{◌≡◌, ℕ, ◌+◌, ◌-◌, ◌*◌, ◌<◌, ◌≤◌, Bool, true, if◌then◌else◌, List, [], ◌++◌, length, Option, ◌⊎◌}
+use Rattle.std.specs.Io.KnownBytes.{Appends, Consumes, IsAtEnd}
+use Rattle.trac_rules.specs.declared.limit.TheConstants.{TEXT_LIMIT, TAPE_LIMIT}
+use Rattle.trac_rules.specs.declared.refusal.Refusal.{Refusal}
+use Rattle.trac_rules.specs.declared.refusal.Refusal.TheVariants as refusals
+use Rattle.trac_rules.specs.Session.{PlainSession, Feed, End, done, answer}
+use Rattle.trac_rules.specs.Running.{Output, BudgetSpent, InputEnded, LimitPassed}
+use Rattle.trac_rules.specs.GoingOn.{prepended, going_on_from}
+use Rattle.trac_run.specs.declared.ending.Ending.{Ending}
+use Rattle.trac_run.specs.declared.ending.Ending.TheVariants.{Ended, Budget, Limit, Memory, Read, Write}
+use Rattle.trac_rules.specs.Fronts.{IsFrontOf}
+
+-- ---- endings
+
+abbrev pub status_of : Ending → ℕ
+status_of Ended = 0
+status_of Budget = 3
+status_of Limit = 4
+status_of Memory = 5
+status_of Read = 6
+status_of Write = 7
+
+-- how a run ends whose feed is refused
+abbrev pub ending_of_feed : Refusal → Ending
+ending_of_feed refusals.Memory = Memory
+ending_of_feed refusal = Limit
+
+-- what an ending says of the stated output: without a fault, and with memory enough, all of it is written, and the ending is the stated one
+abbrev pub Shows : Ending → List ℕ → Output → Type 0
+Shows Ended written o = o ≡ record { bytes = written; stop = InputEnded }
+Shows Budget written o = o ≡ record { bytes = written; stop = BudgetSpent }
+Shows Limit written o = o ≡ record { bytes = written; stop = LimitPassed }
+Shows Memory written o = Unit {0}
+Shows Read written o = Unit {0}
+Shows Write written o = Unit {0}
+
+-- ---- a whole run
+
+-- a run read some bytes, and perhaps saw the end of the input, and wrote some: however the input goes on behind what
+-- was read (not at all where the end was seen), what was written is a front of the output that is stated for all of
+-- the input, and its ending is the stated one where it is not a fault or want of memory: all is written then
+pub record Runs (in_old in_new out_old out_new : Option (List ℕ)) (stated : List ℕ → Output) (ending : Ending) : Type 0 where
+  pub got : List ℕ
+  pub written : List ℕ
+  pub saw_end : Bool
+  pub took : Consumes in_old in_new got
+  pub gave : Appends out_old out_new written
+  pub at_end : saw_end ≡ true → IsAtEnd in_new
+  pub front : (more : List ℕ) → (saw_end ≡ true → more ≡ []) → IsFrontOf written (stated (got ++ more)).bytes
+  pub shows : (more : List ℕ) → (saw_end ≡ true → more ≡ []) → Shows ending written (stated (got ++ more))
+
+-- ---- parts of a run
+
+-- a session at the beginning of a turn: nothing to go back over, nothing pending and nothing read
+pub record IsFresh (p : PlainSession) : Type 0 where
+  pub some_records : 1 ≤ p.limit
+  pub first : p.earlier ≡ []
+  pub nothing_pending : p.last.output ≡ []
+  pub nothing_read : p.last.position ≡ 0
+
+-- how many turns there may still be, with so many steps left: each turn takes a step, or lengthens the tape, or ends it
+abbrev pub turns_left : PlainSession → ℕ → ℕ
+turns_left p n = n * (TAPE_LIMIT + 2) + (TAPE_LIMIT - length p.tape.bytes) + (if p.tape.ended then 0 else 1)
+
+-- what was to be written from one session on, is what was written and what is to be written from the other on
+pub record GoesOn (in_old in_new out_old out_new : Option (List ℕ)) (p : PlainSession) (m : ℕ) (q : PlainSession) (n : ℕ) : Type 0 where
+  pub got : List ℕ
+  pub written : List ℕ
+  pub took : Consumes in_old in_new got
+  pub gave : Appends out_old out_new written
+  pub closed : p.tape.ended ≡ true → (got ≡ []) × (q.tape.ended ≡ true)
+  pub at_end : q.tape.ended ≡ true → IsAtEnd in_new
+  pub rest : (more : List ℕ) → (q.tape.ended ≡ true → more ≡ []) → going_on_from p (got ++ more) m ≡ prepended written (going_on_from q more n)
+
+-- what was written is a front of what was to be written from a session on, and the ending is the stated one
+pub record Finishes (in_old in_new out_old out_new : Option (List ℕ)) (p : PlainSession) (m : ℕ) (ending : Ending) : Type 0 where
+  pub got : List ℕ
+  pub written : List ℕ
+  pub took : Consumes in_old in_new got
+  pub gave : Appends out_old out_new written
+  pub closed : p.tape.ended ≡ true → got ≡ []
+  pub at_end : p.tape.ended ≡ true → IsAtEnd in_new
+  pub front : (more : List ℕ) → (p.tape.ended ≡ true → more ≡ []) → IsFrontOf written (going_on_from p (got ++ more) m).bytes
+  pub shows : (more : List ℕ) → (p.tape.ended ≡ true → more ≡ []) → Shows ending written (going_on_from p (got ++ more) m)
+
+-- ---- one read
+
+-- the reader gave these bytes, which were fed, or gave none, which is the end
+abbrev pub FeedsOrEnds : PlainSession → List ℕ → PlainSession → Option (List ℕ) → Type 0
+FeedsOrEnds p got q rest = ((got ≡ []) × IsAtEnd rest × (answer End p ≡ done q)) ⊎ ((0 < length got) × (answer (Feed got) p ≡ done q))
+
+-- why the bytes that the reader gave were not fed: it gave none for a fault, or there is no memory, or more is unread than any text may hold
+abbrev pub EndsFor : Ending → PlainSession → List ℕ → Type 0
+EndsFor Read p got = got ≡ []
+EndsFor Memory p got = Unit {0}
+EndsFor Limit p got = TEXT_LIMIT < length p.tape.bytes
+EndsFor Ended p got = ⊥
+EndsFor Budget p got = ⊥
+EndsFor Write p got = ⊥
+
+-- the reader took these bytes from its input, and the session stays as it was
+pub record TakesNone (in_old in_new : Option (List ℕ)) (p q : PlainSession) (ending : Ending) : Type 0 where
+  pub got : List ℕ
+  pub took : Consumes in_old in_new got
+  pub same : q ≡ p
+  pub why : EndsFor ending p got
+
+-- the reader gave more, or came to its end
+pub record TakesMore (in_old in_new : Option (List ℕ)) (p q : PlainSession) : Type 0 where
+  pub got : List ℕ
+  pub took : Consumes in_old in_new got
+  pub fed : FeedsOrEnds p got q in_new

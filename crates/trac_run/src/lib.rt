@@ -1,0 +1,9 @@
+//! Runs: a program's input from a reader, its output to a writer, and how it ended.
+#![tactic(auto)]
+
+mod ending;
+pub mod running;
+pub mod writing;
+
+pub use ending::Ending;
+pub use running::{BUDGET_LIMIT, Options, run};

@@ -1,0 +1,162 @@
+//! A run: a program's input from a reader, its output to a writer.
+ghost use Rattle.std.specs.Prelude.{◌≡◌, ℕ, ◌+◌, ◌<◌, ◌≤◌, true, false, length, OnOk, IfErr};
+ghost use Rattle.std.specs.Io.KnownBytes.{Appends, IsAtEnd};
+ghost use Rattle.trac_rules.specs.Session.{Step, Commit, done, refused, answer};
+ghost use Rattle.trac_rules.specs.Running.{output_of};
+ghost use Rattle.trac_run.specs.Written.{WritesFront};
+ghost use Rattle.trac_run.specs.Runs.{Runs, ending_of_feed as ending_of, IsFresh, GoesOn, Finishes, TakesMore, TakesNone, turns_left};
+
+use crate::ending::Ending;
+use crate::writing::{finish, flush, write_whole};
+use std::alloc::Allocator;
+use std::io::{Read, Write};
+use trac_rules::limit::{JOURNAL_LIMIT, TEXT_LIMIT};
+use trac_rules::refusal::Refusal;
+use trac_session::Session;
+
+/// How many bytes one read may give (this project's profile).
+const READ_SIZE: usize = 4096;
+
+/// The most steps that a run may be allowed (this project's profile).
+pub const BUDGET_LIMIT: u64 = 1_000_000_000_000;
+
+/// The options of a run.
+#[derive(Clone, Copy, Debug, PartialEq, Eq)]
+pub struct Options {
+    /// How many steps it may take: 1 to 1,000,000,000,000.
+    pub budget: u64,
+    /// How many records its journal may hold: 1 to 1,048,576.
+    pub journal: usize,
+}
+
+/// Runs what the reader gives, and writes what it prints, until the budget is spent, the input has ended, or a limit,
+/// memory, the reader or the writer ends it. Output is written and flushed before each read, and before the end.
+/// After a read fault it does not flush again.
+pub fn run<R: Read, W: Write, A: Allocator + Copy>(
+    alloc: A,
+    input: &mut R,
+    output: &mut W,
+    options: Options,
+) -> Ending
+    requires some_steps { 1 ≤ options.budget }
+    requires most_steps { options.budget ≤ BUDGET_LIMIT }
+    requires some_records { 1 ≤ options.journal }
+    requires most_records { options.journal ≤ JOURNAL_LIMIT }
+    ensures { Runs (R.remaining input.old) (R.remaining input.new) (W.contents output.old) (W.contents output.new)
+        (λ text. output_of text options.budget) result }
+{
+    let Ok(mut session) = Session::new(alloc, options.journal) else {
+        return finish(output, &[], Ending::Memory);
+    };
+    let mut left = options.budget;
+    loop {
+        if let Err(ending) = take_turn(&mut session, input, output, &mut left) {
+            return ending;
+        }
+    }
+}
+
+// Goes forward until a step is refused or none is left, and does what the refusal asks for.
+fn take_turn<R: Read, W: Write, A: Allocator + Copy>(
+    session: &mut Session<A>,
+    input: &mut R,
+    output: &mut W,
+    left: &mut u64,
+) -> Result<(), Ending>
+    requires fresh { IsFresh session.old }
+    requires at_end { session.old.tape.ended ≡ true → IsAtEnd (R.remaining input.old) }
+    ensures ok { OnOk result (GoesOn (R.remaining input.old) (R.remaining input.new) (W.contents output.old) (W.contents output.new)
+        session.old left.old session.new left.new) }
+    ensures err { IfErr result (Finishes (R.remaining input.old) (R.remaining input.new) (W.contents output.old) (W.contents output.new)
+        session.old left.old) }
+    ensures fresh { OnOk result (IsFresh session.new) }
+    ensures fewer { OnOk result (turns_left session.new left.new < turns_left session.old left.old) }
+{
+    let walk = session.forward(*left);
+    *left -= walk.done;
+    let Some(refusal) = walk.why else {
+        return Err(finish(output, session.pending(), Ending::Budget));
+    };
+    match refusal {
+        Refusal::NeedInput => take_input(session, input, output),
+        Refusal::JournalFull => release(session, output),
+        Refusal::TooLong if !session.is_empty() => release(session, output),
+        Refusal::TooLong => Err(finish(output, session.pending(), Ending::Limit)),
+        Refusal::Ended => Err(finish(output, session.pending(), Ending::Ended)),
+        Refusal::Memory => Err(finish(output, session.pending(), Ending::Memory)),
+        Refusal::AtStart | Refusal::Closed | Refusal::NotMet => unreachable!(),
+    }
+}
+
+// Writes what is pending, and commits.
+fn release<W: Write, A: Allocator + Copy>(
+    session: &mut Session<A>,
+    output: &mut W,
+) -> Result<(), Ending>
+    ensures ok { OnOk result (Appends (W.contents output.old) (W.contents output.new) session.old.last.output) }
+    ensures committed { OnOk result (answer Commit session.old ≡ done session.new) }
+    ensures err { IfErr result (λ ending. (ending ≡ Ending.Write) × WritesFront (W.contents output.old) (W.contents output.new) session.old.last.output) }
+{
+    write_whole(output, session.pending())?;
+    session.commit();
+    Ok(())
+}
+
+// Writes and flushes what is pending, commits, and reads once.
+fn take_input<R: Read, W: Write, A: Allocator + Copy>(
+    session: &mut Session<A>,
+    input: &mut R,
+    output: &mut W,
+) -> Result<(), Ending>
+    requires wanted { answer Step session.old ≡ refused Refusal.NeedInput session.old }
+    requires on_tape { session.old.last.position ≤ length session.old.tape.bytes }
+    requires some_records { 1 ≤ session.old.limit }
+    ensures ok { (n : ℕ) → OnOk result (GoesOn (R.remaining input.old) (R.remaining input.new) (W.contents output.old) (W.contents output.new)
+        session.old n session.new n) }
+    ensures err { (n : ℕ) → IfErr result (Finishes (R.remaining input.old) (R.remaining input.new) (W.contents output.old) (W.contents output.new)
+        session.old (n + 1)) }
+    ensures fresh { OnOk result (IsFresh session.new) }
+    ensures fewer { (n : ℕ) → session.old.last.position ≡ 0 → OnOk result (turns_left session.new n < turns_left session.old n) }
+{
+    write_whole(output, session.pending())?;
+    flush(output)?;
+    session.commit();
+    match read_more(session, input) {
+        Ok(()) => Ok(()),
+        Err(Ending::Read) => Err(Ending::Read),
+        Err(ending) => Err(finish(output, session.pending(), ending)),
+    }
+}
+
+// Reads once, and feeds what the reader gives; nothing is the end of the input.
+fn read_more<R: Read, A: Allocator + Copy>(
+    session: &mut Session<A>,
+    input: &mut R,
+) -> Result<(), Ending>
+    requires { session.old.tape.ended ≡ false }
+    ensures ok { OnOk result (TakesMore (R.remaining input.old) (R.remaining input.new) session.old session.new) }
+    ensures err { IfErr result (TakesNone (R.remaining input.old) (R.remaining input.new) session.old session.new) }
+{
+    let mut bytes = [0; READ_SIZE];
+    let Ok(count) = input.read(&mut bytes) else {
+        return Err(Ending::Read);
+    };
+    if count == 0 {
+        session.end();
+        return Ok(());
+    }
+    match session.feed(&bytes[..count]) {
+        Ok(()) => Ok(()),
+        Err(refusal) => Err(ending_of_feed(refusal)),
+    }
+}
+
+// How a run ends whose feed is refused: the input is not closed before its end was seen, so else a limit would be passed.
+fn ending_of_feed(refusal: Refusal) -> Ending
+    ensures { result ≡ ending_of refusal }
+{
+    match refusal {
+        Refusal::Memory => Ending::Memory,
+        _ => Ending::Limit,
+    }
+}

@@ -1,0 +1,8 @@
+//! Tests of runs: over readers and writers that fail, and with too little memory. The library itself is empty. What whole
+//! programs print stands in `tests/programs`.
+#![tactic(auto)]
+
+#[cfg(test)]
+mod endings;
+#[cfg(test)]
+mod runs;

@@ -1,0 +1,240 @@
+//! Whole runs: what each writes and how it ends, where reads, writes, flushes and requests for memory fail in turn.
+ghost use Rattle.std.specs.Prelude.{◌≤◌};
+
+use std::alloc::{AllocError, Allocator, Global};
+use std::process::Abort;
+use std::test::Fail;
+use trac_faults::{FaultyReader, FaultyWriter, Refusing, RepeatingReader};
+use trac_rules::limit::JOURNAL_LIMIT;
+use trac_run::{BUDGET_LIMIT, Ending, Options, run};
+
+// Those of the program.
+const DEFAULTS: Options = Options {
+    budget: 1_000_000_000,
+    journal: 64,
+};
+
+// What fails in a run: the call of this number.
+#[derive(Clone, Copy)]
+enum Fault {
+    None,
+    Read(u64),
+    // once all bytes are given
+    ReadAtEnd,
+    Write(u64),
+    // nothing is taken
+    TakeNone(u64),
+    Flush(u64),
+}
+
+fn reader_of(input: &[u8], most: usize, fault: Fault) -> FaultyReader<'_> {
+    let reader = FaultyReader::new(input).at_most(most);
+    match fault {
+        Fault::Read(nth) => reader.failing_at(nth),
+        Fault::ReadAtEnd => reader.failing_at_end(),
+        _ => reader,
+    }
+}
+
+fn writer_of(plain: Global, fault: Fault) -> FaultyWriter {
+    let writer = FaultyWriter::new(plain);
+    match fault {
+        Fault::Write(nth) => writer.failing_at(nth),
+        Fault::TakeNone(nth) => writer.taking_none_at(nth),
+        Fault::Flush(nth) => writer.failing_flush_at(nth),
+        _ => writer,
+    }
+}
+
+// How a run over this input ends, which comes at most so many bytes at a time, and what it has written.
+fn run_over<A: Allocator + Copy>(
+    rt: &(impl Abort + AllocGlobal),
+    alloc: A,
+    input: &[u8],
+    most: usize,
+    fault: Fault,
+    options: Options,
+) -> Result<(Ending, Vec<u8>), AllocError> {
+    assert!(rt; 1 <= options.budget && options.budget <= BUDGET_LIMIT);
+    assert!(rt; 1 <= options.journal && options.journal <= JOURNAL_LIMIT);
+    let mut reader = reader_of(input, most, fault);
+    let mut writer = writer_of(rt.alloc(), fault);
+    let ending = run(alloc, &mut reader, &mut writer, options);
+    Ok((ending, Vec::from_slice(rt.alloc(), writer.contents())?))
+}
+
+fn expect_run(
+    rt: &(impl Abort + AllocGlobal),
+    input: &[u8],
+    most: usize,
+    fault: Fault,
+    options: Options,
+    output: &[u8],
+    ending: Ending,
+) -> Result<(), AllocError> {
+    let (met, written) = run_over(rt, rt.alloc(), input, most, fault, options)?;
+    assert_eq!(rt; met, ending, "{most} bytes a read, {options:?}");
+    assert_eq!(rt;
+        written.as_slice(),
+        output,
+        "{most} bytes a read, {options:?}"
+    );
+    Ok(())
+}
+
+// One byte at a time and all at once write the same.
+const ROWS: [(&[u8], &[u8]); 3] = [
+    (b"", b""),
+    (b"a)b,c'", b"a"),
+    (
+        b"#(ds,AA,Cat)'#(ds,BB,(#(cl,AA)))'#(ps,(#(cl,BB)))'#(ps,##(cl,BB))'#(ps,#(cl,BB))'",
+        b"#(cl,BB)#(cl,AA)Cat",
+    ),
+];
+
+#[test]
+fn pieces_of_any_size(rt: HostRuntime) -> Result<(), Fail> {
+    for (input, output) in ROWS {
+        for most in [1, 2, 4096] {
+            expect_run(
+                &rt,
+                input,
+                most,
+                Fault::None,
+                DEFAULTS,
+                output,
+                Ending::Ended,
+            )?;
+        }
+    }
+    Ok(())
+}
+
+// Of the 20 steps that this input takes, and one that finds the end.
+const BUDGETS: [(u64, &[u8], Ending); 5] = [
+    (1, b"", Ending::Budget),
+    (10, b"", Ending::Budget),
+    (11, b"AB", Ending::Budget),
+    (19, b"AB", Ending::Budget),
+    (20, b"AB", Ending::Ended),
+];
+
+#[test]
+fn the_budget_is_kept(rt: HostRuntime) -> Result<(), Fail> {
+    for (budget, output, ending) in BUDGETS {
+        for journal in [1, 5, 64] {
+            let options = Options { budget, journal };
+            expect_run(&rt, b"AB'", 4096, Fault::None, options, output, ending)?;
+        }
+    }
+    Ok(())
+}
+
+// Prints `AB` in two parts, read one byte a call: `A` before the ninth read, and `B` before the eleventh, which finds the
+// end. Output is written and flushed before each read, and before the end.
+const INPUT: &[u8; 10] = b"#(ps,A)'B'";
+
+const FAULTS: [(Fault, &[u8], Ending); 20] = [
+    (Fault::Read(1), b"", Ending::Read),
+    (Fault::Read(8), b"", Ending::Read),
+    (Fault::Read(9), b"A", Ending::Read),
+    (Fault::Read(10), b"A", Ending::Read),
+    (Fault::Read(11), b"AB", Ending::Read),
+    (Fault::Read(12), b"AB", Ending::Ended),
+    (Fault::ReadAtEnd, b"AB", Ending::Read),
+    (Fault::Write(1), b"", Ending::Write),
+    (Fault::Write(2), b"A", Ending::Write),
+    (Fault::Write(3), b"AB", Ending::Ended),
+    (Fault::TakeNone(1), b"", Ending::Write),
+    (Fault::TakeNone(2), b"A", Ending::Write),
+    (Fault::TakeNone(3), b"AB", Ending::Ended),
+    (Fault::Flush(1), b"", Ending::Write),
+    (Fault::Flush(8), b"", Ending::Write),
+    (Fault::Flush(9), b"A", Ending::Write),
+    (Fault::Flush(10), b"A", Ending::Write),
+    (Fault::Flush(11), b"AB", Ending::Write),
+    (Fault::Flush(12), b"AB", Ending::Write),
+    (Fault::Flush(13), b"AB", Ending::Ended),
+];
+
+#[test]
+fn each_fault(rt: HostRuntime) -> Result<(), Fail> {
+    for (fault, output, ending) in FAULTS {
+        expect_run(&rt, INPUT, 1, fault, DEFAULTS, output, ending)?;
+    }
+    for nth in 1..=8 {
+        expect_run(&rt, INPUT, 1, Fault::Read(nth), DEFAULTS, b"", Ending::Read)?;
+        expect_run(
+            &rt,
+            INPUT,
+            1,
+            Fault::Flush(nth),
+            DEFAULTS,
+            b"",
+            Ending::Write,
+        )?;
+    }
+    Ok(())
+}
+
+// A run where a request is refused writes a front of its output.
+fn expect_memory(
+    rt: &(impl Abort + AllocGlobal),
+    memory: &Refusing<Global>,
+) -> Result<(), AllocError> {
+    let refusals = memory.refusals();
+    let (ending, written) = run_over(rt, memory, INPUT, 4096, Fault::None, DEFAULTS)?;
+    if memory.refusals() == refusals {
+        assert_eq!(rt; ending, Ending::Ended);
+        assert_eq!(rt; written.as_slice(), b"AB".as_slice());
+    } else {
+        assert_eq!(rt; ending, Ending::Memory);
+        assert!(rt; b"AB".starts_with(written.as_slice()));
+    }
+    Ok(())
+}
+
+#[test]
+fn each_request(rt: HostRuntime) -> Result<(), Fail> {
+    let memory = Refusing::new(rt.alloc());
+    let runs = memory.refuse_each(10_000, |_| expect_memory(&rt, &memory))?;
+    assert!(rt; runs > Some(19), "{runs:?} runs");
+    Ok(())
+}
+
+// A call that would give 4,096 times 4,097 bytes.
+#[test]
+fn a_value_that_is_too_long(rt: HostRuntime) -> Result<(), Fail> {
+    let alloc = rt.alloc();
+    let gaps = vec![in alloc; b'x'; 4_096]?;
+    let filling = vec![in alloc; b'y'; 4_097]?;
+    let mut input = Vec::from_slice(alloc, b"#(ds,F,(")?;
+    input.extend_from_slice(gaps.as_slice())?;
+    input.extend_from_slice(b"))#(ss,F,x)#(cl,F,(")?;
+    input.extend_from_slice(filling.as_slice())?;
+    input.extend_from_slice(b"))'")?;
+    expect_run(
+        &rt,
+        input.as_slice(),
+        4096,
+        Fault::None,
+        DEFAULTS,
+        b"",
+        Ending::Limit,
+    )?;
+    Ok(())
+}
+
+// With the budget spent nothing more is read.
+#[test]
+fn input_without_end(rt: HostRuntime) {
+    let mut reader = RepeatingReader::new(b"A'");
+    let mut writer = FaultyWriter::new(rt.alloc());
+    let options = Options {
+        budget: 1_000,
+        journal: 64,
+    };
+    let ending = run(rt.alloc(), &mut reader, &mut writer, options);
+    assert_eq!(rt; ending, Ending::Budget);
+    assert_eq!(rt; writer.contents(), [b'A'; 91].as_slice());
+}
