@@ -19,7 +19,7 @@ const UNREAD: Input = Input {
 
 // A call over the forms `B`, `F` and `R` (`with_forms`): its arguments one behind another, the places where the further ones
 // begin, and what is planned. Each makes a request for memory.
-const CALLS: [(&[u8], &[usize], &[u8]); 17] = [
+const CALLS: [(&[u8], &[usize], &[u8]); 22] = [
     (b"adapples5pears3", &[2, 9], b"apples8||keep 0"),
     // A quotient by zero: the default argument, forced.
     (b"DV10none", &[2, 3, 4], b"none!||keep 0"),
@@ -35,6 +35,12 @@ const CALLS: [(&[u8], &[usize], &[u8]); 17] = [
     // A form is called from its pointer.
     (b"clFXY", &[2, 3, 4], b"XbcY||keep 0"),
     (b"CLF", &[2], b"bc||keep 0"),
+    // Read at its pointer, which stands before a gap.
+    (b"csFZ", &[2, 3], b"||point F 2 0"),
+    (b"ccFZ", &[2, 3], b"b||point F 3 0"),
+    (b"cnF-1Z", &[2, 3, 5], b"a||point F 0 0"),
+    (b"inFcZ", &[2, 3, 4], b"b||point F 4 0"),
+    (b"inFabZ", &[2, 3, 5], b"Z!||keep 0"),
     (b"ln;", &[2], b";B;F;R||keep 0"),
     (b"pfF", &[2], b"|a<^><1>bc<2>|keep 0"),
     // The names that the call gives, the null name among them, and no other.
@@ -44,11 +50,12 @@ const CALLS: [(&[u8], &[usize], &[u8]); 17] = [
 ];
 
 // Calls that make no request for memory. Where there is no form of the name, the value is null and nothing changes.
-const CALLS_WITHOUT_MEMORY: [(&[u8], &[usize], &[u8]); 12] = [
+const CALLS_WITHOUT_MEMORY: [(&[u8], &[usize], &[u8]); 13] = [
     (b"ssGb", &[2, 3], b"||keep 0"),
     (b"crGb", &[2, 3], b"||keep 0"),
     (b"clGb", &[2, 3], b"||keep 0"),
     (b"pfGb", &[2, 3], b"||keep 0"),
+    (b"ccGb", &[2, 3], b"||keep 0"),
     (b"cm;x", &[2], b"||keep 0 ;"),
     (b"cm", &[], b"||keep 0"),
     (b"tn", &[], b"||keep 0 traced"),

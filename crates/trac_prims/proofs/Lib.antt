@@ -8,6 +8,7 @@ pub mod FirstPlaces
 pub mod Putting
 pub mod Listed
 pub mod Held
+pub mod Given
 pub mod Fitting
 pub mod ReadCounts
 pub mod Joining

@@ -14,6 +14,7 @@ mod made;
 pub mod mark;
 mod name;
 mod planning;
+mod reading;
 pub mod tape;
 mod tracing;
 

@@ -20,6 +20,7 @@ use crate::forms::{call, define, delete, delete_all, list_names, print_form, res
 use crate::io::{print_string, read_byte, read_string, set_meta, set_trace};
 use crate::made::Made;
 use crate::name::primitive_named;
+use crate::reading::read;
 use crate::tape::Tape;
 use crate::tracing::print_line;
 use std::alloc::Allocator;
@@ -136,6 +137,7 @@ fn handle<A: Allocator + Copy>(
         FormAction::Segment => segment(alloc, args, store),
         FormAction::Restore => restore(alloc, args, store),
         FormAction::Call => call(alloc, args, store),
+        FormAction::Read(reading) => read(alloc, reading, args, store),
         FormAction::ListNames => list_names(alloc, args, store),
         FormAction::PrintForm => print_form(alloc, args, store),
     }

@@ -2,7 +2,7 @@
 use Rattle.std.specs.Prelude.{ℕ, List, [], ◌∷◌, drop, if◌then◌else◌, Option, None, Some, Result, Ok, Err}
 use Rattle.std.specs.FinMap as map
 use Rattle.trac_rules.specs.declared.primitive.FormAction.{FormAction}
-use Rattle.trac_rules.specs.declared.primitive.FormAction.TheVariants.{Define, Delete, DeleteAll, Segment, Restore, Call, ListNames, PrintForm}
+use Rattle.trac_rules.specs.declared.primitive.FormAction.TheVariants.{Define, Delete, DeleteAll, Segment, Restore, Call, Read, ListNames, PrintForm}
 use Rattle.trac_rules.specs.declared.primitive.FormReading.{FormReading}
 use Rattle.trac_rules.specs.declared.primitive.FormReading.TheVariants.{ReadSegment, ReadChar, ReadCount, ReadUntil}
 use Rattle.trac_rules.specs.declared.refusal.Refusal.{Refusal}
@@ -82,6 +82,8 @@ handled Restore arguments storage =
     on_form (named_form arguments storage) (λ form. Ok (leaves (pointing (argument 1 arguments) 0 form storage))) storage
 handled Call arguments storage =
     on_form (named_form arguments storage) (λ form. Ok (gives (called (drop 2 arguments) form) storage)) storage
+handled (Read reading) arguments storage =
+    on_form (named_form arguments storage) (λ form. Ok (form_read reading arguments form storage)) storage
 handled ListNames arguments storage = Ok (gives (listed (argument 1 arguments) storage.forms) storage)
 handled PrintForm arguments storage =
     on_form (named_form arguments storage) (λ form. Ok (prints (shown form) storage)) storage

@@ -2,7 +2,8 @@
 ghost use Rattle.std.specs.Prelude.{◌≡◌, [], codes, false, true};
 ghost use Rattle.trac_rules.specs.Performing.{primitive_of};
 ghost use Rattle.trac_rules.specs.declared.primitive.Computation.TheVariants.{Calculate, Complement, Equal, Greater, Meet, Rotate, Shift, Union};
-ghost use Rattle.trac_rules.specs.declared.primitive.FormAction.TheVariants.{Call, Define, Delete, DeleteAll, ListNames, PrintForm, Restore, Segment};
+ghost use Rattle.trac_rules.specs.declared.primitive.FormAction.TheVariants.{Call, Define, Delete, DeleteAll, ListNames, PrintForm, Read, Restore, Segment};
+ghost use Rattle.trac_rules.specs.declared.primitive.FormReading.TheVariants.{ReadChar, ReadCount, ReadSegment, ReadUntil};
 ghost use Rattle.trac_rules.specs.declared.primitive.Operation.TheVariants.{Add, Divide, Multiply, Subtract};
 ghost use Rattle.trac_rules.specs.declared.primitive.Primitive.TheVariants.{Compute, Halt, Handle, PrintString, ReadByte, ReadString, SetMeta, SetTrace, Unknown};
 
@@ -79,6 +80,8 @@ pub enum FormAction {
     Restore,
     /// `cl`: a form from its pointer on, its gaps filled with texts.
     Call,
+    /// `cs`, `cc`, `cn`, `in`: a form is read at its pointer, which may move.
+    Read(FormReading),
     /// `ln`: the names of all forms, each with a text before it.
     ListNames,
     /// `pf`: a form is printed.
@@ -108,7 +111,7 @@ pub struct NamedPrimitive {
 }
 
 /// The names of the primitives. Any other name is unknown.
-pub const NAMES: [NamedPrimitive; 26] = [
+pub const NAMES: [NamedPrimitive; 30] = [
     NamedPrimitive {
         letters: *b"ps",
         primitive: Primitive::PrintString,
@@ -206,6 +209,22 @@ pub const NAMES: [NamedPrimitive; 26] = [
         primitive: Primitive::Handle(FormAction::Call),
     },
     NamedPrimitive {
+        letters: *b"cs",
+        primitive: Primitive::Handle(FormAction::Read(FormReading::ReadSegment)),
+    },
+    NamedPrimitive {
+        letters: *b"cc",
+        primitive: Primitive::Handle(FormAction::Read(FormReading::ReadChar)),
+    },
+    NamedPrimitive {
+        letters: *b"cn",
+        primitive: Primitive::Handle(FormAction::Read(FormReading::ReadCount)),
+    },
+    NamedPrimitive {
+        letters: *b"in",
+        primitive: Primitive::Handle(FormAction::Read(FormReading::ReadUntil)),
+    },
+    NamedPrimitive {
         letters: *b"ln",
         primitive: Primitive::Handle(FormAction::ListNames),
     },
@@ -241,6 +260,10 @@ pub fn names_stand_for()
     ensures segment { primitive_of (codes "ss") ≡ Handle Segment }
     ensures restore { primitive_of (codes "cr") ≡ Handle Restore }
     ensures call { primitive_of (codes "cl") ≡ Handle Call }
+    ensures read_segment { primitive_of (codes "cs") ≡ Handle (Read ReadSegment) }
+    ensures read_char { primitive_of (codes "cc") ≡ Handle (Read ReadChar) }
+    ensures read_count { primitive_of (codes "cn") ≡ Handle (Read ReadCount) }
+    ensures read_until { primitive_of (codes "in") ≡ Handle (Read ReadUntil) }
     ensures list_names { primitive_of (codes "ln") ≡ Handle ListNames }
     ensures print_form { primitive_of (codes "pf") ≡ Handle PrintForm }
     // Each letter may be in either case (this project's profile).
