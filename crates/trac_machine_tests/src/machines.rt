@@ -18,11 +18,16 @@ const INPUT: Tape<'static> = Tape {
     ended: true,
 };
 
+fn new_machine<E: TwoEnds<u8, A>, A: Allocator + Copy>(alloc: A) -> Result<Core<E, A>, Refusal> {
+    Core::new(alloc)
+}
+
+// A new machine, where one request may be refused.
 fn made<E: TwoEnds<u8, A>, A: Allocator + Copy>(alloc: A) -> Result<Core<E, A>, Refusal> {
-    match Core::new(alloc) {
-        Err(Refusal::Memory) => Core::new(alloc),
-        other => other,
-    }
+    let Ok(machine) = new_machine(alloc) else {
+        return new_machine(alloc);
+    };
+    Ok(machine)
 }
 
 fn step<E: TwoEnds<u8, A>, A: Allocator + Copy>(
@@ -62,17 +67,30 @@ fn advance<E: TwoEnds<u8, A>, A: Allocator + Copy>(
     Ok(())
 }
 
-// A copy shows the same, where one request may be refused.
+fn copied<E: TwoEnds<u8, A>, A: Allocator + Copy>(
+    machine: &Core<E, A>,
+) -> Result<Core<E, A>, Refusal> {
+    machine.copy()
+}
+
+// A copy, where one request may be refused.
+fn copied_once<E: TwoEnds<u8, A>, A: Allocator + Copy>(
+    machine: &Core<E, A>,
+) -> Result<Core<E, A>, Refusal> {
+    let Ok(copy) = copied(machine) else {
+        return copied(machine);
+    };
+    Ok(copy)
+}
+
+// A copy shows the same.
 fn expect_copy<E: TwoEnds<u8, A>, A: Allocator + Copy>(
     rt: &impl Abort,
     plain: Global,
     machine: &Core<E, A>,
 ) -> Result<(), Fail> {
-    let copied = match machine.copy() {
-        Err(Refusal::Memory) => machine.copy()?,
-        other => other?,
-    };
-    assert_eq!(rt; state_shown(plain, &copied)?, state_shown(plain, machine)?);
+    let copy = copied_once(machine)?;
+    assert_eq!(rt; state_shown(plain, &copy)?, state_shown(plain, machine)?);
     Ok(())
 }
 
