@@ -4,3 +4,5 @@ pub mod Extents
 pub mod Going
 pub mod Tables
 pub mod Names
+pub mod Passing
+pub mod Searching

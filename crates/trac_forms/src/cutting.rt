@@ -119,7 +119,10 @@ fn bytes_into<A: Allocator>(bytes: &[u8], out: &mut Vec<Item, A>) -> Result<(), 
 }
 
 // Puts an item at the end of `out`.
-fn push_item<T: Copy, A: Allocator>(item: T, out: &mut Vec<T, A>) -> Result<(), FormError>
+pub(crate) fn push_item<T: Copy, A: Allocator>(
+    item: T,
+    out: &mut Vec<T, A>,
+) -> Result<(), FormError>
     ensures ok { OnOk result (out.new.items ≡ out.old.items ++ item ∷ []) }
     ensures err { IsOkUnless result FormError.Memory }
 {
