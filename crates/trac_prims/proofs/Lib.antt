@@ -2,7 +2,7 @@ pub mod Cutting
 pub mod Neutral
 pub mod Ending
 pub mod Peeling
-pub mod Made
+pub mod Kept
 pub mod Calculated
 pub mod FirstPlaces
 pub mod Putting

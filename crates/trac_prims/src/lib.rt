@@ -10,6 +10,7 @@ pub mod effect;
 mod forms;
 pub mod frames;
 mod io;
+mod made;
 pub mod mark;
 mod name;
 mod planning;

@@ -13,7 +13,7 @@ use Rattle.trac_rules.specs.declared.limit.TheConstants.{FORM_COUNT_LIMIT}
 use Rattle.trac_rules.specs.declared.primitive.Computation.{Computation}
 use Rattle.trac_rules.specs.declared.primitive.Computation.TheVariants.{Calculate}
 use Rattle.trac_rules.specs.declared.primitive.FormAction.{FormAction}
-use Rattle.trac_rules.specs.declared.primitive.FormAction.TheVariants.{Define, Delete, DeleteAll, Segment, Restore, Read, ListNames, PrintForm, Call as CallForm}
+use Rattle.trac_rules.specs.declared.primitive.FormAction.TheVariants.{Define, Delete, DeleteAll, Segment, Restore, ListNames, PrintForm, Call as CallForm}
 use Rattle.trac_rules.specs.declared.primitive.Primitive.{Primitive}
 use Rattle.trac_rules.specs.declared.primitive.Primitive.TheVariants.{ReadString, ReadByte, Halt, SetMeta, Compute, Handle}
 use Rattle.trac_rules.specs.declared.refusal.Refusal.{Refusal}
@@ -22,7 +22,7 @@ use Rattle.trac_rules.specs.Effect.{Effect, argument, gives, gives_or_forces, le
 use Rattle.trac_rules.specs.Filling.{called}
 use Rattle.trac_rules.specs.declared.item.Item.{Item}
 use Rattle.trac_rules.specs.Form.{Form, IsWide, all_items, at_start, defined, pointed_at}
-use Rattle.trac_rules.specs.Handling.{default_argument, gives_piece, handled, keeping, named_form, on_form, piece_read, pointing, putting, without}
+use Rattle.trac_rules.specs.Handling.{gives_piece, handled, keeping, named_form, on_form, pointing, putting, without}
 use Rattle.trac_rules.specs.Limits.{form_fits, may_be_put, texts_fit}
 use Rattle.trac_rules.specs.Number.{calculated}
 use Rattle.trac_rules.specs.Outcomes.{seen_as}
@@ -153,10 +153,6 @@ handled_proper Restore arguments storage proper =
     (λ form there. pointing_proper (argument 1 arguments) 0 form storage proper there)
 handled_proper CallForm arguments storage proper =
     on_form_proper (named_form arguments storage) (λ form. Ok (gives (called (drop 2 arguments) form) storage)) storage proper (λ form there. proper)
-handled_proper (Read reading) arguments storage proper =
-    on_form_proper (named_form arguments storage)
-    (λ form. Ok (gives_piece (piece_read reading arguments form) (default_argument reading arguments) (argument 1 arguments) form storage)) storage proper
-    (λ form there. piece_proper (piece_read reading arguments form) (default_argument reading arguments) (argument 1 arguments) form storage proper there)
 handled_proper ListNames arguments storage proper = proper
 handled_proper PrintForm arguments storage proper =
     on_form_proper (named_form arguments storage) (λ form. Ok (prints (shown form) storage)) storage proper (λ form there. proper)

@@ -10,7 +10,7 @@ use Rattle.trac_rules.specs.declared.kind.Kind.TheVariants.{Active, Neutral}
 use Rattle.trac_rules.specs.declared.primitive.Computation.{Computation}
 use Rattle.trac_rules.specs.declared.primitive.Computation.TheVariants.{Calculate}
 use Rattle.trac_rules.specs.declared.primitive.FormAction.{FormAction}
-use Rattle.trac_rules.specs.declared.primitive.FormAction.TheVariants.{Define, Delete, DeleteAll, Segment, Restore, Read, ListNames, PrintForm, Call as CallForm}
+use Rattle.trac_rules.specs.declared.primitive.FormAction.TheVariants.{Define, Delete, DeleteAll, Segment, Restore, ListNames, PrintForm, Call as CallForm}
 use Rattle.trac_rules.specs.declared.primitive.Primitive.{Primitive}
 use Rattle.trac_rules.specs.declared.primitive.Primitive.TheVariants.{PrintString, ReadString, ReadByte, Halt, SetMeta, SetTrace, Compute, Handle, Unknown}
 use Rattle.trac_rules.specs.declared.refusal.Refusal.{Refusal}
@@ -24,7 +24,7 @@ use Rattle.trac_rules.specs.Filling.{called}
 use Rattle.trac_rules.specs.Segmenting.{segmented}
 use Rattle.trac_rules.specs.Showing.{shown}
 use Rattle.trac_rules.specs.Computing.{computed}
-use Rattle.trac_rules.specs.Handling.{default_argument, gives_piece, handled, keeping, named_form, on_form, piece_read, pointing, putting}
+use Rattle.trac_rules.specs.Handling.{gives_piece, handled, keeping, named_form, on_form, pointing, putting}
 use Rattle.trac_rules.specs.Pieces.{Piece}
 use Rattle.trac_rules.specs.Outcomes.{limited, seen_as}
 use Rattle.trac_rules.specs.Reading.{byte_read, read_up_to, rest_read, string_read, unread}
@@ -106,10 +106,6 @@ handled_looks Restore arguments storage =
     on_form_looks (named_form arguments storage) (λ form. Ok (leaves (pointing (argument 1 arguments) 0 form storage))) storage (λ form. refl)
 handled_looks CallForm arguments storage =
     on_form_looks (named_form arguments storage) (λ form. Ok (gives (called (drop 2 arguments) form) storage)) storage (λ form. refl)
-handled_looks (Read reading) arguments storage =
-    on_form_looks (named_form arguments storage)
-    (λ form. Ok (gives_piece (piece_read reading arguments form) (default_argument reading arguments) (argument 1 arguments) form storage)) storage
-    (λ form. piece_looks (piece_read reading arguments form) (default_argument reading arguments) (argument 1 arguments) form storage)
 handled_looks ListNames arguments storage = refl
 handled_looks PrintForm arguments storage =
     on_form_looks (named_form arguments storage) (λ form. Ok (prints (shown form) storage)) storage (λ form. refl)

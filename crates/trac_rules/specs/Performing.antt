@@ -73,7 +73,8 @@ trace_line true kind arguments = beginning_of kind ++ join_with_byte STAR argume
 abbrev pub printed_behind : List ℕ → Effect → Effect
 printed_behind line e = record e { printed = line ++ e.printed }
 
--- what a call does: its primitive's effect, with the line of the trace printed first; the flag before the call decides
+-- what a call does: its primitive's effect, with the line of the trace printed first; the flag before the call decides,
+-- and a call that is refused prints no line
 unfoldable pub performed : Environment → Call → Result Effect Refusal
 performed environment call =
     seen_as (printed_behind (trace_line call.state.trace call.kind call.arguments))

@@ -33,7 +33,7 @@ read_on k form = record { value = bytes_in (take k form.after); place = length f
 abbrev pub read_back : ℕ → Form → Piece
 read_back k form = record { value = bytes_in (drop k form.before); place = k }
 
--- what is read, if there is anything on that side of the pointer; where there is nothing, none: that is the case of a default argument
+-- the piece, where the list holds anything; else none, which is the case of a default argument
 abbrev pub where_any : {A : Type 0} → List A → Option Piece → Option Piece
 where_any [] piece = None
 where_any (x ∷ xs) piece = piece
@@ -55,15 +55,15 @@ segment_read form = where_any form.after (Some (read_on (segment_items (position
 
 -- ---- `cn` and `cc`: gaps are passed (this project's profile)
 
--- the first place among items that has n bytes before it: right behind the last of these bytes
+-- the first place among items that has n bytes before it: right behind the last of these bytes, where n is not 0
 abbrev pub place_behind : ℕ → List Item → Option ℕ
 place_behind n items = first_place (λ k. length (bytes_in (take k items)) == n) (length items + 1)
 
--- the last place among items that has n bytes behind it: right before the first of these bytes
+-- the last place among items that has n bytes behind it: right before the first of these bytes, where n is not 0
 abbrev pub place_before : ℕ → List Item → Option ℕ
 place_before n items = last_place (λ k. length (bytes_in (drop k items)) == n) (length items + 1)
 
--- n, or the number of bytes among these items where that is less
+-- n, or the number of bytes among these items where that is less: so there always is a place with so many on that side
 abbrev pub at_most_all : ℕ → List Item → ℕ
 at_most_all n items = min n (length (bytes_in items))
 
@@ -89,10 +89,10 @@ count_read (pos zero) form = Some (nothing_read form)
 count_read (pos (suc n)) form = next_bytes (suc n) form
 count_read (negsuc n) form = last_bytes (suc n) form
 
--- where the number of a call does not fit: null, the pointer unmoved (this project's profile)
-abbrev pub number_read : Option ℤ → Form → Option Piece
-number_read None form = Some (nothing_read form)
-number_read (Some n) form = count_read n form
+-- the same for the number of a call, if it fits; where it does not, null, the pointer unmoved (this project's profile)
+abbrev pub fitting_count_read : Option ℤ → Form → Option Piece
+fitting_count_read None form = Some (nothing_read form)
+fitting_count_read (Some n) form = count_read n form
 
 -- ---- `in`
 

@@ -2,8 +2,7 @@
 ghost use Rattle.std.specs.Prelude.{◌≡◌, [], codes, false, true};
 ghost use Rattle.trac_rules.specs.Performing.{primitive_of};
 ghost use Rattle.trac_rules.specs.declared.primitive.Computation.TheVariants.{Calculate, Complement, Equal, Greater, Meet, Rotate, Shift, Union};
-ghost use Rattle.trac_rules.specs.declared.primitive.FormAction.TheVariants.{Call, Define, Delete, DeleteAll, ListNames, PrintForm, Read, Restore, Segment};
-ghost use Rattle.trac_rules.specs.declared.primitive.FormReading.TheVariants.{ReadChar, ReadCount, ReadSegment, ReadUntil};
+ghost use Rattle.trac_rules.specs.declared.primitive.FormAction.TheVariants.{Call, Define, Delete, DeleteAll, ListNames, PrintForm, Restore, Segment};
 ghost use Rattle.trac_rules.specs.declared.primitive.Operation.TheVariants.{Add, Divide, Multiply, Subtract};
 ghost use Rattle.trac_rules.specs.declared.primitive.Primitive.TheVariants.{Compute, Halt, Handle, PrintString, ReadByte, ReadString, SetMeta, SetTrace, Unknown};
 
@@ -18,7 +17,7 @@ pub enum Primitive {
     ReadByte,
     /// `hl`: halts the processor.
     Halt,
-    /// `cm`: sets the meta character.
+    /// `cm`: sets the meta character, where a text is given.
     SetMeta,
     /// `tn` and `tf`: from now on each call is printed, or none is.
     SetTrace(bool),
@@ -80,8 +79,6 @@ pub enum FormAction {
     Restore,
     /// `cl`: a form from its pointer on, its gaps filled with texts.
     Call,
-    /// `cs`, `cc`, `cn`, `in`: a form is read at its pointer, which moves.
-    Read(FormReading),
     /// `ln`: the names of all forms, each with a text before it.
     ListNames,
     /// `pf`: a form is printed.
@@ -93,7 +90,7 @@ pub enum FormAction {
 pub enum FormReading {
     /// `cs`: up to the next gap.
     ReadSegment,
-    /// `cc`: one byte.
+    /// `cc`: the next byte.
     ReadChar,
     /// `cn`: so many bytes, onward or back.
     ReadCount,
@@ -111,7 +108,7 @@ pub struct NamedPrimitive {
 }
 
 /// The names of the primitives. Any other name is unknown.
-pub const NAMES: [NamedPrimitive; 30] = [
+pub const NAMES: [NamedPrimitive; 26] = [
     NamedPrimitive {
         letters: *b"ps",
         primitive: Primitive::PrintString,
@@ -209,22 +206,6 @@ pub const NAMES: [NamedPrimitive; 30] = [
         primitive: Primitive::Handle(FormAction::Call),
     },
     NamedPrimitive {
-        letters: *b"cs",
-        primitive: Primitive::Handle(FormAction::Read(FormReading::ReadSegment)),
-    },
-    NamedPrimitive {
-        letters: *b"cc",
-        primitive: Primitive::Handle(FormAction::Read(FormReading::ReadChar)),
-    },
-    NamedPrimitive {
-        letters: *b"cn",
-        primitive: Primitive::Handle(FormAction::Read(FormReading::ReadCount)),
-    },
-    NamedPrimitive {
-        letters: *b"in",
-        primitive: Primitive::Handle(FormAction::Read(FormReading::ReadUntil)),
-    },
-    NamedPrimitive {
         letters: *b"ln",
         primitive: Primitive::Handle(FormAction::ListNames),
     },
@@ -260,10 +241,6 @@ pub fn names_stand_for()
     ensures segment { primitive_of (codes "ss") ≡ Handle Segment }
     ensures restore { primitive_of (codes "cr") ≡ Handle Restore }
     ensures call { primitive_of (codes "cl") ≡ Handle Call }
-    ensures read_segment { primitive_of (codes "cs") ≡ Handle (Read ReadSegment) }
-    ensures read_char { primitive_of (codes "cc") ≡ Handle (Read ReadChar) }
-    ensures read_count { primitive_of (codes "cn") ≡ Handle (Read ReadCount) }
-    ensures read_until { primitive_of (codes "in") ≡ Handle (Read ReadUntil) }
     ensures list_names { primitive_of (codes "ln") ≡ Handle ListNames }
     ensures print_form { primitive_of (codes "pf") ≡ Handle PrintForm }
     // Each letter may be in either case (this project's profile).

@@ -9,10 +9,10 @@ use Rattle.trac_rules.specs.Matching.{Protected}
 use Rattle.trac_rules.specs.State.{Frame, State, storage_of}
 use Rattle.trac_rules.specs.Limits.{argument_bytes, marks, text_bytes}
 use Rattle.trac_rules.specs.Scanning.{Scanned, Moves, Calls, begun, comma_in}
-use Rattle.trac_rules.specs.Performing.{after_call}
 use Rattle.trac_prims.specs.declared.effect.Effect as code
-use Rattle.trac_prims.specs.Effects.{effect_on}
 use Rattle.trac_prims.specs.declared.mark.Mark.{Mark}
+use Rattle.trac_prims.specs.Effects.{planned_on}
+use Rattle.trac_prims.specs.Plans.{after_planned}
 use Rattle.trac_step.specs.declared.calling.Beginning.{Beginning}
 use Rattle.trac_step.specs.Changing.{HasPlaceFor}
 use Rattle.trac_step.specs.Layout.{Shown}
@@ -51,10 +51,10 @@ with_protected p e = record e { left = e.left ++ p.inner; right = p.rest }
 
 -- ---- scanning asks for a call
 
--- the state after the call that scanning asks for, where the call has this effect
+-- the state after the call that scanning asks for, where this is planned
 abbrev pub state_after : {A : Type 0} → code.Effect A → Scanned → State
 state_after e (Moves t) = t
-state_after e (Calls call) = after_call call (effect_on (storage_of call.state) e)
+state_after e (Calls call) = after_planned call (planned_on (storage_of call.state) e)
 
 -- the first of the frames, the innermost function, begins here: the base text and the other frames stand before it
 abbrev pub BeginsFirst : List Frame → List ℕ → Beginning → Type 0

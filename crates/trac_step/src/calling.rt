@@ -92,7 +92,6 @@ impl<E: TwoEnds<u8, A>, M: TwoEnds<Mark, A>, A: Allocator + Copy> Core<E, M, A> 
         ensures outcome { MayAnswer (λ r. state_after r.1 (scan self.now.state)) (step (environment_of tape.entry) self.now.state) result }
         ensures beginning { IfOk result (λ r. BeginsInnermost self.now.state r.0) }
         ensures proper { IfOk result (λ r. IsProper (state_after r.1 (scan self.now.state))) }
-        ensures read { IfOk result (λ r. self.now.state.position + r.1.read < 2 ^ 64) }
     {
         let Some(function) = self.neutral().innermost() else {
             unreachable!()
@@ -138,7 +137,6 @@ impl<E: TwoEnds<u8, A>, M: TwoEnds<Mark, A>, A: Allocator + Copy> Core<E, M, A> 
         requires beginning { BeginsInnermost self.old.state beginning }
         requires room { HasRoomFor effect self.old }
         requires proper { IsProper (state_after effect (scan self.old.state)) }
-        requires read { self.old.state.position + effect.read < 2 ^ 64 }
         ensures state { self.new.state ≡ state_after effect (scan self.old.state) }
         ensures room { IsNoLess self.old self.new }
     {
@@ -151,9 +149,9 @@ impl<E: TwoEnds<u8, A>, M: TwoEnds<Mark, A>, A: Allocator + Copy> Core<E, M, A> 
         );
         append(&mut self.output, effect.print.as_slice());
         change_forms(&mut self.store, effect.change);
-        self.meta = effect.meta.unwrap_or(self.meta);
-        self.trace = effect.trace.unwrap_or(self.trace);
-        self.position += effect.read;
+        self.meta = effect.meta;
+        self.trace = effect.trace;
+        self.position = effect.position;
     }
 
     // The next step, where it performs a function.

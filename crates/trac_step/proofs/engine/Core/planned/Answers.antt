@@ -58,7 +58,7 @@ returns-in_err-effect-clause-outcome g c =
     let rest = behind s c.neutral.result f.number f.place f.kind f.arguments proper c.neutral.ensures c.in-Some.ensures in
     let e = environment_of c.args.tape in
     let err = err_from_is_err_and c.from_residual.result c.from_residual.ensures.1 in
-    rw (err.1, err.2) (step_unplanned e s c.in-Some.ensures.frame rest c.requires.front frames _ (c.in_err-effect.ensures.outcome _ given))
+    rw (err.1, err.2) (step_unplanned e s c.in-Some.ensures.frame rest c.requires.front frames f.kind f.arguments c.self.inside.store _ given _ (c.in_err-effect.ensures.outcome _ given))
 
 pub returns-clause-outcome : goal.returns-clause-outcome
 returns-clause-outcome g c =
@@ -81,7 +81,7 @@ returns-clause-outcome g c =
     (ap (λ (t : State). length t.active - 1 + f.place) (sym state_is) ∙ ap (λ (xs : List ℕ). length xs - 1 + f.place) (sym c.right.ensures.right)) in
     let rest = behind s c.neutral.result f.number f.place f.kind f.arguments proper c.neutral.ensures c.in-Some.ensures in
     let e = environment_of c.args.tape in
-    step_planned e s c.in-Some.ensures.frame rest c.requires.front frames c.in_ok-effect.effect (c.in_ok-effect.ensures.outcome _ given)
+    step_planned e s c.in-Some.ensures.frame rest c.requires.front frames f.kind f.arguments c.self.inside.store _ given c.in_ok-effect.effect (c.in_ok-effect.ensures.outcome _ given)
 
 pub returns-clause-beginning : goal.returns-clause-beginning
 returns-clause-beginning g c =
@@ -110,4 +110,4 @@ returns-clause-proper g c =
     let rest = behind s c.neutral.result f.number f.place f.kind f.arguments proper c.neutral.ensures c.in-Some.ensures in
     let e = environment_of c.args.tape in
     step_proper e s (state_after c.in_ok-effect.effect (scan s)) proper
-    (step_planned e s c.in-Some.ensures.frame rest c.requires.front frames c.in_ok-effect.effect (c.in_ok-effect.ensures.outcome _ given))
+    (step_planned e s c.in-Some.ensures.frame rest c.requires.front frames f.kind f.arguments c.self.inside.store _ given c.in_ok-effect.effect (c.in_ok-effect.ensures.outcome _ given))

@@ -9,10 +9,10 @@ use Rattle.trac_rules.specs.State.{Storage}
 use Rattle.trac_rules.specs.Outcomes.{limited}
 use Rattle.trac_rules.proofs.Outcomes.{limited_beyond}
 use Rattle.trac_prims.specs.declared.change.Change.{Change}
-use Rattle.trac_prims.specs.declared.effect.Effect as code
+use Rattle.trac_prims.specs.declared.made.Made as code
 use Rattle.trac_prims.specs.Effects.{IsMade, changed, effect_on, pieces_fit}
 
-module _ {A : Type 0} (kept : code.Effect A) (storage : Storage) (keeps : effect_on storage kept ≡ leaves storage) (piece : Vec ℕ A) (text : List ℕ) (is : piece.items ≡ text) where
+module _ {A : Type 0} (kept : code.Made A) (storage : Storage) (keeps : effect_on storage kept ≡ leaves storage) (piece : Vec ℕ A) (text : List ℕ) (is : piece.items ≡ text) where
   -- a value
   pub given : IsMade storage (Ok (gives text storage)) (Ok (record kept { value = piece }))
   given = ap (λ (v : List ℕ). Ok (gives v storage)) (sym is) ∙ ap (λ (e : Effect). Ok (record e { value = piece.items })) (sym keeps)
@@ -30,7 +30,7 @@ module _ {A : Type 0} (kept : code.Effect A) (storage : Storage) (keeps : effect
   read n = ap (λ (v : List ℕ). Ok (reads v n storage)) (sym is) ∙ ap (λ (e : Effect). Ok (record e { value = piece.items; read = n })) (sym keeps)
 
 -- other forms
-pub changing : {A : Type 0} (kept : code.Effect A) (storage : Storage) → effect_on storage kept ≡ leaves storage → (change : Change A) →
+pub changing : {A : Type 0} (kept : code.Made A) (storage : Storage) → effect_on storage kept ≡ leaves storage → (change : Change A) →
     effect_on storage (record kept { change = change }) ≡ leaves (changed change storage)
 changing kept storage keeps change = ap (λ (e : Effect). record e { storage = changed change storage }) keeps
 
