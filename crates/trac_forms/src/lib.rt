@@ -9,6 +9,7 @@ pub mod error;
 mod filling;
 pub mod form;
 mod listing;
+mod looking;
 pub mod reading;
 mod showing;
 pub mod store;

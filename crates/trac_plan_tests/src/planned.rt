@@ -163,13 +163,21 @@ pub(crate) fn planned<A: Allocator + Copy>(
     }
 }
 
+fn expect_argument(rt: &impl Abort, args: &Args<'_>, number: usize, wanted: &[u8]) {
+    assert_eq!(rt; args.get(number), wanted);
+}
+
 #[test]
 fn arguments_lie_one_behind_another(rt: HostRuntime) {
     let marks = [behind(2), behind(9)];
     let args = Args::new(b"adapples5pears3", &marks, 0);
     assert_eq!(rt; args.count(), 3);
-    assert_eq!(rt; args.get(0), b"ad".as_slice());
-    assert_eq!(rt; args.get(1), b"apples5".as_slice());
-    assert_eq!(rt; args.get(2), b"pears3".as_slice());
-    assert_eq!(rt; args.get(3), b"".as_slice());
+    for (number, wanted) in [
+        (0, b"ad".as_slice()),
+        (1, b"apples5".as_slice()),
+        (2, b"pears3".as_slice()),
+        (3, b"".as_slice()),
+    ] {
+        expect_argument(&rt, &args, number, wanted);
+    }
 }

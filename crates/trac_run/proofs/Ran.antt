@@ -9,7 +9,7 @@ use Rattle.trac_rules.specs.Running.{Output, output_of}
 use Rattle.trac_rules.specs.GoingOn.{prepended, going_on_from}
 use Rattle.trac_rules.proofs.GoingOn.{prepended-prepended}
 use Rattle.trac_run.specs.declared.ending.Ending.{Ending}
-use Rattle.trac_run.specs.declared.ending.Ending.TheVariants.{Ended, Budget, Limit, Memory, Read, Write}
+use Rattle.trac_run.specs.declared.ending.Ending.TheVariants.{Ended, Budget, Limit, Memory, Read, Write, NotUnderstood}
 use Rattle.trac_rules.specs.Fronts.{IsFrontOf}
 use Rattle.trac_run.specs.Written.{Closes}
 use Rattle.trac_run.specs.Runs.{Shows, Runs, IsFresh, GoesOn, Finishes}
@@ -68,6 +68,7 @@ Shows-prepended Limit text written o shows = ap (prepended text) shows
 Shows-prepended Memory text written o shows = tt
 Shows-prepended Read text written o shows = tt
 Shows-prepended Write text written o shows = tt
+Shows-prepended (NotUnderstood line) text written o shows = absurd shows
 
 -- the last turn
 pub ran : (in_old in_now in_new out_old out_now out_new : Option (List ℕ)) (budget : ℕ) (p : PlainSession) (m : ℕ) (ending : Ending) →

@@ -14,7 +14,7 @@ use Rattle.trac_rules.proofs.GoingOn.{after_Commit, going_on-Commit, after_Feed,
 use Rattle.trac_rules.proofs.Refusals.{wants_input_of_open}
 use Rattle.trac_rules.proofs.Replies.{Commit_done, End_done, Feed_done, Feed_refused, Step_refused_NeedInput}
 use Rattle.trac_run.specs.declared.ending.Ending.{Ending}
-use Rattle.trac_run.specs.declared.ending.Ending.TheVariants.{Ended, Budget, Limit, Memory, Read, Write}
+use Rattle.trac_run.specs.declared.ending.Ending.TheVariants.{Ended, Budget, Limit, Memory, Read, Write, NotUnderstood}
 use Rattle.trac_run.specs.Written.{WritesFront, Closes}
 use Rattle.trac_run.specs.Runs.{Shows, ending_of_feed, IsFresh, turns_left, GoesOn, Finishes, EndsFor, TakesNone, TakesMore}
 use Rattle.trac_run.proofs.Known.{Appends-both, Appends-kept, Consumes-nothing, front_of_front, front_of_itself, empty_front}
@@ -207,6 +207,7 @@ shows_unfed q r n got Limit wanted on_tape e why more =
 shows_unfed q r n got Memory wanted on_tape e why more = tt
 shows_unfed q r n got Read wanted on_tape e why more = tt
 shows_unfed q r n got Write wanted on_tape e why more = absurd why
+shows_unfed q r n got (NotUnderstood line) wanted on_tape e why more = absurd why
 
 -- all that is pending was written, and the run ends for what the reader gave or did not give
 pub unfed_finish : (in_old in_new out_old out_new : Option (List ℕ)) (q r s : PlainSession) (n : ℕ) (ending : Ending) → answer Step q ≡ refused refusals.NeedInput q → q.last.position ≤ length q.tape.bytes → answer Commit q ≡ done r →

@@ -8,7 +8,7 @@ use Rattle.trac_rules.specs.Session.{PlainSession, Feed, End, done, answer}
 use Rattle.trac_rules.specs.Running.{Output, BudgetSpent, InputEnded, LimitPassed}
 use Rattle.trac_rules.specs.GoingOn.{prepended, going_on_from}
 use Rattle.trac_run.specs.declared.ending.Ending.{Ending}
-use Rattle.trac_run.specs.declared.ending.Ending.TheVariants.{Ended, Budget, Limit, Memory, Read, Write}
+use Rattle.trac_run.specs.declared.ending.Ending.TheVariants.{Ended, Budget, Limit, Memory, Read, Write, NotUnderstood}
 use Rattle.trac_rules.specs.Fronts.{IsFrontOf}
 
 -- ---- endings
@@ -20,6 +20,7 @@ status_of Limit = 4
 status_of Memory = 5
 status_of Read = 6
 status_of Write = 7
+status_of (NotUnderstood line) = 8
 
 -- how a run ends whose feed is refused
 abbrev pub ending_of_feed : Refusal → Ending
@@ -34,6 +35,8 @@ Shows Limit written o = o ≡ record { bytes = written; stop = LimitPassed }
 Shows Memory written o = Unit {0}
 Shows Read written o = Unit {0}
 Shows Write written o = Unit {0}
+-- a run is given no commands
+Shows (NotUnderstood line) written o = ⊥
 
 -- ---- a whole run
 
@@ -98,6 +101,7 @@ EndsFor Limit p got = TEXT_LIMIT < length p.tape.bytes
 EndsFor Ended p got = ⊥
 EndsFor Budget p got = ⊥
 EndsFor Write p got = ⊥
+EndsFor (NotUnderstood line) p got = ⊥
 
 -- the reader took these bytes from its input, and the session stays as it was
 pub record TakesNone (in_old in_new : Option (List ℕ)) (p q : PlainSession) (ending : Ending) : Type 0 where

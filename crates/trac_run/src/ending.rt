@@ -1,14 +1,14 @@
 //! How a run ends.
 use std::fmt;
 
-/// Why a run ended (this project's profile).
+/// Why a run, or a session of the debugger, ended (this project's profile).
 #[derive(Clone, Copy, Debug, PartialEq, Eq)]
 pub enum Ending {
-    /// The input has ended and is all read, or the program halted.
+    /// The input has ended and is all read, or the program halted; the commands of the debugger have ended, or asked for the end.
     Ended,
-    /// As many steps were taken as the budget allows.
+    /// As many steps were taken as the budget allows, or as many lines of commands as there may be.
     Budget,
-    /// The next step, or more input, would pass a limit.
+    /// The next step, or more input, would pass a limit; or what is to be debugged is longer than a tape may be.
     Limit,
     /// The allocator refused memory.
     Memory,
@@ -16,6 +16,11 @@ pub enum Ending {
     Read,
     /// The writer failed, or took nothing.
     Write,
+    /// A command of the debugger was not understood.
+    NotUnderstood {
+        /// The number of its line, counted from 1, empty lines too.
+        line: u64,
+    },
 }
 
 impl Ending {
@@ -33,6 +38,7 @@ impl Ending {
             Ending::Memory => 5,
             Ending::Read => 6,
             Ending::Write => 7,
+            Ending::NotUnderstood { line: _ } => 8,
         }
     }
 }
@@ -47,6 +53,7 @@ impl fmt::Display for Ending {
             Ending::Memory => write!(f, "trac: no memory"),
             Ending::Read => write!(f, "trac: read fault"),
             Ending::Write => write!(f, "trac: write fault"),
+            Ending::NotUnderstood { line } => write!(f, "trac: line {line}: not understood"),
         }
     }
 }

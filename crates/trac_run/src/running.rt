@@ -15,7 +15,7 @@ use trac_rules::refusal::Refusal;
 use trac_session::Session;
 
 /// How many bytes one read may give (this project's profile).
-const READ_SIZE: usize = 4096;
+pub const READ_SIZE: usize = 4096;
 
 /// The most steps that a run may be allowed (this project's profile).
 pub const BUDGET_LIMIT: u64 = 1_000_000_000_000;

@@ -23,7 +23,7 @@ repeated-more command n p q t walked h =
     ∙ ap accepted_by h
 
 -- a refused step leaves the session as it was
-Step_refused_same : (p q : PlainSession) (refusal : Refusal) → Answers Step p (Refused refusal) q → q ≡ p
+pub Step_refused_same : (p q : PlainSession) (refusal : Refusal) → Answers Step p (Refused refusal) q → q ≡ p
 Step_refused_same p q Memory h = h.1
 Step_refused_same p q TooLong h = (Step_refused p q TooLong h).0
 Step_refused_same p q NeedInput h = (Step_refused p q NeedInput h).0
@@ -34,7 +34,7 @@ Step_refused_same p q Closed h = (Step_refused p q Closed h).0
 Step_refused_same p q NotMet h = (Step_refused p q NotMet h).0
 
 -- so does a refused step back
-Back_refused_same : (p q : PlainSession) (refusal : Refusal) → Answers Back p (Refused refusal) q → q ≡ p
+pub Back_refused_same : (p q : PlainSession) (refusal : Refusal) → Answers Back p (Refused refusal) q → q ≡ p
 Back_refused_same p q Memory h = h.1
 Back_refused_same p q TooLong h = (Back_refused p q TooLong h).0
 Back_refused_same p q NeedInput h = (Back_refused p q NeedInput h).0
@@ -44,7 +44,8 @@ Back_refused_same p q AtStart h = (Back_refused p q AtStart h).0
 Back_refused_same p q Closed h = (Back_refused p q Closed h).0
 Back_refused_same p q NotMet h = (Back_refused p q NotMet h).0
 
-refused_same : (direction : Direction) (p q : PlainSession) (refusal : Refusal) → Answers (command_towards direction) p (Refused refusal) q → q ≡ p
+-- whichever way it went
+pub refused_same : (direction : Direction) (p q : PlainSession) (refusal : Refusal) → Answers (command_towards direction) p (Refused refusal) q → q ≡ p
 refused_same towards.Forward p q refusal h = Step_refused_same p q refusal h
 refused_same towards.Backward p q refusal h = Back_refused_same p q refusal h
 
@@ -93,20 +94,18 @@ goes_on_more command goal old p q n on h not_met =
     }
 
 -- a refusal ends it
-pub stopped_walk : (direction : Direction) (goal : Goal) (n k : ℕ) (old p q : PlainSession) (refusal : Refusal) → GoesOn (command_towards direction) goal old k p → k < n →
-    Answers (command_towards direction) p (Refused refusal) q → IsWalk (command_towards direction) goal n old k (Some refusal) q
-stopped_walk direction goal n k old p q refusal on l h =
-    let same = refused_same direction p q refusal h in
-    record {
-      within = omega arith;
-      walked = on.walked ∙ ap (λ t. Some t) (sym same);
-      unmet = λ j r some fewer there. on.unmet j r some (omega arith) there;
-      stopped = (
-        l,
-        λ some. ap (λ (s : PlainSession). goal s.last) same ∙ on.unmet k p some (omega arith) on.walked,
-        subst (λ t. Answers (command_towards direction) t (Refused refusal) q) (sym same) h,
-      );
-    }
+pub stopped_walk : (command : Command) (goal : Goal) (n k : ℕ) (old p q : PlainSession) (refusal : Refusal) → GoesOn command goal old k p → k < n → q ≡ p →
+    Answers command p (Refused refusal) q → IsWalk command goal n old k (Some refusal) q
+stopped_walk command goal n k old p q refusal on l same h = record {
+  within = omega arith;
+  walked = on.walked ∙ ap (λ t. Some t) (sym same);
+  unmet = λ j r some fewer there. on.unmet j r some (omega arith) there;
+  stopped = (
+    l,
+    λ some. ap (λ (s : PlainSession). goal s.last) same ∙ on.unmet k p some (omega arith) on.walked,
+    subst (λ t. Answers command t (Refused refusal) q) (sym same) h,
+  );
+}
 
 -- the goal is met
 pub met_walk : (command : Command) (goal : Goal) (n k : ℕ) (old p q : PlainSession) → GoesOn command goal old k p → k < n → answer command p ≡ done q → goal q.last ≡ true →

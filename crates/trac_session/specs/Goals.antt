@@ -21,8 +21,7 @@ outcome met (Some refusal) = Some refusal
 outcome true None = None
 outcome false None = Some NotMet
 
--- a search is a walk to a goal, of one step at least, that is not met by standing still: where all the steps were taken and the goal is
--- not met, it says so
+-- a search is a walk to a goal, which is not met by standing still: where all the steps were taken and the goal is not met, it says so
 abbrev pub IsSearch : Command → Goal → ℕ → PlainSession → ℕ → Option Refusal → PlainSession → Type 0
 IsSearch command goal n old steps why new =
     (ended : Option Refusal) × IsWalk command goal n old steps ended new × (why ≡ outcome (nat_lt 0 steps && goal new.last) ended)

@@ -99,8 +99,8 @@ impl<A: Allocator + Copy> Session<A> {
         self.walk(Direction::Backward, None, n)
     }
 
-    /// Goes forward by up to `n` steps, and by one at least, until the next step would perform a function of this name, which is
-    /// compared byte for byte. A refused step ends the walk as in `forward`; where `n` steps were taken and the name was not
+    /// Goes forward by up to `n` steps, until the next step would perform a function of this name, which is compared byte for byte. That
+    /// it would do so already, before any step, does not count. A refused step ends the walk as in `forward`; where `n` steps were taken and the name was not
     /// met, the walk answers `NotMet`, also where `n` is 0 (this project's profile).
     pub fn until(&mut self, name: &[u8], n: u64) -> Walk
         ensures { IsSearch Step (is_call_of name.now) n self.old result.done result.why self.new }
@@ -109,8 +109,8 @@ impl<A: Allocator + Copy> Session<A> {
         self.searched(name, walk)
     }
 
-    /// Goes back over steps, over one at least, until the next step would perform a function of this name, which is compared byte
-    /// for byte; the first state is tested too. Where all steps are gone back over and the name was not met, the walk answers
+    /// Goes back over steps, until the next step would perform a function of this name, which is compared byte for byte. That it would do
+    /// so already, before any step back, does not count; the first state is tested too. Where all steps are gone back over and the name was not met, the walk answers
     /// `NotMet`, and where there is no step to go back over, `AtStart`. It takes no memory (this project's profile).
     pub fn back_until(&mut self, name: &[u8]) -> Walk
         ensures { IsSearch Back (is_call_of name.now) (max 1 (length self.old.earlier)) self.old result.done result.why self.new }

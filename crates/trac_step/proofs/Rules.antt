@@ -9,7 +9,7 @@ use Rattle.trac_rules.specs.Limits.{text_bytes, marks}
 use Rattle.trac_prims.specs.declared.mark.Mark.{Mark}
 use Rattle.trac_prims.specs.Neutral.{Neutral, marked, neutral, AreMarks}
 use Rattle.trac_prims.proofs.Neutral.{bytes-neutral, marks-neutral, longer, neutral-append, neutral-mark, has_frames}
-use Rattle.trac_step.specs.Calling.{with_mark}
+use Rattle.trac_step.specs.Calling.{mark_at, with_mark}
 use Rattle.trac_step.specs.Layout.{Parts, state_of}
 
 -- ---- sizes
@@ -33,9 +33,6 @@ gathers p more a =
     (sym (gather_longer more (neutral p.text (reverse p.marks)).base (neutral p.text (reverse p.marks)).frames (state_of p)))
 
 -- ---- marks at the end of the text
-
-abbrev pub mark_at : ℕ → Option Kind → Mark
-mark_at place o = record { place = place; frame = o }
 
 pub reverse_push : {X : Type 0} (xs : List X) (x : X) → reverse (xs ++ x ∷ []) ≡ x ∷ reverse xs
 reverse_push xs x = reverse-append xs (x ∷ [])

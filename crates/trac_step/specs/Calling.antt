@@ -5,10 +5,12 @@ use Rattle.trac_rules.specs.declared.kind.Kind.{Kind}
 use Rattle.trac_rules.specs.declared.kind.Kind.TheVariants.{Active, Neutral}
 use Rattle.trac_rules.specs.declared.scan.Front.{Front}
 use Rattle.trac_rules.specs.declared.scan.Front.TheVariants.{Comma, ActiveCall, NeutralCall}
+use Rattle.trac_rules.specs.Matching.{Protected}
 use Rattle.trac_rules.specs.State.{Frame, State, storage_of}
 use Rattle.trac_rules.specs.Limits.{argument_bytes, marks, text_bytes}
 use Rattle.trac_rules.specs.Scanning.{Scanned, Moves, Calls, begun, comma_in}
 use Rattle.trac_prims.specs.declared.effect.Effect as code
+use Rattle.trac_prims.specs.declared.mark.Mark.{Mark}
 use Rattle.trac_prims.specs.Effects.{planned_on}
 use Rattle.trac_prims.specs.Plans.{after_planned}
 use Rattle.trac_step.specs.declared.calling.Beginning.{Beginning}
@@ -38,6 +40,14 @@ adds_mark front marks = false
 abbrev pub with_mark : Option Kind → State → State
 with_mark (Some kind) s = begun kind s
 with_mark None s = comma_in s.frames s
+
+-- the mark of a function of this kind at a place, or, where none is named, of a further argument
+abbrev pub mark_at : ℕ → Option Kind → Mark
+mark_at place o = record { place = place; frame = o }
+
+-- the texts with what is protected at the end of the one on the left, and what stands behind it on the right
+abbrev pub with_protected : Protected → Ends ℕ → Ends ℕ
+with_protected p e = record e { left = e.left ++ p.inner; right = p.rest }
 
 -- ---- scanning asks for a call
 

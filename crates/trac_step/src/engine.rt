@@ -78,9 +78,10 @@ impl<E: TwoEnds<u8, A>, M: TwoEnds<Mark, A>, A: Allocator + Copy> Core<E, M, A> 
         ensures holds { OnOk result (HasRoom self.now self.now.state) }
         ensures err { IsOkUnless result Refusal.Memory }
     {
+        let (text, marks) = ends::copy_both(&self.text, &self.marks)?;
         Ok(Core {
-            text: ends::copy(&self.text)?,
-            marks: ends::copy(&self.marks)?,
+            text,
+            marks,
             store: self.store.copy()?,
             meta: self.meta,
             trace: self.trace,

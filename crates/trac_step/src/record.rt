@@ -4,7 +4,7 @@ ghost use Rattle.trac_step.specs.Record.{before};
 ghost use Rattle.trac_step.specs.Room.{HasRoom, IsNoLess};
 
 use crate::calling::overwrite;
-use crate::ends::refill;
+use crate::ends::refill_both;
 use crate::engine::Core;
 use std::alloc::Allocator;
 use trac_gap::TwoEnds;
@@ -36,8 +36,12 @@ impl<E: TwoEnds<u8, A>, M: TwoEnds<Mark, A>, A: Allocator + Copy> Core<E, M, A> 
         ensures state { self.new.state ≡ earlier.state }
         ensures room { IsNoLess self.old self.new }
     {
-        refill(&mut self.text, earlier.text.left(), earlier.text.right());
-        refill(&mut self.marks, earlier.marks.left(), &[]);
+        refill_both(
+            &mut self.text,
+            &mut self.marks,
+            &earlier.text,
+            &earlier.marks,
+        );
         overwrite(&mut self.output, earlier.output.as_slice());
         self.meta = earlier.meta;
         self.trace = earlier.trace;

@@ -7,9 +7,8 @@ ghost use Rattle.trac_rules.specs.Limits.{marks};
 ghost use Rattle.trac_step.specs.Calling.{with_mark};
 ghost use Rattle.trac_step.specs.Room.{IsNoLess};
 
-use crate::ends;
-use crate::engine::{Core, IDLE_PROGRAM};
-use crate::matching::match_in;
+use crate::engine::Core;
+use crate::texts::{push_mark, restart, take_protected};
 use std::alloc::Allocator;
 use trac_gap::TwoEnds;
 use trac_prims::Mark;
@@ -26,10 +25,7 @@ impl<E: TwoEnds<u8, A>, M: TwoEnds<Mark, A>, A: Allocator + Copy> Core<E, M, A> 
         ensures unchanged { OnErr result (self.new ≡ self.old) }
         ensures err { IsOkUnless result Refusal.Memory }
     {
-        ends::reserve(&mut self.text, IDLE_PROGRAM.len())?;
-        self.text.cut_left(self.text.left().len());
-        self.marks.cut_left(self.marks.left().len());
-        self.text.put_right(IDLE_PROGRAM);
+        restart(&mut self.text, &mut self.marks)?;
         Ok(())
     }
 
@@ -38,13 +34,7 @@ impl<E: TwoEnds<u8, A>, M: TwoEnds<Mark, A>, A: Allocator + Copy> Core<E, M, A> 
         requires { 0 < length self.old.state.active }
         ensures { self.new ≡ record self.old { state = protect (protected (drop 1 self.old.state.active)) self.old.state } }
     {
-        self.text.cut_right(1);
-        if let Some(place) = match_in(self.text.right()) {
-            self.text.shift_left(place);
-            self.text.cut_right(1);
-        } else {
-            self.text.shift_left(self.text.right().len());
-        }
+        take_protected(&mut self.text);
     }
 
     // The first n bytes of the active text are deleted.
@@ -82,12 +72,7 @@ impl<E: TwoEnds<u8, A>, M: TwoEnds<Mark, A>, A: Allocator + Copy> Core<E, M, A> 
         ensures unchanged { OnErr result (self.new ≡ self.old) }
         ensures err { IsOkUnless result Refusal.Memory }
     {
-        ends::reserve(&mut self.marks, 1)?;
-        self.text.cut_right(n);
-        self.marks.push_left(Mark {
-            place: self.text.left().len(),
-            frame,
-        });
+        push_mark(&mut self.text, &mut self.marks, n, frame)?;
         Ok(())
     }
 

@@ -2,7 +2,7 @@ use Rattle.std.proofs.Common.{sym, ◌∙◌}
 use Rattle.std.specs.Prelude.{option_copied}
 use Rattle.trac_session.specs.Directions.{command_towards}
 use Rattle.trac_session.specs.Goals.{goal_of}
-use Rattle.trac_session.proofs.Walked.{goes_on_first, goes_on_more, stopped_walk, met_walk, whole_walk}
+use Rattle.trac_session.proofs.Walked.{goes_on_first, goes_on_more, refused_same, stopped_walk, met_walk, whole_walk}
 use Rattle.trac_session.proofs.session.Session.walk.Goals as goal
 
 pub loop-done-init : goal.loop-done-init
@@ -10,8 +10,9 @@ loop-done-init g c = goes_on_first (command_towards c.args.direction) (goal_of (
 
 pub returns-in-Err : goal.returns-in-Err
 returns-in-Err g c =
-    stopped_walk c.args.direction (goal_of (option_copied c.args.name)) c.args.n c.loop-done.done c.args.self.now c.loop-done.self c.go.new.self c.in-Err.refusal
-    c.loop-done.invariant c.loop-done-test.true c.in-Err.ensures
+    stopped_walk (command_towards c.args.direction) (goal_of (option_copied c.args.name)) c.args.n c.loop-done.done c.args.self.now c.loop-done.self c.go.new.self c.in-Err.refusal
+    c.loop-done.invariant c.loop-done-test.true
+    (refused_same c.args.direction c.loop-done.self c.go.new.self c.in-Err.refusal c.in-Err.ensures) c.in-Err.ensures
 
 pub loop-done-preserved : goal.loop-done-preserved
 loop-done-preserved g c =

@@ -1,0 +1,460 @@
+-- A session of the debugger, line by line.
+use Rattle.std.proofs.Common.{◌≡◌, ℕ, ◌+◌, ◌==◌, ◌<◌, ◌≤◌, not, Bool, true, false, List, [], ◌∷◌, ◌++◌, length, take, drop, refl, sym, ap, subst, ◌∙◌, arith, inl, inr, ⊎_elim}
+use Rattle.std.specs.Prelude.{◌⊎◌, Option, None, Some, Result, Ok, Err, IfErr, IsOkUnless, nat_le, if◌then◌else◌}
+use Rattle.std.specs.Io.KnownBytes.{Appends, Consumes, IsAtEnd, Keeps}
+use Rattle.std.proofs.lemmas.Bool.{false≢true, cond-true, cond-false, le-leb, lt-leb, cases_lt}
+use Rattle.std.proofs.lemmas.Bool.Decides.{nat_tests}
+use Rattle.std.proofs.lemmas.List.{append-nil, append_assoc, length-append, length-take-le}
+use Rattle.trac_rules.specs.declared.limit.TheConstants.{TAPE_LIMIT}
+use Rattle.trac_rules.specs.Fronts.{IsFrontOf}
+use Rattle.trac_rules.specs.Session.{PlainSession, Feed, End, answer, done, new_session}
+use Rattle.trac_rules.proofs.Replies.{End_done, Feed_done, with_end, with_more}
+use Rattle.trac_run.specs.Written.{WritesFront}
+use Rattle.trac_run.specs.declared.ending.Ending.{Ending}
+use Rattle.trac_run.specs.declared.ending.Ending.TheVariants.{Ended, Budget, Limit, Memory, Read, Write, NotUnderstood}
+use Rattle.trac_run.proofs.Known.{Appends-nothing, Appends-both, Appends-kept, Consumes-nothing, Consumes-both, front_of_front, front_of_nothing}
+use Rattle.trac_run.proofs.Ran.{front_behind}
+use Rattle.trac_debug.specs.declared.command.Command as code
+use Rattle.trac_debug.specs.declared.lines.Front.TheVariants.{Line, TooLong}
+use Rattle.trac_debug.specs.declared.lines.TheConstants.{LINE_LIMIT, LINE_COUNT_LIMIT}
+use Rattle.trac_debug.specs.Lines.{lines_of, is_within}
+use Rattle.trac_debug.specs.Commands.{Command, command_of}
+use Rattle.trac_debug.specs.Replies.{Replies}
+use Rattle.trac_debug.specs.Debugging.{Turn, Passes, Does, Ends, Takes, MayWrite, MayShow, ready, shown_where, turn_at, turn_of}
+use Rattle.trac_debug.specs.Debugs.{UnlessFault, Debugs, IsReady, MayRefuseTape, IsNotReplied, Settles, Stops, Advances, Halts}
+use Rattle.trac_debug.specs.Pending.{Pending}
+use Rattle.trac_debug.specs.Reading.{IsFront, Gathers, MayFail}
+use Rattle.trac_debug.specs.Views.{command_seen}
+use Rattle.trac_debug.proofs.Existing.{some_reply, some_text}
+use Rattle.trac_debug.proofs.Splitting.{first_line}
+
+-- ---- what becomes of a line
+
+-- a null line is passed over
+pub turn_null : (number : ℕ) → number ≤ LINE_COUNT_LIMIT → turn_at number [] ≡ Passes
+turn_null number l = cond-true (nat_le number LINE_COUNT_LIMIT) Passes (Ends Budget) (le-leb number LINE_COUNT_LIMIT l)
+
+-- any other line says what it says
+pub turn_line : (number : ℕ) (line : List ℕ) → number ≤ LINE_COUNT_LIMIT → 0 < length line → length line ≤ LINE_LIMIT → turn_at number line ≡ turn_of number (command_of line)
+turn_line number [] few some short = absurd (omega arith)
+turn_line number (b ∷ bs) few some short =
+    cond-true (nat_le number LINE_COUNT_LIMIT) (if is_within (b ∷ bs) then turn_of number (command_of (b ∷ bs)) else Ends (NotUnderstood number)) (Ends Budget) (le-leb number LINE_COUNT_LIMIT few)
+    ∙ cond-true (is_within (b ∷ bs)) (turn_of number (command_of (b ∷ bs))) (Ends (NotUnderstood number)) (le-leb (length (b ∷ bs)) LINE_LIMIT short)
+
+-- a line that is too long is not understood
+pub turn_long : (number : ℕ) (line : List ℕ) → number ≤ LINE_COUNT_LIMIT → LINE_LIMIT < length line → turn_at number line ≡ Ends (NotUnderstood number)
+turn_long number [] few long = absurd (omega arith)
+turn_long number (b ∷ bs) few long =
+    cond-true (nat_le number LINE_COUNT_LIMIT) (if is_within (b ∷ bs) then turn_of number (command_of (b ∷ bs)) else Ends (NotUnderstood number)) (Ends Budget) (le-leb number LINE_COUNT_LIMIT few)
+    ∙ cond-false (is_within (b ∷ bs)) (turn_of number (command_of (b ∷ bs))) (Ends (NotUnderstood number)) (lt-leb (length (b ∷ bs)) LINE_LIMIT long)
+
+-- a line behind the last one that there may be
+pub turn_late : (number : ℕ) (line : List ℕ) → LINE_COUNT_LIMIT < number → turn_at number line ≡ Ends Budget
+turn_late number [] late = cond-false (nat_le number LINE_COUNT_LIMIT) Passes (Ends Budget) (lt-leb number LINE_COUNT_LIMIT late)
+turn_late number (b ∷ bs) late =
+    cond-false (nat_le number LINE_COUNT_LIMIT) (if is_within (b ∷ bs) then turn_of number (command_of (b ∷ bs)) else Ends (NotUnderstood number)) (Ends Budget) (lt-leb number LINE_COUNT_LIMIT late)
+
+-- a command is carried out, if it is not to end the session
+pub turn_does : (number : ℕ) (command : code.Command) → (command ≡ code.TheVariants.Quit → ⊥) → turn_of number (Some (command_seen command)) ≡ Does (command_seen command)
+turn_does number (code.TheVariants.Forward n) other = refl
+turn_does number (code.TheVariants.Back n) other = refl
+turn_does number (code.TheVariants.Until name n) other = refl
+turn_does number (code.TheVariants.Return name) other = refl
+turn_does number code.TheVariants.Print other = refl
+turn_does number code.TheVariants.Commit other = refl
+turn_does number code.TheVariants.Quit other = absurd (other refl)
+
+-- ---- a turn
+
+-- what a writer kept, it has nothing more of
+Appends-none : (a b : Option (List ℕ)) → Keeps a b → Appends a b []
+Appends-none a b kept = Appends-kept a a b [] (Appends-nothing a) kept
+
+-- what a turn that is done with has written stands before what is written from there on
+pub record IsSettled (turn : Turn) (p q : PlainSession) (a b : Option (List ℕ)) : Type 0 where
+  pub written : List ℕ
+  pub gave : Appends a b written
+  pub takes : (lines : List (List ℕ)) → (number : ℕ) → (text : List ℕ) → (stop : Ending) → MayWrite lines number q text stop →
+      Takes turn p (λ r rest. MayWrite lines number r rest stop) (written ++ text) stop
+
+settled : (turn : Turn) (p q : PlainSession) (a b : Option (List ℕ)) → Settles turn p q a b → IsSettled turn p q a b
+settled Passes p q a b over = record {
+  written = [];
+  gave = Appends-none a b over.1;
+  takes = λ lines number text stop rest. subst (λ r. MayWrite lines number r text stop) over.0 rest;
+}
+settled (Does command) p q a b over = record {
+  written = over.reply;
+  gave = over.gave;
+  takes = λ lines number text stop rest. (over.reply, q, text, over.replies, refl, rest);
+}
+settled (Ends stop) p q a b over = absurd over
+
+-- a turn in which the session ends: what was written is a front of what may be written, or, without a fault, all of it
+pub record IsStopped (turn : Turn) (p : PlainSession) (a b : Option (List ℕ)) (ending : Ending) : Type 0 where
+  pub written : List ℕ
+  pub gave : Appends a b written
+  pub front : (lines : List (List ℕ)) → (number : ℕ) →
+      (text : List ℕ) × (stop : Ending) × Takes turn p (λ r rest. MayWrite lines number r rest stop) text stop × IsFrontOf written text
+  pub whole : (lines : List (List ℕ)) → (number : ℕ) → UnlessFault ending (Takes turn p (λ r rest. MayWrite lines number r rest ending) written ending)
+
+-- without a fault the whole is said; after one nothing is
+unless_always : (ending : Ending) (Fact : Type 0) → Fact → UnlessFault ending Fact
+unless_always Ended Fact fact = fact
+unless_always Budget Fact fact = fact
+unless_always Limit Fact fact = fact
+unless_always Memory Fact fact = tt
+unless_always Read Fact fact = tt
+unless_always Write Fact fact = tt
+unless_always (NotUnderstood line) Fact fact = fact
+
+unless_Memory : (ending : Ending) (Fact : Type 0) → ending ≡ Memory → UnlessFault ending Fact
+unless_Memory ending Fact is = subst (λ e. UnlessFault e Fact) (sym is) tt
+
+unless_Write : (ending : Ending) (Fact : Type 0) → ending ≡ Write → UnlessFault ending Fact
+unless_Write ending Fact is = subst (λ e. UnlessFault e Fact) (sym is) tt
+
+unless_Read : (ending : Ending) (Fact : Type 0) → ending ≡ Read → UnlessFault ending Fact
+unless_Read ending Fact is = subst (λ e. UnlessFault e Fact) (sym is) tt
+
+-- a front of a front, with more behind it
+front_before : (written text rest : List ℕ) → IsFrontOf written text → IsFrontOf written (text ++ rest)
+front_before written text rest front = front_of_front written text (text ++ rest) front (rest, refl)
+
+stopped : (turn : Turn) (p : PlainSession) (a b : Option (List ℕ)) (ending : Ending) → Stops turn p a b ending → IsStopped turn p a b ending
+stopped Passes p a b ending stops = absurd stops
+stopped (Does command) p a b ending stops = record {
+  written = stops.written;
+  gave = stops.gave;
+  front = λ lines number.
+      let more = some_text lines number stops.new in
+      (stops.reply ++ more.0, more.1, (stops.reply, stops.new, more.0, stops.replies, refl, more.2), front_before stops.written stops.reply more.0 stops.front);
+  whole = λ lines number. ⊎_elim
+      (λ (none : (ending ≡ Memory) × (stops.written ≡ [])). unless_Memory ending (Takes (Does command) p (λ r rest. MayWrite lines number r rest ending) stops.written ending) none.0)
+      (λ (fault : ending ≡ Write). unless_Write ending (Takes (Does command) p (λ r rest. MayWrite lines number r rest ending) stops.written ending) fault)
+      stops.fault;
+}
+stopped (Ends stop) p a b ending stops = record {
+  written = [];
+  gave = Appends-none a b stops.1;
+  front = λ lines number. ([], stop, (refl, refl), front_of_nothing []);
+  whole = λ lines number. unless_always ending (Takes (Ends stop) p (λ r rest. MayWrite lines number r rest ending) [] ending) (refl, stops.0);
+}
+
+-- ---- a line
+
+-- the text of the commands, as it was and with what was read
+read_on : (old new : Pending) (got more : List ℕ) → new.bytes ≡ old.bytes ++ got → new.bytes ++ more ≡ old.bytes ++ (got ++ more)
+read_on old new got more e = ap (λ t. t ++ more) e ∙ append_assoc old.bytes got more
+
+-- a line is done with
+pub advances : (in_old in_new out_old out_new : Option (List ℕ)) (number : ℕ) (old mid new : Pending) (p q : PlainSession) (len whole : ℕ) →
+    Gathers in_old in_new old mid → IsFront mid.bytes mid.ended (Line len whole) → Settles (turn_at number (take len mid.bytes)) p q out_old out_new →
+    new ≡ record mid { bytes = drop whole mid.bytes } → Advances in_old in_new out_old out_new number old p new q
+advances in_old in_new out_old out_new number old mid new p q len whole read front over_ after =
+    let line : List ℕ = take len mid.bytes in
+    let ended : new.ended ≡ mid.ended = ap (λ (l : Pending). l.ended) after in
+    let turn : IsSettled (turn_at number line) p q out_old out_new = settled (turn_at number line) p q out_old out_new over_ in
+    record {
+      got = read.got;
+      written = turn.written;
+      took = read.took;
+      gave = turn.gave;
+      closed = λ over. ((read.closed over).0, ended ∙ (read.closed over).1);
+      at_end = λ over. read.at_end (sym ended ∙ over);
+      rest = λ more none text stop rest_.
+          let left : List (List ℕ) = lines_of (drop whole mid.bytes ++ more) in
+          let here : MayWrite left (number + 1) q text stop = subst (λ (l : Pending). MayWrite (lines_of (l.bytes ++ more)) (number + 1) q text stop) after rest_ in
+          let all : lines_of (mid.bytes ++ more) ≡ line ∷ left = front.2 more (λ over. none (ended ∙ over)) in
+          subst (λ t. MayWrite (lines_of t) number p (turn.written ++ text) stop) (read_on old mid read.got more read.bytes)
+          (subst (λ ls. MayWrite ls number p (turn.written ++ text) stop) (sym all) (turn.takes left (number + 1) text stop here));
+    }
+
+-- what is said of lines that are the same
+unless_same : (ending : Ending) (number : ℕ) (p : PlainSession) (written : List ℕ) (a b : List (List ℕ)) → a ≡ b →
+    UnlessFault ending (MayWrite a number p written ending) → UnlessFault ending (MayWrite b number p written ending)
+unless_same ending number p written a b e fact = subst (λ ls. UnlessFault ending (MayWrite ls number p written ending)) e fact
+
+-- the session ends in a line
+pub halts_in : (in_old in_new out_old out_new : Option (List ℕ)) (number : ℕ) (old mid : Pending) (p : PlainSession) (len whole : ℕ) (ending : Ending) →
+    Gathers in_old in_new old mid → IsFront mid.bytes mid.ended (Line len whole) → Stops (turn_at number (take len mid.bytes)) p out_old out_new ending →
+    Halts in_old in_new out_old out_new number old p ending
+halts_in in_old in_new out_old out_new number old mid p len whole ending read front stops =
+    let line : List ℕ = take len mid.bytes in
+    let turn : IsStopped (turn_at number line) p out_old out_new ending = stopped (turn_at number line) p out_old out_new ending stops in
+    record {
+      got = read.got;
+      written = turn.written;
+      saw_end = mid.ended;
+      took = read.took;
+      gave = turn.gave;
+      closed = read.closed;
+      at_end = read.at_end;
+      front = λ more none.
+          let left : List (List ℕ) = lines_of (drop whole mid.bytes ++ more) in
+          let some = turn.front left (number + 1) in
+          let all : line ∷ left ≡ lines_of (old.bytes ++ (read.got ++ more)) = sym (front.2 more none) ∙ ap lines_of (read_on old mid read.got more read.bytes) in
+          (some.0, some.1, subst (λ ls. MayWrite ls number p some.0 some.1) all some.2, some.3);
+      whole = λ more none.
+          let left : List (List ℕ) = lines_of (drop whole mid.bytes ++ more) in
+          let all : line ∷ left ≡ lines_of (old.bytes ++ (read.got ++ more)) = sym (front.2 more none) ∙ ap lines_of (read_on old mid read.got more read.bytes) in
+          unless_same ending number p turn.written (line ∷ left) (lines_of (old.bytes ++ (read.got ++ more))) all (turn.whole left (number + 1));
+    }
+
+-- the session ends before a line, and nothing is written: the lines, whatever more there are, say that it ends so
+pub halts_before : (in_old in_new output : Option (List ℕ)) (number : ℕ) (old mid : Pending) (p : PlainSession) (ending : Ending) → Gathers in_old in_new old mid →
+    ((more : List ℕ) → (mid.ended ≡ true → more ≡ []) → MayWrite (lines_of (mid.bytes ++ more)) number p [] ending) → Halts in_old in_new output output number old p ending
+halts_before in_old in_new output number old mid p ending read says =
+    let all : (more : List ℕ) → (mid.ended ≡ true → more ≡ []) → MayWrite (lines_of (old.bytes ++ (read.got ++ more))) number p [] ending =
+    λ more none. subst (λ t. MayWrite (lines_of t) number p [] ending) (read_on old mid read.got more read.bytes) (says more none) in
+    record {
+      got = read.got;
+      written = [];
+      saw_end = mid.ended;
+      took = read.took;
+      gave = Appends-nothing output;
+      closed = read.closed;
+      at_end = read.at_end;
+      front = λ more none. ([], ending, all more none, front_of_nothing []);
+      whole = λ more none. unless_always ending (MayWrite (lines_of (old.bytes ++ (read.got ++ more))) number p [] ending) (all more none);
+    }
+
+-- at the end of the lines
+pub halts_at_end : (number : ℕ) (mid : Pending) (p : PlainSession) → (mid.ended ≡ true) × (mid.bytes ≡ []) →
+    (more : List ℕ) → (mid.ended ≡ true → more ≡ []) → MayWrite (lines_of (mid.bytes ++ more)) number p [] Ended
+halts_at_end number mid p over more none =
+    let nothing : [] ≡ mid.bytes ++ more = sym (ap (λ t. t ++ more) over.1 ∙ none over.0) in
+    subst (λ t. MayWrite (lines_of t) number p [] Ended) nothing (refl, refl)
+
+-- where a first line ends the session
+ends_first : (number : ℕ) (p : PlainSession) (lines rest : List (List ℕ)) (line : List ℕ) (ending : Ending) → lines ≡ line ∷ rest → turn_at number line ≡ Ends ending → MayWrite lines number p [] ending
+ends_first number p lines rest line ending is ends =
+    subst (λ ls. MayWrite ls number p [] ending) (sym is)
+    (subst (λ turn. Takes turn p (λ q left. MayWrite rest (number + 1) q left ending) [] ending) (sym ends) (refl, refl))
+
+-- at a line that is too long, a part of which was read
+pub halts_too_long : (number : ℕ) (mid : Pending) (p : PlainSession) → number ≤ LINE_COUNT_LIMIT → IsFront mid.bytes mid.ended TooLong →
+    (more : List ℕ) → (mid.ended ≡ true → more ≡ []) → MayWrite (lines_of (mid.bytes ++ more)) number p [] (NotUnderstood number)
+halts_too_long number mid p few front more none =
+    let at = front more in
+    ends_first number p (lines_of (mid.bytes ++ more)) at.1 at.0 (NotUnderstood number) at.3 (turn_long number at.0 few at.2)
+
+-- at a line that is too long, all of which was read
+pub halts_long : (number : ℕ) (mid : Pending) (p : PlainSession) (len whole : ℕ) → number ≤ LINE_COUNT_LIMIT → IsFront mid.bytes mid.ended (Line len whole) → LINE_LIMIT < len →
+    (more : List ℕ) → (mid.ended ≡ true → more ≡ []) → MayWrite (lines_of (mid.bytes ++ more)) number p [] (NotUnderstood number)
+halts_long number mid p len whole few front long more none =
+    ends_first number p (lines_of (mid.bytes ++ more)) (lines_of (drop whole mid.bytes ++ more)) (take len mid.bytes) (NotUnderstood number) (front.2 more none)
+    (turn_long number (take len mid.bytes) few (omega (arith, length-take-le len mid.bytes front.0)))
+
+-- bytes that are there begin a line
+some_line : (bytes more : List ℕ) → 0 < length bytes → (line : List ℕ) × (rest : List (List ℕ)) × (lines_of (bytes ++ more) ≡ line ∷ rest)
+some_line bytes more some = first_line (bytes ++ more) (omega (arith, length-append bytes more))
+
+-- behind the last line that there may be
+pub halts_late : (number : ℕ) (mid : Pending) (p : PlainSession) → LINE_COUNT_LIMIT < number → 0 < length mid.bytes →
+    (more : List ℕ) → (mid.ended ≡ true → more ≡ []) → MayWrite (lines_of (mid.bytes ++ more)) number p [] Budget
+halts_late number mid p late some more none =
+    let at = some_line mid.bytes more some in
+    ends_first number p (lines_of (mid.bytes ++ more)) at.1 at.0 Budget at.2 (turn_late number at.0 late)
+
+-- a read failed: nothing is written, and more may come
+pub halts_unread : (in_old in_new output : Option (List ℕ)) (number : ℕ) (old : Pending) (p : PlainSession) (ending : Ending) → MayFail in_old in_new old ending →
+    Halts in_old in_new output output number old p ending
+halts_unread in_old in_new output number old p ending failed = record {
+  got = failed.got;
+  written = [];
+  saw_end = false;
+  took = failed.took;
+  gave = Appends-nothing output;
+  closed = λ over. absurd (false≢true (sym failed.open_ ∙ over));
+  at_end = λ over. absurd (false≢true over);
+  front = λ more none.
+      let some = some_text (lines_of (old.bytes ++ (failed.got ++ more))) number p in
+      (some.0, some.1, some.2, front_of_nothing some.0);
+  whole = λ more none. ⊎_elim
+      (λ (none_ : ending ≡ Memory). unless_Memory ending (MayWrite (lines_of (old.bytes ++ (failed.got ++ more))) number p [] ending) none_)
+      (λ (fault : ending ≡ Read). unless_Read ending (MayWrite (lines_of (old.bytes ++ (failed.got ++ more))) number p [] ending) fault)
+      failed.fault;
+}
+
+-- ---- a whole session
+
+-- what a session has done so far: what was read, what was written, and that what may be written from the line of this number on is the rest
+pub record SoFar (in_old in_now out_old out_now : Option (List ℕ)) (tape : List ℕ) (limit number : ℕ) (lines : Pending) (p : PlainSession) : Type 0 where
+  pub got : List ℕ
+  pub written : List ℕ
+  pub took : Consumes in_old in_now got
+  pub gave : Appends out_old out_now written
+  pub at_end : lines.ended ≡ true → IsAtEnd in_now
+  pub rest : (more : List ℕ) → (lines.ended ≡ true → more ≡ []) → (text : List ℕ) → (stop : Ending) →
+      MayWrite (lines_of (lines.bytes ++ more)) number p text stop → MayShow tape limit (got ++ more) (written ++ text) stop
+
+-- a tape that is not too long is gone over
+shown_within : (tape : List ℕ) (limit : ℕ) (commands text : List ℕ) (stop : Ending) → length tape ≤ TAPE_LIMIT →
+    MayWrite (lines_of commands) 1 (ready tape limit) text stop → MayShow tape limit commands text stop
+shown_within tape limit commands text stop within may =
+    subst (λ fits. shown_where tape limit commands text stop fits) (sym (le-leb (length tape) TAPE_LIMIT within)) may
+
+-- a tape that is too long is not
+shown_beyond : (tape : List ℕ) (limit : ℕ) (commands : List ℕ) → TAPE_LIMIT < length tape → MayShow tape limit commands [] Limit
+shown_beyond tape limit commands beyond =
+    subst (λ fits. shown_where tape limit commands [] Limit fits) (sym (lt-leb (length tape) TAPE_LIMIT beyond)) (refl, refl)
+
+-- at the beginning
+pub so_far_none : (input output : Option (List ℕ)) (tape : List ℕ) (limit : ℕ) (lines : Pending) (p : PlainSession) → IsReady tape limit p → lines ≡ record { bytes = []; ended = false } →
+    SoFar input input output output tape limit 1 lines p
+so_far_none input output tape limit lines p is none = record {
+  got = [];
+  written = [];
+  took = Consumes-nothing input;
+  gave = Appends-nothing output;
+  at_end = λ over. absurd (false≢true (sym (ap (λ (l : Pending). l.ended) none) ∙ over));
+  rest = λ more _ text stop may.
+      shown_within tape limit more text stop is.within
+      (subst (λ q. MayWrite (lines_of more) 1 q text stop) is.is
+      (subst (λ (l : Pending). MayWrite (lines_of (l.bytes ++ more)) 1 p text stop) none may));
+}
+
+-- a line more
+pub so_far_more : (in_old in_now in_new out_old out_now out_new : Option (List ℕ)) (tape : List ℕ) (limit number : ℕ) (lines after : Pending) (p q : PlainSession) →
+    SoFar in_old in_now out_old out_now tape limit number lines p → Advances in_now in_new out_now out_new number lines p after q →
+    SoFar in_old in_new out_old out_new tape limit (number + 1) after q
+so_far_more in_old in_now in_new out_old out_now out_new tape limit number lines after p q far on = record {
+  got = far.got ++ on.got;
+  written = far.written ++ on.written;
+  took = Consumes-both in_old in_now in_new far.got on.got far.took on.took;
+  gave = Appends-both out_old out_now out_new far.written on.written far.gave on.gave;
+  at_end = on.at_end;
+  rest = λ more none text stop may.
+      let here = far.rest (on.got ++ more) (λ over. let at = on.closed over in ap (λ g. g ++ more) at.0 ∙ none at.1) (on.written ++ text) stop (on.rest more none text stop may) in
+      subst (λ t. MayShow tape limit t ((far.written ++ on.written) ++ text) stop) (sym (append_assoc far.got on.got more))
+      (subst (λ w. MayShow tape limit (far.got ++ (on.got ++ more)) w stop) (sym (append_assoc far.written on.written text)) here);
+}
+
+-- what is said of an ending without a fault, behind what was written
+unless_behind : (ending : Ending) (Fact Other : Type 0) → (Fact → Other) → UnlessFault ending Fact → UnlessFault ending Other
+unless_behind Ended Fact Other go fact = go fact
+unless_behind Budget Fact Other go fact = go fact
+unless_behind Limit Fact Other go fact = go fact
+unless_behind Memory Fact Other go fact = tt
+unless_behind Read Fact Other go fact = tt
+unless_behind Write Fact Other go fact = tt
+unless_behind (NotUnderstood line) Fact Other go fact = go fact
+
+-- the end
+pub debugged : (in_old in_now in_new out_old out_now out_new : Option (List ℕ)) (tape : List ℕ) (limit number : ℕ) (lines : Pending) (p : PlainSession) (ending : Ending) →
+    SoFar in_old in_now out_old out_now tape limit number lines p → Halts in_now in_new out_now out_new number lines p ending →
+    Debugs in_old in_new out_old out_new (MayShow tape limit) ending
+debugged in_old in_now in_new out_old out_now out_new tape limit number lines p ending far last =
+    let all : (more : List ℕ) → (last.saw_end ≡ true → more ≡ []) → (text : List ℕ) → (stop : Ending) → MayWrite (lines_of (lines.bytes ++ (last.got ++ more))) number p text stop →
+    MayShow tape limit ((far.got ++ last.got) ++ more) (far.written ++ text) stop =
+    λ more none text stop may.
+    subst (λ t. MayShow tape limit t (far.written ++ text) stop) (sym (append_assoc far.got last.got more))
+    (far.rest (last.got ++ more) (λ over. let at = last.closed over in ap (λ g. g ++ more) at.0 ∙ none at.1) text stop may) in
+    record {
+      got = far.got ++ last.got;
+      written = far.written ++ last.written;
+      saw_end = last.saw_end;
+      took = Consumes-both in_old in_now in_new far.got last.got far.took last.took;
+      gave = Appends-both out_old out_now out_new far.written last.written far.gave last.gave;
+      at_end = last.at_end;
+      front = λ more none.
+          let some = last.front more none in
+          (far.written ++ some.0, some.1, all more none some.0 some.1 some.2, front_behind far.written last.written some.0 some.3);
+      whole = λ more none.
+          unless_behind ending (MayWrite (lines_of (lines.bytes ++ (last.got ++ more))) number p last.written ending)
+          (MayShow tape limit ((far.got ++ last.got) ++ more) (far.written ++ last.written) ending)
+          (λ may. all more none last.written ending may) (last.whole more none);
+    }
+
+-- over each tape something may be written
+some_shown : (tape : List ℕ) (limit : ℕ) (commands : List ℕ) → (text : List ℕ) × (stop : Ending) × MayShow tape limit commands text stop
+some_shown tape limit commands = ⊎_elim
+    (λ (beyond : TAPE_LIMIT < length tape). ([], Limit, shown_beyond tape limit commands beyond))
+    (λ (within : length tape ≤ TAPE_LIMIT).
+    let some = some_text (lines_of commands) 1 (ready tape limit) in
+    (some.0, some.1, shown_within tape limit commands some.0 some.1 within some.2))
+    (cases_lt TAPE_LIMIT (length tape))
+
+-- a session that did not begin
+pub debugged_not : (input output : Option (List ℕ)) (tape : List ℕ) (limit : ℕ) (ending : Ending) → MayRefuseTape tape ending → Debugs input input output output (MayShow tape limit) ending
+debugged_not input output tape limit ending why = record {
+  got = [];
+  written = [];
+  saw_end = false;
+  took = Consumes-nothing input;
+  gave = Appends-nothing output;
+  at_end = λ over. absurd (false≢true over);
+  front = λ more none. let any = some_shown tape limit more in (any.0, any.1, any.2, front_of_nothing any.0);
+  whole = λ more none. ⊎_elim
+      (λ (none_ : ending ≡ Memory). unless_Memory ending (MayShow tape limit more [] ending) none_)
+      (λ (beyond : (ending ≡ Limit) × (TAPE_LIMIT < length tape)).
+      unless_always ending (MayShow tape limit more [] ending) (subst (λ stop. MayShow tape limit more [] stop) (sym beyond.0) (shown_beyond tape limit more beyond.1)))
+      why;
+}
+
+-- ---- replies
+
+-- no reply could be made
+pub not_made : (command : Command) (old : PlainSession) (output : Option (List ℕ)) → IsNotReplied command old output output Memory
+not_made command old output =
+    let some = some_reply command old in
+    record {
+      fault = inl (refl, refl);
+      reply = some.0;
+      new = some.1;
+      replies = some.2;
+      written = [];
+      front = front_of_nothing some.0;
+      gave = Appends-nothing output;
+    }
+
+-- a reply could not be written
+pub not_written : (command : Command) (old new : PlainSession) (reply : List ℕ) (a b : Option (List ℕ)) (ending : Ending) → Replies command old reply new → ending ≡ Write → WritesFront a b reply →
+    IsNotReplied command old a b ending
+not_written command old new reply a b ending replies fault front = record {
+  fault = inr fault;
+  reply = reply;
+  new = new;
+  replies = replies;
+  written = front.written;
+  front = front.front;
+  gave = front.gave;
+}
+
+-- a reply was written, and could not be flushed
+pub not_flushed : (command : Command) (old new : PlainSession) (reply : List ℕ) (a b c : Option (List ℕ)) (flushed : Result (Unit {0}) Ending) → Replies command old reply new →
+    Appends a b reply → Keeps b c → IsOkUnless flushed Write → IfErr flushed (IsNotReplied command old a c)
+not_flushed command old new reply a b c (Ok none) replies gave kept fault = tt
+not_flushed command old new reply a b c (Err ending) replies gave kept fault =
+    not_written command old new reply a c ending replies fault (record { written = reply; front = ([], sym (append-nil reply)); gave = Appends-kept a b c reply gave kept })
+
+-- ---- the session
+
+-- it stands over the tape
+pub ready_made : (tape : List ℕ) (limit : ℕ) (p q r : PlainSession) → length tape ≤ TAPE_LIMIT → p ≡ new_session limit → answer (Feed tape) p ≡ done q → answer End q ≡ done r → IsReady tape limit r
+ready_made tape limit p q r within new fed ended = record {
+  within = within;
+  is = End_done q r ended ∙ ap with_end ((Feed_done tape p q fed).0) ∙ ap (λ (s : PlainSession). with_end (with_more s tape)) new;
+}
+
+-- ---- what the code answers, as the definitions have it
+
+-- the line as it was lent, and the ending as it was passed on
+pub stops_at : (number : ℕ) (lent line : List ℕ) (p : PlainSession) (a b : Option (List ℕ)) (e ending : Ending) → lent ≡ line → ending ≡ e → Stops (turn_at number lent) p a b e → Stops (turn_at number line) p a b ending
+stops_at number lent line p a b e ending same is stops =
+    subst (λ l. Stops (turn_at number l) p a b ending) same (subst (λ x. Stops (turn_at number lent) p a b x) (sym is) stops)
+
+pub settles_at : (number : ℕ) (lent line : List ℕ) (p q : PlainSession) (a b : Option (List ℕ)) → lent ≡ line → Settles (turn_at number lent) p q a b → Settles (turn_at number line) p q a b
+settles_at number lent line p q a b same settles = subst (λ l. Settles (turn_at number l) p q a b) same settles
+
+-- whether there are more bytes, as it is tested
+pub some_of_more : (n : ℕ) (more : Bool) → more ≡ not (n == 0) → more ≡ true → 0 < n
+some_of_more n more is some = grind (arith, nat_tests)
+
+pub none_of_more : (bytes : List ℕ) (more : Bool) → more ≡ not (length bytes == 0) → more ≡ false → bytes ≡ []
+none_of_more [] more is none = refl
+none_of_more (b ∷ bs) more is none = absurd (false≢true (sym none ∙ is ∙ some_bytes))
+  where
+    some_bytes : not (length (b ∷ bs) == 0) ≡ true
+    some_bytes = grind (arith, nat_tests)

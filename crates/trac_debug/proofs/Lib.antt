@@ -1,0 +1,7 @@
+pub mod Shown
+pub mod Counted
+pub mod Splitting
+pub mod Said
+pub mod Gathered
+pub mod Existing
+pub mod Debugged

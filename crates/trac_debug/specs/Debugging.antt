@@ -1,0 +1,66 @@
+-- A whole session of the debugger: what is written, and how it ends.
+use Rattle.std.specs.Prelude.{◌≡◌, ℕ, ◌+◌, nat_le, List, [], ◌∷◌, ◌++◌, length, if◌then◌else◌, Bool, true, false, Option, None, Some}
+use Rattle.trac_rules.specs.declared.limit.TheConstants.{TAPE_LIMIT}
+use Rattle.trac_rules.specs.Session.{PlainSession, new_session}
+use Rattle.trac_run.specs.declared.ending.Ending.{Ending}
+use Rattle.trac_run.specs.declared.ending.Ending.TheVariants.{Ended, Budget, Limit, NotUnderstood}
+use Rattle.trac_debug.specs.declared.lines.TheConstants.{LINE_COUNT_LIMIT}
+use Rattle.trac_debug.specs.Lines.{is_within, lines_of}
+use Rattle.trac_debug.specs.Commands.{Command, Quit, command_of}
+use Rattle.trac_debug.specs.Replies.{Replies}
+
+-- ---- one line
+
+-- what becomes of a line
+pub data Turn : Type 0 where
+  -- it is passed over
+  Passes : Turn
+  -- the command is carried out
+  Does : Command → Turn
+  -- the session ends so
+  Ends : Ending → Turn
+
+-- what a command asks for; without one the line of this number is not understood
+abbrev pub turn_of : ℕ → Option Command → Turn
+turn_of number None = Ends (NotUnderstood number)
+turn_of number (Some Quit) = Ends Ended
+turn_of number (Some command) = Does command
+
+-- what becomes of a line of this number, which counts from 1, null lines too: a line past the limit on their number ends the session,
+-- whatever it holds; a null line is passed over; a line that is too long is not understood
+abbrev pub turn_at : ℕ → List ℕ → Turn
+turn_at number [] = if nat_le number LINE_COUNT_LIMIT then Passes else Ends Budget
+turn_at number (b ∷ bs) =
+    if nat_le number LINE_COUNT_LIMIT then (if is_within (b ∷ bs) then turn_of number (command_of (b ∷ bs)) else Ends (NotUnderstood number)) else
+    Ends Budget
+
+-- ---- all lines
+
+-- where the next line comes to this turn, this text in all may be written from this session on, and then the session ends so; `Rest` says
+-- it of the lines behind, from the session after the turn
+abbrev pub Takes : Turn → PlainSession → (PlainSession → List ℕ → Type 0) → List ℕ → Ending → Type 0
+Takes Passes p Rest text ending = Rest p text
+Takes (Does command) p Rest text ending =
+    (reply : List ℕ) × (q : PlainSession) × (rest : List ℕ) × Replies command p reply q × (text ≡ reply ++ rest) × Rest q rest
+Takes (Ends stop) p Rest text ending = (text ≡ []) × (ending ≡ stop)
+
+-- from this session, where the lines from this number on are these, this text may be written, and then the session ends so: at the
+-- end of the lines as if asked to
+abbrev pub MayWrite : List (List ℕ) → ℕ → PlainSession → List ℕ → Ending → Type 0
+MayWrite [] number p text ending = (text ≡ []) × (ending ≡ Ended)
+MayWrite (line ∷ lines) number p text ending = Takes (turn_at number line) p (λ q rest. MayWrite lines (number + 1) q rest ending) text ending
+
+-- ---- a whole session
+
+-- the session over a tape that has ended, its journal holding at most so many records
+abbrev pub ready : List ℕ → ℕ → PlainSession
+ready tape limit = record (new_session limit) { tape = record { bytes = tape; ended = true } }
+
+-- the same over any tape, by whether it is not too long: nothing is written where it is
+abbrev pub shown_where : List ℕ → ℕ → List ℕ → List ℕ → Ending → Bool → Type 0
+shown_where tape limit commands text ending true = MayWrite (lines_of commands) 1 (ready tape limit) text ending
+shown_where tape limit commands text ending false = (text ≡ []) × (ending ≡ Limit)
+
+-- over this tape, with such a journal and these commands, this text may be written, and then the session ends so
+abbrev pub MayShow : List ℕ → ℕ → List ℕ → List ℕ → Ending → Type 0
+MayShow tape limit commands text ending = shown_where tape limit commands text ending (nat_le (length tape) TAPE_LIMIT)

@@ -1,0 +1,97 @@
+-- What the debugger reads and writes.
+use Rattle.std.specs.Prelude.{◌≡◌, ◌⊎◌, ℕ, ◌+◌, ◌<◌, ◌≤◌, Bool, true, List, [], ◌++◌, length, Option}
+use Rattle.std.specs.Io.KnownBytes.{Appends, Consumes, IsAtEnd, Keeps}
+use Rattle.trac_rules.specs.declared.limit.TheConstants.{TAPE_LIMIT}
+use Rattle.trac_rules.specs.Fronts.{IsFrontOf}
+use Rattle.trac_rules.specs.Session.{PlainSession}
+use Rattle.trac_run.specs.declared.ending.Ending.{Ending}
+use Rattle.trac_run.specs.declared.ending.Ending.TheVariants.{Memory, Read, Write, Limit}
+use Rattle.trac_debug.specs.Lines.{lines_of}
+use Rattle.trac_debug.specs.Commands.{Command}
+use Rattle.trac_debug.specs.Replies.{Replies}
+use Rattle.trac_debug.specs.Debugging.{Turn, Passes, Does, Ends, MayWrite, ready}
+use Rattle.trac_debug.specs.Pending.{Pending}
+
+-- ---- a whole session
+
+-- what is said of an ending that is no fault
+abbrev pub UnlessFault : Ending → Type 0 → Type 0
+UnlessFault Memory Fact = Unit {0}
+UnlessFault Read Fact = Unit {0}
+UnlessFault Write Fact = Unit {0}
+UnlessFault ending Fact = Fact
+
+-- a session read some commands, and perhaps saw the end of them, and wrote some bytes: however the commands go on behind what was
+-- read (not at all where the end was seen), what was written is a front of a text that is stated for all of the commands; and where its
+-- ending is not a fault or want of memory it is a whole one, with that ending
+pub record Debugs (in_old in_new out_old out_new : Option (List ℕ)) (Stated : List ℕ → List ℕ → Ending → Type 0) (ending : Ending) : Type 0 where
+  pub got : List ℕ
+  pub written : List ℕ
+  pub saw_end : Bool
+  pub took : Consumes in_old in_new got
+  pub gave : Appends out_old out_new written
+  pub at_end : saw_end ≡ true → IsAtEnd in_new
+  pub front : (more : List ℕ) → (saw_end ≡ true → more ≡ []) → (text : List ℕ) × (stop : Ending) × Stated (got ++ more) text stop × IsFrontOf written text
+  pub whole : (more : List ℕ) → (saw_end ≡ true → more ≡ []) → UnlessFault ending (Stated (got ++ more) written ending)
+
+-- ---- parts of a session
+
+-- a session over a tape that is not too long
+pub record IsReady (tape : List ℕ) (limit : ℕ) (p : PlainSession) : Type 0 where
+  pub within : length tape ≤ TAPE_LIMIT
+  pub is : p ≡ ready tape limit
+
+-- why there is none: memory was refused, or the tape is too long
+abbrev pub MayRefuseTape : List ℕ → Ending → Type 0
+MayRefuseTape tape ending = (ending ≡ Memory) ⊎ ((ending ≡ Limit) × (TAPE_LIMIT < length tape))
+
+-- a command is replied to: all of a reply was written
+pub record IsReplied (command : Command) (old new : PlainSession) (out_old out_new : Option (List ℕ)) : Type 0 where
+  pub reply : List ℕ
+  pub replies : Replies command old reply new
+  pub gave : Appends out_old out_new reply
+
+-- a reply could not be made, and nothing was written; or it could not be written: then a front of it was
+pub record IsNotReplied (command : Command) (old : PlainSession) (out_old out_new : Option (List ℕ)) (ending : Ending) : Type 0 where
+  pub written : List ℕ
+  pub fault : ((ending ≡ Memory) × (written ≡ [])) ⊎ (ending ≡ Write)
+  pub gave : Appends out_old out_new written
+  pub reply : List ℕ
+  pub new : PlainSession
+  pub replies : Replies command old reply new
+  pub front : IsFrontOf written reply
+
+-- a turn is done with, and the session goes on
+abbrev pub Settles : Turn → PlainSession → PlainSession → Option (List ℕ) → Option (List ℕ) → Type 0
+Settles Passes old new out_old out_new = (new ≡ old) × Keeps out_old out_new
+Settles (Does command) old new out_old out_new = IsReplied command old new out_old out_new
+Settles (Ends stop) old new out_old out_new = ⊥
+
+-- the session ends in a turn
+abbrev pub Stops : Turn → PlainSession → Option (List ℕ) → Option (List ℕ) → Ending → Type 0
+Stops Passes old out_old out_new ending = ⊥
+Stops (Does command) old out_old out_new ending = IsNotReplied command old out_old out_new ending
+Stops (Ends stop) old out_old out_new ending = (ending ≡ stop) × Keeps out_old out_new
+
+-- what may be written from the next line on, behind what was written, may be written from the line of this number on
+pub record Advances (in_old in_new out_old out_new : Option (List ℕ)) (number : ℕ) (lines_old : Pending) (p : PlainSession) (lines_new : Pending) (q : PlainSession) : Type 0 where
+  pub got : List ℕ
+  pub written : List ℕ
+  pub took : Consumes in_old in_new got
+  pub gave : Appends out_old out_new written
+  pub closed : lines_old.ended ≡ true → (got ≡ []) × (lines_new.ended ≡ true)
+  pub at_end : lines_new.ended ≡ true → IsAtEnd in_new
+  pub rest : (more : List ℕ) → (lines_new.ended ≡ true → more ≡ []) → (text : List ℕ) → (stop : Ending) →
+      MayWrite (lines_of (lines_new.bytes ++ more)) (number + 1) q text stop → MayWrite (lines_of (lines_old.bytes ++ (got ++ more))) number p (written ++ text) stop
+
+-- the session ends: a front was written of what may be written from the line of this number on, or, without a fault, the whole
+pub record Halts (in_old in_new out_old out_new : Option (List ℕ)) (number : ℕ) (lines_old : Pending) (p : PlainSession) (ending : Ending) : Type 0 where
+  pub got : List ℕ
+  pub written : List ℕ
+  pub saw_end : Bool
+  pub took : Consumes in_old in_new got
+  pub gave : Appends out_old out_new written
+  pub closed : lines_old.ended ≡ true → (got ≡ []) × (saw_end ≡ true)
+  pub at_end : saw_end ≡ true → IsAtEnd in_new
+  pub front : (more : List ℕ) → (saw_end ≡ true → more ≡ []) → (text : List ℕ) × (stop : Ending) × MayWrite (lines_of (lines_old.bytes ++ (got ++ more))) number p text stop × IsFrontOf written text
+  pub whole : (more : List ℕ) → (saw_end ≡ true → more ≡ []) → UnlessFault ending (MayWrite (lines_of (lines_old.bytes ++ (got ++ more))) number p written ending)

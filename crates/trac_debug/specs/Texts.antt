@@ -1,0 +1,110 @@
+-- How texts, forms and states are shown.
+use Rattle.std.specs.Prelude.{ℕ, ◌/◌, ◌%◌, ◌==◌, ◌&&◌, ◌||◌, not, nat_le, List, [], ◌∷◌, ◌++◌, length, reverse, if◌then◌else◌, Bool, true, false, None, Some, codes, decimal}
+use Rattle.std.specs.Char.{digit_char}
+use Rattle.std.specs.List.{enumerate_from, flat_map}
+use Rattle.std.specs.FinMap as map
+use Rattle.trac_rules.specs.declared.byte.TheConstants.{LINE_FEED}
+use Rattle.trac_rules.specs.declared.item.Item.{Item}
+use Rattle.trac_rules.specs.declared.item.Item.TheVariants.{Byte, Gap}
+use Rattle.trac_rules.specs.declared.kind.Kind.{Kind}
+use Rattle.trac_rules.specs.declared.kind.Kind.TheVariants.{Active, Neutral}
+use Rattle.trac_rules.specs.Form.{Form}
+use Rattle.trac_rules.specs.Session.{PlainSession}
+use Rattle.trac_rules.specs.State.{Block, Forms, Frame, State}
+
+-- ---- texts
+
+-- whether a byte is shown as itself: 32 to 126, but for `[`, `\` and `]`
+abbrev pub is_shown : ℕ → Bool
+is_shown b = nat_le 32 b && nat_le b 126 && not ((b == 91) || (b == 92) || (b == 93))
+
+-- a byte as itself, or as `\x` and two hexadecimal digits, in lower case
+abbrev pub escaped_byte : ℕ → List ℕ
+escaped_byte b = if is_shown b then b ∷ [] else codes "\\x" ++ (digit_char (b / 16) ∷ digit_char (b % 16) ∷ [])
+
+-- a text byte by byte
+abbrev pub escaped : List ℕ → List ℕ
+escaped text = flat_map escaped_byte text
+
+-- a text in brackets
+abbrev pub bracketed : List ℕ → List ℕ
+bracketed text = codes "[" ++ (escaped text ++ codes "]")
+
+-- ---- forms
+
+-- a byte as in a text, and a gap of number k as `<k>`
+abbrev pub escaped_item : Item → List ℕ
+escaped_item (Byte b) = escaped_byte b
+escaped_item (Gap ordinal width) = codes "<" ++ (decimal ordinal ++ codes ">")
+
+-- items, one behind another
+abbrev pub escaped_items : List Item → List ℕ
+escaped_items items = flat_map escaped_item items
+
+-- a form's items, with `<^>` at the place of its pointer, in brackets
+abbrev pub bracketed_form : Form → List ℕ
+bracketed_form form = codes "[" ++ (escaped_items form.before ++ (codes "<^>" ++ (escaped_items form.after ++ codes "]")))
+
+-- ---- lines of a state
+
+-- what ends each line
+abbrev pub feed : List ℕ
+feed = LINE_FEED ∷ []
+
+-- a word, and a text in brackets
+abbrev pub text_line : List ℕ → List ℕ → List ℕ
+text_line word text = word ++ (codes " " ++ (bracketed text ++ feed))
+
+-- a word, and a number
+abbrev pub number_line : List ℕ → ℕ → List ℕ
+number_line word n = word ++ (codes " " ++ (decimal n ++ feed))
+
+-- how the kind of a begun function is written
+abbrev pub sharps : Kind → List ℕ
+sharps Active = codes "#"
+sharps Neutral = codes "##"
+
+-- a function of this kind with these arguments
+abbrev pub arguments_line : Kind → List (List ℕ) → List ℕ
+arguments_line kind arguments = codes "call " ++ (sharps kind ++ (codes " " ++ (flat_map bracketed arguments ++ feed)))
+
+-- a begun function: its finished arguments, and then the one that is being gathered
+abbrev pub frame_line : Frame → List ℕ
+frame_line frame = arguments_line frame.kind (frame.arguments ++ frame.gathered ∷ [])
+
+-- a word, and a form behind its name
+abbrev pub form_line : List ℕ → List ℕ × Form → List ℕ
+form_line word named = word ++ (codes " " ++ (bracketed named.0 ++ (codes " " ++ (bracketed_form named.1 ++ feed))))
+
+-- the block of this number: erased, or with the forms that it holds, in their order
+abbrev pub lines_of_block : ℕ → Block → List ℕ
+lines_of_block k None = codes "block " ++ (decimal k ++ (codes " erased" ++ feed))
+lines_of_block k (Some held) = number_line (codes "block") k ++ flat_map (form_line (codes "held")) held
+
+-- a block beside its number
+abbrev pub block_lines : ℕ × Block → List ℕ
+block_lines numbered = lines_of_block numbered.0 numbered.1
+
+-- whether each call is printed
+abbrev pub trace_line : Bool → List ℕ
+trace_line true = codes "trace on" ++ feed
+trace_line false = codes "trace off" ++ feed
+
+-- active text, base text, and the begun functions from the outermost on
+abbrev pub texts_text : State → List ℕ
+texts_text s = text_line (codes "active") s.active ++ text_line (codes "base") s.base ++ flat_map frame_line (reverse s.frames)
+
+-- the forms by their names, which rise by their bytes, and the blocks by their numbers
+abbrev pub storage_text : Forms → List Block → List ℕ
+storage_text forms blocks = flat_map (form_line (codes "form")) (map.entries forms) ++ flat_map block_lines (enumerate_from 0 blocks)
+
+-- the last state of a session: all its parts, and how many records there are
+abbrev pub state_text : PlainSession → List ℕ
+state_text p =
+    texts_text p.last
+    ++ storage_text p.last.forms p.last.blocks
+    ++ text_line (codes "meta") (p.last.meta ∷ [])
+    ++ trace_line p.last.trace
+    ++ number_line (codes "position") p.last.position
+    ++ text_line (codes "output") p.last.output
+    ++ number_line (codes "journal") (length p.earlier)

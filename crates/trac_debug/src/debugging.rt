@@ -1,0 +1,150 @@
+//! A session of the debugger: commands from a reader, replies to a writer.
+ghost use Rattle.std.specs.Prelude.{◌≡◌, ◌≤◌, true, length, IfOk, IfErr, OnOk};
+ghost use Rattle.std.specs.Io.KnownBytes.{IsAtEnd};
+ghost use Rattle.trac_debug.specs.Debugging.{MayShow, turn_at, turn_of};
+ghost use Rattle.trac_debug.specs.Debugs.{Advances, Debugs, Halts, IsReady, MayRefuseTape, IsReplied, IsNotReplied, Settles, Stops};
+ghost use Rattle.trac_debug.specs.Views.{command_seen};
+
+use crate::command::{Command, command_in};
+use crate::lines::{Front, LINE_COUNT_LIMIT, LINE_LIMIT, Lines};
+use crate::replies::reply_to;
+use std::alloc::Allocator;
+use std::io::{Read, Write};
+use trac_rules::limit::{JOURNAL_LIMIT, TAPE_LIMIT};
+use trac_run::writing::{flush, write_whole};
+use trac_run::{Ending, Options};
+use trac_session::Session;
+
+/// Goes forwards and backwards over a program, the tape being the whole of its input: it reads commands, one a line, carries each of them
+/// out, and writes the reply to it, which is flushed before more is read. The commands are read by at most 4,096 bytes at a time.
+///
+/// The session ends with `Ended` at the end of the commands, and where it is asked to; with `NotUnderstood` at a line that says no
+/// command; with `Budget` where there is a line behind the first 1,048,576; with `Limit`, and nothing written, where the tape has more
+/// than 33,554,432 bytes; with `Read` and `Write` where the reader or the writer fails; and with `Memory` where there is no memory
+/// for the session, for a line or for a reply, of which nothing is written then. A walk for which memory was refused is replied to as
+/// any other (this project's profile).
+pub fn debug<R: Read, W: Write, A: Allocator + Copy>(
+    alloc: A,
+    tape: &[u8],
+    commands: &mut R,
+    output: &mut W,
+    options: Options,
+) -> Ending
+    requires some_records { 1 ≤ options.journal }
+    requires most_records { options.journal ≤ JOURNAL_LIMIT }
+    ensures { Debugs (R.remaining commands.old) (R.remaining commands.new) (W.contents output.old) (W.contents output.new)
+        (MayShow tape.now options.journal) result }
+{
+    let mut session = match session_over(alloc, tape, options.journal) {
+        Ok(session) => session,
+        Err(ending) => return ending,
+    };
+    let mut lines = Lines::new(alloc);
+    for number in 1..LINE_COUNT_LIMIT + 1 {
+        if let Err(ending) = take_line(alloc, number, &mut session, &mut lines, commands, output) {
+            return ending;
+        }
+    }
+    match lines.has_more(commands) {
+        Ok(true) => Ending::Budget,
+        Ok(false) => Ending::Ended,
+        Err(ending) => ending,
+    }
+}
+
+// A session over a tape that has ended.
+fn session_over<A: Allocator + Copy>(
+    alloc: A,
+    tape: &[u8],
+    journal: usize,
+) -> Result<Session<A>, Ending>
+    requires some_records { 1 ≤ journal }
+    requires most_records { journal ≤ JOURNAL_LIMIT }
+    ensures made { IfOk result (IsReady tape.now journal) }
+    ensures refused { IfErr result (MayRefuseTape tape.now) }
+{
+    if tape.len() > TAPE_LIMIT {
+        return Err(Ending::Limit);
+    }
+    let Ok(mut session) = Session::new(alloc, journal) else {
+        return Err(Ending::Memory);
+    };
+    let Ok(()) = session.feed(tape) else {
+        return Err(Ending::Memory);
+    };
+    session.end();
+    Ok(session)
+}
+
+// Takes the line of this number: its command is carried out and replied to, or the session ends.
+fn take_line<R: Read, W: Write, A: Allocator + Copy>(
+    alloc: A,
+    number: u64,
+    session: &mut Session<A>,
+    lines: &mut Lines<A>,
+    commands: &mut R,
+    output: &mut W,
+) -> Result<(), Ending>
+    requires few { number ≤ LINE_COUNT_LIMIT }
+    requires at_end { lines.old.ended ≡ true → IsAtEnd (R.remaining commands.old) }
+    ensures ok { OnOk result (Advances (R.remaining commands.old) (R.remaining commands.new) (W.contents output.old) (W.contents output.new)
+        number lines.old session.old lines.new session.new) }
+    ensures err { IfErr result (Halts (R.remaining commands.old) (R.remaining commands.new) (W.contents output.old) (W.contents output.new)
+        number lines.old session.old) }
+{
+    match lines.seek(commands)? {
+        Front::End => Err(Ending::Ended),
+        Front::TooLong => Err(Ending::NotUnderstood { line: number }),
+        Front::Line { len, whole } => {
+            if len > LINE_LIMIT {
+                return Err(Ending::NotUnderstood { line: number });
+            }
+            carry_out(alloc, number, session, lines.front(len), output)?;
+            lines.pass(whole);
+            Ok(())
+        }
+        Front::Part => unreachable!(),
+    }
+}
+
+// Carries out what a line says, and replies to it. A null line is passed over.
+fn carry_out<W: Write, A: Allocator + Copy>(
+    alloc: A,
+    number: u64,
+    session: &mut Session<A>,
+    line: &[u8],
+    output: &mut W,
+) -> Result<(), Ending>
+    requires few { number ≤ LINE_COUNT_LIMIT }
+    requires short { length line.now ≤ LINE_LIMIT }
+    ensures ok { OnOk result (Settles (turn_at number line.now) session.old session.new (W.contents output.old) (W.contents output.new)) }
+    ensures err { IfErr result (Stops (turn_at number line.now) session.old (W.contents output.old) (W.contents output.new)) }
+{
+    if line.is_empty() {
+        return Ok(());
+    }
+    let Some(command) = command_in(line) else {
+        return Err(Ending::NotUnderstood { line: number });
+    };
+    match command {
+        Command::Quit => Err(Ending::Ended),
+        _ => reply(alloc, session, command, output),
+    }
+}
+
+// Carries out a command, and writes and flushes the reply to it.
+fn reply<W: Write, A: Allocator + Copy>(
+    alloc: A,
+    session: &mut Session<A>,
+    command: Command<'_>,
+    output: &mut W,
+) -> Result<(), Ending>
+    ensures ok { OnOk result (IsReplied (command_seen command.entry) session.old session.new (W.contents output.old) (W.contents output.new)) }
+    ensures err { IfErr result (IsNotReplied (command_seen command.entry) session.old (W.contents output.old) (W.contents output.new)) }
+{
+    let Ok(reply) = reply_to(alloc, session, command) else {
+        return Err(Ending::Memory);
+    };
+    write_whole(output, reply.as_slice())?;
+    flush(output)
+}

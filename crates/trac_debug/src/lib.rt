@@ -1,0 +1,15 @@
+//! The debugger: commands, one a line, to a session that walks forwards and backwards, and the replies to them.
+#![tactic(auto)]
+
+mod command;
+mod debugging;
+mod lines;
+mod places;
+mod replies;
+mod states;
+mod texts;
+
+pub use command::{Command, command_in};
+pub use debugging::debug;
+pub use lines::{Front, Lines};
+pub use replies::reply_to;

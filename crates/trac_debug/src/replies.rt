@@ -1,0 +1,73 @@
+//! The reply to a command.
+ghost use Rattle.std.specs.Prelude.{◌≡◌, ◌++◌, IfOk, OnOk, codes};
+ghost use Rattle.trac_debug.specs.Replies.{Replies, reason, refusal_name, walk_line};
+ghost use Rattle.trac_debug.specs.Texts.{text_line};
+ghost use Rattle.trac_debug.specs.Views.{command_seen};
+
+use crate::command::Command;
+use crate::states::state_lines;
+use crate::texts::{number_into, text_line_into};
+use std::alloc::{AllocError, Allocator};
+use trac_rules::byte::LINE_FEED;
+use trac_session::{Refusal, Session, Walk};
+
+/// Carries out a command, and gives the reply to it, which is exact: a word, how many steps were taken, and why no more were; or what
+/// was pending; or the state (this project's profile). To `Quit` nothing is replied.
+/// The error is that memory was refused for the reply: the command is carried out then, but for `Commit`.
+pub fn reply_to<A: Allocator + Copy>(
+    alloc: A,
+    session: &mut Session<A>,
+    command: Command<'_>,
+) -> Result<Vec<u8, A>, AllocError>
+    ensures { IfOk result (λ reply. Replies (command_seen command.entry) session.old reply.items session.new) }
+{
+    match command {
+        Command::Forward(count) => walk_reply(alloc, b"forward", session.forward(count)),
+        Command::Back(count) => walk_reply(alloc, b"back", session.back(count)),
+        Command::Until(name, count) => walk_reply(alloc, b"until", session.until(name, count)),
+        Command::Return(name) => walk_reply(alloc, b"return", session.back_until(name)),
+        Command::Print => state_lines(alloc, session),
+        Command::Commit => {
+            let mut reply = Vec::new(alloc);
+            text_line_into(b"commit", session.pending(), &mut reply)?;
+            session.commit();
+            Ok(reply)
+        }
+        Command::Quit => Ok(Vec::new(alloc)),
+    }
+}
+
+// A word, how many steps a walk took, and why it took no more, as a line.
+fn walk_reply<A: Allocator + Copy>(
+    alloc: A,
+    word: &[u8],
+    walk: Walk,
+) -> Result<Vec<u8, A>, AllocError>
+    ensures { IfOk result (λ reply. reply.items ≡ walk_line word.now walk.done walk.why) }
+{
+    let mut reply = Vec::from_slice(alloc, word)?;
+    reply.extend_from_slice(b" ")?;
+    number_into(walk.done, &mut reply)?;
+    if let Some(refusal) = walk.why {
+        reply.extend_from_slice(b" ")?;
+        reply.extend_from_slice(name_of(refusal))?;
+    }
+    reply.push(LINE_FEED)?;
+    Ok(reply)
+}
+
+// The name of a refusal.
+fn name_of(refusal: Refusal) -> &'static [u8]
+    ensures { result.now ≡ refusal_name refusal }
+{
+    match refusal {
+        Refusal::Memory => b"Memory",
+        Refusal::TooLong => b"TooLong",
+        Refusal::NeedInput => b"NeedInput",
+        Refusal::Ended => b"Ended",
+        Refusal::JournalFull => b"JournalFull",
+        Refusal::AtStart => b"AtStart",
+        Refusal::Closed => b"Closed",
+        Refusal::NotMet => b"NotMet",
+    }
+}

@@ -1,0 +1,192 @@
+//! The state of a session, as lines.
+ghost use Rattle.std.specs.Prelude.{◌≡◌, ◌++◌, ◌∷◌, reverse, IfOk, OnOk, None, Some, codes, option_copied};
+ghost use Rattle.std.specs.FinMap as finite;
+ghost use Rattle.std.specs.List.{enumerate_from, flat_map};
+ghost use Rattle.trac_debug.specs.Texts.{arguments_line, block_lines, bracketed, feed, form_line, frame_line, lines_of_block, sharps, state_text, storage_text, texts_text, trace_line};
+
+use crate::texts::{form_line_into, number_into, number_line_into, text_into, text_line_into};
+use std::alloc::{AllocError, Allocator};
+use trac_forms::{Block, Store};
+use trac_session::{Machine, Session};
+use trac_step::{Args, Kind};
+
+/// All parts of a session's last state and how many records it has, as lines (this project's profile).
+/// The error is that memory was refused.
+pub fn state_lines<A: Allocator + Copy>(
+    alloc: A,
+    session: &Session<A>,
+) -> Result<Vec<u8, A>, AllocError>
+    ensures { IfOk result (λ text. text.items ≡ state_text session.now) }
+{
+    let machine = session.machine();
+    let mut out = Vec::new(alloc);
+    texts_into(machine, &mut out)?;
+    storage_into(machine.store(), &mut out)?;
+    text_line_into(b"meta", &[machine.meta()], &mut out)?;
+    trace_into(machine.trace(), &mut out)?;
+    number_line_into(b"position", machine.position() as u64, &mut out)?;
+    text_line_into(b"output", machine.output(), &mut out)?;
+    number_line_into(b"journal", session.len() as u64, &mut out)?;
+    Ok(out)
+}
+
+// Active text, base text and begun functions, as lines.
+fn texts_into<A: Allocator + Copy, B: Allocator>(
+    machine: &Machine<A>,
+    out: &mut Vec<u8, B>,
+) -> Result<(), AllocError>
+    ensures { OnOk result (out.new.items ≡ out.old.items ++ texts_text machine.now.state) }
+{
+    text_line_into(b"active", machine.active(), out)?;
+    text_line_into(b"base", machine.base(), out)?;
+    frames_into(machine, out)
+}
+
+// The begun functions from the outermost on, each a line.
+fn frames_into<A: Allocator + Copy, B: Allocator>(
+    machine: &Machine<A>,
+    out: &mut Vec<u8, B>,
+) -> Result<(), AllocError>
+    ensures { OnOk result (out.new.items ≡ out.old.items ++ flat_map frame_line (reverse machine.now.state.frames)) }
+{
+    for i in 0..machine.depth() {
+        let Some((kind, arguments)) = machine.frame(i) else {
+            unreachable!();
+        };
+        frame_into(kind, &arguments, out)?;
+    }
+    Ok(())
+}
+
+// A begun function of this kind with these arguments, as a line.
+fn frame_into<B: Allocator>(
+    kind: Kind,
+    arguments: &Args<'_>,
+    out: &mut Vec<u8, B>,
+) -> Result<(), AllocError>
+    ensures { OnOk result (out.new.items ≡ out.old.items ++ arguments_line kind arguments.now) }
+{
+    out.extend_from_slice(b"call ")?;
+    sharps_into(kind, out)?;
+    out.extend_from_slice(b" ")?;
+    arguments_into(arguments, out)?;
+    out.extend_from_slice(b"\n")
+}
+
+// How the kind of a begun function is written.
+fn sharps_into<B: Allocator>(kind: Kind, out: &mut Vec<u8, B>) -> Result<(), AllocError>
+    ensures { OnOk result (out.new.items ≡ out.old.items ++ sharps kind) }
+{
+    match kind {
+        Kind::Active => out.extend_from_slice(b"#"),
+        Kind::Neutral => out.extend_from_slice(b"##"),
+    }
+}
+
+// Arguments, each in brackets.
+fn arguments_into<B: Allocator>(
+    arguments: &Args<'_>,
+    out: &mut Vec<u8, B>,
+) -> Result<(), AllocError>
+    ensures { OnOk result (out.new.items ≡ out.old.items ++ flat_map bracketed arguments.now) }
+{
+    for i in 0..arguments.count() {
+        text_into(arguments.get(i), out)?;
+    }
+    Ok(())
+}
+
+// Whether each call is printed, as a line.
+fn trace_into<B: Allocator>(trace: bool, out: &mut Vec<u8, B>) -> Result<(), AllocError>
+    ensures { OnOk result (out.new.items ≡ out.old.items ++ trace_line trace) }
+{
+    if trace {
+        out.extend_from_slice(b"trace on\n")
+    } else {
+        out.extend_from_slice(b"trace off\n")
+    }
+}
+
+// The forms by their names, and the blocks, as lines.
+fn storage_into<A: Allocator + Copy, B: Allocator>(
+    store: &Store<A>,
+    out: &mut Vec<u8, B>,
+) -> Result<(), AllocError>
+    ensures { OnOk result (out.new.items ≡ out.old.items ++ storage_text store.now.forms store.now.blocks) }
+{
+    forms_into(store, out)?;
+    blocks_into(store, out)
+}
+
+// The forms by their names, each a line.
+fn forms_into<A: Allocator + Copy, B: Allocator>(
+    store: &Store<A>,
+    out: &mut Vec<u8, B>,
+) -> Result<(), AllocError>
+    ensures { OnOk result (out.new.items ≡ out.old.items ++ flat_map (form_line (codes "form")) (finite.entries store.now.forms)) }
+{
+    let Ok(names) = store.names() else {
+        return Err(AllocError);
+    };
+    for name in &names {
+        let Some(form) = store.get(name) else {
+            unreachable!();
+        };
+        form_line_into(b"form", name, form, out)?;
+    }
+    Ok(())
+}
+
+// The blocks, each a line, and a line for each form that it holds.
+fn blocks_into<A: Allocator + Copy, B: Allocator>(
+    store: &Store<A>,
+    out: &mut Vec<u8, B>,
+) -> Result<(), AllocError>
+    ensures { OnOk result (out.new.items ≡ out.old.items ++ flat_map block_lines (enumerate_from 0 store.now.blocks)) }
+{
+    for i in 0..store.block_count() {
+        numbered_block_into(i, store.block(i), out)?;
+    }
+    Ok(())
+}
+
+// The block of this number, erased or not, as lines.
+fn numbered_block_into<A: Allocator + Copy, B: Allocator>(
+    i: usize,
+    block: Option<&Block<A>>,
+    out: &mut Vec<u8, B>,
+) -> Result<(), AllocError>
+    ensures { OnOk result (out.new.items ≡ out.old.items ++ lines_of_block i (option_copied block.entry)) }
+{
+    match block {
+        Some(block) => block_into(i, block, out),
+        None => erased_into(i, out),
+    }
+}
+
+// An erased block of this number, as a line.
+fn erased_into<B: Allocator>(i: usize, out: &mut Vec<u8, B>) -> Result<(), AllocError>
+    ensures { OnOk result (out.new.items ≡ out.old.items ++ lines_of_block i None) }
+{
+    out.extend_from_slice(b"block ")?;
+    number_into(i as u64, out)?;
+    out.extend_from_slice(b" erased\n")
+}
+
+// A block of this number, as a line, and each form that it holds.
+fn block_into<A: Allocator + Copy, B: Allocator>(
+    i: usize,
+    block: &Block<A>,
+    out: &mut Vec<u8, B>,
+) -> Result<(), AllocError>
+    ensures { OnOk result (out.new.items ≡ out.old.items ++ lines_of_block i (Some block.now)) }
+{
+    number_line_into(b"block", i as u64, out)?;
+    for place in 0..block.len() {
+        let Some((name, form)) = block.get(place) else {
+            unreachable!();
+        };
+        form_line_into(b"held", name, form, out)?;
+    }
+    Ok(())
+}
