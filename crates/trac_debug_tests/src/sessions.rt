@@ -1,0 +1,106 @@
+//! Whole sessions.
+use crate::session::{DEFAULTS, expect_session, session};
+use std::alloc::{AllocError, Global};
+use std::process::Abort;
+use std::test::Fail;
+use trac_faults::{FaultyReader, FaultyWriter};
+use trac_run::{Ending, Options};
+
+// A tape, commands, what is written, and the ending.
+const SESSIONS: [(&[u8], &[u8], &[u8], Ending); 4] = [
+    (
+        b"AB'",
+        b"s 11\nb 1\np\nu rs 100\nc\nq\n",
+        b"forward 11\nback 1\nactive [)]\nbase []\ncall # [ps][AB]\nmeta [']\ntrace off\nposition 3\noutput []\njournal 10\nuntil 9\ncommit [AB]\n",
+        Ending::Ended,
+    ),
+    (
+        b"AB'",
+        b"s 20\nr rs\nb 99\nr rs\n",
+        b"forward 19 Ended\nreturn 12\nback 7 AtStart\nreturn 0 AtStart\n",
+        Ending::Ended,
+    ),
+    (
+        b"AB'",
+        b"s 3\nx\n",
+        b"forward 3\n",
+        Ending::NotUnderstood { line: 2 },
+    ),
+    (
+        b"AB'",
+        b"u zz 5\nr zz\n",
+        b"until 5 NotMet\nreturn 5 NotMet\n",
+        Ending::Ended,
+    ),
+];
+
+#[test]
+fn sessions_in_pieces(rt: HostRuntime) -> Result<(), Fail> {
+    for (tape, commands, output, ending) in SESSIONS {
+        for most in [1, 2, 7, 4096] {
+            expect_session(&rt, tape, commands, most, output, ending)?;
+        }
+    }
+    Ok(())
+}
+
+// Behind the longest line the journal is full.
+#[test]
+fn a_full_journal(rt: HostRuntime) {
+    let mut reader = FaultyReader::new(b"s 5\nc\ns 1\nb 2");
+    let mut writer = FaultyWriter::new(rt.alloc());
+    let options = Options {
+        budget: 1_000_000_000,
+        journal: 4,
+    };
+    let ending = session(&rt, rt.alloc(), b"AB'", &mut reader, &mut writer, options);
+    assert_eq!(rt; ending, Ending::Ended);
+    assert_eq!(rt;
+        writer.contents(),
+        b"forward 4 JournalFull\ncommit []\nforward 1\nback 1 AtStart\n".as_slice()
+    );
+}
+
+// A million lines and more, all null: the one behind the last is one too many, whatever it holds.
+fn expect_lines(
+    rt: &(impl Abort + AllocGlobal),
+    alloc: Global,
+    count: usize,
+    last: &[u8],
+    ending: Ending,
+) -> Result<(), AllocError> {
+    let mut commands = vec![in alloc; b'\n'; count]?;
+    commands.extend_from_slice(last)?;
+    let mut reader = FaultyReader::new(commands.as_slice());
+    let mut writer = FaultyWriter::new(alloc);
+    let met = session(rt, alloc, b"AB'", &mut reader, &mut writer, DEFAULTS);
+    assert_eq!(rt; met, ending, "{count} lines");
+    Ok(())
+}
+
+#[test]
+fn the_most_lines(rt: HostRuntime) -> Result<(), Fail> {
+    let alloc = rt.alloc();
+    expect_lines(&rt, alloc, 1_048_576, b"", Ending::Ended)?;
+    expect_lines(
+        &rt,
+        alloc,
+        1_048_575,
+        b"x",
+        Ending::NotUnderstood { line: 1_048_576 },
+    )?;
+    expect_lines(&rt, alloc, 1_048_576, b"q", Ending::Budget)?;
+    expect_lines(&rt, alloc, 1_048_576, b"\n", Ending::Budget)?;
+    Ok(())
+}
+
+// One byte too many for a tape.
+#[test]
+fn a_tape_that_is_too_long(rt: HostRuntime) -> Result<(), Fail> {
+    let alloc = rt.alloc();
+    let tape = vec![in alloc; b'x'; 33_554_433]?;
+    expect_session(&rt, tape.as_slice(), b"s 1\n", 4096, b"", Ending::Limit)?;
+    let longest = tape.as_slice().split_at(33_554_432).0;
+    expect_session(&rt, longest, b"s 1\n", 4096, b"forward 1\n", Ending::Ended)?;
+    Ok(())
+}
