@@ -29,8 +29,12 @@ fn push_all<A: Allocator + Copy>(rt: &impl Abort, alloc: A) -> Result<(), AllocE
     Ok(())
 }
 
+fn key_of(memory: Memory<'_>, n: u8) -> Result<Vec<u8, Memory<'_>>, AllocError> {
+    Vec::from_slice(memory, &[b'n', n])
+}
+
 fn insert_number<'a>(map: &mut Numbered<'a>, memory: Memory<'a>, n: u8) -> Result<(), AllocError> {
-    let key = Vec::from_slice(memory, &[b'n', n])?;
+    let key = key_of(memory, n)?;
     map.insert(key, n)?;
     Ok(())
 }

@@ -20,7 +20,7 @@ occurs_behind front text back = record {
   reads = λ j l. get_or-append-add front (text ++ back) j 0 ∙ get_or_append_left text back 0 j l;
 }
 
-occurs_in : (run front text back : List ℕ) → run ≡ front ++ (text ++ back) → OccursAt run text (length front)
+pub occurs_in : (run front text back : List ℕ) → run ≡ front ++ (text ++ back) → OccursAt run text (length front)
 occurs_in run front text back e = subst (λ r. OccursAt r text (length front)) (sym e) (occurs_behind front text back)
 
 -- a run splits where a text occurs

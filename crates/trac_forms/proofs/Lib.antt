@@ -1,5 +1,8 @@
 pub mod Cuts
+pub mod Divided
 pub mod Extents
 pub mod Going
 pub mod Tables
 pub mod Names
+pub mod Passing
+pub mod Searching

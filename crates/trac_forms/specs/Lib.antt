@@ -1,6 +1,8 @@
 -- What calls answer, and what a store holds.
 pub mod Outcomes
 pub mod Stored
+-- What a measured piece of a form says.
+pub mod Taken
 -- How forms and stores are kept.
 pub mod Layout
 pub mod Table

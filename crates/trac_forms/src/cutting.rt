@@ -5,7 +5,7 @@ ghost use Rattle.trac_rules.specs.Segmenting.{cut_out, part, segmented};
 ghost use Rattle.trac_forms.specs.Layout.{IsSound};
 
 use crate::error::FormError;
-use crate::form::Form;
+use crate::form::{Form, extent_within, items_of};
 use crate::texts::Texts;
 use memchr::memmem::Finder;
 use std::alloc::Allocator;
@@ -25,8 +25,9 @@ impl<A: Allocator + Copy> Form<A> {
         ensures sound { IfOk result IsSound }
         ensures err { IsOkUnless result FormError.Memory }
     {
-        let alloc = *self.items.allocator();
-        let mut items = Vec::from_slice(alloc, self.items.as_slice())?;
+        let alloc = self.alloc;
+        let mut items = Vec::from_slice(alloc, self.before())?;
+        items.extend_from_slice(self.after())?;
         for i in 0..texts.count() {
             let text = texts.get(i);
             if text.is_empty() {
@@ -35,7 +36,11 @@ impl<A: Allocator + Copy> Form<A> {
             let number = number_of(i);
             items = without(alloc, number, text, items.as_slice())?;
         }
-        Ok(Form { items, place: 0 })
+        let Some(bytes) = extent_within(items.as_slice(), FORM_LIMIT) else {
+            unreachable!()
+        };
+        let items = items_of(alloc, &[], items.as_slice(), bytes)?;
+        Ok(Form { alloc, items })
     }
 }
 
@@ -114,7 +119,10 @@ fn bytes_into<A: Allocator>(bytes: &[u8], out: &mut Vec<Item, A>) -> Result<(), 
 }
 
 // Puts an item at the end of `out`.
-fn push_item<T: Copy, A: Allocator>(item: T, out: &mut Vec<T, A>) -> Result<(), FormError>
+pub(crate) fn push_item<T: Copy, A: Allocator>(
+    item: T,
+    out: &mut Vec<T, A>,
+) -> Result<(), FormError>
     ensures ok { OnOk result (out.new.items ≡ out.old.items ++ item ∷ []) }
     ensures err { IsOkUnless result FormError.Memory }
 {

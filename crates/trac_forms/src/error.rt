@@ -5,6 +5,7 @@ ghost use Rattle.trac_forms.specs.declared.error.FormError.TheVariants.{Memory};
 
 use std::alloc::{AllocError, AllocFailed};
 use thiserror::Error;
+use trac_gap::GapError;
 use trac_rules::refusal::Refusal;
 
 /// Why a call on a form or on a store was refused. After each the forms, their names and their pointers are as they were, and a
@@ -32,6 +33,16 @@ impl<T: Drop> From<AllocFailed<T>> for FormError {
 
     fn from(_failed: AllocFailed<T>) -> FormError {
         FormError::Memory
+    }
+}
+
+impl From<GapError> for FormError {
+    ghost from_gives = { λ _ e. e ≡ Memory };
+
+    fn from(error: GapError) -> FormError {
+        match error {
+            GapError::Memory => FormError::Memory,
+        }
     }
 }
 

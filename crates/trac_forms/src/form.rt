@@ -1,36 +1,43 @@
 //! A form: a text with gaps and a pointer.
 ghost use Rattle.std.specs.Prelude.{◌≡◌, ◌++◌, ◌≤◌, length, slice_get, IfOk, IfErr, OnOk, IsOkUnless, SomeIff};
 ghost use Rattle.std.specs.List.{All};
-ghost use Rattle.trac_rules.specs.Form.{IsWide, all_items, as_items, defined, extent, pointed_at, width_of};
-ghost use Rattle.trac_forms.specs.Layout.{IsSound};
+ghost use Rattle.trac_rules.specs.Form.{IsWide, all_items, as_items, at_start, defined, extent, pointed_at, width_of};
+ghost use Rattle.trac_forms.specs.Layout.{IsKept, IsSound, divided};
 ghost use Rattle.trac_forms.specs.Outcomes.{MayRefuseForm};
 
 use crate::error::FormError;
-use std::alloc::{AllocError, Allocator, Global};
+use std::alloc::{Allocator, Global};
 use std::marker::Model;
+use trac_gap::{GapBuf, TwoEnds};
 use trac_rules::item::Item;
 use trac_rules::limit::FORM_LIMIT;
 
+/// What holds the items of a form: those before its pointer on the left, those after it on the right.
+pub(crate) type Items<A> = GapBuf<Item, A>;
+
 /// A text in which gaps may stand, with a pointer before one of its items or at its end.
 /// It is seen as the items before and after its pointer. Lengths and places count items.
+///
+/// From the moment that it is made it has room for as many items as it stands for bytes, so that what is cut out of it can
+/// come back without more memory.
 #[derive(Drop)]
 pub struct Form<A: Allocator + Copy = Global> {
-    pub(crate) items: Vec<Item, A>,
-    pub(crate) place: usize,
+    pub(crate) alloc: A,
+    pub(crate) items: Items<A>,
 }
 
 impl<A: Allocator + Copy> Model for Form<A> {
     ghost use Rattle.trac_rules.specs.Codes.{form_code};
-    ghost use Rattle.trac_rules.specs.Form.{Form as Divided, pointed_at};
-    ghost use Rattle.trac_forms.specs.Layout.{IsKept};
+    ghost use Rattle.trac_rules.specs.Form.{Form as Divided};
+    ghost use Rattle.trac_forms.specs.Layout.{IsKept, divided};
 
     ghost Value = { Divided };
 
     ghost coded = { form_code };
 
-    ghost view = { λ f. pointed_at f.place f.items.items };
+    ghost view = { λ f. divided f.items };
 
-    ghost invariant = { λ f. IsKept f.items.items f.place };
+    ghost invariant = { λ f. IsKept f.items };
 }
 
 impl<A: Allocator + Copy> Form<A> {
@@ -48,7 +55,7 @@ impl<A: Allocator + Copy> Form<A> {
             return Err(FormError::TooLong);
         }
         let items = bytes_of(alloc, text)?;
-        Ok(Form { items, place: 0 })
+        Ok(Form { alloc, items })
     }
 
     /// A form of these items, with its pointer between the two lists. Each gap has to be at least one byte wide.
@@ -65,15 +72,11 @@ impl<A: Allocator + Copy> Form<A> {
         let Some(front) = extent_within(before, FORM_LIMIT) else {
             return Err(FormError::TooLong);
         };
-        let Some(_back) = extent_within(after, FORM_LIMIT - front) else {
+        let Some(back) = extent_within(after, FORM_LIMIT - front) else {
             return Err(FormError::TooLong);
         };
-        let mut items = Vec::from_slice(alloc, before)?;
-        items.extend_from_slice(after)?;
-        Ok(Form {
-            items,
-            place: before.len(),
-        })
+        let items = items_of(alloc, before, after, front + back)?;
+        Ok(Form { alloc, items })
     }
 
     /// How many items the form has, gaps counted like bytes. It takes no memory.
@@ -82,33 +85,37 @@ impl<A: Allocator + Copy> Form<A> {
         ensures within { extent (all_items self.now) ≤ FORM_LIMIT }
         ensures wide { All IsWide (all_items self.now) }
     {
-        self.items.len()
+        self.items.left().len() + self.items.right().len()
     }
 
     /// How many items are before the pointer. It takes no memory.
     pub fn pointer(&self) -> usize
         ensures { result ≡ length self.now.before }
     {
-        self.place
+        self.before().len()
     }
 
     /// The item at this place, from 0 on; `None` past the last. It takes no memory.
     pub fn item(&self, i: usize) -> Option<Item>
         ensures { result ≡ slice_get (all_items self.now) i }
     {
-        self.items.get(i).copied()
+        let before = self.before();
+        if i < before.len() {
+            return Some(before[i]);
+        }
+        self.after().get(i - before.len()).copied()
     }
 
-    /// A second form of the same items and with the same pointer, with memory of its own.
+    /// A second form of the same items and with the same pointer, with memory and room of its own.
     /// Refused with `Memory` where the allocator refuses.
     pub fn copy(&self) -> Result<Self, FormError>
         ensures same { IfOk result (λ f. f ≡ self.now) }
         ensures err { IsOkUnless result FormError.Memory }
     {
-        let items = Vec::from_slice(*self.items.allocator(), self.items.as_slice())?;
+        let items = self.items.copy()?;
         Ok(Form {
+            alloc: self.alloc,
             items,
-            place: self.place,
         })
     }
 
@@ -119,8 +126,12 @@ impl<A: Allocator + Copy> Form<A> {
         ensures old { result ≡ length self.old.before }
         ensures moved { self.new ≡ pointed_at place (all_items self.old) }
     {
-        let old = self.place;
-        self.place = place;
+        let old = self.pointer();
+        if place < old {
+            self.items.shift_right(old - place);
+        } else {
+            self.items.shift_left(place - old);
+        }
         old
     }
 
@@ -128,26 +139,56 @@ impl<A: Allocator + Copy> Form<A> {
     pub(crate) fn before(&self) -> &[Item]
         ensures { result.now ≡ self.now.before }
     {
-        self.items.as_slice().split_at(self.place).0
+        self.items.left()
     }
 
     // The items after the pointer.
     pub(crate) fn after(&self) -> &[Item]
         ensures { result.now ≡ self.now.after }
     {
-        self.items.as_slice().split_at(self.place).1
+        self.items.right()
     }
 }
 
-// The bytes of a text as items.
-fn bytes_of<A: Allocator>(alloc: A, text: &[u8]) -> Result<Vec<Item, A>, AllocError>
-    ensures { IfOk result (λ items. items.items ≡ as_items text.now) }
+// The bytes of a text as items, none of them before the pointer.
+fn bytes_of<A: Allocator + Copy>(alloc: A, text: &[u8]) -> Result<Items<A>, FormError>
+    requires { length text.now ≤ FORM_LIMIT }
+    ensures bytes { IfOk result (λ items. divided items ≡ defined text.now) }
+    ensures kept { IfOk result IsKept }
+    ensures err { IsOkUnless result FormError.Memory }
 {
-    text.iter().map(|b| Item::Byte(*b)).collect(alloc)
+    let mut items = Items::new(alloc);
+    items.reserve(text.len())?;
+    for b in text {
+        items.push_left(Item::Byte(*b));
+    }
+    items.shift_right(text.len());
+    Ok(items)
+}
+
+// These items, the pointer between the two lists, with room for as many as they stand for bytes.
+pub(crate) fn items_of<A: Allocator + Copy>(
+    alloc: A,
+    before: &[Item],
+    after: &[Item],
+    bytes: usize,
+) -> Result<Items<A>, FormError>
+    requires bytes { bytes ≡ extent (before.now ++ after.now) }
+    requires within { bytes ≤ FORM_LIMIT }
+    requires wide { All IsWide (before.now ++ after.now) }
+    ensures items { IfOk result (λ items. divided items ≡ record { before = before.now; after = after.now }) }
+    ensures kept { IfOk result IsKept }
+    ensures err { IsOkUnless result FormError.Memory }
+{
+    let mut items = Items::new(alloc);
+    items.reserve(bytes)?;
+    items.put_left(before);
+    items.put_right(after);
+    Ok(items)
 }
 
 // How many bytes these items stand for, where that is no more than `most`.
-fn extent_within(items: &[Item], most: usize) -> Option<usize>
+pub(crate) fn extent_within(items: &[Item], most: usize) -> Option<usize>
     ensures { SomeIff result (extent items.now ≤ most) (extent items.now) }
 {
     let mut total = 0;

@@ -1,4 +1,4 @@
-//! Forms: texts with gaps and a pointer, how they are made, called, segmented and shown, and the store that keeps them
+//! Forms: texts with gaps and a pointer, how they are made, called, segmented, read and shown, and the store that keeps them
 //! by their names, beside blocks of them.
 #![tactic(auto)]
 
@@ -10,6 +10,7 @@ mod filling;
 pub mod form;
 mod listing;
 mod looking;
+pub mod reading;
 mod showing;
 pub mod store;
 pub mod texts;
@@ -17,6 +18,7 @@ pub mod texts;
 pub use block::Block;
 pub use error::FormError;
 pub use form::Form;
+pub use reading::Piece;
 pub use store::Store;
 pub use texts::Texts;
 pub use trac_rules::item::Item;

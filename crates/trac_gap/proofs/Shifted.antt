@@ -1,5 +1,5 @@
 -- A row in which one run, or each of two runs that lie apart, was written anew: what of it is as it was.
-use Rattle.std.proofs.Common.{◌≡◌, ℕ, ◌+◌, ◌-◌, ◌≤◌, ◌++◌, List, length, take, drop, sym, ap, ◌∙◌, append_assoc, arith, length-drop}
+use Rattle.std.proofs.Common.{◌≡◌, ℕ, ◌+◌, ◌-◌, ◌≤◌, ◌++◌, List, length, take, drop, refl, sym, ap, ◌∙◌, append_assoc, arith, length-drop}
 use Rattle.std.proofs.lemmas.List.{take-append-drop, drop-take, drop-drop}
 use Rattle.std.proofs.Math.Seq.{length-take-le, take-add, take-append_seam}
 use Rattle.trac_gap.specs.Places.{IsShifted, run, pasted}
@@ -22,6 +22,10 @@ module _ {X : Type 0} (cs : List X) where
         below = λ k a b. take-pasted_before cs j ws fits k b;
         above = λ k a b. drop-pasted_behind cs j ws fits k (omega (arith, p));
       }
+
+  -- a run stays where it is
+  pub shifted_nowhere : (i j n : ℕ) → i ≡ j → IsShifted cs i j n cs
+  shifted_nowhere i j n e = record { count = refl; moved = ap (λ k. run k n cs) (sym e); below = λ k a b. refl; above = λ k a b. refl }
 
   module _ (low high n : ℕ) (apart : low + n ≤ high) (fits : high + n ≤ length cs) (ws vs : List X) (p : length ws ≡ n) (q : length vs ≡ n) where
     abbrev pub both : List X

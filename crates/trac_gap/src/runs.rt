@@ -41,6 +41,10 @@ impl<T: Copy> Places<T> {
         ensures { (self.new.at ≡ self.old.at)
             × IsShifted self.old.slots from to count self.new.slots }
     {
+        // With no gap each item has arrived already.
+        if from == to {
+            return;
+        }
         if count <= from.abs_diff(to) {
             self.move_apart(origin, from, to, count);
         } else if to <= from {
@@ -50,7 +54,8 @@ impl<T: Copy> Places<T> {
         }
     }
 
-    // `shift` to lower places, the first items first.
+    // `shift` to lower places, the first items first. Its parts lie on the stack, so it is no part of the frame of `shift`.
+    #[inline(never)]
     fn shift_down(&mut self, origin: Origin<T>, from: usize, to: usize, count: usize)
         requires { (origin.ptr ≡ self.old.at) × (from + count ≤ length self.old.slots)
             × (to ≤ from) × (length self.old.slots < 2 ^ 64)
@@ -65,6 +70,7 @@ impl<T: Copy> Places<T> {
     }
 
     // `shift` to higher places, the last items first.
+    #[inline(never)]
     fn shift_up(&mut self, origin: Origin<T>, from: usize, to: usize, count: usize)
         requires { (origin.ptr ≡ self.old.at) × (to + count ≤ length self.old.slots)
             × (from ≤ to) × (length self.old.slots < 2 ^ 64)

@@ -241,6 +241,40 @@ fn fill<E: TwoEnds<u8, A>, A: Allocator + Copy>(ends: &mut E, count: usize, on_t
     }
 }
 
+// A list with room for one more: so many items on the left, and the others on the right.
+fn nearly_full<E: TwoEnds<u8, A>, A: Allocator + Copy>(
+    rt: &impl Abort,
+    alloc: A,
+    places: usize,
+    lefts: usize,
+) -> Result<E, GapError> {
+    let mut ends = E::new(alloc);
+    ends.reserve(places)?;
+    assert!(rt; ends.room() >= places);
+    fill(&mut ends, lefts, true);
+    fill(&mut ends, places.saturating_mul(2), false);
+    assert_eq!(rt; ends.room(), 1);
+    Ok(ends)
+}
+
+fn copied<E: TwoEnds<u8, A>, A: Allocator + Copy>(ends: &E) -> Result<E, GapError> {
+    ends.copy()
+}
+
+// So many of the items that were last on the left are now first on the right.
+fn expect_moved(rt: &impl Abort, left: &[u8], right: &[u8], before: &[u8], moved: usize) {
+    let (front, back) = before.split_at(before.len().saturating_sub(moved));
+    assert_eq!(rt; left, front);
+    assert_eq!(rt; back.len(), moved);
+    assert!(rt; right.starts_with(back));
+}
+
+// Behind so many items the right is as before.
+fn expect_end(rt: &impl Abort, right: &[u8], before: &[u8], moved: usize) {
+    let (_, rest) = right.split_at(moved.min(right.len()));
+    assert_eq!(rt; rest, before);
+}
+
 // So many items go from the left to the right and back, over a gap that on `GapBuf` is one place.
 fn over_one_place<E: TwoEnds<u8, A>, A: Allocator + Copy>(
     rt: &impl Abort,
@@ -249,23 +283,12 @@ fn over_one_place<E: TwoEnds<u8, A>, A: Allocator + Copy>(
     lefts: usize,
     moved: usize,
 ) -> Result<E, GapError> {
-    let mut ends = E::new(alloc);
-    ends.reserve(places)?;
-    assert!(rt; ends.room() >= places);
-    fill(&mut ends, lefts, true);
-    fill(&mut ends, places.saturating_mul(2), false);
-    assert_eq!(rt; ends.room(), 1);
-    let before = ends.copy()?;
+    let mut ends: E = nearly_full(rt, alloc, places, lefts)?;
+    let before = copied(&ends)?;
     assert!(rt; before.room() >= 1);
-    let (front, back) = before
-        .left()
-        .split_at(before.left().len().saturating_sub(moved));
-    assert_eq!(rt; back.len(), moved);
     shift_right(&mut ends, moved);
-    assert_eq!(rt; ends.left(), front);
-    let (first, rest) = ends.right().split_at(moved.min(ends.right().len()));
-    assert_eq!(rt; first, back);
-    assert_eq!(rt; rest, before.right());
+    expect_moved(rt, ends.left(), ends.right(), before.left(), moved);
+    expect_end(rt, ends.right(), before.right(), moved);
     shift_left(&mut ends, moved);
     expect_lists(rt, &ends, before.left(), before.right());
     Ok(ends)

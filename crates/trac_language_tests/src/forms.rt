@@ -116,11 +116,16 @@ fn cut<'a>(
     }
 }
 
+fn new_form<'a>(memory: Memory<'a>, text: &[u8]) -> Result<Form<Memory<'a>>, FormError> {
+    Form::new(memory, text)
+}
+
+// A new form, where one request may be refused.
 fn made<'a>(memory: Memory<'a>, text: &[u8]) -> Result<Form<Memory<'a>>, FormError> {
-    match Form::new(memory, text) {
-        Err(FormError::Memory) => Form::new(memory, text),
-        other => other,
-    }
+    let Ok(form) = new_form(memory, text) else {
+        return new_form(memory, text);
+    };
+    Ok(form)
 }
 
 // The pointer goes behind two bytes; where texts are cut out it goes to the start again.
@@ -157,6 +162,12 @@ fn copied<'a>(form: &Form<Memory<'a>>) -> Result<Form<Memory<'a>>, FormError> {
     }
 }
 
+// The pointer goes to this place, and was at the one that this gives.
+fn set_pointer(rt: &impl Abort, form: &mut Form<Memory<'_>>, place: usize) -> usize {
+    assert!(rt; place <= form.len());
+    form.set_pointer(place)
+}
+
 // The pointer goes to another place, while a copy keeps the old one.
 fn point(
     rt: &impl Abort,
@@ -165,8 +176,7 @@ fn point(
     old: usize,
 ) -> Result<(), FormError> {
     let copy = copied(form)?;
-    assert!(rt; place <= form.len());
-    assert_eq!(rt; form.set_pointer(place), old);
+    assert_eq!(rt; set_pointer(rt, form, place), old);
     assert_eq!(rt; form.pointer(), place);
     assert_eq!(rt; copy.pointer(), old);
     Ok(())

@@ -14,6 +14,8 @@ mod forms;
 mod numbers;
 #[cfg(test)]
 mod octals;
+#[cfg(test)]
+mod reads;
 pub mod samples;
 #[cfg(test)]
 mod stores;

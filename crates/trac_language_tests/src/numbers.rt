@@ -3,7 +3,7 @@ use std::alloc::Global;
 use std::process::Abort;
 use std::test::Fail;
 use trac_faults::Refusing;
-use trac_num::{NumError, Tail, add, div, greater, mul, print_into, read_tail, sub, value};
+use trac_num::{NumError, add, div, greater, mul, print_into, read_tail, sub, value};
 
 const LEAST: i64 = -9_223_372_036_854_775_808;
 
@@ -38,9 +38,12 @@ const TAILS: &[(&[u8], &[u8], &[u8], Option<i64>)] = &[
     (b"9223372036854775808", b"", b"9223372036854775808", None),
 ];
 
-fn tail_of(text: &[u8]) -> (&[u8], &[u8]) {
-    let Tail { prefix, numeral } = read_tail(text);
-    (prefix, numeral)
+fn prefix_of(text: &[u8]) -> &[u8] {
+    read_tail(text).prefix
+}
+
+fn numeral_of(text: &[u8]) -> &[u8] {
+    read_tail(text).numeral
 }
 
 fn number_of(text: &[u8]) -> Option<i64> {
@@ -50,7 +53,8 @@ fn number_of(text: &[u8]) -> Option<i64> {
 #[test]
 fn reads_tails(rt: HostRuntime) {
     for (text, prefix, numeral, number) in TAILS.iter() {
-        assert_eq!(rt; tail_of(text), (*prefix, *numeral), "at {text:?}");
+        assert_eq!(rt; prefix_of(text), *prefix);
+        assert_eq!(rt; numeral_of(text), *numeral);
         assert_eq!(rt; number_of(text), *number, "at {text:?}");
     }
 }
@@ -157,7 +161,25 @@ fn result_of(sign: u8, a: &[u8], b: &[u8]) -> Option<i64> {
     calculated(sign, number_of(a)?, number_of(b)?)
 }
 
+fn print(out: &mut Vec<u8, &Refusing<Global>>, number: i64) -> Result<(), NumError> {
+    print_into(number, out)
+}
+
 // Printing may be refused once: what was there is still there then, and the next try is accepted.
+fn print_once(
+    rt: &impl Abort,
+    out: &mut Vec<u8, &Refusing<Global>>,
+    before: &[u8],
+    number: i64,
+) -> Result<(), NumError> {
+    if print(out, number).is_err() {
+        assert_eq!(rt; out.as_slice(), before, "at {number}");
+        print(out, number)?;
+    }
+    Ok(())
+}
+
+// A number is printed behind what was there before.
 fn expect_printed(
     rt: &impl Abort,
     memory: &Refusing<Global>,
@@ -166,22 +188,34 @@ fn expect_printed(
     wanted: &[u8],
 ) -> Result<(), Fail> {
     let mut out = Vec::from_slice(memory, before)?;
-    if let Err(NumError::Memory) = print_into(number, &mut out) {
-        assert_eq!(rt; out.as_slice(), before, "at {number}");
-        print_into(number, &mut out)?;
-    }
+    print_once(rt, &mut out, before, number)?;
     assert_eq!(rt; out.as_slice(), wanted, "at {number}");
     Ok(())
+}
+
+// A result is printed behind the prefix of the first text.
+fn expect_result(
+    rt: &impl Abort,
+    memory: &Refusing<Global>,
+    number: Option<i64>,
+    prefix: &[u8],
+    wanted: &[u8],
+) -> Result<(), Fail> {
+    match number {
+        Some(number) => expect_printed(rt, memory, prefix, number, wanted),
+        None => {
+            assert_eq!(rt; wanted, b"Z".as_slice());
+            Ok(())
+        }
+    }
 }
 
 #[test]
 fn calculates_behind_prefixes(rt: HostRuntime) -> Result<(), Fail> {
     let memory = Refusing::new(rt.alloc());
     for (sign, a, b, wanted) in TEXTS.iter() {
-        match result_of(*sign, a, b) {
-            Some(number) => expect_printed(&rt, &memory, tail_of(a).0, number, wanted)?,
-            None => assert_eq!(rt; *wanted, b"Z".as_slice(), "at {a:?} and {b:?}"),
-        }
+        let number = result_of(*sign, a, b);
+        expect_result(&rt, &memory, number, prefix_of(a), wanted)?;
     }
     Ok(())
 }
@@ -196,10 +230,7 @@ const PRINTED: [(i64, &[u8], &[u8]); 3] = [
 fn printed_one_by_one(rt: &impl Abort, memory: &Refusing<Global>) -> Result<(), Fail> {
     let mut out = Vec::new(memory);
     for (number, before, wanted) in PRINTED {
-        if let Err(NumError::Memory) = print_into(number, &mut out) {
-            assert_eq!(rt; out.as_slice(), before, "at {number}");
-            print_into(number, &mut out)?;
-        }
+        print_once(rt, &mut out, before, number)?;
         assert_eq!(rt; out.as_slice(), wanted, "at {number}");
     }
     Ok(())

@@ -2,10 +2,10 @@
 use std::alloc::{AllocError, Allocator, Global};
 use trac_forms::{Form, Item, Store};
 use trac_gap::TwoEnds;
-use trac_step::{Args, Core, Kind};
+use trac_step::{Args, Core, Kind, Mark};
 
 // Names under which the programs of these tests keep forms.
-const NAMES: [&[u8]; 4] = [b"", b"F", b"Factorial", b"a"];
+const NAMES: [&[u8]; 7] = [b"", b"AA", b"BB", b"F", b"Factorial", b"a", b"b"];
 
 fn add(out: &mut Vec<u8>, text: &[u8]) -> Result<(), AllocError> {
     Ok(out.extend_from_slice(text)?)
@@ -29,9 +29,9 @@ fn add_function(out: &mut Vec<u8>, kind: Kind, arguments: &Args<'_>) -> Result<(
 }
 
 /// The texts of a machine: its base text, the begun functions from the outermost on, a `^`, and what is not scanned yet.
-pub fn texts_shown<E: TwoEnds<u8, A>, A: Allocator + Copy>(
+pub fn texts_shown<E: TwoEnds<u8, A>, M: TwoEnds<Mark, A>, A: Allocator + Copy>(
     alloc: Global,
-    machine: &Core<E, A>,
+    machine: &Core<E, M, A>,
 ) -> Result<Vec<u8>, AllocError> {
     let mut out = Vec::new(alloc);
     add(&mut out, machine.base())?;
@@ -73,9 +73,9 @@ fn add_forms<A: Allocator + Copy>(out: &mut Vec<u8>, store: &Store<A>) -> Result
 }
 
 /// All that a machine shows: its texts, its numbers, its forms, and what is printed. Blocks cannot be there yet.
-pub fn state_shown<E: TwoEnds<u8, A>, A: Allocator + Copy>(
+pub fn state_shown<E: TwoEnds<u8, A>, M: TwoEnds<Mark, A>, A: Allocator + Copy>(
     alloc: Global,
-    machine: &Core<E, A>,
+    machine: &Core<E, M, A>,
 ) -> Result<Vec<u8>, AllocError> {
     let mut out = texts_shown(alloc, machine)?;
     add_number(&mut out, machine.position())?;

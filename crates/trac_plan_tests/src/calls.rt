@@ -14,16 +14,18 @@ const UNREAD: Input = Input {
     bytes: b"AB'C",
     ended: false,
     position: 0,
+    trace: false,
 };
 
 // A call over the forms `B`, `F` and `R` (`with_forms`): its arguments one behind another, the places where the further ones
 // begin, and what is planned. Each makes a request for memory.
-const CALLS: [(&[u8], &[usize], &[u8]); 16] = [
+const CALLS: [(&[u8], &[usize], &[u8]); 22] = [
     (b"adapples5pears3", &[2, 9], b"apples8||keep 0"),
     // A quotient by zero: the default argument, forced.
     (b"DV10none", &[2, 3, 4], b"none!||keep 0"),
     (b"psX", &[2], b"|X|keep 0"),
     (b"rs", &[], b"AB||keep 3"),
+    (b"rc", &[], b"A||keep 1"),
     (b"dsAACat", &[2, 4], b"||put AA <^>Cat 0"),
     // An earlier form is replaced, its gaps and its pointer too.
     (b"dsFCat", &[2, 3], b"||put F <^>Cat 0"),
@@ -33,6 +35,12 @@ const CALLS: [(&[u8], &[usize], &[u8]); 16] = [
     // A form is called from its pointer.
     (b"clFXY", &[2, 3, 4], b"XbcY||keep 0"),
     (b"CLF", &[2], b"bc||keep 0"),
+    // Read at its pointer, which stands before a gap.
+    (b"csFZ", &[2, 3], b"||point F 2 0"),
+    (b"ccFZ", &[2, 3], b"b||point F 3 0"),
+    (b"cnF-1Z", &[2, 3, 5], b"a||point F 0 0"),
+    (b"inFcZ", &[2, 3, 4], b"b||point F 4 0"),
+    (b"inFabZ", &[2, 3, 5], b"Z!||keep 0"),
     (b"ln;", &[2], b";B;F;R||keep 0"),
     (b"pfF", &[2], b"|a<^><1>bc<2>|keep 0"),
     // The names that the call gives, the null name among them, and no other.
@@ -42,11 +50,16 @@ const CALLS: [(&[u8], &[usize], &[u8]); 16] = [
 ];
 
 // Calls that make no request for memory. Where there is no form of the name, the value is null and nothing changes.
-const CALLS_WITHOUT_MEMORY: [(&[u8], &[usize], &[u8]); 8] = [
+const CALLS_WITHOUT_MEMORY: [(&[u8], &[usize], &[u8]); 13] = [
     (b"ssGb", &[2, 3], b"||keep 0"),
     (b"crGb", &[2, 3], b"||keep 0"),
     (b"clGb", &[2, 3], b"||keep 0"),
     (b"pfGb", &[2, 3], b"||keep 0"),
+    (b"ccGb", &[2, 3], b"||keep 0"),
+    (b"cm;x", &[2], b"||keep 0 ;"),
+    (b"cm", &[], b"||keep 0"),
+    (b"tn", &[], b"||keep 0 traced"),
+    (b"tf", &[], b"||keep 0"),
     (b"ds", &[2], b"||put  <^> 0"),
     (b"nosuch", &[], b"||keep 0"),
     (b"dd", &[], b"||remove  0"),
@@ -127,13 +140,22 @@ fn calls_without_memory(rt: HostRuntime) -> Result<(), Fail> {
     Ok(())
 }
 
-// What `rs` gives at each place of a tape that has ended, or has not, with how many bytes that reads.
-const READINGS: [(bool, usize, Result<&[u8], Refusal>); 5] = [
-    (false, 0, Ok(b"AB||keep 3")),
-    (false, 3, Err(Refusal::NeedInput)),
-    (true, 0, Ok(b"AB||keep 3")),
-    (true, 3, Ok(b"C||keep 1")),
-    (true, 4, Err(Refusal::Ended)),
+// What a call without arguments gives: its name, whether the trace is on, whether the tape has ended, and how many of its bytes
+// are read.
+const READINGS: [(&[u8], bool, bool, usize, Result<&[u8], Refusal>); 12] = [
+    (b"rs", false, false, 0, Ok(b"AB||keep 3")),
+    (b"rs", false, false, 3, Err(Refusal::NeedInput)),
+    (b"rs", false, true, 0, Ok(b"AB||keep 3")),
+    (b"rs", false, true, 3, Ok(b"C||keep 4")),
+    (b"rs", false, true, 4, Err(Refusal::Ended)),
+    // The line of the trace is printed first, and by no call that is refused.
+    (b"rc", true, false, 2, Ok(b"'|#(rc)\n|keep 3 traced")),
+    (b"rc", true, false, 4, Err(Refusal::NeedInput)),
+    (b"rc", true, true, 4, Err(Refusal::Ended)),
+    (b"rs", true, false, 4, Err(Refusal::NeedInput)),
+    (b"hl", true, false, 0, Err(Refusal::Ended)),
+    (b"hl", false, true, 4, Err(Refusal::Ended)),
+    (b"tf", true, false, 0, Ok(b"|#(tf)\n|keep 0")),
 ];
 
 fn expect_outcome(
@@ -149,16 +171,17 @@ fn expect_outcome(
 }
 
 #[test]
-fn a_text_is_read(rt: HostRuntime) -> Result<(), Fail> {
+fn input_is_read(rt: HostRuntime) -> Result<(), Fail> {
     let store = Store::new(rt.alloc());
-    for (ended, position, wanted) in READINGS {
+    for (name, trace, ended, position, wanted) in READINGS {
         let input = Input {
             bytes: b"AB'C",
             ended,
             position,
+            trace,
         };
         let call = Call {
-            text: b"rs",
+            text: name,
             places: &[],
             input,
         };

@@ -12,6 +12,7 @@ const NO_INPUT: Input = Input {
     bytes: b"",
     ended: false,
     position: 0,
+    trace: false,
 };
 
 // The letter `x`, so many times.

@@ -10,12 +10,13 @@ use trac_prims::{Args, Change, Effect, Kind, Mark, Now, Tape, plan};
 use trac_rules::limit::MARK_LIMIT;
 use trac_rules::refusal::Refusal;
 
-/// The input of a call, and how many of its bytes are read.
+/// The input of a call, how many of its bytes are read, and whether the trace is on.
 #[derive(Clone, Copy)]
 pub(crate) struct Input {
     pub(crate) bytes: &'static [u8],
     pub(crate) ended: bool,
     pub(crate) position: usize,
+    pub(crate) trace: bool,
 }
 
 /// A call: its arguments one behind another, the places where the second and each further one begins, and its input.
@@ -48,7 +49,7 @@ fn plan_args<A: Allocator + Copy>(
     };
     let now = Now {
         meta: b'\'',
-        trace: false,
+        trace: input.trace,
         position: input.position,
         output: 0,
         text: 0,
@@ -123,7 +124,8 @@ fn add_number(out: &mut Vec<u8>, number: usize) -> Result<(), AllocError> {
 }
 
 /// What is planned, as a text: the value, with `!` behind it where it is scanned in any case; behind `|` what is printed;
-/// behind `|` what becomes of the forms; and how many bytes of the input are read.
+/// behind `|` what becomes of the forms; how many bytes of the input are read by then; and the meta character, where it is
+/// another one than `'`, and whether the trace is on.
 pub(crate) fn effect_text<A: Allocator + Copy>(
     plain: Global,
     effect: &Effect<A>,
@@ -137,7 +139,13 @@ pub(crate) fn effect_text<A: Allocator + Copy>(
     add(&mut out, effect.print.as_slice())?;
     add(&mut out, b"|")?;
     add_change(&mut out, &effect.change)?;
-    add_number(&mut out, effect.read)?;
+    add_number(&mut out, effect.position)?;
+    if effect.meta != b'\'' {
+        add(&mut out, &[b' ', effect.meta])?;
+    }
+    if effect.trace {
+        add(&mut out, b" traced")?;
+    }
     Ok(out)
 }
 
@@ -155,13 +163,21 @@ pub(crate) fn planned<A: Allocator + Copy>(
     }
 }
 
+fn expect_argument(rt: &impl Abort, args: &Args<'_>, number: usize, wanted: &[u8]) {
+    assert_eq!(rt; args.get(number), wanted);
+}
+
 #[test]
 fn arguments_lie_one_behind_another(rt: HostRuntime) {
     let marks = [behind(2), behind(9)];
     let args = Args::new(b"adapples5pears3", &marks, 0);
     assert_eq!(rt; args.count(), 3);
-    assert_eq!(rt; args.get(0), b"ad".as_slice());
-    assert_eq!(rt; args.get(1), b"apples5".as_slice());
-    assert_eq!(rt; args.get(2), b"pears3".as_slice());
-    assert_eq!(rt; args.get(3), b"".as_slice());
+    for (number, wanted) in [
+        (0, b"ad".as_slice()),
+        (1, b"apples5".as_slice()),
+        (2, b"pears3".as_slice()),
+        (3, b"".as_slice()),
+    ] {
+        expect_argument(&rt, &args, number, wanted);
+    }
 }

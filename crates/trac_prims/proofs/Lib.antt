@@ -2,12 +2,13 @@ pub mod Cutting
 pub mod Neutral
 pub mod Ending
 pub mod Peeling
-pub mod Made
+pub mod Kept
 pub mod Calculated
 pub mod FirstPlaces
 pub mod Putting
 pub mod Listed
 pub mod Held
+pub mod Given
 pub mod Fitting
 pub mod ReadCounts
 pub mod Joining

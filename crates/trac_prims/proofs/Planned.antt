@@ -1,6 +1,7 @@
 -- The outcome of a call, from what its primitive made and from the lengths of the pieces.
-use Rattle.std.proofs.Common.{◌≡◌, ℕ, List, length, refl, sym, ap, ◌∙◌, subst, arith, Bool, true, false, ⊎_elim}
+use Rattle.std.proofs.Common.{◌≡◌, ℕ, ◌+◌, ◌++◌, List, length, refl, sym, ap, ◌∙◌, subst, arith, Bool, true, false, ⊎_elim}
 use Rattle.std.specs.Prelude.{Result, Ok, Err, nat_le}
+use Rattle.std.specs.Option.{unwrap_or}
 use Rattle.std.proofs.lemmas.Bool.{and_from, cases_Bool, false_from_ne_true, le-leb, true≢false}
 use Rattle.std.proofs.lemmas.List.{length-append}
 use Rattle.trac_forms.specs.Stored.{Stored}
@@ -12,15 +13,15 @@ use Rattle.trac_rules.specs.declared.refusal.Refusal.TheVariants.{Memory, TooLon
 use Rattle.trac_rules.specs.Effect.{Effect, argument}
 use Rattle.trac_rules.specs.Limits.{texts_fit}
 use Rattle.trac_rules.specs.Outcomes.{MayAnswer, MayLackMemory, MayRefuse, limited, seen_as}
-use Rattle.trac_rules.specs.Performing.{after_call, effect_of, performed, primitive_of, printed_behind, trace_line}
+use Rattle.trac_rules.specs.Performing.{after_call, changed_by, effect_of, performed, placed, primitive_of, printed_behind, trace_line}
 use Rattle.trac_rules.specs.Scanning.{Call, Calls, scan}
 use Rattle.trac_rules.specs.State.{Environment, State, storage_of}
 use Rattle.trac_rules.specs.Stepping.{carried_out, step}
 use Rattle.trac_rules.proofs.Outcomes.{limited_beyond, limited_Err, limited_within, limited-seen_as}
 use Rattle.trac_prims.specs.declared.effect.Effect as code
 use Rattle.trac_prims.specs.declared.effect.Now.{Now}
-use Rattle.trac_prims.specs.Effects.{MayFail, effect_on, pieces_fit}
-use Rattle.trac_prims.specs.Plans.{HasPlace, IsGiven, fits_after}
+use Rattle.trac_prims.specs.Effects.{MayFail, Planned, pieces_fit, planned_from, planned_on}
+use Rattle.trac_prims.specs.Plans.{HasPlace, IsGiven, after_planned, fits_after}
 use Rattle.trac_prims.proofs.Fitting.{FitsAfter, fits_by, fits_then}
 
 -- ---- what is refused
@@ -61,6 +62,16 @@ module _ (call : Call) (line : List ℕ) where
       (cases_Bool (pieces_fit e))
   not_made (Ok e) refusal h = absurd (let long : refusal ≡ TooLong = for_a_limit e refusal h in cc)
 
+-- ---- outcomes seen in another way
+
+lacks_seen : {T U : Type 0} (view : T → U) (outcome : Result T Refusal) → MayLackMemory outcome → MayLackMemory (seen_as view outcome)
+lacks_seen view (Ok x) h = tt
+lacks_seen view (Err refusal) h = h
+
+refuses_seen : {T U : Type 0} (view : T → U) (outcome : Result T Refusal) (refusal : Refusal) → MayRefuse outcome refusal → MayRefuse (seen_as view outcome) refusal
+refuses_seen view said Memory h = lacks_seen view said h
+refuses_seen view said refusal h = ap (seen_as view) h
+
 -- ---- the call that is planned
 
 module _ (environment : Environment) (call : Call) (kind : Kind) (arguments : List (List ℕ)) (stored : Stored) (now : Now) (given : IsGiven call kind arguments stored now)
@@ -79,52 +90,59 @@ module _ (environment : Environment) (call : Call) (kind : Kind) (arguments : Li
       ∙ ap (λ b. seen_as (printed_behind (trace_line b kind arguments)) (effect_of (primitive_of (argument 0 arguments)) environment arguments call.state)) given.state_is.trace_is
       ∙ ap (λ (p : Primitive). seen_as (printed_behind line) (effect_of p environment arguments call.state)) (sym named)
 
+  -- what is to be planned
+  abbrev wanted : Result Planned Refusal
+  wanted = seen_as (planned_from now) (limited (fits_after call) (performed environment call))
+
   -- no effect was made
-  pub unplanned : (refusal : Refusal) → MayFail outcome refusal → MayRefuse (limited (fits_after call) (performed environment call)) refusal
-  unplanned refusal h = subst (λ o. MayRefuse (limited (fits_after call) o) refusal) (sym performed_is) (not_made call line outcome refusal h)
+  pub unplanned : (refusal : Refusal) → MayFail outcome refusal → MayRefuse wanted refusal
+  unplanned refusal h =
+      refuses_seen (planned_from now) (limited (fits_after call) (performed environment call)) refusal
+      (subst (λ o. MayRefuse (limited (fits_after call) o) refusal) (sym performed_is) (not_made call line outcome refusal h))
 
   -- an effect was made, but memory for the line of the trace was refused
-  pub lacks : (first : Effect) → outcome ≡ Ok first → MayLackMemory (limited (fits_after call) (performed environment call))
+  pub lacks : (first : Effect) → outcome ≡ Ok first → MayLackMemory wanted
   lacks first is =
-      subst (λ o. MayLackMemory (limited (fits_after call) o)) (sym (performed_is ∙ ap (seen_as (printed_behind line)) is))
-      (lacks_limited (fits_after call) (printed_behind line first))
+      lacks_seen (planned_from now) (limited (fits_after call) (performed environment call))
+      (subst (λ o. MayLackMemory (limited (fits_after call) o)) (sym (performed_is ∙ ap (seen_as (printed_behind line)) is))
+      (lacks_limited (fits_after call) (printed_behind line first)))
 
-  -- an effect was made, and the line of the trace put before it
-  module _ {A : Type 0} (made : code.Effect A) (first : Effect) (is : outcome ≡ Ok first) (traced : effect_on (storage_of call.state) made ≡ printed_behind line first) where
-    performs : performed environment call ≡ Ok (effect_on (storage_of call.state) made)
-    performs = performed_is ∙ ap (seen_as (printed_behind line)) is ∙ ap Ok (sym traced)
+  -- an effect was made, the line of the trace put before it, and the plan completed
+  module _ {A : Type 0} (made : code.Effect A) (first : Effect) (is : outcome ≡ Ok first)
+      (completed : planned_on (storage_of call.state) made ≡ planned_from now (printed_behind line first)) where
+    performs : performed environment call ≡ Ok (printed_behind line first)
+    performs = performed_is ∙ ap (seen_as (printed_behind line)) is
 
-    place_then : FitsAfter call (effect_on (storage_of call.state) made) → HasPlace now made
+    value_is : length made.value.items ≡ length first.value
+    value_is = ap (λ (p : Planned). length p.value) completed
+
+    print_is : length made.print.items ≡ length (line ++ first.printed)
+    print_is = ap (λ (p : Planned). length p.printed) completed
+
+    place_then : FitsAfter call (printed_behind line first) → HasPlace now made
     place_then fits = record {
-      text = omega (arith, fits.text, given.state_is.text_is);
-      output = omega (arith, fits.output, given.state_is.output_is);
+      text = omega (arith, fits.text, given.state_is.text_is, value_is);
+      output = omega (arith, fits.output, given.state_is.output_is, print_is);
     }
 
-    pub beyond : (HasPlace now made → ⊥) → limited (fits_after call) (performed environment call) ≡ Err TooLong
+    pub beyond : (HasPlace now made → ⊥) → wanted ≡ Err TooLong
     beyond none =
-        ap (limited (fits_after call)) performs
-        ∙ limited_beyond (fits_after call) (effect_on (storage_of call.state) made)
-        (false_from_ne_true (fits_after call (effect_on (storage_of call.state) made)) (λ fits. none (place_then (fits_then call (effect_on (storage_of call.state) made) fits))))
+        ap (λ o. seen_as (planned_from now) (limited (fits_after call) o)) performs
+        ∙ ap (seen_as (planned_from now)) (limited_beyond (fits_after call) (printed_behind line first)
+        (false_from_ne_true (fits_after call (printed_behind line first)) (λ fits. none (place_then (fits_then call (printed_behind line first) fits)))))
 
-    pub within : HasPlace now made → limited (fits_after call) (performed environment call) ≡ Ok (effect_on (storage_of call.state) made)
+    pub within : HasPlace now made → wanted ≡ Ok (planned_on (storage_of call.state) made)
     within place =
-        ap (limited (fits_after call)) performs
-        ∙ limited_within (fits_after call) (effect_on (storage_of call.state) made)
-        (fits_by call (effect_on (storage_of call.state) made) (record {
-          text = omega (arith, place.text, given.state_is.text_is);
+        ap (λ o. seen_as (planned_from now) (limited (fits_after call) o)) performs
+        ∙ ap (seen_as (planned_from now)) (limited_within (fits_after call) (printed_behind line first)
+        (fits_by call (printed_behind line first) (record {
+          text = omega (arith, place.text, given.state_is.text_is, value_is);
           marked = given.state_is.marks_fit;
-          output = omega (arith, place.output, given.state_is.output_is);
-        }))
+          output = omega (arith, place.output, given.state_is.output_is, print_is);
+        })))
+        ∙ ap Ok (sym completed)
 
 -- ---- the step that performs the call
-
-lacks_seen : {T U : Type 0} (view : T → U) (outcome : Result T Refusal) → MayLackMemory outcome → MayLackMemory (seen_as view outcome)
-lacks_seen view (Ok x) h = tt
-lacks_seen view (Err refusal) h = h
-
-refuses_seen : {T U : Type 0} (view : T → U) (outcome : Result T Refusal) (refusal : Refusal) → MayRefuse outcome refusal → MayRefuse (seen_as view outcome) refusal
-refuses_seen view said Memory h = lacks_seen view said h
-refuses_seen view said refusal h = ap (seen_as view) h
 
 -- what may be answered for an outcome may be answered where it is seen in another way
 pub answers_seen : {T U C : Type 0} (view : T → U) (of_code : C → T) (outcome : Result T Refusal) (result : Result C Refusal) →
@@ -132,11 +150,33 @@ pub answers_seen : {T U C : Type 0} (view : T → U) (of_code : C → T) (outcom
 answers_seen view of_code said (Ok made) h = ap (seen_as view) h
 answers_seen view of_code said (Err refusal) h = refuses_seen view said refusal h
 
+-- what is planned leads to the state after the call
+after_planned_is : (call : Call) (kind : Kind) (arguments : List (List ℕ)) (stored : Stored) (now : Now) → IsGiven call kind arguments stored now →
+    (e : Effect) → after_planned call (planned_from now e) ≡ after_call call e
+after_planned_is call kind arguments stored now given e =
+    let meta_is = sym given.state_is.meta_is in
+    let trace_is = sym given.state_is.trace_is in
+    let position_is = sym given.state_is.position_is in
+    λ i. placed call.kind e.forced e.value (record (changed_by e call.state) {
+      meta = unwrap_or e.meta (meta_is i);
+      trace = unwrap_or e.trace (trace_is i);
+      position = position_is i + e.read;
+    })
+
+-- the same outcome where its views are the same
+seen_same : {T U V : Type 0} (first : T → U) (second : U → V) (both : T → V) → ((x : T) → second (first x) ≡ both x) → (outcome : Result T Refusal) →
+    seen_as second (seen_as first outcome) ≡ seen_as both outcome
+seen_same first second both same (Ok x) = ap Ok (same x)
+seen_same first second both same (Err refusal) = refl
+
 -- what was planned is what comes of the step
-pub planned_step : {C : Type 0} (environment : Environment) (s : State) (call : Call) (of_code : C → Effect) (result : Result C Refusal) → scan s ≡ Calls call →
-    MayAnswer of_code (limited (fits_after call) (performed environment call)) result → MayAnswer (λ made. after_call call (of_code made)) (step environment s) result
+pub planned_step : {C : Type 0} (environment : Environment) (s : State) (call : Call) (kind : Kind) (arguments : List (List ℕ)) (stored : Stored) (now : Now) →
+    IsGiven call kind arguments stored now → (of_code : C → Planned) (result : Result C Refusal) → scan s ≡ Calls call →
+    MayAnswer of_code (seen_as (planned_from now) (limited (fits_after call) (performed environment call))) result →
+    MayAnswer (λ made. after_planned call (of_code made)) (step environment s) result
 unfolding step
-planned_step environment s call of_code result called h =
-    subst (λ o. MayAnswer (λ made. after_call call (of_code made)) o result)
-    (sym (ap (λ x. limited texts_fit (carried_out environment x)) called ∙ limited-seen_as (fits_after call) texts_fit (after_call call) (λ e. refl) (performed environment call)))
-    (answers_seen (after_call call) of_code (limited (fits_after call) (performed environment call)) result h)
+planned_step environment s call kind arguments stored now given of_code result called h =
+    subst (λ o. MayAnswer (λ made. after_planned call (of_code made)) o result)
+    (seen_same (planned_from now) (after_planned call) (after_call call) (after_planned_is call kind arguments stored now given) (limited (fits_after call) (performed environment call))
+    ∙ sym (ap (λ x. limited texts_fit (carried_out environment x)) called ∙ limited-seen_as (fits_after call) texts_fit (after_call call) (λ e. refl) (performed environment call)))
+    (answers_seen (after_planned call) of_code (seen_as (planned_from now) (limited (fits_after call) (performed environment call))) result h)

@@ -5,11 +5,11 @@ use Rattle.trac_rules.specs.declared.refusal.Refusal.{Refusal}
 use Rattle.trac_rules.specs.Effect.{Effect}
 use Rattle.trac_rules.specs.State.{Storage}
 use Rattle.trac_rules.proofs.Steps.{ReadsWithin}
-use Rattle.trac_prims.specs.declared.effect.Effect as code
+use Rattle.trac_prims.specs.declared.made.Made as code
 use Rattle.trac_prims.specs.Effects.{IsMade}
 
 -- where nothing is read, the place stays within the tape
-pub reads_nothing : {A : Type 0} (place end : ℕ) (storage : Storage) (outcome : Result Effect Refusal) (made : Result (code.Effect A) Refusal) →
+pub reads_nothing : {A : Type 0} (place end : ℕ) (storage : Storage) (outcome : Result Effect Refusal) (made : Result (code.Made A) Refusal) →
     IsMade storage outcome made → ReadsWithin 0 outcome → place ≤ end → IfOk made (λ e. place + e.read ≤ end)
 reads_nothing place end storage outcome (Ok e) is none l = let nothing : e.read ≤ 0 = subst (ReadsWithin 0) is none in omega arith
 reads_nothing place end storage outcome (Err refusal) is none l = tt

@@ -1,6 +1,7 @@
 -- What is planned, as the definitions see it.
-use Rattle.std.specs.Prelude.{◌≡◌, ◌&&◌, ℕ, List, length, map, nat_le, Bool, Option, None, Some, Vec, Result, Ok, Err}
+use Rattle.std.specs.Prelude.{◌≡◌, ◌+◌, ◌&&◌, ℕ, List, length, map, nat_le, Bool, Option, None, Some, Vec, Result, Ok, Err}
 use Rattle.std.specs.FinMap as finite
+use Rattle.std.specs.Option.{unwrap_or}
 use Rattle.trac_rules.specs.declared.limit.TheConstants.{OUTPUT_LIMIT, TEXT_LIMIT}
 use Rattle.trac_rules.specs.declared.refusal.Refusal.{Refusal}
 use Rattle.trac_rules.specs.Effect.{Effect}
@@ -10,7 +11,9 @@ use Rattle.trac_rules.specs.Outcomes.{MayLackMemory, OrMemory, limited}
 use Rattle.trac_rules.specs.State.{Storage}
 use Rattle.trac_prims.specs.declared.change.Change as code
 use Rattle.trac_prims.specs.declared.change.Change.TheVariants.{Keep, Put, Remove, Clear, Point}
-use Rattle.trac_prims.specs.declared.effect.Effect as effect
+use Rattle.trac_prims.specs.declared.effect.Effect as planned
+use Rattle.trac_prims.specs.declared.effect.Now.{Now}
+use Rattle.trac_prims.specs.declared.made.Made as made
 
 -- texts of the code as lists of bytes
 abbrev pub texts_of : {A : Type 0} → List (Vec ℕ A) → List (List ℕ)
@@ -29,13 +32,49 @@ changed (Remove names) storage = keeping (without (texts_of names.items) storage
 changed Clear storage = keeping finite.empty storage
 changed (Point name place) storage = pointed name.items place (finite.get storage.forms name.items) storage
 
--- the effect on a storage of the pieces that were made
-abbrev pub effect_on : {A : Type 0} → Storage → effect.Effect A → Effect
+-- what a primitive made, as an effect on a storage
+abbrev pub effect_on : {A : Type 0} → Storage → made.Made A → Effect
 effect_on storage e = record {
   value = e.value.items;
   forced = e.forced;
   printed = e.print.items;
   read = e.read;
+  meta = e.meta;
+  trace = e.trace;
+  storage = changed e.change storage;
+}
+
+-- ---- what is planned
+
+-- an effect with position, meta character and trace as they are afterwards
+pub record Planned : Type 0 where
+  pub value : List ℕ
+  pub forced : Bool
+  pub printed : List ℕ
+  pub position : ℕ
+  pub meta : ℕ
+  pub trace : Bool
+  pub storage : Storage
+
+-- an effect in a state of which `now` speaks
+abbrev pub planned_from : Now → Effect → Planned
+planned_from now e = record {
+  value = e.value;
+  forced = e.forced;
+  printed = e.printed;
+  position = now.position + e.read;
+  meta = unwrap_or e.meta now.meta;
+  trace = unwrap_or e.trace now.trace;
+  storage = e.storage;
+}
+
+-- the pieces that were made, over a storage
+abbrev pub planned_on : {A : Type 0} → Storage → planned.Effect A → Planned
+planned_on storage e = record {
+  value = e.value.items;
+  forced = e.forced;
+  printed = e.print.items;
+  position = e.position;
   meta = e.meta;
   trace = e.trace;
   storage = changed e.change storage;
@@ -53,6 +92,6 @@ abbrev pub MayFail : Result Effect Refusal → Refusal → Type 0
 MayFail outcome refusal = OrMemory (MayLackMemory outcome) (λ said. limited pieces_fit outcome ≡ Err said) refusal
 
 -- what is made where this is the outcome of the definitions
-abbrev pub IsMade : {A : Type 0} → Storage → Result Effect Refusal → Result (effect.Effect A) Refusal → Type 0
+abbrev pub IsMade : {A : Type 0} → Storage → Result Effect Refusal → Result (made.Made A) Refusal → Type 0
 IsMade storage outcome (Ok e) = outcome ≡ Ok (effect_on storage e)
 IsMade storage outcome (Err refusal) = MayFail outcome refusal

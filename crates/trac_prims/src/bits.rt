@@ -7,30 +7,30 @@ ghost use Rattle.trac_prims.specs.Effects.{IsMade};
 
 use crate::args::Args;
 use crate::decimals::number_at;
-use crate::effect::Effect;
+use crate::made::Made;
 use std::alloc::Allocator;
 use trac_num::{complement, meet, octal_tail, rotate, shift, union};
 use trac_rules::refusal::Refusal;
 
 // `bu`: the bitwise or of two octal strings.
-pub(crate) fn union_of<A: Allocator + Copy>(alloc: A, args: &Args<'_>) -> Result<Effect<A>, Refusal>
+pub(crate) fn union_of<A: Allocator + Copy>(alloc: A, args: &Args<'_>) -> Result<Made<A>, Refusal>
     ensures { (storage : Storage) → IsMade storage (Ok (computed Union args.now storage)) result }
 {
     let value = union(alloc, octal_tail(args.get(1)), octal_tail(args.get(2)))?;
-    Ok(Effect {
+    Ok(Made {
         value,
-        ..Effect::keeping(alloc)
+        ..Made::keeping(alloc)
     })
 }
 
 // `bi`: the bitwise and of two octal strings.
-pub(crate) fn meet_of<A: Allocator + Copy>(alloc: A, args: &Args<'_>) -> Result<Effect<A>, Refusal>
+pub(crate) fn meet_of<A: Allocator + Copy>(alloc: A, args: &Args<'_>) -> Result<Made<A>, Refusal>
     ensures { (storage : Storage) → IsMade storage (Ok (computed Meet args.now storage)) result }
 {
     let value = meet(alloc, octal_tail(args.get(1)), octal_tail(args.get(2)))?;
-    Ok(Effect {
+    Ok(Made {
         value,
-        ..Effect::keeping(alloc)
+        ..Made::keeping(alloc)
     })
 }
 
@@ -38,27 +38,27 @@ pub(crate) fn meet_of<A: Allocator + Copy>(alloc: A, args: &Args<'_>) -> Result<
 pub(crate) fn complement_of<A: Allocator + Copy>(
     alloc: A,
     args: &Args<'_>,
-) -> Result<Effect<A>, Refusal>
+) -> Result<Made<A>, Refusal>
     ensures { (storage : Storage) → IsMade storage (Ok (computed Complement args.now storage)) result }
 {
     let value = complement(alloc, octal_tail(args.get(1)))?;
-    Ok(Effect {
+    Ok(Made {
         value,
-        ..Effect::keeping(alloc)
+        ..Made::keeping(alloc)
     })
 }
 
 // `bs`: an octal string with its bits moved; null where the number does not fit (this project's profile).
-pub(crate) fn shift_of<A: Allocator + Copy>(alloc: A, args: &Args<'_>) -> Result<Effect<A>, Refusal>
+pub(crate) fn shift_of<A: Allocator + Copy>(alloc: A, args: &Args<'_>) -> Result<Made<A>, Refusal>
     ensures { (storage : Storage) → IsMade storage (Ok (computed Shift args.now storage)) result }
 {
     let value = match number_at(args, 1) {
         Some(by) => shift(alloc, by, octal_tail(args.get(2)))?,
         None => Vec::new(alloc),
     };
-    Ok(Effect {
+    Ok(Made {
         value,
-        ..Effect::keeping(alloc)
+        ..Made::keeping(alloc)
     })
 }
 
@@ -66,15 +66,15 @@ pub(crate) fn shift_of<A: Allocator + Copy>(alloc: A, args: &Args<'_>) -> Result
 pub(crate) fn rotation_of<A: Allocator + Copy>(
     alloc: A,
     args: &Args<'_>,
-) -> Result<Effect<A>, Refusal>
+) -> Result<Made<A>, Refusal>
     ensures { (storage : Storage) → IsMade storage (Ok (computed Rotate args.now storage)) result }
 {
     let value = match number_at(args, 1) {
         Some(by) => rotate(alloc, by, octal_tail(args.get(2)))?,
         None => Vec::new(alloc),
     };
-    Ok(Effect {
+    Ok(Made {
         value,
-        ..Effect::keeping(alloc)
+        ..Made::keeping(alloc)
     })
 }

@@ -7,7 +7,7 @@ ghost use Rattle.trac_rules.specs.declared.primitive.Computation.TheVariants.{Ca
 ghost use Rattle.trac_prims.specs.Effects.{IsMade};
 
 use crate::args::Args;
-use crate::effect::Effect;
+use crate::made::Made;
 use std::alloc::Allocator;
 use trac_num::{add, div, mul, print_into, read_tail, sub, value};
 use trac_rules::primitive::Operation;
@@ -19,22 +19,22 @@ pub(crate) fn calculate<A: Allocator + Copy>(
     alloc: A,
     operation: Operation,
     args: &Args<'_>,
-) -> Result<Effect<A>, Refusal>
+) -> Result<Made<A>, Refusal>
     ensures { (storage : Storage) → IsMade storage (Ok (computed (Calculate operation) args.now storage)) result }
 {
     let Some(n) = result_on(operation, args) else {
         let value = Vec::from_slice(alloc, args.get(3))?;
-        return Ok(Effect {
+        return Ok(Made {
             value,
             forced: true,
-            ..Effect::keeping(alloc)
+            ..Made::keeping(alloc)
         });
     };
     let mut value = Vec::from_slice(alloc, read_tail(args.get(1)).prefix)?;
     print_into(n, &mut value)?;
-    Ok(Effect {
+    Ok(Made {
         value,
-        ..Effect::keeping(alloc)
+        ..Made::keeping(alloc)
     })
 }
 

@@ -7,7 +7,7 @@ ghost use Rattle.trac_rules.specs.declared.primitive.Computation.TheVariants.{Eq
 ghost use Rattle.trac_prims.specs.Effects.{IsMade};
 
 use crate::args::Args;
-use crate::effect::Effect;
+use crate::made::Made;
 use std::alloc::Allocator;
 use trac_num::{greater, read_tail};
 use trac_rules::refusal::Refusal;
@@ -16,7 +16,7 @@ use trac_rules::refusal::Refusal;
 pub(crate) fn equal_texts<A: Allocator + Copy>(
     alloc: A,
     args: &Args<'_>,
-) -> Result<Effect<A>, Refusal>
+) -> Result<Made<A>, Refusal>
     ensures { (storage : Storage) → IsMade storage (Ok (computed Equal args.now storage)) result }
 {
     choice(alloc, args.get(1) == args.get(2), args)
@@ -26,7 +26,7 @@ pub(crate) fn equal_texts<A: Allocator + Copy>(
 pub(crate) fn greater_number<A: Allocator + Copy>(
     alloc: A,
     args: &Args<'_>,
-) -> Result<Effect<A>, Refusal>
+) -> Result<Made<A>, Refusal>
     ensures { (storage : Storage) → IsMade storage (Ok (computed Greater args.now storage)) result }
 {
     let first = read_tail(args.get(1)).numeral;
@@ -35,12 +35,12 @@ pub(crate) fn greater_number<A: Allocator + Copy>(
 }
 
 // The argument that a decision gives.
-fn choice<A: Allocator + Copy>(alloc: A, first: bool, args: &Args<'_>) -> Result<Effect<A>, Refusal>
+fn choice<A: Allocator + Copy>(alloc: A, first: bool, args: &Args<'_>) -> Result<Made<A>, Refusal>
     ensures { (storage : Storage) → IsMade storage (Ok (gives (chosen first args.now) storage)) result }
 {
     let value = Vec::from_slice(alloc, args.get(if first { 3 } else { 4 }))?;
-    Ok(Effect {
+    Ok(Made {
         value,
-        ..Effect::keeping(alloc)
+        ..Made::keeping(alloc)
     })
 }

@@ -1,13 +1,13 @@
 //! What a call will do, and what it has to know for that.
-ghost use Rattle.std.specs.Prelude.{◌≡◌};
-ghost use Rattle.trac_rules.specs.Effect.{leaves};
+ghost use Rattle.std.specs.Prelude.{◌≡◌, ◌+◌, ◌<◌, ◌^◌};
 ghost use Rattle.trac_rules.specs.State.{Storage};
-ghost use Rattle.trac_prims.specs.Effects.{effect_on};
+ghost use Rattle.trac_prims.specs.Effects.{effect_on, planned_from, planned_on};
 
 use crate::change::Change;
+use crate::made::Made;
 use std::alloc::{Allocator, Global};
 
-/// What a call will do, its pieces already made: the parts of an effect as the definitions have them.
+/// What a call will do, its pieces already made. Position, meta character and trace are those after the call.
 #[derive(Drop)]
 pub struct Effect<A: Allocator + Copy = Global> {
     /// The value.
@@ -16,12 +16,12 @@ pub struct Effect<A: Allocator + Copy = Global> {
     pub forced: bool,
     /// What is printed, the line of the trace first.
     pub print: Vec<u8, A>,
-    /// How many bytes of the tape are read.
-    pub read: usize,
-    /// The byte that ends a text of the input from then on, where it is set.
-    pub meta: Option<u8>,
-    /// Whether each call is printed from then on, where that is set.
-    pub trace: Option<bool>,
+    /// How many bytes of the tape are read by then.
+    pub position: usize,
+    /// The byte that ends a text of the input from then on.
+    pub meta: u8,
+    /// Whether each call is printed from then on.
+    pub trace: bool,
     /// What becomes of the forms.
     pub change: Change<A>,
 }
@@ -41,19 +41,18 @@ pub struct Now {
     pub text: usize,
 }
 
-impl<A: Allocator + Copy> Effect<A> {
-    // A null value, nothing printed and nothing read, and all else as it is. It takes no memory.
-    pub(crate) fn keeping(alloc: A) -> Self
-        ensures { (storage : Storage) → effect_on storage result ≡ leaves storage }
-    {
-        Effect {
-            value: Vec::new(alloc),
-            forced: false,
-            print: Vec::new(alloc),
-            read: 0,
-            meta: None,
-            trace: None,
-            change: Change::Keep,
-        }
+// What a call will do, from what its primitive does and from what is so now.
+pub(crate) fn completed<A: Allocator + Copy>(now: Now, made: Made<A>) -> Effect<A>
+    requires { now.position + made.read < 2 ^ 64 }
+    ensures { (storage : Storage) → planned_on storage result ≡ planned_from now (effect_on storage made) }
+{
+    Effect {
+        value: made.value,
+        forced: made.forced,
+        print: made.print,
+        position: now.position + made.read,
+        meta: made.meta.unwrap_or(now.meta),
+        trace: made.trace.unwrap_or(now.trace),
+        change: made.change,
     }
 }

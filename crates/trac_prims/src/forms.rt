@@ -12,7 +12,7 @@ ghost use Rattle.trac_prims.specs.Effects.{IsMade, effect_on, texts_of};
 
 use crate::args::{Args, Behind};
 use crate::change::Change;
-use crate::effect::Effect;
+use crate::made::Made;
 use std::alloc::Allocator;
 use trac_forms::{Form, Store, Texts};
 use trac_rules::limit::{FORM_COUNT_LIMIT, MARK_LIMIT, NAME_LIMIT, TEXT_LIMIT};
@@ -23,7 +23,7 @@ pub(crate) fn define<A: Allocator + Copy>(
     alloc: A,
     args: &Args<'_>,
     store: &Store<A>,
-) -> Result<Effect<A>, Refusal>
+) -> Result<Made<A>, Refusal>
     ensures { IsMade (storage_in store.now) (handled Define args.now (storage_in store.now)) result }
 {
     let form = Form::new(alloc, args.get(2))?;
@@ -31,23 +31,23 @@ pub(crate) fn define<A: Allocator + Copy>(
 }
 
 // `dd`: the forms of some names are deleted.
-pub(crate) fn delete<A: Allocator + Copy>(alloc: A, args: &Args<'_>) -> Result<Effect<A>, Refusal>
+pub(crate) fn delete<A: Allocator + Copy>(alloc: A, args: &Args<'_>) -> Result<Made<A>, Refusal>
     ensures { (storage : Storage) → IsMade storage (handled Delete args.now storage) result }
 {
     let names = copies(alloc, &args.behind(1))?;
-    Ok(Effect {
+    Ok(Made {
         change: Change::Remove(names),
-        ..Effect::keeping(alloc)
+        ..Made::keeping(alloc)
     })
 }
 
 // `da`: all forms are deleted.
-pub(crate) fn delete_all<A: Allocator + Copy>(alloc: A) -> Effect<A>
+pub(crate) fn delete_all<A: Allocator + Copy>(alloc: A) -> Made<A>
     ensures { (storage : Storage) → effect_on storage result ≡ leaves (keeping finite.empty storage) }
 {
-    Effect {
+    Made {
         change: Change::Clear,
-        ..Effect::keeping(alloc)
+        ..Made::keeping(alloc)
     }
 }
 
@@ -56,13 +56,13 @@ pub(crate) fn segment<A: Allocator + Copy>(
     alloc: A,
     args: &Args<'_>,
     store: &Store<A>,
-) -> Result<Effect<A>, Refusal>
+) -> Result<Made<A>, Refusal>
     requires { length args.now ≤ MARK_LIMIT }
     ensures { IsMade (storage_in store.now) (handled Segment args.now (storage_in store.now)) result }
 {
     let name = args.get(1);
     let Some(form) = store.get(name) else {
-        return Ok(Effect::keeping(alloc));
+        return Ok(Made::keeping(alloc));
     };
     let segmented = form.segmented(&args.behind(2))?;
     put(alloc, store, name, segmented)
@@ -73,17 +73,17 @@ pub(crate) fn restore<A: Allocator + Copy>(
     alloc: A,
     args: &Args<'_>,
     store: &Store<A>,
-) -> Result<Effect<A>, Refusal>
+) -> Result<Made<A>, Refusal>
     ensures { IsMade (storage_in store.now) (handled Restore args.now (storage_in store.now)) result }
 {
     let name = args.get(1);
     if store.get(name).is_none() {
-        return Ok(Effect::keeping(alloc));
+        return Ok(Made::keeping(alloc));
     }
     let name = Vec::from_slice(alloc, name)?;
-    Ok(Effect {
+    Ok(Made {
         change: Change::Point(name, 0),
-        ..Effect::keeping(alloc)
+        ..Made::keeping(alloc)
     })
 }
 
@@ -92,11 +92,11 @@ pub(crate) fn call<A: Allocator + Copy>(
     alloc: A,
     args: &Args<'_>,
     store: &Store<A>,
-) -> Result<Effect<A>, Refusal>
+) -> Result<Made<A>, Refusal>
     ensures { IsMade (storage_in store.now) (handled CallForm args.now (storage_in store.now)) result }
 {
     let Some(form) = store.get(args.get(1)) else {
-        return Ok(Effect::keeping(alloc));
+        return Ok(Made::keeping(alloc));
     };
     let texts = args.behind(2);
     let Some(len) = form.call_len(&texts) else {
@@ -104,9 +104,9 @@ pub(crate) fn call<A: Allocator + Copy>(
     };
     let mut value = Vec::with_capacity(alloc, len)?;
     form.call_into(&texts, &mut value)?;
-    Ok(Effect {
+    Ok(Made {
         value,
-        ..Effect::keeping(alloc)
+        ..Made::keeping(alloc)
     })
 }
 
@@ -115,7 +115,7 @@ pub(crate) fn list_names<A: Allocator + Copy>(
     alloc: A,
     args: &Args<'_>,
     store: &Store<A>,
-) -> Result<Effect<A>, Refusal>
+) -> Result<Made<A>, Refusal>
     ensures { IsMade (storage_in store.now) (handled ListNames args.now (storage_in store.now)) result }
 {
     let text = args.get(1);
@@ -124,9 +124,9 @@ pub(crate) fn list_names<A: Allocator + Copy>(
         return Err(Refusal::TooLong);
     };
     let value = list(alloc, text, names.as_slice(), len)?;
-    Ok(Effect {
+    Ok(Made {
         value,
-        ..Effect::keeping(alloc)
+        ..Made::keeping(alloc)
     })
 }
 
@@ -135,20 +135,20 @@ pub(crate) fn print_form<A: Allocator + Copy>(
     alloc: A,
     args: &Args<'_>,
     store: &Store<A>,
-) -> Result<Effect<A>, Refusal>
+) -> Result<Made<A>, Refusal>
     ensures { IsMade (storage_in store.now) (handled PrintForm args.now (storage_in store.now)) result }
 {
     let Some(form) = store.get(args.get(1)) else {
-        return Ok(Effect::keeping(alloc));
+        return Ok(Made::keeping(alloc));
     };
     let Some(len) = form.show_len() else {
         return Err(Refusal::TooLong);
     };
     let mut print = Vec::with_capacity(alloc, len)?;
     form.show_into(&mut print)?;
-    Ok(Effect {
+    Ok(Made {
         print,
-        ..Effect::keeping(alloc)
+        ..Made::keeping(alloc)
     })
 }
 
@@ -176,7 +176,7 @@ fn put<A: Allocator + Copy>(
     store: &Store<A>,
     name: &[u8],
     form: Form<A>,
-) -> Result<Effect<A>, Refusal>
+) -> Result<Made<A>, Refusal>
     requires { IsSound form }
     ensures { IsMade (storage_in store.now) (putting name.now form (storage_in store.now)) result }
 {
@@ -184,9 +184,9 @@ fn put<A: Allocator + Copy>(
         return Err(Refusal::TooLong);
     }
     let name = Vec::from_slice(alloc, name)?;
-    Ok(Effect {
+    Ok(Made {
         change: Change::Put(name, form),
-        ..Effect::keeping(alloc)
+        ..Made::keeping(alloc)
     })
 }
 

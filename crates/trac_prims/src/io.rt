@@ -1,12 +1,13 @@
 //! Input and output.
 ghost use Rattle.std.specs.Prelude.{◌≡◌, ◌==◌, ◌+◌, ◌<◌, ◌≤◌, length, drop, position, IfOk, IfSome, Ok};
-ghost use Rattle.trac_rules.specs.Effect.{argument, prints};
-ghost use Rattle.trac_rules.specs.Reading.{string_read};
+ghost use Rattle.trac_rules.specs.Effect.{argument, prints, sets_trace};
+ghost use Rattle.trac_rules.specs.Performing.{meta_set};
+ghost use Rattle.trac_rules.specs.Reading.{byte_read, string_read};
 ghost use Rattle.trac_rules.specs.State.{Storage};
-ghost use Rattle.trac_prims.specs.Effects.{IsMade};
+ghost use Rattle.trac_prims.specs.Effects.{IsMade, effect_on};
 
 use crate::args::Args;
-use crate::effect::Effect;
+use crate::made::Made;
 use crate::tape::Tape;
 use memchr::memchr;
 use std::alloc::Allocator;
@@ -16,13 +17,13 @@ use trac_rules::refusal::Refusal;
 pub(crate) fn print_string<A: Allocator + Copy>(
     alloc: A,
     args: &Args<'_>,
-) -> Result<Effect<A>, Refusal>
+) -> Result<Made<A>, Refusal>
     ensures { (storage : Storage) → IsMade storage (Ok (prints (argument 1 args.now) storage)) result }
 {
     let print = Vec::from_slice(alloc, args.get(1))?;
-    Ok(Effect {
+    Ok(Made {
         print,
-        ..Effect::keeping(alloc)
+        ..Made::keeping(alloc)
     })
 }
 
@@ -32,7 +33,7 @@ pub(crate) fn read_string<A: Allocator + Copy>(
     tape: Tape<'_>,
     place: usize,
     meta: u8,
-) -> Result<Effect<A>, Refusal>
+) -> Result<Made<A>, Refusal>
     requires { place ≤ length tape.bytes.now }
     ensures outcome { (storage : Storage) → IsMade storage (string_read (drop place tape.entry.bytes.now) tape.entry.ended meta storage) result }
     ensures within { IfOk result (λ e. place + e.read ≤ length tape.entry.bytes.now) }
@@ -40,10 +41,10 @@ pub(crate) fn read_string<A: Allocator + Copy>(
     let unread = tape.bytes.split_at(place).1;
     if let Some(k) = first_of(meta, unread) {
         let value = Vec::from_slice(alloc, unread.split_at(k).0)?;
-        return Ok(Effect {
+        return Ok(Made {
             value,
             read: k + 1,
-            ..Effect::keeping(alloc)
+            ..Made::keeping(alloc)
         });
     }
     if !tape.ended {
@@ -53,11 +54,57 @@ pub(crate) fn read_string<A: Allocator + Copy>(
         return Err(Refusal::Ended);
     }
     let value = Vec::from_slice(alloc, unread)?;
-    Ok(Effect {
+    Ok(Made {
         value,
         read: unread.len(),
-        ..Effect::keeping(alloc)
+        ..Made::keeping(alloc)
     })
+}
+
+// `rc`: the next byte of the input, whichever it is.
+pub(crate) fn read_byte<A: Allocator + Copy>(
+    alloc: A,
+    tape: Tape<'_>,
+    place: usize,
+) -> Result<Made<A>, Refusal>
+    requires { place ≤ length tape.bytes.now }
+    ensures outcome { (storage : Storage) → IsMade storage (byte_read (drop place tape.entry.bytes.now) tape.entry.ended storage) result }
+    ensures within { IfOk result (λ e. place + e.read ≤ length tape.entry.bytes.now) }
+{
+    let unread = tape.bytes.split_at(place).1;
+    if unread.is_empty() {
+        return Err(if tape.ended {
+            Refusal::Ended
+        } else {
+            Refusal::NeedInput
+        });
+    }
+    let value = Vec::from_slice(alloc, unread.split_at(1).0)?;
+    Ok(Made {
+        value,
+        read: 1,
+        ..Made::keeping(alloc)
+    })
+}
+
+// `cm`: the first byte of the argument behind its name becomes the meta character.
+pub(crate) fn set_meta<A: Allocator + Copy>(alloc: A, args: &Args<'_>) -> Made<A>
+    ensures { (storage : Storage) → effect_on storage result ≡ meta_set (argument 1 args.now) storage }
+{
+    Made {
+        meta: args.get(1).first().copied(),
+        ..Made::keeping(alloc)
+    }
+}
+
+// `tn` and `tf`: from now on each call is printed, or none is.
+pub(crate) fn set_trace<A: Allocator + Copy>(alloc: A, trace: bool) -> Made<A>
+    ensures { (storage : Storage) → effect_on storage result ≡ sets_trace trace storage }
+{
+    Made {
+        trace: Some(trace),
+        ..Made::keeping(alloc)
+    }
 }
 
 // The first place of a byte.

@@ -10,9 +10,11 @@ pub mod effect;
 mod forms;
 pub mod frames;
 mod io;
+mod made;
 pub mod mark;
 mod name;
 mod planning;
+mod reading;
 pub mod tape;
 mod tracing;
 

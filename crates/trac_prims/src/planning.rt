@@ -3,11 +3,11 @@ ghost use Rattle.std.specs.Prelude.{◌≡◌, ◌+◌, ◌≤◌, length, Ok, �
 ghost use Rattle.trac_forms.specs.Stored.{storage_in};
 ghost use Rattle.trac_rules.specs.Computing.{computed};
 ghost use Rattle.trac_rules.specs.Handling.{handled};
-ghost use Rattle.trac_rules.specs.Outcomes.{MayAnswer, limited};
+ghost use Rattle.trac_rules.specs.Outcomes.{MayAnswer, limited, seen_as};
 ghost use Rattle.trac_rules.specs.Performing.{effect_of, performed};
 ghost use Rattle.trac_rules.specs.Scanning.{Call};
 ghost use Rattle.trac_rules.specs.State.{State, Storage, storage_of};
-ghost use Rattle.trac_prims.specs.Effects.{IsMade, effect_on};
+ghost use Rattle.trac_prims.specs.Effects.{IsMade, planned_from, planned_on};
 ghost use Rattle.trac_prims.specs.Plans.{HasPlace, IsGiven, IsNow, fits_after};
 ghost use Rattle.trac_prims.specs.Tape.{environment_of};
 
@@ -15,10 +15,12 @@ use crate::args::Args;
 use crate::bits::{complement_of, meet_of, rotation_of, shift_of, union_of};
 use crate::decimals::calculate;
 use crate::decisions::{equal_texts, greater_number};
-use crate::effect::{Effect, Now};
+use crate::effect::{Effect, Now, completed};
 use crate::forms::{call, define, delete, delete_all, list_names, print_form, restore, segment};
-use crate::io::{print_string, read_string};
+use crate::io::{print_string, read_byte, read_string, set_meta, set_trace};
+use crate::made::Made;
 use crate::name::primitive_named;
+use crate::reading::read;
 use crate::tape::Tape;
 use crate::tracing::print_line;
 use std::alloc::Allocator;
@@ -49,12 +51,13 @@ pub fn plan<A: Allocator + Copy>(
     requires text { now.text ≤ TEXT_LIMIT }
     requires output { now.output ≤ OUTPUT_LIMIT }
     ensures outcome { (call : Call) → IsGiven call kind args.now store.now now →
-        MayAnswer (effect_on (storage_of call.state)) (limited (fits_after call) (performed (environment_of tape.entry) call)) result }
-    ensures within { IfOk result (λ e. now.position + e.read ≤ length tape.entry.bytes.now) }
+        MayAnswer (planned_on (storage_of call.state)) (seen_as (planned_from now) (limited (fits_after call) (performed (environment_of tape.entry) call))) result }
+    ensures within { IfOk result (λ e. e.position ≤ length tape.entry.bytes.now) }
     ensures place { IfOk result (HasPlace now) }
 {
-    let effect = perform(alloc, primitive_named(args.get(0)), args, store, tape, now)?;
-    let effect = print_line(alloc, now.trace, kind, args, effect)?;
+    let made = perform(alloc, primitive_named(args.get(0)), args, store, tape, now)?;
+    let made = print_line(alloc, now.trace, kind, args, made)?;
+    let effect = completed(now, made);
     if !has_place(now, &effect) {
         return Err(Refusal::TooLong);
     }
@@ -78,7 +81,7 @@ fn perform<A: Allocator + Copy>(
     store: &Store<A>,
     tape: Tape<'_>,
     now: Now,
-) -> Result<Effect<A>, Refusal>
+) -> Result<Made<A>, Refusal>
     requires position { now.position ≤ length tape.bytes.now }
     requires count { length args.now ≤ MARK_LIMIT }
     ensures outcome { (s : State) → IsNow s store.now now → IsMade (storage_of s) (effect_of primitive (environment_of tape.entry) args.now s) result }
@@ -87,9 +90,13 @@ fn perform<A: Allocator + Copy>(
     match primitive {
         Primitive::PrintString => print_string(alloc, args),
         Primitive::ReadString => read_string(alloc, tape, now.position, now.meta),
+        Primitive::ReadByte => read_byte(alloc, tape, now.position),
+        Primitive::Halt => Err(Refusal::Ended),
+        Primitive::SetMeta => Ok(set_meta(alloc, args)),
+        Primitive::SetTrace(trace) => Ok(set_trace(alloc, trace)),
         Primitive::Compute(computation) => compute(alloc, computation, args),
         Primitive::Handle(action) => handle(alloc, action, args, store),
-        Primitive::Unknown => Ok(Effect::keeping(alloc)),
+        Primitive::Unknown => Ok(Made::keeping(alloc)),
     }
 }
 
@@ -98,7 +105,7 @@ fn compute<A: Allocator + Copy>(
     alloc: A,
     computation: Computation,
     args: &Args<'_>,
-) -> Result<Effect<A>, Refusal>
+) -> Result<Made<A>, Refusal>
     ensures { (storage : Storage) → IsMade storage (Ok (computed computation args.now storage)) result }
 {
     match computation {
@@ -119,7 +126,7 @@ fn handle<A: Allocator + Copy>(
     action: FormAction,
     args: &Args<'_>,
     store: &Store<A>,
-) -> Result<Effect<A>, Refusal>
+) -> Result<Made<A>, Refusal>
     requires { length args.now ≤ MARK_LIMIT }
     ensures { IsMade (storage_in store.now) (handled action args.now (storage_in store.now)) result }
 {
@@ -130,6 +137,7 @@ fn handle<A: Allocator + Copy>(
         FormAction::Segment => segment(alloc, args, store),
         FormAction::Restore => restore(alloc, args, store),
         FormAction::Call => call(alloc, args, store),
+        FormAction::Read(reading) => read(alloc, reading, args, store),
         FormAction::ListNames => list_names(alloc, args, store),
         FormAction::PrintForm => print_form(alloc, args, store),
     }

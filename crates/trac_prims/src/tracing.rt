@@ -6,7 +6,7 @@ ghost use Rattle.trac_rules.specs.State.{Storage};
 ghost use Rattle.trac_prims.specs.Effects.{effect_on};
 
 use crate::args::Args;
-use crate::effect::Effect;
+use crate::made::Made;
 use std::alloc::Allocator;
 use trac_rules::byte::{CLOSING, LINE_FEED, STAR};
 use trac_rules::kind::Kind;
@@ -18,17 +18,17 @@ pub(crate) fn print_line<A: Allocator + Copy>(
     trace: bool,
     kind: Kind,
     args: &Args<'_>,
-    effect: Effect<A>,
-) -> Result<Effect<A>, Refusal>
-    ensures made { IfOk result (λ e. (storage : Storage) → effect_on storage e ≡ printed_behind (trace_line trace kind args.now) (effect_on storage effect)) }
+    made: Made<A>,
+) -> Result<Made<A>, Refusal>
+    ensures made { IfOk result (λ e. (storage : Storage) → effect_on storage e ≡ printed_behind (trace_line trace kind args.now) (effect_on storage made)) }
     ensures err { IsOkUnless result Refusal.Memory }
 {
     if !trace {
-        return Ok(effect);
+        return Ok(made);
     }
     let mut print = line_of(alloc, kind, args)?;
-    print.extend_from_slice(effect.print.as_slice())?;
-    Ok(Effect { print, ..effect })
+    print.extend_from_slice(made.print.as_slice())?;
+    Ok(Made { print, ..made })
 }
 
 // The line of a call by a function of this kind.

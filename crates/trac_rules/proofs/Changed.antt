@@ -7,7 +7,7 @@ use Rattle.trac_rules.specs.declared.limit.TheConstants.{TEXT_LIMIT, MARK_LIMIT,
 use Rattle.trac_rules.specs.declared.kind.Kind.{Kind}
 use Rattle.trac_rules.specs.declared.kind.Kind.TheVariants.{Active, Neutral}
 use Rattle.trac_rules.specs.declared.primitive.Primitive.{Primitive}
-use Rattle.trac_rules.specs.declared.primitive.Primitive.TheVariants.{PrintString, ReadString, Compute, Handle, Unknown}
+use Rattle.trac_rules.specs.declared.primitive.Primitive.TheVariants.{PrintString, ReadString, ReadByte, Halt, SetMeta, SetTrace, Compute, Handle, Unknown}
 use Rattle.trac_rules.specs.declared.refusal.Refusal.{Refusal}
 use Rattle.trac_rules.specs.declared.scan.Front.{Front}
 use Rattle.trac_rules.specs.declared.scan.Front.TheVariants.{Nothing, Opening, Layout, Comma, ActiveCall, NeutralCall, Sharp, Closing, Plain}
@@ -17,7 +17,7 @@ use Rattle.trac_rules.specs.Scanning.{Call, Scanned, Moves, Calls, gathered_in, 
 use Rattle.trac_rules.specs.Limits.{texts_fit, text_bytes, marks}
 use Rattle.trac_rules.specs.Effect.{Effect, argument}
 use Rattle.trac_rules.specs.Outcomes.{limited, seen_as}
-use Rattle.trac_rules.specs.Reading.{string_read, unread}
+use Rattle.trac_rules.specs.Reading.{byte_read, string_read, unread}
 use Rattle.trac_rules.specs.Performing.{effect_of, primitive_of, trace_line, printed_behind, performed, placed, changed_by, after_call}
 use Rattle.trac_rules.specs.Stepping.{carried_out}
 use Rattle.trac_rules.proofs.Outcomes.{limited-seen_as}
@@ -87,6 +87,12 @@ effect_of-changed f g old new s same PrintString arguments = refl
 effect_of-changed f g old new s same ReadString arguments =
     ap (λ (text : List ℕ). string_read text new.tape.ended s.meta (storage_of s)) same.unread
     ∙ ap (λ (ended : Bool). string_read (unread old.tape s) ended s.meta (storage_of s)) same.ended
+effect_of-changed f g old new s same ReadByte arguments =
+    ap (λ (text : List ℕ). byte_read text new.tape.ended (storage_of s)) same.unread
+    ∙ ap (λ (ended : Bool). byte_read (unread old.tape s) ended (storage_of s)) same.ended
+effect_of-changed f g old new s same Halt arguments = refl
+effect_of-changed f g old new s same SetMeta arguments = refl
+effect_of-changed f g old new s same (SetTrace trace) arguments = refl
 effect_of-changed f g old new s same (Compute computation) arguments = refl
 effect_of-changed f g old new s same (Handle action) arguments = refl
 effect_of-changed f g old new s same Unknown arguments = refl

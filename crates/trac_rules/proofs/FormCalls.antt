@@ -10,17 +10,19 @@ use Rattle.std.proofs.lemmas.Cmp.{eq_by_cmp_equiv, alike_right}
 use Rattle.std.proofs.lemmas.List.{nil_from_length}
 use Rattle.trac_rules.specs.declared.limit.TheConstants.{FORM_COUNT_LIMIT}
 use Rattle.trac_rules.specs.declared.primitive.FormAction.{FormAction}
-use Rattle.trac_rules.specs.declared.primitive.FormAction.TheVariants.{Define, Delete, DeleteAll, Segment, Restore, ListNames, PrintForm, Call as CallForm}
+use Rattle.trac_rules.specs.declared.primitive.FormAction.TheVariants.{Define, Delete, DeleteAll, Segment, Restore, Read, ListNames, PrintForm, Call as CallForm}
+use Rattle.trac_rules.specs.declared.primitive.FormReading.{FormReading}
 use Rattle.trac_rules.specs.declared.primitive.Primitive.TheVariants.{Handle}
 use Rattle.trac_rules.specs.declared.refusal.Refusal.{Refusal}
 use Rattle.trac_rules.specs.declared.refusal.Refusal.TheVariants.{TooLong}
 use Rattle.trac_rules.specs.Effect.{Effect, argument, gives, leaves, prints}
 use Rattle.trac_rules.specs.Filling.{called}
 use Rattle.trac_rules.specs.Form.{Form, all_items, defined, pointed_at}
-use Rattle.trac_rules.specs.Handling.{handled, keeping, on_form, pointing, putting, without}
+use Rattle.trac_rules.specs.Handling.{default_argument, form_read, gives_piece, handled, keeping, on_form, piece_read, pointing, putting, without}
 use Rattle.trac_rules.specs.Limits.{form_fits, may_be_put}
 use Rattle.trac_rules.specs.Performing.{effect_of, primitive_of}
-use Rattle.trac_rules.specs.Rows.{Named, Does, Gives, Leaves, Prints, with_forms}
+use Rattle.trac_rules.specs.Pieces.{Piece}
+use Rattle.trac_rules.specs.Rows.{Named, Does, Forces, Gives, Leaves, Prints, with_forms}
 use Rattle.trac_rules.specs.Segmenting.{segmented}
 use Rattle.trac_rules.specs.Showing.{shown}
 use Rattle.trac_rules.specs.State.{Forms, Storage, storage_of}
@@ -166,11 +168,31 @@ prints_form arguments es form named there =
     row PrintForm arguments es es [] (shown form) named
     (λ storage. on_form-held (argument 1 arguments) (Some form) (λ f. Ok (prints (shown f) (holding es storage))) es (holding es storage) there)
 
+pub reads_form : (reading : FormReading) (arguments : List (List ℕ)) (before after : Named) (form : Form) (piece : Piece) →
+    primitive_of (argument 0 arguments) ≡ Handle (Read reading) → find (slice_cmp nat_cmp) (argument 1 arguments) before ≡ Some form →
+    piece_read reading arguments form ≡ Some piece →
+    in_order ((argument 1 arguments, pointed_at piece.place (all_items form)) ∷ before) ≡ in_order after → Does arguments before piece.value [] after
+reads_form reading arguments before after form piece named there read same =
+    row (Read reading) arguments before after piece.value [] named
+    (λ storage. on_form-held (argument 1 arguments) (Some form) (λ f. Ok (form_read reading arguments f (holding before storage))) before (holding before storage) there
+    ∙ ap (λ found. Ok (gives_piece found (default_argument reading arguments) (argument 1 arguments) form (holding before storage))) read
+    ∙ ap (λ forms. Ok (gives piece.value (keeping forms storage)))
+    (same_held ((argument 1 arguments, pointed_at piece.place (all_items form)) ∷ before) after same))
+
+pub reads_nothing : (reading : FormReading) (arguments : List (List ℕ)) (es : Named) (form : Form) →
+    primitive_of (argument 0 arguments) ≡ Handle (Read reading) → find (slice_cmp nat_cmp) (argument 1 arguments) es ≡ Some form →
+    piece_read reading arguments form ≡ None → Forces arguments es (default_argument reading arguments)
+reads_nothing reading arguments es form named there none environment s =
+    ap (λ primitive. effect_of primitive environment arguments (with_forms es s)) named
+    ∙ on_form-held (argument 1 arguments) (Some form) (λ f. Ok (form_read reading arguments f (holding es (storage_of s)))) es (holding es (storage_of s)) there
+    ∙ ap (λ found. Ok (gives_piece found (default_argument reading arguments) (argument 1 arguments) form (holding es (storage_of s)))) none
+
 -- the calls that do nothing where there is no form of their name
 abbrev IsOnForm : FormAction → Type 0
 IsOnForm Segment = Unit {0}
 IsOnForm Restore = Unit {0}
 IsOnForm CallForm = Unit {0}
+IsOnForm (Read reading) = Unit {0}
 IsOnForm PrintForm = Unit {0}
 IsOnForm action = ⊥
 
@@ -184,5 +206,6 @@ finds_none action arguments es on named none = row action arguments es es [] [] 
     go Restore i storage =
         on_form-held (argument 1 arguments) None (λ f. Ok (leaves (pointing (argument 1 arguments) 0 f (holding es storage)))) es (holding es storage) none
     go CallForm i storage = on_form-held (argument 1 arguments) None (λ f. Ok (gives (called (drop 2 arguments) f) (holding es storage))) es (holding es storage) none
+    go (Read reading) i storage = on_form-held (argument 1 arguments) None (λ f. Ok (form_read reading arguments f (holding es storage))) es (holding es storage) none
     go PrintForm i storage = on_form-held (argument 1 arguments) None (λ f. Ok (prints (shown f) (holding es storage))) es (holding es storage) none
     go a i storage = absurd i

@@ -1,10 +1,11 @@
 -- States stay proper.
-use Rattle.std.proofs.Common.{◌≡◌, ℕ, ◌≤◌, Bool, true, false, List, [], ◌∷◌, drop, All, refl, sym, subst, ◌∙◌, arith, ⊎_elim}
+use Rattle.std.proofs.Common.{◌≡◌, ℕ, ◌≤◌, Bool, true, false, List, [], ◌∷◌, drop, All, refl, sym, ap, subst, ◌∙◌, arith, ⊎_elim}
 use Rattle.std.specs.Prelude.{Option, None, Some, Result, Ok, Err, position, nat_le, ◌==◌}
 use Rattle.std.specs.Cmp.Lexicographic.{slice_cmp}
 use Rattle.std.specs.FinMap as finite
 use Rattle.std.specs.Ordering.{nat_cmp}
 use Rattle.std.proofs.lemmas.Bool.{and_parts, and_from, leb-true, le-leb, cases_Bool}
+use Rattle.std.proofs.lemmas.List.{take-append-drop}
 use Rattle.std.proofs.lemmas.List.Elements.{All-nil}
 use Rattle.trac_rules.specs.declared.kind.Kind.{Kind}
 use Rattle.trac_rules.specs.declared.kind.Kind.TheVariants.{Active, Neutral}
@@ -12,21 +13,23 @@ use Rattle.trac_rules.specs.declared.limit.TheConstants.{FORM_COUNT_LIMIT}
 use Rattle.trac_rules.specs.declared.primitive.Computation.{Computation}
 use Rattle.trac_rules.specs.declared.primitive.Computation.TheVariants.{Calculate}
 use Rattle.trac_rules.specs.declared.primitive.FormAction.{FormAction}
-use Rattle.trac_rules.specs.declared.primitive.FormAction.TheVariants.{Define, Delete, DeleteAll, Segment, Restore, ListNames, PrintForm, Call as CallForm}
+use Rattle.trac_rules.specs.declared.primitive.FormAction.TheVariants.{Define, Delete, DeleteAll, Segment, Restore, Read, ListNames, PrintForm, Call as CallForm}
 use Rattle.trac_rules.specs.declared.primitive.Primitive.{Primitive}
-use Rattle.trac_rules.specs.declared.primitive.Primitive.TheVariants.{ReadString, Compute, Handle}
+use Rattle.trac_rules.specs.declared.primitive.Primitive.TheVariants.{ReadString, ReadByte, Halt, SetMeta, Compute, Handle}
 use Rattle.trac_rules.specs.declared.refusal.Refusal.{Refusal}
 use Rattle.trac_rules.specs.Computing.{computed, result_of}
 use Rattle.trac_rules.specs.Effect.{Effect, argument, gives, gives_or_forces, leaves, prints}
 use Rattle.trac_rules.specs.Filling.{called}
-use Rattle.trac_rules.specs.Form.{Form, IsWide, all_items, defined, pointed_at}
-use Rattle.trac_rules.specs.Handling.{handled, keeping, named_form, on_form, pointing, putting, without}
+use Rattle.trac_rules.specs.declared.item.Item.{Item}
+use Rattle.trac_rules.specs.Form.{Form, IsWide, all_items, at_start, defined, pointed_at}
+use Rattle.trac_rules.specs.Handling.{default_argument, form_read, gives_piece, handled, keeping, named_form, on_form, piece_read, pointing, putting, without}
 use Rattle.trac_rules.specs.Limits.{form_fits, may_be_put, texts_fit}
 use Rattle.trac_rules.specs.Number.{calculated}
 use Rattle.trac_rules.specs.Outcomes.{seen_as}
-use Rattle.trac_rules.specs.Performing.{after_call, changed_by, effect_of, performed, placed, primitive_of, printed_behind, trace_line}
+use Rattle.trac_rules.specs.Performing.{after_call, changed_by, effect_of, meta_set, performed, placed, primitive_of, printed_behind, trace_line}
 use Rattle.trac_rules.specs.Proper.{AreProperForms, IsProper, IsProperBlock, IsProperForm, IsProperStorage}
-use Rattle.trac_rules.specs.Reading.{read_up_to, rest_read, unread}
+use Rattle.trac_rules.specs.Pieces.{Piece}
+use Rattle.trac_rules.specs.Reading.{byte_read, read_up_to, rest_read, unread}
 use Rattle.trac_rules.specs.Scanning.{Call, Scanned, Moves, Calls, scan}
 use Rattle.trac_rules.specs.Segmenting.{segmented}
 use Rattle.trac_rules.specs.Showing.{shown}
@@ -73,13 +76,19 @@ judged_of_proper name form forms proper =
     and_from (form_fits name form) (nat_le (finite.len (finite.insert forms name form)) FORM_COUNT_LIMIT) (proper.each name form (get-put forms name form)).fits
     (le-leb (finite.len (finite.insert forms name form)) FORM_COUNT_LIMIT proper.count)
 
--- a form whose pointer goes back to the start leaves them proper
-restored_proper : (name : List ℕ) (form : Form) (forms : Forms) → AreProperForms forms → finite.get forms name ≡ Some form →
-    AreProperForms (finite.insert forms name (pointed_at 0 (all_items form)))
-restored_proper name form forms proper there =
+-- whether a form of these items, and its name, are within the limits
+abbrev items_fit : List ℕ → List Item → Bool
+items_fit name items = form_fits name (at_start items)
+
+-- a form whose pointer moves leaves them proper, since its items stay
+pointed_proper : (name : List ℕ) (place : ℕ) (form : Form) (forms : Forms) → AreProperForms forms → finite.get forms name ≡ Some form →
+    AreProperForms (finite.insert forms name (pointed_at place (all_items form)))
+pointed_proper name place form forms proper there =
     let same = proper.each name form there in
-    put_proper forms name (pointed_at 0 (all_items form)) proper (record { fits = same.fits; wide = same.wide })
-    (let again = len-put_again forms name form (pointed_at 0 (all_items form)) there in omega (arith, again, proper.count))
+    let items : all_items (pointed_at place (all_items form)) ≡ all_items form = take-append-drop place (all_items form) in
+    put_proper forms name (pointed_at place (all_items form)) proper
+    (record { fits = ap (items_fit name) items ∙ same.fits; wide = subst (λ is. All IsWide is) (sym items) same.wide })
+    (let again = len-put_again forms name form (pointed_at place (all_items form)) there in omega (arith, again, proper.count))
 
 -- and they stay proper without these names
 without_proper : (names : List (List ℕ)) (forms : Forms) → AreProperForms forms → AreProperForms (without names forms)
@@ -116,6 +125,18 @@ on_form_proper : (found : Option Form) (act : Form → Result Effect Refusal) (s
 on_form_proper None act storage proper acts = proper
 on_form_proper (Some form) act storage proper acts = acts form refl
 
+-- a form whose pointer moves
+pointing_proper : (name : List ℕ) (place : ℕ) (form : Form) (storage : Storage) → IsProperStorage storage → finite.get storage.forms name ≡ Some form →
+    IsProperStorage (pointing name place form storage)
+pointing_proper name place form storage proper there =
+    with_proper (finite.insert storage.forms name (pointed_at place (all_items form))) storage proper (pointed_proper name place form storage.forms proper.forms there)
+
+-- a form that is read at its pointer
+piece_proper : (piece : Option Piece) (other name : List ℕ) (form : Form) (storage : Storage) → IsProperStorage storage → finite.get storage.forms name ≡ Some form →
+    LeavesProper (Ok (gives_piece piece other name form storage))
+piece_proper None other name form storage proper there = proper
+piece_proper (Some piece) other name form storage proper there = pointing_proper name piece.place form storage proper there
+
 -- each call on forms
 handled_proper : (action : FormAction) (arguments : List (List ℕ)) (storage : Storage) → IsProperStorage storage → LeavesProper (handled action arguments storage)
 handled_proper Define arguments storage proper =
@@ -129,10 +150,12 @@ handled_proper Segment arguments storage proper =
     (wide-segmented_from 1 (drop 2 arguments) (all_items form) (proper.forms.each (argument 1 arguments) form there).wide))
 handled_proper Restore arguments storage proper =
     on_form_proper (named_form arguments storage) (λ form. Ok (leaves (pointing (argument 1 arguments) 0 form storage))) storage proper
-    (λ form there. with_proper (finite.insert storage.forms (argument 1 arguments) (pointed_at 0 (all_items form))) storage proper
-    (restored_proper (argument 1 arguments) form storage.forms proper.forms there))
+    (λ form there. pointing_proper (argument 1 arguments) 0 form storage proper there)
 handled_proper CallForm arguments storage proper =
     on_form_proper (named_form arguments storage) (λ form. Ok (gives (called (drop 2 arguments) form) storage)) storage proper (λ form there. proper)
+handled_proper (Read reading) arguments storage proper =
+    on_form_proper (named_form arguments storage) (λ form. Ok (form_read reading arguments form storage)) storage proper
+    (λ form there. piece_proper (piece_read reading arguments form) (default_argument reading arguments) (argument 1 arguments) form storage proper there)
 handled_proper ListNames arguments storage proper = proper
 handled_proper PrintForm arguments storage proper =
     on_form_proper (named_form arguments storage) (λ form. Ok (prints (shown form) storage)) storage proper (λ form there. proper)
@@ -146,6 +169,16 @@ read_proper None text ended storage proper = rest text ended
     rest text false = tt
     rest [] true = tt
     rest (b ∷ text) true = proper
+
+byte_proper : (text : List ℕ) (ended : Bool) (storage : Storage) → IsProperStorage storage → LeavesProper (byte_read text ended storage)
+byte_proper [] false storage proper = tt
+byte_proper [] true storage proper = tt
+byte_proper (b ∷ rest) ended storage proper = proper
+
+-- setting the meta character
+meta_proper : (text : List ℕ) (storage : Storage) → IsProperStorage storage → IsProperStorage (meta_set text storage).storage
+meta_proper [] storage proper = proper
+meta_proper (b ∷ bytes) storage proper = proper
 
 -- computing
 computed_proper : (computation : Computation) (arguments : List (List ℕ)) (storage : Storage) → IsProperStorage storage →
@@ -162,6 +195,9 @@ effect_proper : (primitive : Primitive) (environment : Environment) (arguments :
     LeavesProper (effect_of primitive environment arguments s)
 effect_proper ReadString environment arguments s proper =
     read_proper (position (λ b. b == s.meta) (unread environment.tape s)) (unread environment.tape s) environment.tape.ended (storage_of s) proper
+effect_proper ReadByte environment arguments s proper = byte_proper (unread environment.tape s) environment.tape.ended (storage_of s) proper
+effect_proper Halt environment arguments s proper = tt
+effect_proper SetMeta environment arguments s proper = meta_proper (argument 1 arguments) (storage_of s) proper
 effect_proper (Compute computation) environment arguments s proper = computed_proper computation arguments (storage_of s) proper
 effect_proper (Handle action) environment arguments s proper = handled_proper action arguments (storage_of s) proper
 effect_proper primitive environment arguments s proper = proper

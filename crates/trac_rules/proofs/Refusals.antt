@@ -7,7 +7,7 @@ use Rattle.trac_rules.specs.declared.limit.TheConstants.{TEXT_LIMIT, MARK_LIMIT,
 use Rattle.trac_rules.specs.declared.kind.Kind.{Kind}
 use Rattle.trac_rules.specs.declared.kind.Kind.TheVariants.{Active, Neutral}
 use Rattle.trac_rules.specs.declared.primitive.Primitive.{Primitive}
-use Rattle.trac_rules.specs.declared.primitive.Primitive.TheVariants.{PrintString, ReadString, Compute, Handle, Unknown}
+use Rattle.trac_rules.specs.declared.primitive.Primitive.TheVariants.{PrintString, ReadString, ReadByte, Halt, SetMeta, SetTrace, Compute, Handle, Unknown}
 use Rattle.trac_rules.specs.declared.refusal.Refusal.{Refusal}
 use Rattle.trac_rules.specs.declared.refusal.Refusal.TheVariants.{TooLong, NeedInput, Ended}
 use Rattle.trac_rules.specs.State.{Environment, Frame, State, Storage, Tape, storage_of}
@@ -16,7 +16,7 @@ use Rattle.trac_rules.specs.Limits.{texts_fit, text_bytes, marks}
 use Rattle.trac_rules.specs.Effect.{Effect, argument}
 use Rattle.trac_rules.specs.Handling.{handled}
 use Rattle.trac_rules.specs.Outcomes.{limited, seen_as}
-use Rattle.trac_rules.specs.Reading.{read_up_to, rest_read, unread}
+use Rattle.trac_rules.specs.Reading.{byte_read, read_up_to, rest_read, unread}
 use Rattle.trac_rules.specs.Performing.{effect_of, primitive_of, trace_line, printed_behind, performed, placed, changed_by, after_call}
 use Rattle.trac_rules.specs.Stepping.{carried_out, step}
 use Rattle.trac_rules.specs.Running.{silent}
@@ -44,6 +44,11 @@ up_to_refusals : (tape : Tape) (at : Option ℕ) (text : List ℕ) (storage : St
 up_to_refusals tape (Some k) text storage r h = absurd (cc)
 up_to_refusals tape None text storage r h = rest_refusals tape text tape.ended storage refl r h
 
+-- why a byte of the input is not read
+byte_refusals : (tape : Tape) (text : List ℕ) (storage : Storage) (refusal : Refusal) → byte_read text tape.ended storage ≡ Err refusal → MayWant tape refusal
+byte_refusals tape [] storage r h = rest_refusals tape [] tape.ended storage refl r h
+byte_refusals tape (b ∷ rest) storage r h = absurd (cc)
+
 -- a call on forms is refused for a limit alone
 looks_refusals : (outcome : Result Effect Refusal) (refusal : Refusal) → LooksAtForms outcome → outcome ≡ Err refusal → refusal ≡ TooLong
 looks_refusals (Ok e) r looks h = absurd (cc)
@@ -59,6 +64,10 @@ effect_refusals : (primitive : Primitive) (e : Environment) (arguments : List (L
 effect_refusals PrintString e arguments s r h = absurd (cc)
 effect_refusals ReadString e arguments s r h =
     inr (up_to_refusals e.tape (position (λ b. b == s.meta) (unread e.tape s)) (unread e.tape s) (storage_of s) r h)
+effect_refusals ReadByte e arguments s r h = inr (byte_refusals e.tape (unread e.tape s) (storage_of s) r h)
+effect_refusals Halt e arguments s r h = inr (inr (let end : r ≡ Ended = cc in end))
+effect_refusals SetMeta e arguments s r h = absurd (cc)
+effect_refusals (SetTrace trace) e arguments s r h = absurd (cc)
 effect_refusals (Compute computation) e arguments s r h = absurd (cc)
 effect_refusals (Handle action) e arguments s r h =
     inl (looks_refusals (handled action arguments (storage_of s)) r (handled_looks action arguments (storage_of s)) h)
@@ -130,6 +139,11 @@ wants_none : (text : List ℕ) (at : Option ℕ) (ended : Bool) (storage : Stora
 wants_none text (Some k) ended storage h = absurd (cc)
 wants_none text None ended storage h = refl
 
+-- a byte that is there is not waited for
+byte_there : (text : List ℕ) (ended : Bool) (storage : Storage) → 0 < length text → byte_read text ended storage ≡ Err NeedInput → ⊥
+byte_there [] ended storage some h = omega arith
+byte_there (b ∷ rest) ended storage some h = cc
+
 -- a primitive that wants input reads on a whole tape at least what was unread
 effect_long : (primitive : Primitive) (e : Environment) (more : List ℕ) (arguments : List (List ℕ)) (s : State) → s.position ≤ length e.tape.bytes →
     0 < length (unread e.tape s) → effect_of primitive e arguments s ≡ Err NeedInput →
@@ -140,6 +154,10 @@ effect_long ReadString e more arguments s l some h =
     let none : position (λ b. b == s.meta) text ≡ None = wants_none text (position (λ b. b == s.meta) text) e.tape.ended (storage_of s) h in
     rw (unread-whole e.tape more s l) (up_to_long text more (position (λ b. b == s.meta) (text ++ more)) (storage_of s) some
     (λ k at. position-append_None (λ b. b == s.meta) text more k none at))
+effect_long ReadByte e more arguments s l some h = absurd (byte_there (unread e.tape s) e.tape.ended (storage_of s) some h)
+effect_long Halt e more arguments s l some h = absurd (cc)
+effect_long SetMeta e more arguments s l some h = absurd (cc)
+effect_long (SetTrace trace) e more arguments s l some h = absurd (cc)
 effect_long (Compute computation) e more arguments s l some h = absurd (cc)
 effect_long (Handle action) e more arguments s l some h =
     let long : NeedInput ≡ TooLong = looks_refusals (handled action arguments (storage_of s)) NeedInput (handled_looks action arguments (storage_of s)) h in

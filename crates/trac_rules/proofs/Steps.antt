@@ -10,13 +10,13 @@ use Rattle.trac_rules.specs.declared.kind.Kind.TheVariants.{Active, Neutral}
 use Rattle.trac_rules.specs.declared.primitive.Computation.{Computation}
 use Rattle.trac_rules.specs.declared.primitive.Computation.TheVariants.{Calculate}
 use Rattle.trac_rules.specs.declared.primitive.FormAction.{FormAction}
-use Rattle.trac_rules.specs.declared.primitive.FormAction.TheVariants.{Define, Delete, DeleteAll, Segment, Restore, ListNames, PrintForm, Call as CallForm}
+use Rattle.trac_rules.specs.declared.primitive.FormAction.TheVariants.{Define, Delete, DeleteAll, Segment, Restore, Read, ListNames, PrintForm, Call as CallForm}
 use Rattle.trac_rules.specs.declared.primitive.Primitive.{Primitive}
-use Rattle.trac_rules.specs.declared.primitive.Primitive.TheVariants.{PrintString, ReadString, Compute, Handle, Unknown}
+use Rattle.trac_rules.specs.declared.primitive.Primitive.TheVariants.{PrintString, ReadString, ReadByte, Halt, SetMeta, SetTrace, Compute, Handle, Unknown}
 use Rattle.trac_rules.specs.declared.refusal.Refusal.{Refusal}
 use Rattle.trac_rules.specs.declared.refusal.Refusal.TheVariants.{TooLong, NeedInput}
-use Rattle.trac_rules.specs.State.{Environment, Frame, State, Storage, Tape, storage_of}
-use Rattle.trac_rules.specs.Scanning.{Call, Scanned, Moves, Calls, gathered_in, scan}
+use Rattle.trac_rules.specs.State.{Environment, State, Storage, Tape, storage_of}
+use Rattle.trac_rules.specs.Scanning.{Call, Scanned, Moves, Calls, scan}
 use Rattle.trac_rules.specs.Limits.{may_be_put, texts_fit}
 use Rattle.trac_rules.specs.Effect.{Effect, argument, gives, gives_or_forces, leaves, prints}
 use Rattle.trac_rules.specs.Form.{Form, defined}
@@ -24,10 +24,11 @@ use Rattle.trac_rules.specs.Filling.{called}
 use Rattle.trac_rules.specs.Segmenting.{segmented}
 use Rattle.trac_rules.specs.Showing.{shown}
 use Rattle.trac_rules.specs.Computing.{computed}
-use Rattle.trac_rules.specs.Handling.{handled, keeping, named_form, on_form, pointing, putting}
+use Rattle.trac_rules.specs.Handling.{default_argument, form_read, gives_piece, handled, keeping, named_form, on_form, piece_read, pointing, putting}
+use Rattle.trac_rules.specs.Pieces.{Piece}
 use Rattle.trac_rules.specs.Outcomes.{limited, seen_as}
-use Rattle.trac_rules.specs.Reading.{read_up_to, rest_read, string_read, unread}
-use Rattle.trac_rules.specs.Performing.{effect_of, primitive_of, trace_line, printed_behind, performed, placed, changed_by, after_call}
+use Rattle.trac_rules.specs.Reading.{byte_read, read_up_to, rest_read, string_read, unread}
+use Rattle.trac_rules.specs.Performing.{after_call, changed_by, effect_of, meta_set, performed, placed, primitive_of, printed_behind, trace_line}
 use Rattle.trac_rules.specs.Stepping.{carried_out, step}
 use Rattle.trac_rules.specs.Running.{Output, silent, going_on, output_from}
 use Rattle.trac_rules.specs.GoingOn.{whole}
@@ -90,6 +91,10 @@ on_form_looks : (form : Option Form) (act : Form → Result Effect Refusal) (sto
 on_form_looks None act storage looks = refl
 on_form_looks (Some f) act storage looks = looks f
 
+piece_looks : (piece : Option Piece) (other name : List ℕ) (form : Form) (storage : Storage) → LooksAtForms (Ok (gives_piece piece other name form storage))
+piece_looks None other name form storage = refl
+piece_looks (Some piece) other name form storage = refl
+
 pub handled_looks : (action : FormAction) (arguments : List (List ℕ)) (storage : Storage) → LooksAtForms (handled action arguments storage)
 handled_looks Define arguments storage = putting_looks (argument 1 arguments) (defined (argument 2 arguments)) storage
 handled_looks Delete arguments storage = refl
@@ -101,6 +106,9 @@ handled_looks Restore arguments storage =
     on_form_looks (named_form arguments storage) (λ form. Ok (leaves (pointing (argument 1 arguments) 0 form storage))) storage (λ form. refl)
 handled_looks CallForm arguments storage =
     on_form_looks (named_form arguments storage) (λ form. Ok (gives (called (drop 2 arguments) form) storage)) storage (λ form. refl)
+handled_looks (Read reading) arguments storage =
+    on_form_looks (named_form arguments storage) (λ form. Ok (form_read reading arguments form storage)) storage
+    (λ form. piece_looks (piece_read reading arguments form) (default_argument reading arguments) (argument 1 arguments) form storage)
 handled_looks ListNames arguments storage = refl
 handled_looks PrintForm arguments storage =
     on_form_looks (named_form arguments storage) (λ form. Ok (prints (shown form) storage)) storage (λ form. refl)
@@ -118,6 +126,16 @@ computed_within : (n : ℕ) (computation : Computation) (arguments : List (List 
 computed_within n (Calculate operation) arguments storage = value_within n _ (argument 3 arguments) storage
 computed_within n computation arguments storage = omega arith
 
+-- one byte is read of what is not null
+byte_within : (text : List ℕ) (ended : Bool) (storage : Storage) → ReadsWithin (length text) (byte_read text ended storage)
+byte_within [] ended storage = rest_within [] ended storage
+byte_within (b ∷ rest) ended storage = omega arith
+
+-- a meta character is set without reading
+meta_within : (n : ℕ) (text : List ℕ) (storage : Storage) → (meta_set text storage).read ≤ n
+meta_within n [] storage = omega arith
+meta_within n (b ∷ bytes) storage = omega arith
+
 -- each primitive reads no more than what is unread
 pub effect_within : (primitive : Primitive) (e : Environment) (arguments : List (List ℕ)) (s : State) →
     ReadsWithin (length (unread e.tape s)) (effect_of primitive e arguments s)
@@ -125,6 +143,10 @@ effect_within PrintString e arguments s = omega arith
 effect_within ReadString e arguments s =
     up_to_within (position (λ b. b == s.meta) (unread e.tape s)) (unread e.tape s) e.tape.ended (storage_of s)
     (λ k at. (position-Some (λ b. b == s.meta) (unread e.tape s) k 0 at).0)
+effect_within ReadByte e arguments s = byte_within (unread e.tape s) e.tape.ended (storage_of s)
+effect_within Halt e arguments s = tt
+effect_within SetMeta e arguments s = meta_within (length (unread e.tape s)) (argument 1 arguments) (storage_of s)
+effect_within (SetTrace trace) e arguments s = omega arith
 effect_within (Compute computation) e arguments s = computed_within (length (unread e.tape s)) computation arguments (storage_of s)
 effect_within (Handle action) e arguments s = looks_within (length (unread e.tape s)) (handled action arguments (storage_of s)) (handled_looks action arguments (storage_of s))
 effect_within Unknown e arguments s = omega arith
@@ -225,6 +247,12 @@ string_read-whole more text meta storage wanted =
     (λ k e. (position-append_Some (λ b. b == meta) text more k e, (position-Some (λ b. b == meta) text k 0 e).0))
     wanted
 
+-- a byte that is there is read, however the input goes on
+byte_read-whole : (more text : List ℕ) (storage : Storage) → (byte_read text false storage ≡ Err NeedInput → ⊥) →
+    byte_read (text ++ more) true storage ≡ byte_read text false storage
+byte_read-whole more [] storage wanted = absurd (wanted refl)
+byte_read-whole more (b ∷ rest) storage wanted = refl
+
 -- what a primitive does without more input it does on a whole tape
 pub effect_of-whole : (primitive : Primitive) (e : Environment) (more : List ℕ) (arguments : List (List ℕ)) (s : State) → s.position ≤ length e.tape.bytes → e.tape.ended ≡ false →
     (effect_of primitive e arguments s ≡ Err NeedInput → ⊥) → effect_of primitive (lengthened more e) arguments s ≡ effect_of primitive e arguments s
@@ -235,6 +263,15 @@ effect_of-whole ReadString e more arguments s l unended wanted =
     ap (λ (text : List ℕ). string_read text true s.meta (storage_of s)) (unread-whole e.tape more s l)
     ∙ string_read-whole more (unread e.tape s) s.meta (storage_of s) (λ none. wanted (open_tape ∙ none))
     ∙ sym open_tape
+effect_of-whole ReadByte e more arguments s l unended wanted =
+    let open_tape : byte_read (unread e.tape s) e.tape.ended (storage_of s) ≡ byte_read (unread e.tape s) false (storage_of s) =
+    ap (λ (ended : Bool). byte_read (unread e.tape s) ended (storage_of s)) unended in
+    ap (λ (text : List ℕ). byte_read text true (storage_of s)) (unread-whole e.tape more s l)
+    ∙ byte_read-whole more (unread e.tape s) (storage_of s) (λ none. wanted (open_tape ∙ none))
+    ∙ sym open_tape
+effect_of-whole Halt e more arguments s l unended wanted = refl
+effect_of-whole SetMeta e more arguments s l unended wanted = refl
+effect_of-whole (SetTrace trace) e more arguments s l unended wanted = refl
 effect_of-whole (Compute computation) e more arguments s l unended wanted = refl
 effect_of-whole (Handle action) e more arguments s l unended wanted = refl
 effect_of-whole Unknown e more arguments s l unended wanted = refl

@@ -20,6 +20,11 @@ first_place passes (suc n) = or_next (first_place passes n) (cond (passes n) (So
     or_next None next = next
     or_next (Some k) next = Some k
 
+-- the last of the places below n that passes the test
+abbrev pub last_place : (ℕ → Bool) → ℕ → Option ℕ
+last_place passes zero = None
+last_place passes (suc n) = cond (passes n) (Some n) (last_place passes n)
+
 -- what a processor with nothing to do runs: it reads a text of the input, scans it, and prints what that leaves
 abbrev pub idle_program : List ℕ
 idle_program = codes "#(ps,#(rs))"

@@ -33,6 +33,14 @@ gives value storage = record (leaves storage) { value = value }
 abbrev pub forces : List ℕ → Storage → Effect
 forces value storage = record (leaves storage) { value = value; forced = true }
 
+-- a null value, and this meta character from now on
+abbrev pub sets_meta : ℕ → Storage → Effect
+sets_meta meta storage = record (leaves storage) { meta = Some meta }
+
+-- a null value, and each call is printed from now on, or none is
+abbrev pub sets_trace : Bool → Storage → Effect
+sets_trace trace storage = record (leaves storage) { trace = Some trace }
+
 -- a printed text
 abbrev pub prints : List ℕ → Storage → Effect
 prints text storage = record (leaves storage) { printed = text }

@@ -2,17 +2,21 @@
 use Rattle.std.specs.Prelude.{ℕ, List, [], ◌∷◌, drop, if◌then◌else◌, Option, None, Some, Result, Ok, Err}
 use Rattle.std.specs.FinMap as map
 use Rattle.trac_rules.specs.declared.primitive.FormAction.{FormAction}
-use Rattle.trac_rules.specs.declared.primitive.FormAction.TheVariants.{Define, Delete, DeleteAll, Segment, Restore, Call, ListNames, PrintForm}
+use Rattle.trac_rules.specs.declared.primitive.FormAction.TheVariants.{Define, Delete, DeleteAll, Segment, Restore, Call, Read, ListNames, PrintForm}
+use Rattle.trac_rules.specs.declared.primitive.FormReading.{FormReading}
+use Rattle.trac_rules.specs.declared.primitive.FormReading.TheVariants.{ReadSegment, ReadChar, ReadCount, ReadUntil}
 use Rattle.trac_rules.specs.declared.refusal.Refusal.{Refusal}
 use Rattle.trac_rules.specs.declared.refusal.Refusal.TheVariants.{TooLong}
 use Rattle.trac_rules.specs.Filling.{called}
 use Rattle.trac_rules.specs.Form.{Form, all_items, defined, pointed_at}
 use Rattle.trac_rules.specs.Limits.{may_be_put}
+use Rattle.trac_rules.specs.Computing.{number_argument}
 use Rattle.trac_rules.specs.Listing.{listed}
+use Rattle.trac_rules.specs.Pieces.{Piece, char_read, fitting_count_read, segment_read, until_read}
 use Rattle.trac_rules.specs.Segmenting.{segmented}
 use Rattle.trac_rules.specs.Showing.{shown}
 use Rattle.trac_rules.specs.State.{Forms, Storage}
-use Rattle.trac_rules.specs.Effect.{Effect, argument, gives, leaves, prints}
+use Rattle.trac_rules.specs.Effect.{Effect, argument, forces, gives, leaves, prints}
 
 -- storage with these forms
 abbrev pub keeping : Forms → Storage → Storage
@@ -41,6 +45,31 @@ pointing name place form storage = keeping (map.insert storage.forms name (point
 abbrev pub named_form : List (List ℕ) → Storage → Option Form
 named_form arguments storage = map.get storage.forms (argument 1 arguments)
 
+-- what is read of a form at its pointer, none in the case of the default argument: argument 2 is the number of `cn`, and the text of `in`
+abbrev pub piece_read : FormReading → List (List ℕ) → Form → Option Piece
+piece_read ReadSegment arguments form = segment_read form
+piece_read ReadChar arguments form = char_read form
+piece_read ReadCount arguments form = fitting_count_read (number_argument 2 arguments) form
+piece_read ReadUntil arguments form = until_read (argument 2 arguments) form
+
+-- the default argument: argument 2, or argument 3 where argument 2 is a number or a text
+abbrev pub default_argument : FormReading → List (List ℕ) → List ℕ
+default_argument ReadSegment arguments = argument 2 arguments
+default_argument ReadChar arguments = argument 2 arguments
+default_argument ReadCount arguments = argument 3 arguments
+default_argument ReadUntil arguments = argument 3 arguments
+
+-- a piece given, and the pointer of the form of this name at its place; where there is none the default argument, which is forced, and
+-- the pointer unmoved
+abbrev pub gives_piece : Option Piece → List ℕ → List ℕ → Form → Storage → Effect
+gives_piece (Some piece) other name form storage = gives piece.value (pointing name piece.place form storage)
+gives_piece None other name form storage = forces other storage
+
+-- what reading a form at its pointer does with these arguments
+abbrev pub form_read : FormReading → List (List ℕ) → Form → Storage → Effect
+form_read reading arguments form storage =
+    gives_piece (piece_read reading arguments form) (default_argument reading arguments) (argument 1 arguments) form storage
+
 -- argument 0 is the primitive's own name. `ln` is given a text, `dd` names, and the others but `da` the name of a form, then texts. A missing
 -- argument is null; but `dd` deletes only the names that the call gives (this project's profile)
 abbrev pub handled : FormAction → List (List ℕ) → Storage → Result Effect Refusal
@@ -53,6 +82,8 @@ handled Restore arguments storage =
     on_form (named_form arguments storage) (λ form. Ok (leaves (pointing (argument 1 arguments) 0 form storage))) storage
 handled Call arguments storage =
     on_form (named_form arguments storage) (λ form. Ok (gives (called (drop 2 arguments) form) storage)) storage
+handled (Read reading) arguments storage =
+    on_form (named_form arguments storage) (λ form. Ok (form_read reading arguments form storage)) storage
 handled ListNames arguments storage = Ok (gives (listed (argument 1 arguments) storage.forms) storage)
 handled PrintForm arguments storage =
     on_form (named_form arguments storage) (λ form. Ok (prints (shown form) storage)) storage

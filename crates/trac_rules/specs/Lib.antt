@@ -8,6 +8,7 @@ pub mod Segmenting
 pub mod Filling
 pub mod Showing
 pub mod Listing
+pub mod Pieces
 pub mod Scanning
 pub mod Limits
 pub mod Proper

@@ -35,8 +35,8 @@ texts_fit s =
 abbrev pub form_fits : List ℕ → Form → Bool
 form_fits name form = nat_le (length name) NAME_LIMIT && nat_le (length (all_items form)) FORM_LIMIT && nat_le (extent (all_items form)) FORM_LIMIT
 
--- whether forms that are within the limits stay so when this one is put among them. `ds` and `ss` are judged so; `cr`, `dd` and `da`
--- cannot pass a limit. Where a state is proper before a step, that is the same as judging all of it afterwards (the law
+-- whether forms that are within the limits stay so when this one is put among them. `ds` and `ss` are judged so; `dd`, `da` and what
+-- only moves a pointer cannot pass a limit. Where a state is proper before a step, that is the same as judging all of it afterwards (the law
 -- `states_stay_proper`)
 unfoldable pub may_be_put : List ℕ → Form → Forms → Bool
 may_be_put name form forms = form_fits name form && nat_le (map.len (map.insert forms name form)) FORM_COUNT_LIMIT

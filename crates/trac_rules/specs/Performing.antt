@@ -1,5 +1,5 @@
 -- What the primitives do, and where their values go.
-use Rattle.std.specs.Prelude.{ℕ, ◌+◌, List, [], ◌∷◌, ◌++◌, find, Bool, true, false, Option, None, Some, Result, Ok, codes}
+use Rattle.std.specs.Prelude.{ℕ, ◌+◌, List, [], ◌∷◌, ◌++◌, find, Bool, true, false, Option, None, Some, Result, Ok, Err, codes}
 use Rattle.std.specs.List.{join_with_byte}
 use Rattle.std.specs.Option.{unwrap_or}
 use Rattle.std.specs.Str.{str_eq_ignore_ascii_case}
@@ -7,17 +7,18 @@ use Rattle.trac_rules.specs.declared.byte.TheConstants.{STAR, CLOSING, LINE_FEED
 use Rattle.trac_rules.specs.declared.kind.Kind.{Kind}
 use Rattle.trac_rules.specs.declared.kind.Kind.TheVariants.{Active, Neutral}
 use Rattle.trac_rules.specs.declared.primitive.Primitive.{Primitive}
-use Rattle.trac_rules.specs.declared.primitive.Primitive.TheVariants.{PrintString, ReadString, Compute, Handle, Unknown}
+use Rattle.trac_rules.specs.declared.primitive.Primitive.TheVariants.{PrintString, ReadString, ReadByte, Halt, SetMeta, SetTrace, Compute, Handle, Unknown}
 use Rattle.trac_rules.specs.declared.primitive.NamedPrimitive.{NamedPrimitive}
 use Rattle.trac_rules.specs.declared.primitive.TheConstants.{NAMES}
 use Rattle.trac_rules.specs.declared.refusal.Refusal.{Refusal}
+use Rattle.trac_rules.specs.declared.refusal.Refusal.TheVariants.{Ended}
 use Rattle.trac_rules.specs.Computing.{computed}
-use Rattle.trac_rules.specs.Effect.{Effect, argument, leaves, prints}
+use Rattle.trac_rules.specs.Effect.{Effect, argument, leaves, prints, sets_meta, sets_trace}
 use Rattle.trac_rules.specs.Handling.{handled}
 use Rattle.trac_rules.specs.Outcomes.{seen_as}
-use Rattle.trac_rules.specs.Reading.{string_read, unread}
+use Rattle.trac_rules.specs.Reading.{byte_read, string_read, unread}
 use Rattle.trac_rules.specs.Scanning.{Call, gather}
-use Rattle.trac_rules.specs.State.{Environment, State, storage_of}
+use Rattle.trac_rules.specs.State.{Environment, State, Storage, storage_of}
 
 -- ---- names
 
@@ -36,11 +37,21 @@ primitive_of name = looked_up NAMES name
 
 -- ---- primitives
 
+-- the first byte of a text becomes the meta character; a null text leaves it (this project's profile)
+abbrev pub meta_set : List ℕ → Storage → Effect
+meta_set [] storage = leaves storage
+meta_set (b ∷ bytes) storage = sets_meta b storage
+
 -- what a primitive does with these arguments, its name being the first, in this state: of it a primitive uses the meta character, the
 -- position and the storage alone
 abbrev pub effect_of : Primitive → Environment → List (List ℕ) → State → Result Effect Refusal
 effect_of PrintString environment arguments s = Ok (prints (argument 1 arguments) (storage_of s))
 effect_of ReadString environment arguments s = string_read (unread environment.tape s) environment.tape.ended s.meta (storage_of s)
+effect_of ReadByte environment arguments s = byte_read (unread environment.tape s) environment.tape.ended (storage_of s)
+-- the processor halts, whatever the tape (this project's profile)
+effect_of Halt environment arguments s = Err Ended
+effect_of SetMeta environment arguments s = Ok (meta_set (argument 1 arguments) (storage_of s))
+effect_of (SetTrace trace) environment arguments s = Ok (sets_trace trace (storage_of s))
 effect_of (Compute computation) environment arguments s = Ok (computed computation arguments (storage_of s))
 effect_of (Handle action) environment arguments s = handled action arguments (storage_of s)
 effect_of Unknown environment arguments s = Ok (leaves (storage_of s))
@@ -62,7 +73,8 @@ trace_line true kind arguments = beginning_of kind ++ join_with_byte STAR argume
 abbrev pub printed_behind : List ℕ → Effect → Effect
 printed_behind line e = record e { printed = line ++ e.printed }
 
--- what a call does: its primitive's effect, with the line of the trace printed first; the flag before the call decides
+-- what a call does: its primitive's effect, with the line of the trace printed first; the flag before the call decides,
+-- and a call that is refused prints no line
 unfoldable pub performed : Environment → Call → Result Effect Refusal
 performed environment call =
     seen_as (printed_behind (trace_line call.state.trace call.kind call.arguments))

@@ -24,3 +24,8 @@ read_up_to None text ended storage = rest_read text ended storage
 -- `rs`: unread input, whether the input has ended behind it, and the meta character
 abbrev pub string_read : List ℕ → Bool → ℕ → Storage → Result Effect Refusal
 string_read text ended meta storage = read_up_to (position (λ b. b == meta) text) text ended storage
+
+-- `rc`: the first byte of unread input, whichever it is; where there is none, as for `rs`
+abbrev pub byte_read : List ℕ → Bool → Storage → Result Effect Refusal
+byte_read [] ended storage = rest_read [] ended storage
+byte_read (b ∷ rest) ended storage = Ok (reads (b ∷ []) 1 storage)

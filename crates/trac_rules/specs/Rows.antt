@@ -1,11 +1,13 @@
 -- Words for the worked rows: what a session is, and has replied, after a list of commands, and what a call does with forms.
-use Rattle.std.specs.Prelude.{◌≡◌, ℕ, ◌==◌, List, [], ◌∷◌, Ok}
+use Rattle.std.specs.Prelude.{◌≡◌, ℕ, ◌==◌, List, [], ◌∷◌, Ok, codes}
 use Rattle.std.specs.FinMap as map
 use Rattle.std.specs.List.{slice_split}
 use Rattle.trac_rules.specs.declared.byte.TheConstants.{COMMA}
 use Rattle.trac_rules.specs.declared.reply.Reply.{Reply}
-use Rattle.trac_rules.specs.Effect.{argument, leaves}
-use Rattle.trac_rules.specs.Form.{Form}
+use Rattle.trac_rules.specs.declared.item.Item.{Item}
+use Rattle.trac_rules.specs.declared.item.Item.TheVariants.{Byte, Gap}
+use Rattle.trac_rules.specs.Effect.{argument, forces, leaves}
+use Rattle.trac_rules.specs.Form.{Form, pointed_at}
 use Rattle.trac_rules.specs.Performing.{effect_of, primitive_of}
 use Rattle.trac_rules.specs.State.{Environment, State, storage_of}
 use Rattle.trac_rules.specs.Session.{PlainSession, Command, answer}
@@ -59,3 +61,17 @@ Gives arguments forms value = Does arguments forms value [] forms
 -- a call with a null value prints this and changes nothing
 abbrev pub Prints : List (List ℕ) → Named → List ℕ → Type 0
 Prints arguments forms text = Does arguments forms [] text forms
+
+-- a call gives this value, which is forced, and changes nothing
+abbrev pub Forces : List (List ℕ) → Named → List ℕ → Type 0
+Forces arguments forms value =
+    (environment : Environment) → (s : State) →
+    effect_of (primitive_of (argument 0 arguments)) environment arguments (with_forms forms s) ≡ Ok (forces value (storage_of (with_forms forms s)))
+
+-- a form of this name and of these items, its pointer at a place
+abbrev pub pointing_at : ℕ → List ℕ → List Item → Named
+pointing_at place name items = (name, pointed_at place items) ∷ []
+
+-- the form `a<1>bc<2>` under the name `F`, its pointer at a place
+abbrev pub example_at : ℕ → Named
+example_at place = pointing_at place (codes "F") (Byte 97 ∷ Gap 1 1 ∷ Byte 98 ∷ Byte 99 ∷ Gap 2 1 ∷ [])

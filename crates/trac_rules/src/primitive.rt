@@ -1,10 +1,11 @@
 //! What the names of the primitives stand for.
-ghost use Rattle.std.specs.Prelude.{◌≡◌, [], codes};
+ghost use Rattle.std.specs.Prelude.{◌≡◌, [], codes, false, true};
 ghost use Rattle.trac_rules.specs.Performing.{primitive_of};
 ghost use Rattle.trac_rules.specs.declared.primitive.Computation.TheVariants.{Calculate, Complement, Equal, Greater, Meet, Rotate, Shift, Union};
-ghost use Rattle.trac_rules.specs.declared.primitive.FormAction.TheVariants.{Call, Define, Delete, DeleteAll, ListNames, PrintForm, Restore, Segment};
+ghost use Rattle.trac_rules.specs.declared.primitive.FormAction.TheVariants.{Call, Define, Delete, DeleteAll, ListNames, PrintForm, Read, Restore, Segment};
+ghost use Rattle.trac_rules.specs.declared.primitive.FormReading.TheVariants.{ReadChar, ReadCount, ReadSegment, ReadUntil};
 ghost use Rattle.trac_rules.specs.declared.primitive.Operation.TheVariants.{Add, Divide, Multiply, Subtract};
-ghost use Rattle.trac_rules.specs.declared.primitive.Primitive.TheVariants.{Compute, Handle, PrintString, ReadString, Unknown};
+ghost use Rattle.trac_rules.specs.declared.primitive.Primitive.TheVariants.{Compute, Halt, Handle, PrintString, ReadByte, ReadString, SetMeta, SetTrace, Unknown};
 
 /// What a name stands for. Each letter of a primitive's name may be in either case (this project's profile).
 #[derive(Clone, Copy, Debug, PartialEq, Eq)]
@@ -13,6 +14,14 @@ pub enum Primitive {
     PrintString,
     /// `rs`: reads the input up to the meta character.
     ReadString,
+    /// `rc`: reads one byte of the input, whichever it is.
+    ReadByte,
+    /// `hl`: halts the processor.
+    Halt,
+    /// `cm`: sets the meta character, where a text is given.
+    SetMeta,
+    /// `tn` and `tf`: from now on each call is printed, or none is.
+    SetTrace(bool),
     /// A primitive that gives a value made of its arguments alone, and does nothing else.
     Compute(Computation),
     /// A primitive that looks at the forms or changes them.
@@ -71,10 +80,25 @@ pub enum FormAction {
     Restore,
     /// `cl`: a form from its pointer on, its gaps filled with texts.
     Call,
+    /// `cs`, `cc`, `cn`, `in`: a form is read at its pointer, which may move.
+    Read(FormReading),
     /// `ln`: the names of all forms, each with a text before it.
     ListNames,
     /// `pf`: a form is printed.
     PrintForm,
+}
+
+/// How a form is read at its pointer.
+#[derive(Clone, Copy, Debug, PartialEq, Eq)]
+pub enum FormReading {
+    /// `cs`: up to the next gap.
+    ReadSegment,
+    /// `cc`: the next byte.
+    ReadChar,
+    /// `cn`: so many bytes, onward or back.
+    ReadCount,
+    /// `in`: up to a text.
+    ReadUntil,
 }
 
 /// A primitive with its name.
@@ -87,7 +111,7 @@ pub struct NamedPrimitive {
 }
 
 /// The names of the primitives. Any other name is unknown.
-pub const NAMES: [NamedPrimitive; 21] = [
+pub const NAMES: [NamedPrimitive; 30] = [
     NamedPrimitive {
         letters: *b"ps",
         primitive: Primitive::PrintString,
@@ -95,6 +119,26 @@ pub const NAMES: [NamedPrimitive; 21] = [
     NamedPrimitive {
         letters: *b"rs",
         primitive: Primitive::ReadString,
+    },
+    NamedPrimitive {
+        letters: *b"rc",
+        primitive: Primitive::ReadByte,
+    },
+    NamedPrimitive {
+        letters: *b"hl",
+        primitive: Primitive::Halt,
+    },
+    NamedPrimitive {
+        letters: *b"cm",
+        primitive: Primitive::SetMeta,
+    },
+    NamedPrimitive {
+        letters: *b"tn",
+        primitive: Primitive::SetTrace(true),
+    },
+    NamedPrimitive {
+        letters: *b"tf",
+        primitive: Primitive::SetTrace(false),
     },
     NamedPrimitive {
         letters: *b"eq",
@@ -165,6 +209,22 @@ pub const NAMES: [NamedPrimitive; 21] = [
         primitive: Primitive::Handle(FormAction::Call),
     },
     NamedPrimitive {
+        letters: *b"cs",
+        primitive: Primitive::Handle(FormAction::Read(FormReading::ReadSegment)),
+    },
+    NamedPrimitive {
+        letters: *b"cc",
+        primitive: Primitive::Handle(FormAction::Read(FormReading::ReadChar)),
+    },
+    NamedPrimitive {
+        letters: *b"cn",
+        primitive: Primitive::Handle(FormAction::Read(FormReading::ReadCount)),
+    },
+    NamedPrimitive {
+        letters: *b"in",
+        primitive: Primitive::Handle(FormAction::Read(FormReading::ReadUntil)),
+    },
+    NamedPrimitive {
         letters: *b"ln",
         primitive: Primitive::Handle(FormAction::ListNames),
     },
@@ -178,6 +238,11 @@ pub const NAMES: [NamedPrimitive; 21] = [
 pub fn names_stand_for()
     ensures print_string { primitive_of (codes "ps") ≡ PrintString }
     ensures read_string { primitive_of (codes "rs") ≡ ReadString }
+    ensures read_byte { primitive_of (codes "rc") ≡ ReadByte }
+    ensures halt { primitive_of (codes "hl") ≡ Halt }
+    ensures set_meta { primitive_of (codes "cm") ≡ SetMeta }
+    ensures trace_on { primitive_of (codes "tn") ≡ SetTrace true }
+    ensures trace_off { primitive_of (codes "tf") ≡ SetTrace false }
     ensures equal { primitive_of (codes "eq") ≡ Compute Equal }
     ensures greater { primitive_of (codes "gr") ≡ Compute Greater }
     ensures add { primitive_of (codes "ad") ≡ Compute (Calculate Add) }
@@ -195,6 +260,10 @@ pub fn names_stand_for()
     ensures segment { primitive_of (codes "ss") ≡ Handle Segment }
     ensures restore { primitive_of (codes "cr") ≡ Handle Restore }
     ensures call { primitive_of (codes "cl") ≡ Handle Call }
+    ensures read_segment { primitive_of (codes "cs") ≡ Handle (Read ReadSegment) }
+    ensures read_char { primitive_of (codes "cc") ≡ Handle (Read ReadChar) }
+    ensures read_count { primitive_of (codes "cn") ≡ Handle (Read ReadCount) }
+    ensures read_until { primitive_of (codes "in") ≡ Handle (Read ReadUntil) }
     ensures list_names { primitive_of (codes "ln") ≡ Handle ListNames }
     ensures print_form { primitive_of (codes "pf") ≡ Handle PrintForm }
     // Each letter may be in either case (this project's profile).

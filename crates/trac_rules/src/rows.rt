@@ -5,7 +5,7 @@ ghost use Rattle.trac_rules.specs.Filling.{called};
 ghost use Rattle.trac_rules.specs.Form.{as_items, at_start, defined, pointed_at};
 ghost use Rattle.trac_rules.specs.Listing.{listed};
 ghost use Rattle.trac_rules.specs.Performing.{primitive_of};
-ghost use Rattle.trac_rules.specs.Rows.{Gives, Leaves, Prints, replies_to, session_after, state_after, texts_of};
+ghost use Rattle.trac_rules.specs.Rows.{Does, Forces, Gives, Leaves, Prints, example_at, pointing_at, replies_to, session_after, state_after, texts_of};
 ghost use Rattle.trac_rules.specs.Running.{BudgetSpent, InputEnded, output_of};
 ghost use Rattle.trac_rules.specs.Session.{Back, Commit, End, Feed, IsWalk, Run, Step, new_session, no_goal};
 ghost use Rattle.trac_rules.specs.Segmenting.{segmented};
@@ -16,7 +16,7 @@ ghost use Rattle.trac_rules.specs.declared.item.Item.TheVariants.{Byte, Gap};
 ghost use Rattle.trac_rules.specs.declared.kind.Kind.TheVariants.{Active};
 ghost use Rattle.trac_rules.specs.declared.primitive.FormAction.TheVariants.{Call, Define, Delete, DeleteAll, ListNames, PrintForm, Restore, Segment};
 ghost use Rattle.trac_rules.specs.declared.primitive.Primitive.TheVariants.{Handle};
-ghost use Rattle.trac_rules.specs.declared.refusal.Refusal.TheVariants.{AtStart, Closed, JournalFull, NeedInput};
+ghost use Rattle.trac_rules.specs.declared.refusal.Refusal.TheVariants.{AtStart, Closed, Ended, JournalFull, NeedInput};
 ghost use Rattle.trac_rules.specs.declared.reply.Reply.TheVariants.{Done, Refused};
 
 /// What whole runs print, what sessions reply, and how both stand afterwards.
@@ -211,4 +211,80 @@ pub fn worked_form_calls()
     ensures call_given { Gives (texts_of (codes "cl,BB")) ((codes "AA", at_start (as_items (codes "Cat"))) ∷ (codes "BB", at_start (as_items (codes "#(cl,AA)"))) ∷ []) (codes "#(cl,AA)") }
     ensures procedure_segmented { Leaves (texts_of (codes "ss,Factorial,X")) ((codes "Factorial", at_start (as_items (codes "#(eq,X,1,1,(#(ml,X,#(cl,Factorial,#(su,X,1)))))"))) ∷ []) ((codes "Factorial", at_start (as_items (codes "#(eq,") ++ Gap 1 1 ∷ as_items (codes ",1,1,(#(ml,") ++ Gap 1 1 ∷ as_items (codes ",#(cl,Factorial,#(su,") ++ Gap 1 1 ∷ as_items (codes ",1)))))"))) ∷ []) }
     ensures procedure_called { Gives (texts_of (codes "cl,Factorial,5")) ((codes "Factorial", at_start (as_items (codes "#(eq,") ++ Gap 1 1 ∷ as_items (codes ",1,1,(#(ml,") ++ Gap 1 1 ∷ as_items (codes ",#(cl,Factorial,#(su,") ++ Gap 1 1 ∷ as_items (codes ",1)))))"))) ∷ []) (codes "#(eq,5,1,1,(#(ml,5,#(cl,Factorial,#(su,5,1)))))") }
+{}
+
+/// What each reading of a form at its pointer gives, and where the pointer stands afterwards.
+pub fn worked_readings()
+    // From the form `a<1>bc<2>`, its pointer before an item of each kind and at the end.
+    ensures next_byte { Does (texts_of (codes "cc,F,Z")) (example_at 0) (codes "a") [] (example_at 1) }
+    ensures byte_behind_a_gap { Does (texts_of (codes "cc,F,Z")) (example_at 1) (codes "b") [] (example_at 3) }
+    ensures segment_before_a_gap { Does (texts_of (codes "cs,F,Z")) (example_at 1) [] [] (example_at 2) }
+    ensures no_byte_left { Forces (texts_of (codes "cc,F,Z")) (example_at 4) (codes "Z") }
+    ensures last_segment_is_null { Does (texts_of (codes "cs,F,Z")) (example_at 4) [] [] (example_at 5) }
+    ensures no_segment_left { Forces (texts_of (codes "cs,F,Z")) (example_at 5) (codes "Z") }
+    ensures two_bytes_back { Does (texts_of (codes "cn,F,-2,Z")) (example_at 5) (codes "bc") [] (example_at 2) }
+    ensures bytes_up_to_a_text { Does (texts_of (codes "in,F,c,Z")) (example_at 0) (codes "ab") [] (example_at 4) }
+    ensures text_across_a_gap { Forces (texts_of (codes "in,F,ab,Z")) (example_at 0) (codes "Z") }
+    // Segments up to the end, and then the default argument.
+    ensures first_segment { Does (texts_of (codes "cs,F,none")) (pointing_at 0 (codes "F") (Byte 65 ∷ Gap 1 1 ∷ Byte 66 ∷ [])) (codes "A") [] (pointing_at 2 (codes "F") (Byte 65 ∷ Gap 1 1 ∷ Byte 66 ∷ [])) }
+    ensures second_segment { Does (texts_of (codes "cs,F,none")) (pointing_at 2 (codes "F") (Byte 65 ∷ Gap 1 1 ∷ Byte 66 ∷ [])) (codes "B") [] (pointing_at 3 (codes "F") (Byte 65 ∷ Gap 1 1 ∷ Byte 66 ∷ [])) }
+    ensures segment_default { Forces (codes "cs" ∷ codes "F" ∷ codes "#(ad,1,2)" ∷ []) (pointing_at 3 (codes "F") (Byte 65 ∷ Gap 1 1 ∷ Byte 66 ∷ [])) (codes "#(ad,1,2)") }
+    // Bytes are counted onward and back, and as many are given as there are.
+    ensures three_bytes { Does (texts_of (codes "cn,F,3,Z")) (pointing_at 0 (codes "F") (as_items (codes "abcde"))) (codes "abc") [] (pointing_at 3 (codes "F") (as_items (codes "abcde"))) }
+    ensures two_of_them_back { Does (texts_of (codes "cn,F,-2,Z")) (pointing_at 3 (codes "F") (as_items (codes "abcde"))) (codes "bc") [] (pointing_at 1 (codes "F") (as_items (codes "abcde"))) }
+    ensures zero_bytes { Does (texts_of (codes "cn,F,0,Z")) (pointing_at 1 (codes "F") (as_items (codes "abcde"))) [] [] (pointing_at 1 (codes "F") (as_items (codes "abcde"))) }
+    ensures all_bytes_left { Does (texts_of (codes "cn,F,9,Z")) (pointing_at 1 (codes "F") (as_items (codes "abcde"))) (codes "bcde") [] (pointing_at 5 (codes "F") (as_items (codes "abcde"))) }
+    ensures none_left { Forces (texts_of (codes "cn,F,1,Z")) (pointing_at 5 (codes "F") (as_items (codes "abcde"))) (codes "Z") }
+    ensures none_before { Forces (texts_of (codes "cn,F,-1,Z")) (pointing_at 0 (codes "F") (as_items (codes "abcde"))) (codes "Z") }
+    ensures all_bytes_before { Does (texts_of (codes "cn,F,-9223372036854775808,Z")) (pointing_at 3 (codes "F") (as_items (codes "abcde"))) (codes "abc") [] (pointing_at 0 (codes "F") (as_items (codes "abcde"))) }
+    // A number that does not fit and a text without a number give null before anything else is thought of; a prefix is dropped.
+    ensures number_too_great { Does (texts_of (codes "cn,F,9223372036854775808,Z")) (pointing_at 5 (codes "F") (as_items (codes "abcde"))) [] [] (pointing_at 5 (codes "F") (as_items (codes "abcde"))) }
+    ensures number_too_small { Does (texts_of (codes "cn,F,-9223372036854775809,Z")) (pointing_at 0 (codes "F") (as_items (codes "abcde"))) [] [] (pointing_at 0 (codes "F") (as_items (codes "abcde"))) }
+    ensures zero_at_the_end { Does (texts_of (codes "cn,F,0,Z")) (pointing_at 5 (codes "F") (as_items (codes "abcde"))) [] [] (pointing_at 5 (codes "F") (as_items (codes "abcde"))) }
+    ensures no_number { Does (texts_of (codes "cn,F,x,Z")) (pointing_at 5 (codes "F") (as_items (codes "abcde"))) [] [] (pointing_at 5 (codes "F") (as_items (codes "abcde"))) }
+    ensures number_behind_a_prefix { Does (texts_of (codes "cn,F,x2,Z")) (pointing_at 0 (codes "F") (as_items (codes "abcde"))) (codes "ab") [] (pointing_at 2 (codes "F") (as_items (codes "abcde"))) }
+    // The pointer stops right behind the last byte given, or going back right before the first one, whatever gaps stand there.
+    ensures stops_before_a_gap { Does (texts_of (codes "cn,F,1,Z")) (pointing_at 0 (codes "F") (Gap 1 1 ∷ Byte 97 ∷ Gap 1 2 ∷ Gap 2 1 ∷ Byte 98 ∷ [])) (codes "a") [] (pointing_at 2 (codes "F") (Gap 1 1 ∷ Byte 97 ∷ Gap 1 2 ∷ Gap 2 1 ∷ Byte 98 ∷ [])) }
+    ensures passes_gaps { Does (texts_of (codes "cn,F,2,Z")) (pointing_at 0 (codes "F") (Gap 1 1 ∷ Byte 97 ∷ Gap 1 2 ∷ Gap 2 1 ∷ Byte 98 ∷ [])) (codes "ab") [] (pointing_at 5 (codes "F") (Gap 1 1 ∷ Byte 97 ∷ Gap 1 2 ∷ Gap 2 1 ∷ Byte 98 ∷ [])) }
+    ensures stops_behind_a_gap { Does (texts_of (codes "cn,F,-1,Z")) (pointing_at 4 (codes "F") (Gap 1 1 ∷ Byte 97 ∷ Gap 1 2 ∷ Gap 2 1 ∷ Byte 98 ∷ [])) (codes "a") [] (pointing_at 1 (codes "F") (Gap 1 1 ∷ Byte 97 ∷ Gap 1 2 ∷ Gap 2 1 ∷ Byte 98 ∷ [])) }
+    ensures passes_gaps_back { Does (texts_of (codes "cn,F,-2,Z")) (pointing_at 5 (codes "F") (Gap 1 1 ∷ Byte 97 ∷ Gap 1 2 ∷ Gap 2 1 ∷ Byte 98 ∷ [])) (codes "ab") [] (pointing_at 1 (codes "F") (Gap 1 1 ∷ Byte 97 ∷ Gap 1 2 ∷ Gap 2 1 ∷ Byte 98 ∷ [])) }
+    ensures only_a_gap_before { Forces (texts_of (codes "cn,F,-1,Z")) (pointing_at 1 (codes "F") (Gap 1 1 ∷ Byte 97 ∷ Gap 1 2 ∷ Gap 2 1 ∷ Byte 98 ∷ [])) (codes "Z") }
+    ensures null_segments { Does (texts_of (codes "cs,F,Z")) (pointing_at 0 (codes "F") (Gap 1 1 ∷ Byte 97 ∷ Gap 1 2 ∷ Gap 2 1 ∷ Byte 98 ∷ [])) [] [] (pointing_at 1 (codes "F") (Gap 1 1 ∷ Byte 97 ∷ Gap 1 2 ∷ Gap 2 1 ∷ Byte 98 ∷ [])) }
+    // A text is looked for behind the pointer; a null text occurs at once, also at the end.
+    ensures first_occurrence { Does (texts_of (codes "in,F,c,none")) (pointing_at 0 (codes "F") (as_items (codes "abcabc"))) (codes "ab") [] (pointing_at 3 (codes "F") (as_items (codes "abcabc"))) }
+    ensures second_occurrence { Does (texts_of (codes "in,F,c,none")) (pointing_at 3 (codes "F") (as_items (codes "abcabc"))) (codes "ab") [] (pointing_at 6 (codes "F") (as_items (codes "abcabc"))) }
+    ensures no_occurrence { Forces (texts_of (codes "in,F,c,none")) (pointing_at 6 (codes "F") (as_items (codes "abcabc"))) (codes "none") }
+    ensures null_text_at_the_end { Does (texts_of (codes "in,F,,none")) (pointing_at 6 (codes "F") (as_items (codes "abcabc"))) [] [] (pointing_at 6 (codes "F") (as_items (codes "abcabc"))) }
+    ensures null_text_before_a_gap { Does (texts_of (codes "in,F,,none")) (example_at 1) [] [] (example_at 1) }
+    ensures null_text_in_a_null_form { Does (texts_of (codes "in,F,,none")) (pointing_at 0 (codes "F") []) [] [] (pointing_at 0 (codes "F") []) }
+    ensures occurrence_cut_by_a_gap { Forces (texts_of (codes "in,G,bc,no")) (pointing_at 0 (codes "G") (Byte 97 ∷ Gap 1 1 ∷ Byte 98 ∷ Gap 1 1 ∷ Byte 99 ∷ [])) (codes "no") }
+    ensures occurrence_behind_gaps { Does (texts_of (codes "in,G,c,no")) (pointing_at 0 (codes "G") (Byte 97 ∷ Gap 1 1 ∷ Byte 98 ∷ Gap 1 1 ∷ Byte 99 ∷ [])) (codes "ab") [] (pointing_at 5 (codes "G") (Byte 97 ∷ Gap 1 1 ∷ Byte 98 ∷ Gap 1 1 ∷ Byte 99 ∷ [])) }
+    ensures end_behind_the_occurrence { Forces (texts_of (codes "cs,G,end")) (pointing_at 5 (codes "G") (Byte 97 ∷ Gap 1 1 ∷ Byte 98 ∷ Gap 1 1 ∷ Byte 99 ∷ [])) (codes "end") }
+    ensures longer_text_than_form { Forces (texts_of (codes "in,F,abcabcabc,none")) (pointing_at 0 (codes "F") (as_items (codes "abcabc"))) (codes "none") }
+    // A name without a form gives null, and a default argument that is missing is null.
+    ensures no_form { Leaves (texts_of (codes "cn,f,1,Z")) (pointing_at 0 (codes "F") (as_items (codes "abcde"))) (pointing_at 0 (codes "F") (as_items (codes "abcde"))) }
+    ensures no_default { Forces (texts_of (codes "cc,F")) (pointing_at 0 (codes "F") []) [] }
+{}
+
+/// What runs print that read single bytes, set the meta character, print each call, or halt.
+pub fn worked_bytes()
+    // The call before which the trace is off prints no line, and that before which it is on prints its own.
+    ensures traced { output_of (codes "#(tn)'#(ps,a)'#(tf)'") 1000000000 ≡ record { bytes = codes "#(ps*)" ++ LINE_FEED ∷ codes "#(rs)" ++ LINE_FEED ∷ codes "#(ps*a)" ++ LINE_FEED ∷ codes "a#(ps*)" ++ LINE_FEED ∷ codes "#(rs)" ++ LINE_FEED ∷ codes "#(tf)" ++ LINE_FEED ∷ []; stop = InputEnded } }
+    // The line of a neutral function, of an unknown name, and of a call without arguments.
+    ensures traced_lines { output_of (codes "#(tn)##(zz,,b)#()#(tf)'") 1000000000 ≡ record { bytes = codes "##(zz**b)" ++ LINE_FEED ∷ codes "#()" ++ LINE_FEED ∷ codes "#(tf)" ++ LINE_FEED ∷ []; stop = InputEnded } }
+    // One byte, whichever it is.
+    ensures one_byte { output_of (codes "#(rc)'x'") 1000000000 ≡ record { bytes = codes "x"; stop = InputEnded } }
+    ensures meta_character_as_a_byte { output_of (codes "#(ps,##(rc)##(rc))'''x") 1000000000 ≡ record { bytes = codes "''x"; stop = InputEnded } }
+    ensures no_byte_at_the_end { output_of (codes "#(ps,a)#(rc)b'") 1000000000 ≡ record { bytes = codes "a"; stop = InputEnded } }
+    // Another meta character; a null text leaves it, and of a longer text the first byte counts.
+    ensures other_meta { output_of (codes "#(cm,;)'A;B;") 1000000000 ≡ record { bytes = codes "AB"; stop = InputEnded } }
+    ensures first_byte_of_a_text { output_of (codes "#(cm,;x)'AxB;") 1000000000 ≡ record { bytes = codes "AxB"; stop = InputEnded } }
+    ensures null_meta { output_of (codes "#(cm,)#(cm)'A'") 1000000000 ≡ record { bytes = codes "A"; stop = InputEnded } }
+    // A halted processor leaves what is behind the call, whatever input is left; and the line of the trace is not printed.
+    ensures halted { output_of (codes "#(ps,a)#(hl)#(ps,b)'c'") 1000000000 ≡ record { bytes = codes "a"; stop = InputEnded } }
+    ensures halted_traced { output_of (codes "#(tn)#(hl)'c'") 1000000000 ≡ record { bytes = []; stop = InputEnded } }
+    // A call that waits for input prints no line either, however often it is tried.
+    ensures waiting_traced { (state_after (Feed (codes "#(tn)#(rc)'") ∷ replicate 30 Step) (new_session 64)).output ≡ [] }
+    ensures waiting_replies { replies_to (Feed (codes "#(tn)#(rc)'") ∷ replicate 17 Step) (new_session 64) ≡ replicate 16 Done ++ Refused NeedInput ∷ Refused NeedInput ∷ [] }
+    ensures halting_replies { replies_to (Feed (codes "#(tn)#(hl)'c") ∷ replicate 17 Step) (new_session 64) ≡ replicate 16 Done ++ Refused Ended ∷ Refused Ended ∷ [] }
 {}

@@ -1,5 +1,5 @@
 -- What a writer holds after a text was written, whole or in part.
-use Rattle.std.specs.Prelude.{◌≡◌, ℕ, List, ◌++◌, Option, ◌⊎◌}
+use Rattle.std.specs.Prelude.{◌≡◌, ℕ, List, Option, ◌⊎◌}
 use Rattle.std.specs.Io.KnownBytes.{Appends}
 use Rattle.trac_rules.specs.Fronts.{IsFrontOf}
 use Rattle.trac_run.specs.declared.ending.Ending.{Ending}

@@ -9,12 +9,11 @@ ghost use Rattle.trac_prims.specs.Tape.{tape_of};
 ghost use Rattle.trac_session.specs.Journal.{Remembers};
 
 use std::alloc::Allocator;
-use trac_gap::PlainEnds;
 use trac_rules::refusal::Refusal;
 use trac_step::{Machine, Record, Tape};
 
 /// What the journal keeps of a step.
-pub type Kept<A> = Record<PlainEnds<u8, A>, A>;
+pub type Kept<A> = Record<Machine<A>>;
 
 /// Takes a step and keeps its record at the end of the journal, or changes nothing.
 /// Refused as the step is, or with `Memory` where the journal cannot grow: the step is undone then.

@@ -51,7 +51,8 @@ fn expect_number(rt: &impl Abort, number: usize, wanted: usize, at: usize) {
 }
 
 fn expect_walk(rt: &impl Abort, walk: Walk, done: u64, why: Option<Refusal>, at: usize) {
-    assert_eq!(rt; walk, Walk { done, why }, "at act {at}");
+    assert_eq!(rt; walk.done, done, "at act {at}");
+    assert_eq!(rt; walk.why, why, "at act {at}");
 }
 
 fn expect_answer(

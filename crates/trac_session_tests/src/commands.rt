@@ -1,12 +1,10 @@
 //! Lists of commands to a session.
-use std::alloc::Global;
+use crate::sessions::{Memory, made};
 use std::process::Abort;
 use std::test::Fail;
 use trac_faults::Refusing;
 use trac_rules::refusal::Refusal;
 use trac_session::{Command, Replies, Reply, Session};
-
-type Memory<'a> = &'a Refusing<Global>;
 
 const COMMANDS: [Command<'static>; 11] = [
     Command::Feed(b"AB'"),
@@ -43,17 +41,9 @@ fn perform<'a>(
     session.perform(commands)
 }
 
-// A session whose journal may hold four records, where one request may be refused.
-fn short_session(memory: Memory<'_>) -> Result<Session<Memory<'_>>, Refusal> {
-    match Session::new(memory, 4) {
-        Err(Refusal::Memory) => Session::new(memory, 4),
-        other => other,
-    }
-}
-
 // Where there is no memory for the replies nothing is done; else a refused request is the reply of its own command.
 fn commands_and_replies(rt: &impl Abort, memory: Memory<'_>) -> Result<(), Refusal> {
-    let mut session = short_session(memory)?;
+    let mut session = made(memory, 4)?;
     let refusals = memory.refusals();
     let mut replies = perform(&mut session, &COMMANDS);
     if let Err(refusal) = replies {

@@ -1,5 +1,6 @@
 //! Whole runs of a session: to the end, and all the way back, where each state is the one on the way out. Each request for
 //! memory is refused in turn, and then all of them on the way back.
+use crate::sessions::{Memory, made};
 use std::alloc::{AllocError, Global};
 use std::process::Abort;
 use std::test::Fail;
@@ -8,8 +9,6 @@ use trac_machine_tests::shown::state_shown;
 use trac_rules::limit::JOURNAL_LIMIT;
 use trac_rules::refusal::Refusal;
 use trac_session::{Session, Walk};
-
-type Memory<'a> = &'a Refusing<Global>;
 
 // A whole input, what it prints, and after how many steps it ends: 0 where no count is stated.
 type Run = (&'static [u8], &'static [u8], u64);
@@ -60,20 +59,31 @@ fn back(session: &mut Session<Memory<'_>>, n: u64) -> Walk {
 }
 
 fn expect_walk(rt: &impl Abort, walk: Walk, done: u64, why: Option<Refusal>) {
-    assert_eq!(rt; walk, Walk { done, why });
+    assert_eq!(rt; walk.done, done);
+    assert_eq!(rt; walk.why, why);
+}
+
+fn feed(session: &mut Session<Memory<'_>>, input: &[u8]) -> Result<(), Refusal> {
+    session.feed(input)
 }
 
 // A session over all of this input, where one request may be refused: nothing is done then.
 fn fed<'a>(memory: Memory<'a>, input: &[u8]) -> Result<Session<Memory<'a>>, Refusal> {
-    let mut session = match Session::new(memory, JOURNAL_LIMIT) {
-        Err(Refusal::Memory) => Session::new(memory, JOURNAL_LIMIT)?,
-        other => other?,
-    };
-    if session.feed(input) == Err(Refusal::Memory) {
-        session.feed(input)?;
+    let mut session = made(memory, JOURNAL_LIMIT)?;
+    if feed(&mut session, input).is_err() {
+        feed(&mut session, input)?;
     }
     session.end();
     Ok(session)
+}
+
+// Keeps what a session shows behind the states that were kept before.
+fn keep(
+    plain: Global,
+    session: &Session<Memory<'_>>,
+    states: &mut Vec<Vec<u8>>,
+) -> Result<(), AllocError> {
+    Ok(states.push(shown(plain, session)?)?)
 }
 
 // To the end, step by step: the state before each step, and the last one.
@@ -85,7 +95,7 @@ fn to_end(
     let mut states = Vec::new(plain);
     let mut why = None;
     for _ in 0..5_000 {
-        states.push(shown(plain, session)?)?;
+        keep(plain, session, &mut states)?;
         why = forward(session, 1).why;
         if why.is_some() {
             break;

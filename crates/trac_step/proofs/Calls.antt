@@ -1,18 +1,21 @@
 -- The call that scanning asks for, and the outcome of a step that performs it.
-use Rattle.std.proofs.Common.{◌≡◌, ◌∷◌, List, sym, ap, ◌∙◌}
-use Rattle.std.specs.Prelude.{Ok, Err, Some}
+use Rattle.std.proofs.Common.{◌≡◌, ℕ, ◌∷◌, List, sym, ap, ◌∙◌}
+use Rattle.std.specs.Prelude.{Result, Ok, Err, Some}
 use Rattle.trac_rules.specs.declared.refusal.Refusal.{Refusal}
 use Rattle.trac_rules.specs.declared.scan.Front.TheVariants.{Closing}
-use Rattle.trac_rules.specs.Effect.{Effect, argument}
+use Rattle.trac_rules.specs.declared.kind.Kind.{Kind}
+use Rattle.trac_rules.specs.Effect.{argument}
 use Rattle.trac_rules.specs.State.{Environment, Frame, State, storage_of}
 use Rattle.trac_rules.specs.Scanning.{Call, Calls, front_of, scan, closing_in, deleted}
 use Rattle.trac_rules.specs.Performing.{performed}
-use Rattle.trac_rules.specs.Outcomes.{limited, MayRefuse}
+use Rattle.trac_rules.specs.Outcomes.{limited, MayRefuse, seen_as}
 use Rattle.trac_rules.specs.Stepping.{call_at, name_called, step}
+use Rattle.trac_forms.specs.Stored.{Stored}
 use Rattle.trac_prims.specs.declared.effect.Effect as code
-use Rattle.trac_prims.specs.Effects.{effect_on}
+use Rattle.trac_prims.specs.declared.effect.Now.{Now}
+use Rattle.trac_prims.specs.Effects.{Planned, planned_from, planned_on}
 use Rattle.trac_prims.specs.Frames.{all_arguments}
-use Rattle.trac_prims.specs.Plans.{fits_after}
+use Rattle.trac_prims.specs.Plans.{IsGiven, fits_after}
 use Rattle.trac_prims.proofs.Planned.{planned_step}
 use Rattle.trac_step.specs.Calling.{state_after}
 use Rattle.trac_step.proofs.Scans.{scan_front}
@@ -28,17 +31,19 @@ scan_call s f fs front is = scan_front s Closing front ∙ ap (λ (xs : List Fra
 pub call_at_first : (s : State) (f : Frame) (fs : List Frame) → front_of s.active ≡ Closing → s.frames ≡ f ∷ fs → call_at s ≡ Some (argument 0 (all_arguments f))
 call_at_first s f fs front is = ap name_called (scan_call s f fs front is)
 
-module _ (environment : Environment) (s : State) (f : Frame) (fs : List Frame) (front : front_of s.active ≡ Closing) (is : s.frames ≡ f ∷ fs) where
+module _ (environment : Environment) (s : State) (f : Frame) (fs : List Frame) (front : front_of s.active ≡ Closing) (is : s.frames ≡ f ∷ fs)
+    (kind : Kind) (arguments : List (List ℕ)) (stored : Stored) (now : Now) (given : IsGiven (call_of s f fs) kind arguments stored now) where
+  -- what is to be planned
+  abbrev pub wanted : Result Planned Refusal
+  wanted = seen_as (planned_from now) (limited (fits_after (call_of s f fs)) (performed environment (call_of s f fs)))
+
   -- the state after the step is the one after the planned call
-  pub step_planned : {A : Type 0} (e : code.Effect A) →
-      limited (fits_after (call_of s f fs)) (performed environment (call_of s f fs)) ≡ Ok (effect_on (storage_of (call_of s f fs).state) e) →
-      step environment s ≡ Ok (state_after e (scan s))
+  pub step_planned : {A : Type 0} (e : code.Effect A) → wanted ≡ Ok (planned_on (storage_of (call_of s f fs).state) e) → step environment s ≡ Ok (state_after e (scan s))
   step_planned {A} e h =
-      planned_step environment s (call_of s f fs) (effect_on {A = A} (storage_of (call_of s f fs).state)) (Ok e) (scan_call s f fs front is) h
+      planned_step environment s (call_of s f fs) kind arguments stored now given (planned_on {A = A} (storage_of (call_of s f fs).state)) (Ok e) (scan_call s f fs front is) h
       ∙ ap (λ x. Ok (state_after e x)) (sym (scan_call s f fs front is))
 
   -- and where no call is planned, the step is refused for that
-  pub step_unplanned : (refusal : Refusal) → MayRefuse (limited (fits_after (call_of s f fs)) (performed environment (call_of s f fs))) refusal →
-      MayRefuse (step environment s) refusal
+  pub step_unplanned : (refusal : Refusal) → MayRefuse wanted refusal → MayRefuse (step environment s) refusal
   step_unplanned refusal h =
-      planned_step {C = Effect} environment s (call_of s f fs) (λ e. e) (Err refusal) (scan_call s f fs front is) h
+      planned_step {C = Planned} environment s (call_of s f fs) kind arguments stored now given (λ p. p) (Err refusal) (scan_call s f fs front is) h

@@ -1,7 +1,7 @@
 -- What each rule does to the parts of a machine: they stay sound, and show the state that the rule names.
 use Rattle.std.proofs.Common.{◌≡◌, ℕ, zero, suc, ◌+◌, ◌<◌, ◌≤◌, List, [], ◌∷◌, ◌++◌, length, take, drop, reverse, refl, sym, ap, ◌∙◌, subst, arith, true, false, Bool}
 use Rattle.std.specs.Prelude.{Option, Some, None, ◌==◌, Vec, vec_capacity}
-use Rattle.std.proofs.lemmas.List.{length-append, length-drop, drop-drop, take_all, drop_all}
+use Rattle.std.proofs.lemmas.List.{length-append, length-drop, length-take, drop-drop, take_all, drop_all}
 use Rattle.std.specs.FinSet as set
 use Rattle.trac_gap.specs.Ends.{Ends, item_count}
 use Rattle.trac_rules.specs.declared.kind.Kind.{Kind}
@@ -11,13 +11,14 @@ use Rattle.trac_rules.specs.Bytes.{idle_program}
 use Rattle.trac_rules.specs.State.{Frame, State, initial, storage_of}
 use Rattle.trac_rules.proofs.ProperStates.{initial_proper}
 use Rattle.trac_rules.specs.Matching.{match_of, protected, protected_up_to}
-use Rattle.trac_rules.specs.Scanning.{gather, protect}
+use Rattle.trac_rules.specs.Scanning.{gather}
 use Rattle.trac_rules.specs.Limits.{marks}
 use Rattle.trac_prims.specs.declared.mark.Mark.{Mark}
 use Rattle.trac_forms.specs.Stored.{Names, Stored, nothing_stored, storage_in}
 use Rattle.trac_step.specs.Layout.{Parts, parts_of, state_of, IsSound}
 use Rattle.trac_prims.proofs.Neutral.{AreMarks-longer}
-use Rattle.trac_step.proofs.Rules.{mark_at, gathers, ordered_push, marks-parts}
+use Rattle.trac_step.specs.Calling.{mark_at, with_protected}
+use Rattle.trac_step.proofs.Rules.{gathers, ordered_push, marks-parts}
 
 -- ---- a mark is put at the end of the text
 
@@ -34,20 +35,12 @@ sound_push p n o room sound within place above = record {
 }
 
 -- the front of the active text is gone, and a mark stands behind all others, at the end of the text
-pub marked_parts : {A : Type 0} (old cut : Ends ℕ) (ms reserved kept : Ends Mark) (store : Stored) (meta : ℕ) (trace : Bool) (position : ℕ) (output : Vec ℕ A)
-    (n : ℕ) (o : Option Kind) (text : List ℕ) →
-    cut ≡ record old { right = drop n old.right } → text ≡ cut.left → reserved.left ≡ ms.left → kept ≡ record reserved { left = reserved.left ++ mark_at (length text) o ∷ [] } →
+pub marked_parts : {A : Type 0} (old cut : Ends ℕ) (ms kept : Ends Mark) (store : Stored) (meta : ℕ) (trace : Bool) (position : ℕ) (output : Vec ℕ A) (n : ℕ) (o : Option Kind) →
+    cut ≡ record old { right = drop n old.right } → kept.left ≡ ms.left ++ mark_at (length old.left) o ∷ [] →
     parts_of cut kept store meta trace position output
-    ≡ record (parts_of old ms store meta trace position output) { active = drop n old.right; marks = ms.left ++ mark_at (length old.left) o ∷ []; mark_room = reserved.capacity }
-marked_parts old cut ms reserved kept store meta trace position output n o text cut_is text_is reserved_is kept_is =
-    let left_is : text ≡ old.left = text_is ∙ ap (λ (e : Ends ℕ). e.left) cut_is in
-    ap (λ (e : Ends ℕ). parts_of e kept store meta trace position output) cut_is
-    ∙ ap (λ (e : Ends Mark). parts_of (record old { right = drop n old.right }) e store meta trace position output) kept_is
-    ∙ (λ i. record (parts_of old ms store meta trace position output) {
-      active = drop n old.right;
-      marks = reserved_is i ++ mark_at (length (left_is i)) o ∷ [];
-      mark_room = reserved.capacity;
-    })
+    ≡ record (parts_of old ms store meta trace position output) { active = drop n old.right; marks = ms.left ++ mark_at (length old.left) o ∷ []; mark_room = kept.capacity }
+marked_parts old cut ms kept store meta trace position output n o cut_is kept_is i =
+    record (parts_of (cut_is i) kept store meta trace position output) { marks = kept_is i }
 
 -- ---- the front of the active text goes to the current text
 
@@ -68,18 +61,19 @@ gather_parts p active more sound = gathers (record p { active = active }) more s
 
 -- ---- what a `(` protects
 
-pub protect_matched : (p : Parts) (k : ℕ) → IsSound p → match_of (drop 1 p.active) ≡ Some k →
-    state_of (record p { active = drop 1 (drop k (drop 1 p.active)); text = p.text ++ take k (drop 1 p.active) }) ≡ protect (protected (drop 1 p.active)) (state_of p)
-protect_matched p k sound e =
-    gather_parts p (drop 1 (drop k (drop 1 p.active))) (take k (drop 1 p.active)) sound
-    ∙ ap (λ (rest : List ℕ). gather (take k (drop 1 p.active)) (record (state_of p) { active = rest })) (drop-drop 1 k (drop 1 p.active))
-    ∙ ap (λ o. protect (protected_up_to o (drop 1 p.active)) (state_of p)) (sym e)
+-- what is protected and what stands behind it are no longer than the text
+pub protected_length : (text : List ℕ) → length (protected text).rest + length (protected text).inner ≤ length text
+protected_length text = up_to (match_of text)
+  where
+    up_to : (o : Option ℕ) → length (protected_up_to o text).rest + length (protected_up_to o text).inner ≤ length text
+    up_to None = omega arith
+    up_to (Some k) = omega (arith, length-take k text, length-drop (k + 1) text)
 
-pub protect_unmatched : (p : Parts) → IsSound p → match_of (drop 1 p.active) ≡ None →
-    state_of (record p { active = []; text = p.text ++ drop 1 p.active }) ≡ protect (protected (drop 1 p.active)) (state_of p)
-protect_unmatched p sound e =
-    gather_parts p [] (drop 1 p.active) sound
-    ∙ ap (λ o. protect (protected_up_to o (drop 1 p.active)) (state_of p)) (sym e)
+pub protect_parts : (p : Parts) → IsSound p → 0 < length p.active →
+    IsSound (record p { active = (protected (drop 1 p.active)).rest; text = p.text ++ (protected (drop 1 p.active)).inner })
+protect_parts p sound some =
+    let kept = protected (drop 1 p.active) in
+    sound_gather p kept.rest kept.inner sound (omega (arith, protected_length (drop 1 p.active), length-drop 1 p.active))
 
 -- ---- premises on the state, as premises on the parts
 
@@ -108,20 +102,23 @@ some_marks ms all b is unset same = some_by (length all) (sym unset ∙ is ∙ a
 
 -- ---- the texts after a protected one
 
-pub protected_ends : (old cut shifted last : Ends ℕ) (k : ℕ) → cut ≡ record old { right = drop 1 old.right } →
+pub taken_matched : (old cut shifted last : Ends ℕ) (k : ℕ) → cut ≡ record old { right = drop 1 old.right } →
     shifted ≡ record cut { left = cut.left ++ take k cut.right; right = drop k cut.right } → last ≡ record shifted { right = drop 1 shifted.right } →
-    last ≡ record old { left = old.left ++ take k (drop 1 old.right); right = drop 1 (drop k (drop 1 old.right)) }
-protected_ends old cut shifted last k c s l =
+    match_of (drop 1 old.right) ≡ Some k → last ≡ with_protected (protected (drop 1 old.right)) old
+taken_matched old cut shifted last k c s l found =
     l ∙ ap (λ (e : Ends ℕ). record e { right = drop 1 e.right }) s
     ∙ ap (λ (e : Ends ℕ). record e { left = e.left ++ take k e.right; right = drop 1 (drop k e.right) }) c
+    ∙ ap (λ (rest : List ℕ). record old { left = old.left ++ take k (drop 1 old.right); right = rest }) (drop-drop 1 k (drop 1 old.right))
+    ∙ ap (λ (o : Option ℕ). with_protected (protected_up_to o (drop 1 old.right)) old) (sym found)
 
-pub unmatched_ends : (old cut last : Ends ℕ) (n : ℕ) → cut ≡ record old { right = drop 1 old.right } → n ≡ length cut.right →
+pub taken_unmatched : (old cut last : Ends ℕ) (n : ℕ) → cut ≡ record old { right = drop 1 old.right } → n ≡ length cut.right →
     last ≡ record cut { left = cut.left ++ take n cut.right; right = drop n cut.right } →
-    last ≡ record old { left = old.left ++ drop 1 old.right; right = [] }
-unmatched_ends old cut last n c is l =
+    match_of (drop 1 old.right) ≡ None → last ≡ with_protected (protected (drop 1 old.right)) old
+taken_unmatched old cut last n c is l found =
     l ∙ ap (λ (k : ℕ). record cut { left = cut.left ++ take k cut.right; right = drop k cut.right }) is
     ∙ ap (λ (e : Ends ℕ). record e { left = e.left ++ take (length e.right) e.right; right = drop (length e.right) e.right }) c
     ∙ (λ i. record old { left = old.left ++ take_all (length (drop 1 old.right)) (drop 1 old.right) (omega arith) i; right = drop_all (length (drop 1 old.right)) (drop 1 old.right) (omega arith) i })
+    ∙ ap (λ (o : Option ℕ). with_protected (protected_up_to o (drop 1 old.right)) old) (sym found)
 
 -- ---- other rooms
 

@@ -1,21 +1,19 @@
 -- The parts of a machine after a call with a known effect: they are sound, and show the state that the rules say.
 use Rattle.std.proofs.Common.{◌≡◌, ℕ, ◌+◌, ◌≤◌, List, [], ◌∷◌, ◌++◌, length, take, drop, reverse, refl, sym, ap, ◌∙◌, arith, true, false, Bool}
 use Rattle.std.specs.Prelude.{Vec, vec_capacity}
-use Rattle.std.specs.Option.{unwrap_or}
 use Rattle.std.proofs.lemmas.List.{length-take-le, length-drop, length-append}
 use Rattle.trac_gap.specs.Ends.{Ends, item_count}
 use Rattle.trac_rules.specs.declared.kind.Kind.{Kind}
 use Rattle.trac_rules.specs.declared.kind.Kind.TheVariants.{Active, Neutral}
 use Rattle.trac_rules.specs.declared.scan.Front.TheVariants.{Nothing, Closing}
-use Rattle.trac_rules.specs.Effect.{Effect}
-use Rattle.trac_rules.specs.Performing.{changed_by, placed}
+use Rattle.trac_rules.specs.Performing.{placed}
 use Rattle.trac_rules.specs.Proper.{IsProper}
 use Rattle.trac_rules.specs.Scanning.{Calls, front_of, scan, deleted}
 use Rattle.trac_rules.specs.State.{Frame, State}
 use Rattle.trac_forms.specs.Stored.{Stored, storage_in}
 use Rattle.trac_prims.specs.declared.mark.Mark.{Mark}
 use Rattle.trac_prims.specs.declared.effect.Effect as code
-use Rattle.trac_prims.specs.Effects.{effect_on}
+use Rattle.trac_prims.specs.Effects.{Planned, planned_on}
 use Rattle.trac_prims.specs.Frames.{IsInnermost}
 use Rattle.trac_prims.specs.Neutral.{AreMarks, cut_back, neutral_of}
 use Rattle.trac_prims.proofs.Neutral.{AreMarks-longer}
@@ -60,18 +58,29 @@ value_placed Neutral false value p a = gathers p value a
 abbrev pub parts_without : Parts → ℕ → ℕ → Parts
 parts_without p number place = record p { active = drop 1 p.active; text = take place p.text; marks = take number p.marks }
 
--- the parts with all that an effect changes, but for its value
-abbrev parts_changed : Effect → Parts → Parts
+-- the parts with all that is planned, but for the value
+abbrev parts_changed : Planned → Parts → Parts
 parts_changed e p = record p {
   storage = e.storage;
-  meta = unwrap_or e.meta p.meta;
-  trace = unwrap_or e.trace p.trace;
-  position = p.position + e.read;
+  meta = e.meta;
+  trace = e.trace;
+  position = e.position;
   output = p.output ++ e.printed;
 }
 
+-- the same of a state
+abbrev with_planned : Planned → State → State
+with_planned e s = record s {
+  forms = e.storage.forms;
+  blocks = e.storage.blocks;
+  meta = e.meta;
+  trace = e.trace;
+  position = e.position;
+  output = s.output ++ e.printed;
+}
+
 -- the parts after the call of the function at this mark
-abbrev pub ended_parts : Parts → ℕ → ℕ → Kind → Effect → Parts
+abbrev pub ended_parts : Parts → ℕ → ℕ → Kind → Planned → Parts
 ended_parts p number place kind e = parts_with kind e.forced e.value (parts_changed e (parts_without p number place))
 
 some_active : (active : List ℕ) → front_of active ≡ Closing → 1 ≤ length active
@@ -91,12 +100,12 @@ module _ (p : Parts) (number place : ℕ) (kind : Kind) (texts : List (List ℕ)
   scanned = scan_call (state_of p) inner.frame rest front inner.frames_are
 
   -- the parts after the call show the state that the rules say
-  pub ended_shows : {A : Type 0} (e : code.Effect A) → state_of (ended_parts p number place kind (effect_on p.storage e)) ≡ state_after e (scan (state_of p))
+  pub ended_shows : {A : Type 0} (e : code.Effect A) → state_of (ended_parts p number place kind (planned_on p.storage e)) ≡ state_after e (scan (state_of p))
   ended_shows e =
-      let effect = effect_on p.storage e in
-      value_placed kind effect.forced effect.value (parts_changed effect (parts_without p number place)) inner.ordered
-      ∙ ap (λ (s : State). placed kind effect.forced effect.value (changed_by effect s)) without_shows
-      ∙ ap (λ (k : Kind). placed k effect.forced effect.value (changed_by effect (call_of (state_of p) inner.frame rest).state)) (sym inner.kind_is)
+      let plan = planned_on p.storage e in
+      value_placed kind plan.forced plan.value (parts_changed plan (parts_without p number place)) inner.ordered
+      ∙ ap (λ (s : State). placed kind plan.forced plan.value (with_planned plan s)) without_shows
+      ∙ ap (λ (k : Kind). placed k plan.forced plan.value (with_planned plan (call_of (state_of p) inner.frame rest).state)) (sym inner.kind_is)
       ∙ ap (state_after e) (sym scanned)
 
   -- the places that the code cuts at are there
@@ -107,7 +116,7 @@ module _ (p : Parts) (number place : ℕ) (kind : Kind) (texts : List (List ℕ)
   cut_length = omega (arith, length-take-le place p.text inner.place_within, length-drop 1 p.active, inner.place_within)
 
   -- and they are sound, where the state is a proper one and there is room for the value
-  pub ended_sound : (e : Effect) (text_room output_room : ℕ) (known : _) → IsSound p → IsProper (state_of (ended_parts p number place kind e)) →
+  pub ended_sound : (e : Planned) (text_room output_room : ℕ) (known : _) → IsSound p → IsProper (state_of (ended_parts p number place kind e)) →
       length p.active + length p.text + length e.value ≤ text_room →
       IsSound (record (ended_parts p number place kind e) { text_room = text_room; output_room = output_room; known = known })
   ended_sound e text_room output_room known sound proper room =
@@ -120,13 +129,13 @@ module _ (p : Parts) (number place : ℕ) (kind : Kind) (texts : List (List ℕ)
 
 -- ---- the same, as the code has the parts
 
-pub finished_parts : {A : Type 0} (old cut put : Ends ℕ) (ms kept : Ends Mark) (store after : Stored) (meta new_meta : ℕ) (trace new_trace : Bool) (position : ℕ) (output printed : Vec ℕ A)
-    (number place : ℕ) (kind : Kind) (e : Effect) →
+pub finished_parts : {A : Type 0} (old cut put : Ends ℕ) (ms kept : Ends Mark) (store after : Stored) (meta : ℕ) (trace : Bool) (position : ℕ) (output printed : Vec ℕ A)
+    (number place : ℕ) (kind : Kind) (e : Planned) →
     cut ≡ record old { left = take place old.left; right = drop 1 old.right } → put ≡ with_value kind e.forced e.value cut → kept ≡ record ms { left = take number ms.left } →
-    storage_in after ≡ e.storage → new_meta ≡ unwrap_or e.meta meta → new_trace ≡ unwrap_or e.trace trace → printed.items ≡ output.items ++ e.printed →
-    parts_of put kept after new_meta new_trace (position + e.read) printed
+    storage_in after ≡ e.storage → printed.items ≡ output.items ++ e.printed →
+    parts_of put kept after e.meta e.trace e.position printed
     ≡ record (ended_parts (parts_of old ms store meta trace position output) number place kind e) { text_room = put.capacity; output_room = vec_capacity printed; known = after.known }
-finished_parts old cut put ms kept store after meta new_meta trace new_trace position output printed number place kind e cut_is put_is kept_is storage_is meta_is trace_is items =
+finished_parts old cut put ms kept store after meta trace position output printed number place kind e cut_is put_is kept_is storage_is items =
     let put_at : put ≡ with_value kind e.forced e.value (record { left = take place old.left; right = drop 1 old.right; capacity = old.capacity }) =
     put_is ∙ ap (λ (x : Ends ℕ). with_value kind e.forced e.value x) cut_is in
     λ i. record {
@@ -134,9 +143,9 @@ finished_parts old cut put ms kept store after meta new_meta trace new_trace pos
       text = (put_at i).left;
       marks = (kept_is i).left;
       storage = storage_is i;
-      meta = meta_is i;
-      trace = trace_is i;
-      position = position + e.read;
+      meta = e.meta;
+      trace = e.trace;
+      position = e.position;
       output = items i;
       text_room = put.capacity;
       mark_room = (kept_is i).capacity;

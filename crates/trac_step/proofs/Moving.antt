@@ -12,17 +12,17 @@ use Rattle.trac_rules.specs.declared.scan.Front.{Front}
 use Rattle.trac_rules.specs.declared.scan.Front.TheVariants.{Nothing, Opening, Layout, Comma, ActiveCall, NeutralCall, Sharp, Closing, Plain}
 use Rattle.trac_rules.specs.Bytes.{idle_program}
 use Rattle.trac_rules.specs.State.{Frame, State}
-use Rattle.trac_rules.specs.Matching.{match_of, protected}
+use Rattle.trac_rules.specs.Matching.{protected}
 use Rattle.trac_rules.specs.Scanning.{Moves, front_of, scan, scan_at, protect, deleted, begun, comma_in, closing_in, gather_first}
 use Rattle.trac_rules.specs.Limits.{texts_fit, marks}
 use Rattle.trac_prims.specs.declared.mark.Mark.{Mark}
 use Rattle.trac_prims.specs.Neutral.{neutral}
 use Rattle.trac_step.specs.Layout.{Parts, state_of, IsSound}
-use Rattle.trac_step.specs.Calling.{IfMoves, IsMove, adds_mark}
-use Rattle.trac_step.proofs.Rules.{mark_at, begins, next_argument, ordered_push, marks-parts}
+use Rattle.trac_step.specs.Calling.{IfMoves, IsMove, adds_mark, mark_at}
+use Rattle.trac_step.proofs.Rules.{begins, next_argument, ordered_push, marks-parts}
 use Rattle.trac_step.proofs.Limited.{beyond_limits_of_marks, limits_kept, within_limits}
 use Rattle.trac_step.proofs.Scans.{scan_front}
-use Rattle.trac_step.proofs.Changes.{sound_push, sound_gather, gather_parts, protect_matched, protect_unmatched}
+use Rattle.trac_step.proofs.Changes.{sound_push, sound_gather, gather_parts, protected_length}
 
 -- ---- each rule keeps the parts sound
 
@@ -54,15 +54,12 @@ gathered_limited p sound =
     ∙ within_limits (record p { active = drop 1 p.active; text = p.text ++ take 1 p.active })
     (sound_gather p (drop 1 p.active) (take 1 p.active) sound (omega (arith, length-take 1 p.active, length-drop 1 p.active))))
 
-protected_limited : (p : Parts) → IsSound p → (o : Option ℕ) → match_of (drop 1 p.active) ≡ o → true ≡ texts_fit (protect (protected (drop 1 p.active)) (state_of p))
-protected_limited p sound None e =
-    sym (ap texts_fit (sym (protect_unmatched p sound e))
-    ∙ within_limits (record p { active = []; text = p.text ++ drop 1 p.active }) (sound_gather p [] (drop 1 p.active) sound (omega (arith, length-drop 1 p.active))))
-protected_limited p sound (Some k) e =
-    sym (ap texts_fit (sym (protect_matched p k sound e))
-    ∙ within_limits (record p { active = drop 1 (drop k (drop 1 p.active)); text = p.text ++ take k (drop 1 p.active) })
-    (sound_gather p (drop 1 (drop k (drop 1 p.active))) (take k (drop 1 p.active)) sound
-    (omega (arith, length-take k (drop 1 p.active), length-drop 1 (drop k (drop 1 p.active)), length-drop k (drop 1 p.active), length-drop 1 p.active))))
+protected_limited : (p : Parts) → IsSound p → true ≡ texts_fit (protect (protected (drop 1 p.active)) (state_of p))
+protected_limited p sound =
+    let kept = protected (drop 1 p.active) in
+    sym (ap texts_fit (sym (gather_parts p kept.rest kept.inner sound))
+    ∙ within_limits (record p { active = kept.rest; text = p.text ++ kept.inner })
+    (sound_gather p kept.rest kept.inner sound (omega (arith, protected_length (drop 1 p.active), length-drop 1 p.active))))
 
 -- a further mark is within the limits where there was room for one
 pushed_limited : (p : Parts) (n : ℕ) (o : Option Kind) → IsSound p → (o ≡ None → 0 < length p.marks) →
@@ -96,7 +93,7 @@ module _ (p : Parts) (sound : IsSound p) where
 
   limited_without_mark : (front : Front) → adds_mark front (length p.marks) ≡ false → IfMoves (scan_at front (state_of p)) (λ t. true ≡ texts_fit t)
   limited_without_mark Nothing e = sym (within_limits (record p { active = idle_program; text = []; marks = []; text_room = 11 }) (sound_reload p 11 sound (omega arith)))
-  limited_without_mark Opening e = protected_limited p sound (match_of (drop 1 p.active)) refl
+  limited_without_mark Opening e = protected_limited p sound
   limited_without_mark Layout e = deleted_limited
   limited_without_mark Comma e =
       deleted_limited ∙ ap (λ (fs : List Frame). texts_fit (comma_in fs (deleted 1 (state_of p)))) (sym (no_frames-parts p (let none : length p.marks ≤ 0 = ltb-false 0 (length p.marks) e in omega arith)))

@@ -9,6 +9,7 @@ use Rattle.trac_rules.specs.Limits.{text_bytes, marks}
 use Rattle.trac_prims.specs.declared.mark.Mark.{Mark}
 use Rattle.trac_prims.specs.Neutral.{Neutral, marked, neutral, AreMarks}
 use Rattle.trac_prims.proofs.Neutral.{bytes-neutral, marks-neutral, longer, neutral-append, neutral-mark, has_frames}
+use Rattle.trac_step.specs.Calling.{mark_at, with_mark}
 use Rattle.trac_step.specs.Layout.{Parts, state_of}
 
 -- ---- sizes
@@ -32,9 +33,6 @@ gathers p more a =
     (sym (gather_longer more (neutral p.text (reverse p.marks)).base (neutral p.text (reverse p.marks)).frames (state_of p)))
 
 -- ---- marks at the end of the text
-
-abbrev pub mark_at : ℕ → Option Kind → Mark
-mark_at place o = record { place = place; frame = o }
 
 pub reverse_push : {X : Type 0} (xs : List X) (x : X) → reverse (xs ++ x ∷ []) ≡ x ∷ reverse xs
 reverse_push xs x = reverse-append xs (x ∷ [])
@@ -62,6 +60,11 @@ pub next_argument : (p : Parts) → AreMarks (length p.text) (reverse p.marks) �
 next_argument p a h =
     ap (with_neutral p) (neutral-push p.text p.marks None)
     ∙ sym (comma_marked (state_of p).base (state_of p).frames (state_of p) (has_frames-parts p a h))
+
+pub makes_mark : (p : Parts) (o : Option Kind) → AreMarks (length p.text) (reverse p.marks) → (o ≡ None → 0 < length p.marks) →
+    state_of (record p { marks = p.marks ++ mark_at (length p.text) o ∷ [] }) ≡ with_mark o (state_of p)
+makes_mark p (Some kind) a above = begins p kind
+makes_mark p None a above = next_argument p a (above refl)
 
 -- ---- the marks stay in order
 

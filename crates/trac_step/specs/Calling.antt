@@ -1,16 +1,18 @@
 -- The parts of a step: where scanning moves on, and what a call whose effect is known leads to.
-use Rattle.std.specs.Prelude.{◌≡◌, ℕ, ◌+◌, ◌≤◌, List, [], ◌∷◌, ◌++◌, length, Bool, true, false, nat_lt}
+use Rattle.std.specs.Prelude.{◌≡◌, ℕ, ◌+◌, ◌≤◌, List, [], ◌∷◌, ◌++◌, length, Bool, true, false, nat_lt, Option, Some, None}
 use Rattle.trac_gap.specs.Ends.{Ends}
 use Rattle.trac_rules.specs.declared.kind.Kind.{Kind}
 use Rattle.trac_rules.specs.declared.kind.Kind.TheVariants.{Active, Neutral}
 use Rattle.trac_rules.specs.declared.scan.Front.{Front}
 use Rattle.trac_rules.specs.declared.scan.Front.TheVariants.{Comma, ActiveCall, NeutralCall}
+use Rattle.trac_rules.specs.Matching.{Protected}
 use Rattle.trac_rules.specs.State.{Frame, State, storage_of}
 use Rattle.trac_rules.specs.Limits.{argument_bytes, marks, text_bytes}
-use Rattle.trac_rules.specs.Scanning.{Scanned, Moves, Calls}
-use Rattle.trac_rules.specs.Performing.{after_call}
+use Rattle.trac_rules.specs.Scanning.{Scanned, Moves, Calls, begun, comma_in}
 use Rattle.trac_prims.specs.declared.effect.Effect as code
-use Rattle.trac_prims.specs.Effects.{effect_on}
+use Rattle.trac_prims.specs.declared.mark.Mark.{Mark}
+use Rattle.trac_prims.specs.Effects.{planned_on}
+use Rattle.trac_prims.specs.Plans.{after_planned}
 use Rattle.trac_step.specs.declared.calling.Beginning.{Beginning}
 use Rattle.trac_step.specs.Changing.{HasPlaceFor}
 use Rattle.trac_step.specs.Layout.{Shown}
@@ -34,12 +36,25 @@ adds_mark NeutralCall marks = true
 adds_mark Comma marks = nat_lt 0 marks
 adds_mark front marks = false
 
+-- the state with a function of this kind begun, or, where none is named, with a further argument of the innermost one
+abbrev pub with_mark : Option Kind → State → State
+with_mark (Some kind) s = begun kind s
+with_mark None s = comma_in s.frames s
+
+-- the mark of a function of this kind at a place, or, where none is named, of a further argument
+abbrev pub mark_at : ℕ → Option Kind → Mark
+mark_at place o = record { place = place; frame = o }
+
+-- the texts with what is protected at the end of the one on the left, and what stands behind it on the right
+abbrev pub with_protected : Protected → Ends ℕ → Ends ℕ
+with_protected p e = record e { left = e.left ++ p.inner; right = p.rest }
+
 -- ---- scanning asks for a call
 
--- the state after the call that scanning asks for, where the call has this effect
+-- the state after the call that scanning asks for, where this is planned
 abbrev pub state_after : {A : Type 0} → code.Effect A → Scanned → State
 state_after e (Moves t) = t
-state_after e (Calls call) = after_call call (effect_on (storage_of call.state) e)
+state_after e (Calls call) = after_planned call (planned_on (storage_of call.state) e)
 
 -- the first of the frames, the innermost function, begins here: the base text and the other frames stand before it
 abbrev pub BeginsFirst : List Frame → List ℕ → Beginning → Type 0

@@ -15,7 +15,7 @@ use crate::ends;
 use crate::engine::Core;
 use crate::record::Record;
 use std::alloc::Allocator;
-use trac_gap::{PlainEnds, TwoEnds};
+use trac_gap::TwoEnds;
 use trac_prims::{Effect, Kind, Mark, Now, Refusal, Tape, plan};
 use trac_rules::scan::Front;
 
@@ -30,16 +30,16 @@ pub(crate) struct Beginning {
 }
 
 // Cuts off the function that begins here, and its `)`.
-fn cut_function<E: TwoEnds<u8, A>, A: Allocator + Copy>(
+fn cut_function<E: TwoEnds<u8, A>, M: TwoEnds<Mark, A>, A: Allocator + Copy>(
     text: &mut E,
-    marks: &mut PlainEnds<Mark, A>,
+    marks: &mut M,
     beginning: Beginning,
 )
     requires closing { 1 ≤ length (E.ends text.old).right }
     requires place { beginning.place ≤ length (E.ends text.old).left }
-    requires number { beginning.number ≤ length marks.old.left }
+    requires number { beginning.number ≤ length (M.ends marks.old).left }
     ensures text { E.ends text.new ≡ record (E.ends text.old) { left = take beginning.place (E.ends text.old).left; right = drop 1 (E.ends text.old).right } }
-    ensures marks { marks.new ≡ record marks.old { left = take beginning.number marks.old.left } }
+    ensures marks { M.ends marks.new ≡ record (M.ends marks.old) { left = take beginning.number (M.ends marks.old).left } }
 {
     text.cut_right(1);
     text.cut_left(text.left().len() - beginning.place);
@@ -73,7 +73,17 @@ pub(crate) fn append<A: Allocator + Copy>(list: &mut Vec<u8, A>, text: &[u8])
     };
 }
 
-impl<E: TwoEnds<u8, A>, A: Allocator + Copy> Core<E, A> {
+// Puts a text in the place of all that the list holds; the list has to have room for it.
+pub(crate) fn overwrite<A: Allocator + Copy>(list: &mut Vec<u8, A>, text: &[u8])
+    requires { length text.now ≤ vec_capacity list.old }
+    ensures items { list.new.items ≡ text.now }
+    ensures room { vec_capacity list.old ≤ vec_capacity list.new }
+{
+    list.clear();
+    append(list, text);
+}
+
+impl<E: TwoEnds<u8, A>, M: TwoEnds<Mark, A>, A: Allocator + Copy> Core<E, M, A> {
     // What the call will do that the next step performs, and where its function begins; or why it is refused.
     fn planned(&self, tape: Tape<'_>) -> Result<(Beginning, Effect<A>), Refusal>
         requires front { front_of self.now.state.active ≡ Front.Closing }
@@ -82,7 +92,6 @@ impl<E: TwoEnds<u8, A>, A: Allocator + Copy> Core<E, A> {
         ensures outcome { MayAnswer (λ r. state_after r.1 (scan self.now.state)) (step (environment_of tape.entry) self.now.state) result }
         ensures beginning { IfOk result (λ r. BeginsInnermost self.now.state r.0) }
         ensures proper { IfOk result (λ r. IsProper (state_after r.1 (scan self.now.state))) }
-        ensures read { IfOk result (λ r. self.now.state.position + r.1.read < 2 ^ 64) }
     {
         let Some(function) = self.neutral().innermost() else {
             unreachable!()
@@ -128,7 +137,6 @@ impl<E: TwoEnds<u8, A>, A: Allocator + Copy> Core<E, A> {
         requires beginning { BeginsInnermost self.old.state beginning }
         requires room { HasRoomFor effect self.old }
         requires proper { IsProper (state_after effect (scan self.old.state)) }
-        requires read { self.old.state.position + effect.read < 2 ^ 64 }
         ensures state { self.new.state ≡ state_after effect (scan self.old.state) }
         ensures room { IsNoLess self.old self.new }
     {
@@ -141,13 +149,13 @@ impl<E: TwoEnds<u8, A>, A: Allocator + Copy> Core<E, A> {
         );
         append(&mut self.output, effect.print.as_slice());
         change_forms(&mut self.store, effect.change);
-        self.meta = effect.meta.unwrap_or(self.meta);
-        self.trace = effect.trace.unwrap_or(self.trace);
-        self.position += effect.read;
+        self.meta = effect.meta;
+        self.trace = effect.trace;
+        self.position = effect.position;
     }
 
     // The next step, where it performs a function.
-    pub(crate) fn call_step(&mut self, tape: Tape<'_>) -> Result<Record<E, A>, Refusal>
+    pub(crate) fn call_step(&mut self, tape: Tape<'_>) -> Result<Record<Self>, Refusal>
         requires front { front_of self.old.state.active ≡ Front.Closing }
         requires inside { 0 < length self.old.state.frames }
         requires within { self.old.state.position ≤ length tape.bytes.now }

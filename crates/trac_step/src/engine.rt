@@ -8,7 +8,7 @@ use crate::ends;
 use std::alloc::{Allocator, Global};
 use std::marker::Model;
 use trac_forms::Store;
-use trac_gap::{PlainEnds, TwoEnds};
+use trac_gap::{GapBuf, TwoEnds};
 use trac_prims::Mark;
 use trac_rules::byte;
 use trac_rules::refusal::Refusal;
@@ -16,14 +16,15 @@ use trac_rules::refusal::Refusal;
 /// What a processor with nothing to do runs: it reads a text of the input and prints its value.
 pub(crate) const IDLE_PROGRAM: &[u8; 11] = b"#(ps,#(rs))";
 
-/// A machine over lists with two ends: its neutral text stands on the left, its active text on the right.
+/// A machine over lists with two ends: its neutral text stands on the left of the one pair of lists, its active text on the
+/// right; its marks stand on the left of the other.
 /// It is seen as the state that it shows, which is always a proper one; how many bytes of texts, how many marks and how many
 /// bytes of output it has room for without more memory; and the names under which it can put a form without more memory.
 #[derive(Drop)]
-pub struct Core<E: TwoEnds<u8, A>, A: Allocator + Copy> {
+pub struct Core<E: TwoEnds<u8, A>, M: TwoEnds<Mark, A>, A: Allocator + Copy> {
     pub(crate) text: E,
     // on the left, from the first on
-    pub(crate) marks: PlainEnds<Mark, A>,
+    pub(crate) marks: M,
     pub(crate) store: Store<A>,
     pub(crate) meta: u8,
     pub(crate) trace: bool,
@@ -31,22 +32,22 @@ pub struct Core<E: TwoEnds<u8, A>, A: Allocator + Copy> {
     pub(crate) output: Vec<u8, A>,
 }
 
-/// The machine, over two vectors.
-pub type Machine<A = Global> = Core<PlainEnds<u8, A>, A>;
+/// The machine: its texts in one block of memory, with the gap between neutral and active text, and its marks in another.
+pub type Machine<A = Global> = Core<GapBuf<u8, A>, GapBuf<Mark, A>, A>;
 
-impl<E: TwoEnds<u8, A>, A: Allocator + Copy> Model for Core<E, A> {
+impl<E: TwoEnds<u8, A>, M: TwoEnds<Mark, A>, A: Allocator + Copy> Model for Core<E, M, A> {
     ghost use Rattle.trac_step.specs.Layout.{Shown, shown_by, shown_code, IsSound, parts_of};
 
     ghost Value = { Shown };
 
     ghost coded = { shown_code };
 
-    ghost view = { λ m. shown_by (parts_of (E.ends m.text) m.marks m.store m.meta m.trace m.position m.output) };
+    ghost view = { λ m. shown_by (parts_of (E.ends m.text) (M.ends m.marks) m.store m.meta m.trace m.position m.output) };
 
-    ghost invariant = { λ m. IsSound (parts_of (E.ends m.text) m.marks m.store m.meta m.trace m.position m.output) };
+    ghost invariant = { λ m. IsSound (parts_of (E.ends m.text) (M.ends m.marks) m.store m.meta m.trace m.position m.output) };
 }
 
-impl<E: TwoEnds<u8, A>, A: Allocator + Copy> Core<E, A> {
+impl<E: TwoEnds<u8, A>, M: TwoEnds<Mark, A>, A: Allocator + Copy> Core<E, M, A> {
     /// A machine in the state in which a processor begins: it is about to run the idle program of T-64.
     /// Refused with `Memory` where the allocator refuses.
     pub fn new(alloc: A) -> Result<Self, Refusal>
@@ -58,7 +59,7 @@ impl<E: TwoEnds<u8, A>, A: Allocator + Copy> Core<E, A> {
         text.put_right(IDLE_PROGRAM);
         Ok(Core {
             text,
-            marks: PlainEnds::new(alloc),
+            marks: M::new(alloc),
             store: Store::new(alloc),
             meta: byte::APOSTROPHE,
             trace: false,
@@ -77,9 +78,10 @@ impl<E: TwoEnds<u8, A>, A: Allocator + Copy> Core<E, A> {
         ensures holds { OnOk result (HasRoom self.now self.now.state) }
         ensures err { IsOkUnless result Refusal.Memory }
     {
+        let (text, marks) = ends::copy_both(&self.text, &self.marks)?;
         Ok(Core {
-            text: ends::copy(&self.text)?,
-            marks: ends::copy(&self.marks)?,
+            text,
+            marks,
             store: self.store.copy()?,
             meta: self.meta,
             trace: self.trace,

@@ -12,6 +12,7 @@ mod readers;
 pub mod record;
 mod scanning;
 mod stepping;
+mod texts;
 
 pub use engine::{Core, Machine};
 pub use record::Record;

@@ -12,7 +12,7 @@ use crate::engine::Core;
 use crate::record::Record;
 use std::alloc::Allocator;
 use trac_gap::TwoEnds;
-use trac_prims::{Kind, Refusal};
+use trac_prims::{Kind, Mark, Refusal};
 use trac_rules::limit::MARK_LIMIT;
 use trac_rules::scan::Front;
 
@@ -32,7 +32,7 @@ fn makes_mark(front: Front, marks: usize) -> bool
     }
 }
 
-impl<E: TwoEnds<u8, A>, A: Allocator + Copy> Core<E, A> {
+impl<E: TwoEnds<u8, A>, M: TwoEnds<Mark, A>, A: Allocator + Copy> Core<E, M, A> {
     // Whether the state that scanning moves on to is within the limits: only a further mark can be one too many.
     fn move_fits(&self, front: Front) -> bool
         requires front { front ≡ front_of self.now.state.active }
@@ -63,8 +63,8 @@ impl<E: TwoEnds<u8, A>, A: Allocator + Copy> Core<E, A> {
                 self.delete(1);
                 Ok(())
             }
-            Front::ActiveCall => self.begin(Kind::Active, 2),
-            Front::NeutralCall => self.begin(Kind::Neutral, 3),
+            Front::ActiveCall => self.mark(2, Some(Kind::Active)),
+            Front::NeutralCall => self.mark(3, Some(Kind::Neutral)),
             Front::Sharp | Front::Plain => {
                 self.gather_first();
                 Ok(())
@@ -73,7 +73,7 @@ impl<E: TwoEnds<u8, A>, A: Allocator + Copy> Core<E, A> {
     }
 
     // The next step, where it performs no function.
-    pub(crate) fn move_step(&mut self, front: Front) -> Result<Record<E, A>, Refusal>
+    pub(crate) fn move_step(&mut self, front: Front) -> Result<Record<Self>, Refusal>
         requires front { front ≡ front_of self.old.state.active }
         requires moves { IsMove (scan self.old.state) }
         ensures taken { IfOk result (λ r. (before r self.new.state ≡ Some self.old.state) × ((environment : _) → step environment self.old.state ≡ Ok self.new.state)) }

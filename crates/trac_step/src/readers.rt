@@ -9,10 +9,10 @@ use crate::front::front_at;
 use std::alloc::Allocator;
 use trac_forms::Store;
 use trac_gap::TwoEnds;
-use trac_prims::{Args, Kind, NeutralText};
+use trac_prims::{Args, Kind, Mark, NeutralText};
 use trac_rules::scan::Front;
 
-impl<E: TwoEnds<u8, A>, A: Allocator + Copy> Core<E, A> {
+impl<E: TwoEnds<u8, A>, M: TwoEnds<Mark, A>, A: Allocator + Copy> Core<E, M, A> {
     /// What is not scanned yet.
     pub fn active(&self) -> &[u8]
         ensures { result.now ≡ self.now.state.active }

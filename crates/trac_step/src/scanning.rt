@@ -1,14 +1,14 @@
 //! The rules of scanning that perform no function, each on the machine's own parts.
-ghost use Rattle.std.specs.Prelude.{◌≡◌, ◌<◌, ◌≤◌, ◌+◌, [], ◌∷◌, length, drop, Some, IsOkUnless, OnErr, OnOk};
+ghost use Rattle.std.specs.Prelude.{◌≡◌, ◌<◌, ◌≤◌, ◌+◌, [], ◌∷◌, length, drop, None, IsOkUnless, OnErr, OnOk};
 ghost use Rattle.trac_rules.specs.Bytes.{idle_program};
 ghost use Rattle.trac_rules.specs.Matching.{protected};
-ghost use Rattle.trac_rules.specs.Scanning.{protect, deleted, begun, comma_in, gather_first};
+ghost use Rattle.trac_rules.specs.Scanning.{protect, deleted, comma_in, gather_first};
 ghost use Rattle.trac_rules.specs.Limits.{marks};
+ghost use Rattle.trac_step.specs.Calling.{with_mark};
 ghost use Rattle.trac_step.specs.Room.{IsNoLess};
 
-use crate::ends;
-use crate::engine::{Core, IDLE_PROGRAM};
-use crate::matching::match_in;
+use crate::engine::Core;
+use crate::texts::{push_mark, restart, take_protected};
 use std::alloc::Allocator;
 use trac_gap::TwoEnds;
 use trac_prims::Mark;
@@ -16,7 +16,7 @@ use trac_rules::kind::Kind;
 use trac_rules::limit::MARK_LIMIT;
 use trac_rules::refusal::Refusal;
 
-impl<E: TwoEnds<u8, A>, A: Allocator + Copy> Core<E, A> {
+impl<E: TwoEnds<u8, A>, M: TwoEnds<Mark, A>, A: Allocator + Copy> Core<E, M, A> {
     // The active text is null: all other text goes, and the idle program is loaded.
     pub(crate) fn reload(&mut self) -> Result<(), Refusal>
         requires { self.old.state.active ≡ [] }
@@ -25,10 +25,7 @@ impl<E: TwoEnds<u8, A>, A: Allocator + Copy> Core<E, A> {
         ensures unchanged { OnErr result (self.new ≡ self.old) }
         ensures err { IsOkUnless result Refusal.Memory }
     {
-        ends::reserve(&mut self.text, IDLE_PROGRAM.len())?;
-        self.text.cut_left(self.text.left().len());
-        self.marks.cut_left(self.marks.left().len());
-        self.text.put_right(IDLE_PROGRAM);
+        restart(&mut self.text, &mut self.marks)?;
         Ok(())
     }
 
@@ -37,13 +34,7 @@ impl<E: TwoEnds<u8, A>, A: Allocator + Copy> Core<E, A> {
         requires { 0 < length self.old.state.active }
         ensures { self.new ≡ record self.old { state = protect (protected (drop 1 self.old.state.active)) self.old.state } }
     {
-        self.text.cut_right(1);
-        if let Some(place) = match_in(self.text.right()) {
-            self.text.shift_left(place);
-            self.text.cut_right(1);
-        } else {
-            self.text.shift_left(self.text.right().len());
-        }
+        take_protected(&mut self.text);
     }
 
     // The first n bytes of the active text are deleted.
@@ -67,42 +58,21 @@ impl<E: TwoEnds<u8, A>, A: Allocator + Copy> Core<E, A> {
             self.delete(1);
             return Ok(());
         }
-        self.next_argument()
+        self.mark(1, None)
     }
 
-    fn next_argument(&mut self) -> Result<(), Refusal>
-        requires front { 0 < length self.old.state.active }
-        requires inside { 0 < length self.old.state.frames }
-        requires room { marks self.old.state.frames < MARK_LIMIT }
-        ensures ok { OnOk result (self.new.state ≡ comma_in self.old.state.frames (deleted 1 self.old.state)) }
-        ensures room { IsNoLess self.old self.new }
-        ensures unchanged { OnErr result (self.new ≡ self.old) }
-        ensures err { IsOkUnless result Refusal.Memory }
-    {
-        ends::reserve(&mut self.marks, 1)?;
-        self.text.cut_right(1);
-        self.marks.push_left(Mark {
-            place: self.text.left().len(),
-            frame: None,
-        });
-        Ok(())
-    }
-
-    // The first n bytes of the active text begin a function of this kind.
-    pub(crate) fn begin(&mut self, kind: Kind, n: usize) -> Result<(), Refusal>
+    // The first n bytes of the active text are deleted, and a function of this kind is begun, or, where none is named, a further
+    // argument of the innermost one.
+    pub(crate) fn mark(&mut self, n: usize, frame: Option<Kind>) -> Result<(), Refusal>
         requires front { n ≤ length self.old.state.active }
+        requires inside { frame ≡ None → 0 < length self.old.state.frames }
         requires room { marks self.old.state.frames < MARK_LIMIT }
-        ensures ok { OnOk result (self.new.state ≡ begun kind (deleted n self.old.state)) }
+        ensures ok { OnOk result (self.new.state ≡ with_mark frame (deleted n self.old.state)) }
         ensures room { IsNoLess self.old self.new }
         ensures unchanged { OnErr result (self.new ≡ self.old) }
         ensures err { IsOkUnless result Refusal.Memory }
     {
-        ends::reserve(&mut self.marks, 1)?;
-        self.text.cut_right(n);
-        self.marks.push_left(Mark {
-            place: self.text.left().len(),
-            frame: Some(kind),
-        });
+        push_mark(&mut self.text, &mut self.marks, n, frame)?;
         Ok(())
     }
 

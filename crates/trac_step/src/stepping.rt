@@ -12,10 +12,10 @@ use crate::front::front_at;
 use crate::record::Record;
 use std::alloc::Allocator;
 use trac_gap::TwoEnds;
-use trac_prims::{Refusal, Tape};
+use trac_prims::{Mark, Refusal, Tape};
 use trac_rules::scan::Front;
 
-impl<E: TwoEnds<u8, A>, A: Allocator + Copy> Core<E, A> {
+impl<E: TwoEnds<u8, A>, M: TwoEnds<Mark, A>, A: Allocator + Copy> Core<E, M, A> {
     /// Takes the next step of T-64's rules over this tape, and gives what the way back needs. The state after it is a proper one:
     /// a step is refused where its new state would pass any limit.
     ///
@@ -23,7 +23,7 @@ impl<E: TwoEnds<u8, A>, A: Allocator + Copy> Core<E, A> {
     /// state after the step would pass a limit, and with `Memory` where the allocator refuses; after each the state is as it was.
     /// No step, refused ones among them, lessens the machine's room or forgets a name, and after an accepted one there is room
     /// for the state before it. The tape has to hold at least as many bytes as are read.
-    pub fn step(&mut self, tape: Tape<'_>) -> Result<Record<E, A>, Refusal>
+    pub fn step(&mut self, tape: Tape<'_>) -> Result<Record<Self>, Refusal>
         requires { self.old.state.position ≤ length tape.bytes.now }
         ensures taken { IfOk result (λ r. (step (environment_of tape.entry) self.old.state ≡ Ok self.new.state) × (before r self.new.state ≡ Some self.old.state)) }
         ensures proper { OnOk result (IsProper self.new.state) }

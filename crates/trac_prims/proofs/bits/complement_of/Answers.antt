@@ -2,7 +2,7 @@ use Rattle.std.proofs.Common.{ℕ, List, ap, ◌∙◌}
 use Rattle.trac_rules.specs.Computing.{octal_argument}
 use Rattle.trac_rules.specs.Octal.{bits_of, complement, octal_tail, text_of}
 use Rattle.trac_rules.proofs.OctalTexts.{text_from_bits}
-use Rattle.trac_prims.proofs.Made.{given}
+use Rattle.trac_prims.proofs.Kept.{given}
 use Rattle.trac_prims.proofs.bits.complement_of.Goals as goal
 
 pub returns : goal.returns

@@ -3,7 +3,7 @@ use Rattle.trac_rules.specs.Computing.{octal_argument}
 use Rattle.trac_rules.specs.Effect.{argument}
 use Rattle.trac_rules.specs.Octal.{bits_of, meet, octal_tail, text_of}
 use Rattle.trac_rules.proofs.OctalTexts.{text_from_bits}
-use Rattle.trac_prims.proofs.Made.{given}
+use Rattle.trac_prims.proofs.Kept.{given}
 use Rattle.trac_prims.proofs.bits.meet_of.Goals as goal
 
 pub returns : goal.returns

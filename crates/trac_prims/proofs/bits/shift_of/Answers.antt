@@ -4,7 +4,7 @@ use Rattle.std.proofs.lemmas.Int.{to_z-of_z}
 use Rattle.trac_rules.specs.Computing.{moved, number_argument, octal_argument}
 use Rattle.trac_rules.specs.Octal.{bits_of, octal_tail, shift}
 use Rattle.trac_rules.proofs.OctalTexts.{text_from_bits}
-use Rattle.trac_prims.proofs.Made.{given}
+use Rattle.trac_prims.proofs.Kept.{given}
 use Rattle.trac_prims.proofs.bits.shift_of.Goals as goal
 use Rattle.trac_prims.proofs.bits.shift_of.Goals.{in-Some+in_ok-value-in-Some, in-None}
 

@@ -5,7 +5,7 @@ use Rattle.trac_rules.specs.Effect.{argument, gives_or_forces}
 use Rattle.trac_rules.specs.Number.{number_text, prefix_of}
 use Rattle.trac_prims.specs.Effects.{IsMade}
 use Rattle.trac_prims.proofs.Calculated.{calculated-None, calculated-Some}
-use Rattle.trac_prims.proofs.Made.{forced, given}
+use Rattle.trac_prims.proofs.Kept.{forced, given}
 use Rattle.trac_prims.proofs.decimals.calculate.Goals as goal
 
 pub returns-in_default : goal.returns-in_default

@@ -7,7 +7,7 @@ use Rattle.trac_rules.specs.Handling.{named_form, on_form}
 use Rattle.trac_rules.specs.Outcomes.{limited}
 use Rattle.trac_forms.specs.Stored.{storage_in}
 use Rattle.trac_prims.specs.Effects.{pieces_fit}
-use Rattle.trac_prims.proofs.Made.{value_beyond}
+use Rattle.trac_prims.proofs.Kept.{value_beyond}
 use Rattle.trac_prims.proofs.forms.call.Goals as goal
 
 pub returns-in_default-call_len : goal.returns-in_default-call_len

@@ -2,7 +2,7 @@ use Rattle.std.proofs.Common.{List, ℕ, Ok, sym, ap, ◌∙◌}
 use Rattle.trac_rules.specs.Effect.{leaves}
 use Rattle.trac_rules.specs.Handling.{keeping, without}
 use Rattle.trac_prims.specs.declared.change.Change.TheVariants.{Remove}
-use Rattle.trac_prims.proofs.Made.{changing}
+use Rattle.trac_prims.proofs.Kept.{changing}
 use Rattle.trac_prims.proofs.forms.delete.Goals as goal
 
 pub returns : goal.returns

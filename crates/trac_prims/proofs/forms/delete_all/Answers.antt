@@ -1,5 +1,5 @@
 use Rattle.trac_prims.specs.declared.change.Change.TheVariants.{Clear}
-use Rattle.trac_prims.proofs.Made.{changing}
+use Rattle.trac_prims.proofs.Kept.{changing}
 use Rattle.trac_prims.proofs.forms.delete_all.Goals as goal
 
 pub returns : goal.returns

@@ -4,7 +4,7 @@ use Rattle.trac_rules.specs.Effect.{argument}
 use Rattle.trac_rules.specs.Listing.{listed}
 use Rattle.trac_forms.specs.Stored.{storage_in}
 use Rattle.trac_prims.proofs.Listed.{listed_names}
-use Rattle.trac_prims.proofs.Made.{given, value_beyond}
+use Rattle.trac_prims.proofs.Kept.{given, value_beyond}
 use Rattle.trac_prims.proofs.forms.list_names.Goals as goal
 
 pub returns-in_default : goal.returns-in_default

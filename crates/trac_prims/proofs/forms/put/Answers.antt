@@ -4,7 +4,7 @@ use Rattle.trac_rules.specs.Effect.{leaves}
 use Rattle.trac_rules.specs.Handling.{keeping}
 use Rattle.trac_prims.specs.declared.change.Change.TheVariants.{Put}
 use Rattle.trac_forms.specs.Stored.{storage_in}
-use Rattle.trac_prims.proofs.Made.{changing}
+use Rattle.trac_prims.proofs.Kept.{changing}
 use Rattle.trac_prims.proofs.Putting.{is_put}
 use Rattle.trac_prims.proofs.forms.put.Goals as goal
 

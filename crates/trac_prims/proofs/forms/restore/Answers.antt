@@ -6,7 +6,7 @@ use Rattle.trac_prims.specs.declared.change.Change.TheVariants.{Point}
 use Rattle.trac_forms.specs.Stored.{storage_in}
 use Rattle.trac_prims.specs.Effects.{pointed}
 use Rattle.trac_prims.proofs.Held.{restored}
-use Rattle.trac_prims.proofs.Made.{changing}
+use Rattle.trac_prims.proofs.Kept.{changing}
 use Rattle.trac_prims.proofs.forms.restore.Goals as goal
 
 pub returns : goal.returns

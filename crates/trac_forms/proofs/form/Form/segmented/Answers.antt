@@ -24,8 +24,8 @@ loop-i-preserved g c =
     let text = c.get-text.result.now in
     let cut : c.in_ok-items-2.items.items ≡ cut_out (c.loop-i.i + 1) text items =
     c.in_ok-items-2.ensures.cut
-    ∙ ap (λ (k : ℕ). cut_out k text c.as_slice-in-loop-i.result.now) c.number_of-number.ensures
-    ∙ ap (cut_out (c.loop-i.i + 1) text) c.as_slice-in-loop-i.ensures.value in
+    ∙ ap (λ (k : ℕ). cut_out k text c.as_slice.result.now) c.number_of-number.ensures
+    ∙ ap (cut_out (c.loop-i.i + 1) text) c.as_slice.ensures.value in
     record {
       left = text_next (g.T.Texts.texts c.args.texts.now) c.loop-i.i text items c.in_ok-items-2.items.items _ (omega (arith, c.count-i-end.ensures)) c.get-text.ensures cut c.loop-i.invariant.left;
       within = omega (arith, ap extent cut, extent-cut_out (c.loop-i.i + 1) text items, c.loop-i.invariant.within);

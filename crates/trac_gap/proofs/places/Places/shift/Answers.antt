@@ -1,7 +1,10 @@
-use Rattle.std.proofs.Common.{sym, subst}
+use Rattle.std.proofs.Common.{refl, sym, subst}
 use Rattle.trac_gap.specs.Places.{IsShifted}
-use Rattle.trac_gap.proofs.Shifted.{shifted_over}
+use Rattle.trac_gap.proofs.Shifted.{shifted_nowhere, shifted_over}
 use Rattle.trac_gap.proofs.places.Places.shift.Goals as goal
+
+pub returns-then-from-to : goal.returns-then-from-to
+returns-then-from-to g c = (refl, shifted_nowhere c.args.self.now.slots c.args.from c.args.to c.args.count c.if-from-to.true)
 
 pub returns-then-to-from : goal.returns-then-to-from
 returns-then-to-from g c = (

@@ -8,8 +8,8 @@ use Rattle.trac_step.proofs.engine.Core.make_room.Goals as goal
 
 pub returns-clause-ok : goal.returns-clause-ok
 returns-clause-ok g c =
-    let p = parts_of (g.E.TwoEnds.ends c.self.inside.text) c.self.inside.marks c.self.inside.store c.self.inside.meta c.self.inside.trace c.self.inside.position c.self.inside.output in
-    let same = rebuilt_parts (g.E.TwoEnds.ends c.self.inside.text) (g.E.TwoEnds.ends c.reserve.new.list) c.self.inside.marks c.self.inside.marks c.self.inside.store c.make_place.new.store
+    let p = parts_of (g.E.TwoEnds.ends c.self.inside.text) (g.M.TwoEnds.ends c.self.inside.marks) c.self.inside.store c.self.inside.meta c.self.inside.trace c.self.inside.position c.self.inside.output in
+    let same = rebuilt_parts (g.E.TwoEnds.ends c.self.inside.text) (g.E.TwoEnds.ends c.reserve.new.list) (g.M.TwoEnds.ends c.self.inside.marks) (g.M.TwoEnds.ends c.self.inside.marks) c.self.inside.store c.make_place.new.store
     c.self.inside.meta c.self.inside.trace c.self.inside.position c.self.inside.output c.reserve-2.new.self
     c.reserve.ensures.left c.reserve.ensures.right refl c.make_place.ensures.kept c.reserve-2.ensures.items in
     let bytes = ap (λ (q : Parts). text_bytes (state_of q)) same in

@@ -15,14 +15,14 @@ comma-requires-clause-room g c =
     let scanned = scan_front s Comma (sym c.requires.front ∙ c.in-Comma.is) in
     λ inside. room_for_argument s inside (of_moves s (comma_in s.frames (deleted 1 s)) (λ t. texts_fit t ≡ true) scanned c.requires.fits)
 
-pub begin-requires-clause-room : goal.begin-requires-clause-room
-begin-requires-clause-room g c =
+pub mark-requires-clause-room : goal.mark-requires-clause-room
+mark-requires-clause-room g c =
     let s = c.args.self.now.state in
     let scanned = scan_front s ActiveCall (sym c.requires.front ∙ c.in-ActiveCall.is) in
     room_to_begin s Active 2 (of_moves s (begun Active (deleted 2 s)) (λ t. texts_fit t ≡ true) scanned c.requires.fits)
 
-pub begin-requires-in-NeutralCall-clause-room : goal.begin-requires-in-NeutralCall-clause-room
-begin-requires-in-NeutralCall-clause-room g c =
+pub mark-requires-in-NeutralCall-clause-room : goal.mark-requires-in-NeutralCall-clause-room
+mark-requires-in-NeutralCall-clause-room g c =
     let s = c.args.self.now.state in
     let scanned = scan_front s NeutralCall (sym c.requires.front ∙ c.in-NeutralCall.is) in
     room_to_begin s Neutral 3 (of_moves s (begun Neutral (deleted 3 s)) (λ t. texts_fit t ≡ true) scanned c.requires.fits)
@@ -43,12 +43,12 @@ returns-in-Comma-clause-ok g c =
 pub returns-in-ActiveCall-clause-ok : goal.returns-in-ActiveCall-clause-ok
 returns-in-ActiveCall-clause-ok g c =
     let scanned = scan_front c.args.self.now.state ActiveCall (sym c.requires.front ∙ c.in-ActiveCall.is) in
-    on_ok_weaker c.begin.result (λ e. scanned ∙ ap Moves (sym e)) c.begin.ensures.ok
+    on_ok_weaker c.mark.result (λ e. scanned ∙ ap Moves (sym e)) c.mark.ensures.ok
 
 pub returns-in-NeutralCall-clause-ok : goal.returns-in-NeutralCall-clause-ok
 returns-in-NeutralCall-clause-ok g c =
     let scanned = scan_front c.args.self.now.state NeutralCall (sym c.requires.front ∙ c.in-NeutralCall.is) in
-    on_ok_weaker c.begin-in-NeutralCall.result (λ e. scanned ∙ ap Moves (sym e)) c.begin-in-NeutralCall.ensures.ok
+    on_ok_weaker c.mark-in-NeutralCall.result (λ e. scanned ∙ ap Moves (sym e)) c.mark-in-NeutralCall.ensures.ok
 
 pub returns-in-Sharp-clause-ok : goal.returns-in-Sharp-clause-ok
 returns-in-Sharp-clause-ok g c = elim c.in-Sharp.is [

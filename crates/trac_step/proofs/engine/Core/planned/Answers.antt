@@ -16,7 +16,7 @@ use Rattle.trac_step.proofs.engine.Core.planned.Goals as goal
 pub plan-requires-clause-count : goal.plan-requires-clause-count
 plan-requires-clause-count g c =
     let s = c.args.self.now.state in
-    let p = parts_of (g.E.TwoEnds.ends c.self.inside.text) c.self.inside.marks c.self.inside.store c.self.inside.meta c.self.inside.trace c.self.inside.position c.self.inside.output in
+    let p = parts_of (g.E.TwoEnds.ends c.self.inside.text) (g.M.TwoEnds.ends c.self.inside.marks) c.self.inside.store c.self.inside.meta c.self.inside.trace c.self.inside.position c.self.inside.output in
     let state_is = ap (λ (m : Shown). m.state) c.self.view_is in
     let proper = subst IsProper state_is (proper_of_sound p c.self.invariant) in
     let f = c.in-Some.function in
@@ -25,7 +25,7 @@ plan-requires-clause-count g c =
 pub plan-requires-clause-text : goal.plan-requires-clause-text
 plan-requires-clause-text g c =
     let s = c.args.self.now.state in
-    let p = parts_of (g.E.TwoEnds.ends c.self.inside.text) c.self.inside.marks c.self.inside.store c.self.inside.meta c.self.inside.trace c.self.inside.position c.self.inside.output in
+    let p = parts_of (g.E.TwoEnds.ends c.self.inside.text) (g.M.TwoEnds.ends c.self.inside.marks) c.self.inside.store c.self.inside.meta c.self.inside.trace c.self.inside.position c.self.inside.output in
     let state_is = ap (λ (m : Shown). m.state) c.self.view_is in
     let proper = subst IsProper state_is (proper_of_sound p c.self.invariant) in
     let f = c.in-Some.function in
@@ -39,7 +39,7 @@ plan-requires-clause-text g c =
 pub returns-in_err-effect-clause-outcome : goal.returns-in_err-effect-clause-outcome
 returns-in_err-effect-clause-outcome g c =
     let s = c.args.self.now.state in
-    let p = parts_of (g.E.TwoEnds.ends c.self.inside.text) c.self.inside.marks c.self.inside.store c.self.inside.meta c.self.inside.trace c.self.inside.position c.self.inside.output in
+    let p = parts_of (g.E.TwoEnds.ends c.self.inside.text) (g.M.TwoEnds.ends c.self.inside.marks) c.self.inside.store c.self.inside.meta c.self.inside.trace c.self.inside.position c.self.inside.output in
     let state_is = ap (λ (m : Shown). m.state) c.self.view_is in
     let proper = subst IsProper state_is (proper_of_sound p c.self.invariant) in
     let f = c.in-Some.function in
@@ -58,12 +58,12 @@ returns-in_err-effect-clause-outcome g c =
     let rest = behind s c.neutral.result f.number f.place f.kind f.arguments proper c.neutral.ensures c.in-Some.ensures in
     let e = environment_of c.args.tape in
     let err = err_from_is_err_and c.from_residual.result c.from_residual.ensures.1 in
-    rw (err.1, err.2) (step_unplanned e s c.in-Some.ensures.frame rest c.requires.front frames _ (c.in_err-effect.ensures.outcome _ given))
+    rw (err.1, err.2) (step_unplanned e s c.in-Some.ensures.frame rest c.requires.front frames f.kind f.arguments c.self.inside.store _ given _ (c.in_err-effect.ensures.outcome _ given))
 
 pub returns-clause-outcome : goal.returns-clause-outcome
 returns-clause-outcome g c =
     let s = c.args.self.now.state in
-    let p = parts_of (g.E.TwoEnds.ends c.self.inside.text) c.self.inside.marks c.self.inside.store c.self.inside.meta c.self.inside.trace c.self.inside.position c.self.inside.output in
+    let p = parts_of (g.E.TwoEnds.ends c.self.inside.text) (g.M.TwoEnds.ends c.self.inside.marks) c.self.inside.store c.self.inside.meta c.self.inside.trace c.self.inside.position c.self.inside.output in
     let state_is = ap (λ (m : Shown). m.state) c.self.view_is in
     let proper = subst IsProper state_is (proper_of_sound p c.self.invariant) in
     let f = c.in-Some.function in
@@ -81,7 +81,7 @@ returns-clause-outcome g c =
     (ap (λ (t : State). length t.active - 1 + f.place) (sym state_is) ∙ ap (λ (xs : List ℕ). length xs - 1 + f.place) (sym c.right.ensures.right)) in
     let rest = behind s c.neutral.result f.number f.place f.kind f.arguments proper c.neutral.ensures c.in-Some.ensures in
     let e = environment_of c.args.tape in
-    step_planned e s c.in-Some.ensures.frame rest c.requires.front frames c.in_ok-effect.effect (c.in_ok-effect.ensures.outcome _ given)
+    step_planned e s c.in-Some.ensures.frame rest c.requires.front frames f.kind f.arguments c.self.inside.store _ given c.in_ok-effect.effect (c.in_ok-effect.ensures.outcome _ given)
 
 pub returns-clause-beginning : goal.returns-clause-beginning
 returns-clause-beginning g c =
@@ -91,7 +91,7 @@ returns-clause-beginning g c =
 pub returns-clause-proper : goal.returns-clause-proper
 returns-clause-proper g c =
     let s = c.args.self.now.state in
-    let p = parts_of (g.E.TwoEnds.ends c.self.inside.text) c.self.inside.marks c.self.inside.store c.self.inside.meta c.self.inside.trace c.self.inside.position c.self.inside.output in
+    let p = parts_of (g.E.TwoEnds.ends c.self.inside.text) (g.M.TwoEnds.ends c.self.inside.marks) c.self.inside.store c.self.inside.meta c.self.inside.trace c.self.inside.position c.self.inside.output in
     let state_is = ap (λ (m : Shown). m.state) c.self.view_is in
     let proper = subst IsProper state_is (proper_of_sound p c.self.invariant) in
     let f = c.in-Some.function in
@@ -110,4 +110,4 @@ returns-clause-proper g c =
     let rest = behind s c.neutral.result f.number f.place f.kind f.arguments proper c.neutral.ensures c.in-Some.ensures in
     let e = environment_of c.args.tape in
     step_proper e s (state_after c.in_ok-effect.effect (scan s)) proper
-    (step_planned e s c.in-Some.ensures.frame rest c.requires.front frames c.in_ok-effect.effect (c.in_ok-effect.ensures.outcome _ given))
+    (step_planned e s c.in-Some.ensures.frame rest c.requires.front frames f.kind f.arguments c.self.inside.store _ given c.in_ok-effect.effect (c.in_ok-effect.ensures.outcome _ given))

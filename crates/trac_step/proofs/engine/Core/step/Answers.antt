@@ -16,7 +16,7 @@ use Rattle.trac_step.proofs.engine.Core.step.Goals.{else-eq-via-then-eq+else-not
 
 pub returns-then-not-is_outside-clause-proper : goal.returns-then-not-is_outside-clause-proper
 returns-then-not-is_outside-clause-proper g c =
-    let p = parts_of (g.E.TwoEnds.ends c.self.inside.text) c.self.inside.marks c.self.inside.store c.self.inside.meta c.self.inside.trace c.self.inside.position c.self.inside.output in
+    let p = parts_of (g.E.TwoEnds.ends c.self.inside.text) (g.M.TwoEnds.ends c.self.inside.marks) c.self.inside.store c.self.inside.meta c.self.inside.trace c.self.inside.position c.self.inside.output in
     let proper = subst IsProper (ap (λ (m : Shown). m.state) c.self.view_is) (proper_of_sound p c.self.invariant) in
     IfOk-weaker c.call_step.result _ (λ _. IsProper c.call_step.new.self.state) (λ r h. step_proper (environment_of c.args.tape) c.args.self.now.state c.call_step.new.self.state proper h.1) c.call_step.ensures.taken
 
@@ -31,6 +31,6 @@ move_step-requires-clause-moves g c =
 
 pub returns-clause-proper : goal.returns-clause-proper
 returns-clause-proper g c =
-    let p = parts_of (g.E.TwoEnds.ends c.self.inside.text) c.self.inside.marks c.self.inside.store c.self.inside.meta c.self.inside.trace c.self.inside.position c.self.inside.output in
+    let p = parts_of (g.E.TwoEnds.ends c.self.inside.text) (g.M.TwoEnds.ends c.self.inside.marks) c.self.inside.store c.self.inside.meta c.self.inside.trace c.self.inside.position c.self.inside.output in
     let proper = subst IsProper (ap (λ (m : Shown). m.state) c.self.view_is) (proper_of_sound p c.self.invariant) in
     IfOk-weaker c.move_step.result _ (λ _. IsProper c.move_step.new.self.state) (λ r h. step_proper (environment_of c.args.tape) c.args.self.now.state c.move_step.new.self.state proper (h.1 (environment_of c.args.tape))) c.move_step.ensures.taken

@@ -1,0 +1,89 @@
+#!/usr/bin/env python3
+"""Times forms over the gap buffer against forms over two plain vectors, and prints tables.
+
+Two copies of the crates are built under target/bench/forms, by `rt run`, which proves them first: one as they are, one with
+the alias `Items` of trac_forms naming PlainEnds. Then both programs run in turn, so that both meet the same machine. Each
+figure is the median of all rounds of all runs. The second table says what a doubling of the length costs.
+
+    python3 bench/forms/run.py [RUNS]
+"""
+import pathlib
+import shutil
+import statistics
+import subprocess
+import sys
+
+HERE = pathlib.Path(__file__).resolve().parent
+ROOT = HERE.parent.parent
+WORK = ROOT / "target" / "bench" / "forms"
+CRATES = ("trac_rules", "trac_gap", "trac_forms")
+
+ROWS = [
+    ("define", "define a form of 1 MiB"),
+    ("call", "call it, cut at each sixteenth byte"),
+    ("point", "move its pointer to the end and back"),
+    ("point_without_gaps", "the same for a form without gaps"),
+    ("read", "read it byte by byte"),
+]
+
+DOUBLED = [
+    ("read", "read_twice", "read a form byte by byte, 1 MiB and 2 MiB"),
+    ("grow", "grow_twice", "grow a text byte by byte, to 8 MiB and to 16 MiB"),
+]
+
+
+def build(name, kind):
+    """The program over forms whose items this type holds."""
+    root = WORK / name
+    crates = root / "crates"
+    crates.mkdir(parents=True, exist_ok=True)
+    lines = [line for line in (ROOT / "crates.txt").read_text().splitlines() if line.split(":")[0] in CRATES]
+    (root / "crates.txt").write_text("\n".join(lines) + "\nforms_bench: trac_gap trac_forms\n")
+    for crate, source in [(crate, ROOT / "crates" / crate) for crate in CRATES] + [("forms_bench", HERE / "forms_bench")]:
+        for part in ("src", "specs", "proofs"):
+            shutil.rmtree(crates / crate / part, ignore_errors=True)
+            if (source / part).is_dir():
+                shutil.copytree(source / part, crates / crate / part)
+    # the gate reads each .rt file as a part of a crate, so the program's file has another ending here
+    for file in (crates / "forms_bench").rglob("*.txt"):
+        file.rename(file.with_suffix(""))
+    form = crates / "trac_forms" / "src" / "form.rt"
+    text = form.read_text()
+    if text.count("GapBuf") != 2:
+        sys.exit("the representation is no longer named in one place")
+    form.write_text(text.replace("GapBuf", kind))
+    built = subprocess.run(["rt", "run"], cwd=crates / "forms_bench", capture_output=True, text=True)
+    program = crates / "forms_bench" / "out" / "forms_bench"
+    if not program.exists() or "logic=proved" not in built.stdout + built.stderr:
+        sys.exit(built.stdout + built.stderr)
+    return program
+
+
+def measure(program, found):
+    """Adds the nanoseconds that each line of the program's output gives."""
+    for line in subprocess.run([str(program)], check=True, capture_output=True, text=True).stdout.splitlines():
+        name, nanos = line.split()
+        found.setdefault(name, []).append(int(nanos))
+
+
+def main():
+    runs = int(sys.argv[1]) if len(sys.argv) > 1 else 5
+    programs = build("gap", "GapBuf"), build("plain", "PlainEnds")
+    ours, theirs = {}, {}
+    for _ in range(runs):
+        measure(programs[0], ours)
+        measure(programs[1], theirs)
+    print("| | `GapBuf` | `PlainEnds` | ratio |")
+    print("|---|---|---|---|")
+    for name, text in ROWS:
+        a, b = statistics.median(ours[name]), statistics.median(theirs[name])
+        print(f"| {text} | {a / 1e6:.2f} ms | {b / 1e6:.2f} ms | {a / b:.2f} |")
+    print("\n| over `GapBuf` | once | twice as long | ratio |")
+    print("|---|---|---|---|")
+    for once, twice, text in DOUBLED:
+        a, b = statistics.median(ours[once]), statistics.median(ours[twice])
+        print(f"| {text} | {a / 1e6:.1f} ms | {b / 1e6:.1f} ms | {b / a:.2f} |")
+
+
+if __name__ == "__main__":
+    main()

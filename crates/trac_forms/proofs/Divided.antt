@@ -1,0 +1,101 @@
+-- Items in two lists, and how some go from one to the other.
+use Rattle.std.proofs.Common.{◌≡◌, ℕ, ◌+◌, ◌-◌, ◌<◌, ◌≤◌, List, [], ◌++◌, length, take, drop, sym, ap, subst, ◌∙◌, append_assoc, arith}
+use Rattle.std.specs.List.{All}
+use Rattle.std.proofs.lemmas.List.{append-nil, take-append-drop, take-append-le, take_all, drop-append-le, length-append, length-map}
+use Rattle.std.proofs.Math.Seq.{take-append-add, drop-append-add}
+use Rattle.trac_gap.specs.Ends.{Ends}
+use Rattle.trac_rules.specs.declared.item.Item.{Item}
+use Rattle.trac_rules.specs.declared.item.Item.TheVariants.{Byte}
+use Rattle.trac_rules.specs.declared.limit.TheConstants.{FORM_LIMIT}
+use Rattle.trac_rules.specs.Form.{IsWide, all_items, as_items, defined, extent, pointed_at}
+use Rattle.trac_forms.specs.Layout.{IsKept, divided}
+use Rattle.trac_rules.proofs.Cutting.{count_within_extent, extent-as_items, wide-as_items}
+
+-- the same items in as many places are kept as well
+pub kept_again : (old new : Ends Item) → new.left ++ new.right ≡ old.left ++ old.right → old.capacity ≤ new.capacity → IsKept old → IsKept new
+kept_again old new same roomy kept = record {
+  within = omega (arith, ap extent same, kept.within);
+  wide = subst (λ (xs : List Item). All IsWide xs) (sym same) kept.wide;
+  room = omega (arith, ap extent same, kept.room, roomy);
+}
+
+-- the last n items before the pointer go behind it
+module _ (old new : Ends Item) (place n : ℕ) (within : place ≤ length old.left) (count : n ≡ length old.left - place)
+    (moved : new ≡ record old { left = take (length old.left - n) old.left; right = drop (length old.left - n) old.left ++ old.right }) where
+  kept : length old.left - n ≡ place
+  kept = omega arith
+
+  left : new.left ≡ take place old.left
+  left = ap (λ (e : Ends Item). e.left) moved ∙ ap (λ k. take k old.left) kept
+
+  right : new.right ≡ drop place old.left ++ old.right
+  right = ap (λ (e : Ends Item). e.right) moved ∙ ap (λ k. drop k old.left ++ old.right) kept
+
+  pub all_back : new.left ++ new.right ≡ old.left ++ old.right
+  all_back =
+      (λ i. left i ++ right i) ∙ sym (append_assoc (take place old.left) (drop place old.left) old.right)
+      ∙ ap (λ (xs : List Item). xs ++ old.right) (take-append-drop place old.left)
+
+  pub kept_back : IsKept old → IsKept new
+  kept_back kept = kept_again old new all_back (omega (arith, ap (λ (e : Ends Item). e.capacity) moved)) kept
+
+  pub pointed_back : divided new ≡ pointed_at place (all_items (divided old))
+  pointed_back =
+      let front : new.left ≡ take place (old.left ++ old.right) = left ∙ sym (take-append-le place old.left old.right within) in
+      let back : new.right ≡ drop place (old.left ++ old.right) = right ∙ sym (drop-append-le place old.left old.right within) in
+      λ i. record { before = front i; after = back i }
+
+-- the first n items after the pointer go before it
+module _ (old new : Ends Item) (place n : ℕ) (count : place ≡ length old.left + n) (moved : new ≡ record old { left = old.left ++ take n old.right; right = drop n old.right }) where
+  left_on : new.left ≡ old.left ++ take n old.right
+  left_on = ap (λ (e : Ends Item). e.left) moved
+
+  right_on : new.right ≡ drop n old.right
+  right_on = ap (λ (e : Ends Item). e.right) moved
+
+  pub all_on : new.left ++ new.right ≡ old.left ++ old.right
+  all_on =
+      (λ i. left_on i ++ right_on i) ∙ append_assoc old.left (take n old.right) (drop n old.right)
+      ∙ ap (λ (xs : List Item). old.left ++ xs) (take-append-drop n old.right)
+
+  pub kept_on : IsKept old → IsKept new
+  kept_on kept = kept_again old new all_on (omega (arith, ap (λ (e : Ends Item). e.capacity) moved)) kept
+
+  pub pointed_on : divided new ≡ pointed_at place (all_items (divided old))
+  pointed_on =
+      let both = old.left ++ old.right in
+      let front : new.left ≡ take place both = left_on ∙ sym (take-append-add old.left old.right n) ∙ ap (λ k. take k both) (sym count) in
+      let back : new.right ≡ drop place both = right_on ∙ sym (drop-append-add old.left old.right n) ∙ ap (λ k. drop k both) (sym count) in
+      λ i. record { before = front i; after = back i }
+
+-- a text's bytes, where there is room for them
+pub kept_text : (items : Ends Item) (text : List ℕ) → divided items ≡ defined text → length text ≤ FORM_LIMIT → length text ≤ items.capacity → IsKept items
+kept_text items text e short roomy =
+    let all : items.left ++ items.right ≡ as_items text = ap all_items e in
+    record {
+      within = omega (arith, ap extent all, extent-as_items text);
+      wide = subst (λ (xs : List Item). All IsWide xs) (sym all) (wide-as_items text);
+      room = omega (arith, ap extent all, extent-as_items text);
+    }
+
+-- all bytes of a text go behind the pointer
+module _ (old new : Ends Item) (text : List ℕ) (i : ℕ) (all : length text ≤ i) (left : old.left ≡ as_items (take i text)) (right : old.right ≡ [])
+    (moved : new ≡ record old { left = take (length old.left - length text) old.left; right = drop (length old.left - length text) old.left ++ old.right }) where
+  whole : old.left ≡ as_items text
+  whole = left ∙ ap as_items (take_all i text all)
+
+  none : length old.left - length text ≡ 0
+  none = omega (arith, ap length whole, length-map text Byte)
+
+  pub defined_behind : divided new ≡ defined text
+  defined_behind =
+      let front : new.left ≡ [] = ap (λ (e : Ends Item). e.left) moved ∙ ap (λ k. take k old.left) none in
+      let back : new.right ≡ as_items text = ap (λ (e : Ends Item). e.right) moved ∙ (λ j. drop (none j) (whole j) ++ right j) ∙ append-nil (as_items text) in
+      λ j. record { before = front j; after = back j }
+
+  pub kept_behind : length text ≤ FORM_LIMIT → length text ≤ old.capacity → IsKept new
+  kept_behind short roomy = kept_text new text defined_behind short (omega (arith, ap (λ (e : Ends Item). e.capacity) moved))
+
+-- wide items are no more than the bytes that they stand for
+pub count_within : (before after : List Item) (bytes : ℕ) → bytes ≡ extent (before ++ after) → All IsWide (before ++ after) → length before + length after ≤ bytes
+count_within before after bytes e wide = omega (arith, e, count_within_extent (before ++ after) wide, length-append before after)

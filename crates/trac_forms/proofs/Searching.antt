@@ -1,0 +1,148 @@
+-- A text among items: where it occurs in a run of bytes between gaps, and where it does not.
+use Rattle.std.proofs.Common.{◌≡◌, ℕ, zero, suc, ◌+◌, ◌-◌, ◌<◌, ◌≤◌, true, false, List, [], ◌∷◌, ◌++◌, length, take, drop, get_or, refl, sym, ap, subst, ◌∙◌, arith, ⊎_elim}
+use Rattle.std.specs.Prelude.{Option, None, Some, ◌==◌}
+use Rattle.std.proofs.lemmas.Bool.{and_from, and_left, and_right, cases_Bool, cases_lt, eq-eqb, eqb-true, false≢true, false_from_ne_true}
+use Rattle.std.proofs.lemmas.List.{append_assoc, append-nil, drop-append-le, drop-drop, drop-map, drop_more, length-append, length-drop, length-map, length-take-le, map-append, take-append-drop, take-append-le, take-map}
+use Rattle.std.proofs.lemmas.List.Prefix.{at_from_reads}
+use Rattle.std.proofs.Math.Seq.{take-add}
+use Rattle.memchr.specs.Find.{FindsNeedle, OccursAt}
+use Rattle.trac_rules.specs.declared.item.Item.{Item}
+use Rattle.trac_rules.specs.declared.item.Item.TheVariants.{Byte, Gap}
+use Rattle.trac_rules.specs.Form.{as_items}
+use Rattle.trac_rules.specs.Pieces.{begin_with, is_gap, place_of_text}
+use Rattle.trac_rules.proofs.Balanced.{first_place_none, first_place_some}
+use Rattle.trac_forms.proofs.Cuts.{occurs_in}
+use Rattle.trac_forms.proofs.Passing.{count, count-append, count_gap, count_next}
+
+-- items that begin with no byte, as they stand behind a run
+abbrev pub IsBound : List Item → Type 0
+IsBound items = (b : ℕ) (rest : List Item) → items ≡ Byte b ∷ rest → ⊥
+
+-- ---- one run
+
+-- bytes that begin with a text, as items, begin with it
+begins : (text back : List ℕ) (tail : List Item) → begin_with text (as_items (text ++ back) ++ tail) ≡ true
+begins [] back tail = refl
+begins (b ∷ text) back tail = and_from (b == b) (begin_with text (as_items (text ++ back) ++ tail)) (eq-eqb b b refl) (begins text back tail)
+
+-- and only such: no text reaches over the end of a run
+begins_only : (text run : List ℕ) (tail : List Item) → IsBound tail → begin_with text (as_items run ++ tail) ≡ true → (back : List ℕ) × (run ≡ text ++ back)
+begins_only [] run tail bound e = (run, refl)
+begins_only (b ∷ text) [] [] bound e = absurd (false≢true e)
+begins_only (b ∷ text) [] (Byte c ∷ rest) bound e = absurd (bound c rest refl)
+begins_only (b ∷ text) [] (Gap ordinal width ∷ rest) bound e = absurd (false≢true e)
+begins_only (b ∷ text) (c ∷ run) tail bound e =
+    ⊎_elim
+    (λ (first : (b == c) ≡ true).
+    ⊎_elim
+    (λ (others : begin_with text (as_items run ++ tail) ≡ true).
+    let rest = begins_only text run tail bound others in (rest.0, (λ i. sym (eqb-true b c first) i ∷ rest.1 i)))
+    (λ (others : begin_with text (as_items run ++ tail) ≡ false). absurd (false≢true (sym (and_right (b == c) (begin_with text (as_items run ++ tail)) others) ∙ e)))
+    (cases_Bool (begin_with text (as_items run ++ tail))))
+    (λ (first : (b == c) ≡ false). absurd (false≢true (sym (and_left (b == c) (begin_with text (as_items run ++ tail)) first) ∙ e)))
+    (cases_Bool (b == c))
+
+count_run : (run : List ℕ) → count (as_items run) ≡ length run
+count_run [] = refl
+count_run (b ∷ run) = ap suc (count_run run)
+
+-- a run among items, from the place start on
+module _ (text : List ℕ) (items : List Item) (start : ℕ) (run : List ℕ) (tail : List Item) (within : start ≤ length items) (rest : drop start items ≡ as_items run ++ tail) where
+  at : (j : ℕ) → j ≤ length run → drop (start + j) items ≡ as_items (drop j run) ++ tail
+  at j l =
+      sym (drop-drop j start items)
+      ∙ ap (drop j) rest
+      ∙ drop-append-le j (as_items run) tail (omega (arith, length-map run Byte))
+      ∙ ap (λ (xs : List Item). xs ++ tail) (drop-map Byte j run)
+
+  pub count_at : (j : ℕ) → j ≤ length run → count (take (start + j) items) ≡ count (take start items) + j
+  count_at j l =
+      let first : take j (drop start items) ≡ as_items (take j run) =
+      ap (take j) rest ∙ take-append-le j (as_items run) tail (omega (arith, length-map run Byte)) ∙ take-map Byte j run in
+      ap count (take-add start j items)
+      ∙ count-append (take start items) (take j (drop start items))
+      ∙ ap (λ n. count (take start items) + n) (ap count first ∙ count_run (take j run) ∙ length-take-le j run l)
+
+  pub as_long : length items ≡ start + length run + length tail
+  as_long = omega (arith, length-drop start items, ap length rest, length-append (as_items run) tail, length-map run Byte)
+
+  module _ (bound : IsBound tail) where
+    -- a text that begins at a place of the run occurs there
+    occurs : (j : ℕ) → j ≤ length run → begin_with text (drop (start + j) items) ≡ true → OccursAt run text j
+    occurs j l e =
+        let here = begins_only text (drop j run) tail bound (ap (begin_with text) (sym (at j l)) ∙ e) in
+        let split : run ≡ take j run ++ (text ++ here.0) = sym (take-append-drop j run) ∙ ap (λ (r : List ℕ). take j run ++ r) here.1 in
+        subst (OccursAt run text) (length-take-le j run l) (occurs_in run (take j run) text here.0 split)
+
+    -- where a search finds nothing, the text begins at no place of the run, nor right behind it
+    pub not_in_run : FindsNeedle run text 0 None → (j : ℕ) → j ≤ length run → begin_with text (drop (start + j) items) ≡ false
+    not_in_run none j l = false_from_ne_true _ (λ e. none j (omega arith) (omega arith) (occurs j l e))
+
+    -- the first place that a search finds is the first at which the text begins
+    pub found_in_run : (place : ℕ) → FindsNeedle run text 0 (Some place) → ((k : ℕ) → k < start → begin_with text (drop k items) ≡ false) → Some (start + place) ≡ place_of_text text items
+    found_in_run place finds before =
+        let fits = finds.1.fits in
+        let here : begin_with text (drop (start + place) items) ≡ true =
+        ap (begin_with text) (at place (omega arith) ∙ ap (λ (r : List ℕ). as_items r ++ tail) (at_from_reads 0 run text place finds.1.fits finds.1.reads))
+        ∙ begins text (drop (place + length text) run) tail in
+        sym (
+        first_place_some (λ k. begin_with text (drop k items)) (length items + 1) (start + place) (omega (arith, as_long)) here
+        (λ k l.
+        ⊎_elim
+        (λ (sooner : k < start). before k sooner)
+        (λ (later : start ≤ k).
+        let j = k - start in
+        let same : k ≡ start + j = omega arith in
+        false_from_ne_true _ (λ e. finds.0.before j (omega arith) (omega arith) (occurs j (omega arith) (ap (λ m. begin_with text (drop m items)) (sym same) ∙ e))))
+        (cases_lt k start))
+        )
+
+    -- where no search found it, it begins nowhere up to the end of the run
+    pub nowhere_yet : FindsNeedle run text 0 None → ((k : ℕ) → k < start → begin_with text (drop k items) ≡ false) → (k : ℕ) → k < start + length run + 1 → begin_with text (drop k items) ≡ false
+    nowhere_yet none before k l =
+        ⊎_elim
+        (λ (sooner : k < start). before k sooner)
+        (λ (later : start ≤ k).
+        let j = k - start in
+        let same : k ≡ start + j = omega arith in
+        ap (λ m. begin_with text (drop m items)) same ∙ not_in_run none j (omega arith))
+        (cases_lt k start)
+
+-- where it begins at no place at all there is none
+pub nowhere : (text : List ℕ) (items : List Item) → ((k : ℕ) → k < length items + 1 → begin_with text (drop k items) ≡ false) → None ≡ place_of_text text items
+nowhere text items none = sym (first_place_none (λ k. begin_with text (drop k items)) (length items + 1) none)
+
+-- the end of the items, and a gap, end a run
+pub bound_end : (n : ℕ) (items : List Item) → length items ≤ n → IsBound (drop n items)
+bound_end n items l b rest e = absurd (omega (arith, length-drop n items, ap length e))
+
+pub bound_gap : (items : List Item) (i : ℕ) (gap : Item) → i < length items → gap ≡ get_or items i (Byte 0) → ((b : ℕ) → gap ≡ Byte b → ⊥) → IsBound (drop i items)
+bound_gap items i gap l is other b rest e = let next = drop_more items i (Byte 0) l in other b (let same : get_or items i (Byte 0) ≡ Byte b = cc in is ∙ same)
+
+-- a byte more in the run that is read
+pub run_more : (items : List Item) (start i : ℕ) (run : List ℕ) (b : ℕ) → i < length items → get_or items i (Byte 0) ≡ Byte b → drop start items ≡ as_items run ++ drop i items →
+    drop start items ≡ as_items (run ++ b ∷ []) ++ drop (i + 1) items
+run_more items start i run b l is so_far =
+    so_far
+    ∙ ap (λ (xs : List Item). as_items run ++ xs) (drop_more items i (Byte 0) l ∙ ap (λ item. item ∷ drop (i + 1) items) is)
+    ∙ sym (append_assoc (as_items run) (Byte b ∷ []) (drop (i + 1) items))
+    ∙ ap (λ (xs : List Item). xs ++ drop (i + 1) items) (sym (map-append Byte run (b ∷ [])))
+
+-- a null text occurs at once
+pub at_once : (text : List ℕ) (items : List Item) → text ≡ [] → Some 0 ≡ place_of_text text items
+at_once text items e =
+    sym (first_place_some (λ k. begin_with [] (drop k items)) (length items + 1) 0 (omega arith) refl (λ k l. absurd (omega arith)))
+    ∙ ap (λ (t : List ℕ). place_of_text t items) (sym e)
+
+-- the bytes up to the gap behind a run
+pub count_over_gap : (text : List ℕ) (items : List Item) (start : ℕ) (run : List ℕ) (i : ℕ) → start ≤ length items → drop start items ≡ as_items run ++ drop i items →
+    ((b : ℕ) → get_or items i (Byte 0) ≡ Byte b → ⊥) → (start + length run ≡ i) × (i < length items) → count (take (i + 1) items) ≡ count (take start items) + length run
+count_over_gap text items start run i within rest other here =
+    let gap : is_gap (get_or items i (Byte 0)) ≡ true = gap_from_no_byte (get_or items i (Byte 0)) other in
+    let run_at = count_at text items start run (drop i items) within rest (length run) (omega arith) in
+    let same = ap (λ k. count (take k items)) here.0 in
+    omega (arith, count_next items i (Byte 0) here.1, count_gap (get_or items i (Byte 0)) gap, run_at, same)
+  where
+    gap_from_no_byte : (item : Item) → ((b : ℕ) → item ≡ Byte b → ⊥) → is_gap item ≡ true
+    gap_from_no_byte (Byte b) other = absurd (other b refl)
+    gap_from_no_byte (Gap ordinal width) other = refl

@@ -1,0 +1,318 @@
+//! Reading a form at its pointer: what is given, and where the pointer goes. A pointer before a gap and one behind it are two
+//! places. Each call is measured before anything is built or moved.
+ghost use Rattle.std.specs.Prelude.{◌≡◌, ◌+◌, ◌++◌, ◌∷◌, [], ◌≤◌, ◌<◌, length, take, drop, position, option_map, IfOk, IfSome, OnOk, OnErr, IsOkUnless};
+ghost use Rattle.trac_rules.specs.Fronts.{IsFrontOf};
+ghost use Rattle.trac_rules.specs.Pieces.{at_most_all, bytes_in, char_read, count_read, is_gap, last_bytes, next_bytes, place_before, place_behind, place_of_text, segment_items, segment_read, until_read};
+ghost use Rattle.trac_forms.specs.Taken.{IsThere, taken};
+
+use crate::cutting::push_item;
+use crate::error::FormError;
+use crate::form::Form;
+use memchr::memmem::Finder;
+use std::alloc::Allocator;
+use trac_gap::TwoEnds;
+use trac_rules::item::Item;
+
+/// What a call reads of a form, measured: its bytes are the first `len` from the lesser of the form's and the piece's pointer
+/// on, with gaps passed and not given.
+#[derive(Clone, Copy, Debug, PartialEq, Eq)]
+pub struct Piece {
+    /// How many bytes are given.
+    pub len: usize,
+    /// How many items stand before the pointer afterwards.
+    pub pointer: usize,
+}
+
+impl<A: Allocator + Copy> Form<A> {
+    /// The bytes from the pointer up to the next gap, the pointer behind that gap; without a gap all bytes, the pointer at the
+    /// end. `None` where nothing stands after the pointer, no gap either. This is the rule of `cs`. It takes no memory.
+    pub fn read_segment(&self) -> Option<Piece>
+        ensures read { option_map (λ p. taken p self.now) result ≡ segment_read self.now }
+        ensures there { IfSome result (IsThere self.now) }
+    {
+        let after = self.after();
+        if after.is_empty() {
+            return None;
+        }
+        let reached = segment(after);
+        Some(Piece {
+            len: reached.bytes,
+            pointer: self.ahead(reached.items),
+        })
+    }
+
+    /// The next byte, the pointer right behind it; gaps before it are passed (this project's profile). `None` where no byte
+    /// stands after the pointer. This is the rule of `cc`. It takes no memory.
+    pub fn read_char(&self) -> Option<Piece>
+        ensures read { option_map (λ p. taken p self.now) result ≡ char_read self.now }
+        ensures there { IfSome result (IsThere self.now) }
+    {
+        self.read_next(1)
+    }
+
+    /// For `n` above 0 the next `n` bytes, or as many as there are, the pointer right behind the last of them. For `n` below 0
+    /// as many bytes before the pointer, in the order of the text, the pointer right before the first of them. For 0 null, the
+    /// pointer unmoved. Gaps are passed and not given (this project's profile). `None` where `n` is not 0 and no byte stands on
+    /// that side. This is the rule of `cn`. It takes no memory.
+    pub fn read_count(&self, n: i64) -> Option<Piece>
+        ensures read { option_map (λ p. taken p self.now) result ≡ count_read n self.now }
+        ensures there { IfSome result (IsThere self.now) }
+    {
+        // The least number has no negative: it is as many bytes as its absolute value says.
+        let count = n.unsigned_abs() as usize;
+        if n < 0 {
+            return self.read_last(count);
+        }
+        if n == 0 {
+            return Some(Piece {
+                len: 0,
+                pointer: self.pointer(),
+            });
+        }
+        self.read_next(count)
+    }
+
+    /// The bytes before the first occurrence of `text` after the pointer, the pointer right behind that occurrence. No
+    /// occurrence crosses a gap; a null text occurs at once, also at the end (this project's profile). `None` where it does not
+    /// occur. This is the rule of `in`.
+    ///
+    /// Refused with `Memory` where the allocator refuses: runs of bytes between gaps are copied for the search.
+    pub fn read_until(&self, text: &[u8]) -> Result<Option<Piece>, FormError>
+        ensures read { IfOk result (λ r. option_map (λ p. taken p self.now) r ≡ until_read text.now self.now) }
+        ensures there { IfOk result (λ r. IfSome r (IsThere self.now)) }
+        ensures err { IsOkUnless result FormError.Memory }
+    {
+        let Some(at) = place_of(self.alloc, text, self.after())? else {
+            return Ok(None);
+        };
+        Ok(Some(Piece {
+            len: at.bytes,
+            pointer: self.ahead(at.items + text.len()),
+        }))
+    }
+
+    /// Puts the bytes of a piece at the end of `out`: the first `piece.len` bytes from the lesser of the form's and the piece's
+    /// pointer on, with gaps passed. The pointer stays.
+    ///
+    /// Refused with `Memory` where the allocator refuses; then `out` still begins with what it held.
+    pub fn piece_into<B: Allocator>(
+        &self,
+        piece: &Piece,
+        out: &mut Vec<u8, B>,
+    ) -> Result<(), FormError>
+        ensures ok { OnOk result (out.new.items ≡ out.old.items ++ (taken piece.now self.now).value) }
+        ensures left { OnErr result (IsFrontOf out.old.items out.new.items) }
+        ensures err { IsOkUnless result FormError.Memory }
+    {
+        let before = self.before();
+        let behind = before.split_at(piece.pointer.min(before.len())).1;
+        let put = first_bytes_into(behind, piece.len, out)?;
+        first_bytes_into(self.after(), piece.len - put, out)?;
+        Ok(())
+    }
+
+    // The place that is so many items after the pointer.
+    fn ahead(&self, count: usize) -> usize
+        requires { count ≤ length self.now.after }
+        ensures { result ≡ length self.now.before + count }
+    {
+        self.items.left().len() + count
+    }
+
+    // The next `n` bytes, or as many as there are.
+    fn read_next(&self, n: usize) -> Option<Piece>
+        requires { 0 < n }
+        ensures read { option_map (λ p. taken p self.now) result ≡ next_bytes n self.now }
+        ensures there { IfSome result (IsThere self.now) }
+    {
+        let reached = reach(self.after(), n);
+        if reached.bytes == 0 {
+            return None;
+        }
+        Some(Piece {
+            len: reached.bytes,
+            pointer: self.ahead(reached.items),
+        })
+    }
+
+    // The last `n` bytes before the pointer, or as many as there are.
+    fn read_last(&self, n: usize) -> Option<Piece>
+        requires { 0 < n }
+        ensures read { option_map (λ p. taken p self.now) result ≡ last_bytes n self.now }
+        ensures there { IfSome result (IsThere self.now) }
+    {
+        let reached = reach_back(self.before(), n);
+        if reached.bytes == 0 {
+            return None;
+        }
+        Some(Piece {
+            len: reached.bytes,
+            pointer: reached.items,
+        })
+    }
+}
+
+// A place among items, and the bytes that are passed on the way to it.
+#[derive(Clone, Copy)]
+struct Reached {
+    items: usize,
+    bytes: usize,
+}
+
+// Whether an item is a gap.
+fn is_gap(item: Item) -> bool
+    ensures { result ≡ is_gap item }
+{
+    matches!(item, Item::Gap { .. })
+}
+
+// The items of the first segment: those up to the first gap and that gap, or all where there is none.
+fn segment(items: &[Item]) -> Reached
+    ensures items { result.items ≡ segment_items (position is_gap items.now) items.now }
+    ensures bytes { result.bytes ≡ length (bytes_in (take result.items items.now)) }
+    ensures within { result.items ≤ length items.now }
+{
+    let mut bytes = 0;
+    for item in items {
+        if is_gap(*item) {
+            return Reached {
+                items: bytes + 1,
+                bytes,
+            };
+        }
+        bytes += 1;
+    }
+    Reached {
+        items: bytes,
+        bytes,
+    }
+}
+
+// The place right behind the first `n` bytes of these items, or behind all bytes where there are fewer.
+fn reach(items: &[Item], n: usize) -> Reached
+    ensures place { Some result.items ≡ place_behind (at_most_all n items.now) items.now }
+    ensures bytes { result.bytes ≡ at_most_all n items.now }
+    ensures passed { result.bytes ≡ length (bytes_in (take result.items items.now)) }
+    ensures within { result.items ≤ length items.now }
+{
+    let mut reached = Reached { items: 0, bytes: 0 };
+    let mut passed = 0;
+    for item in items {
+        if reached.bytes == n {
+            return reached;
+        }
+        passed += 1;
+        if is_gap(*item) {
+            continue;
+        }
+        reached = Reached {
+            items: passed,
+            bytes: reached.bytes + 1,
+        };
+    }
+    reached
+}
+
+// The place right before the last `n` bytes of these items, or before all bytes where there are fewer.
+fn reach_back(items: &[Item], n: usize) -> Reached
+    ensures place { Some result.items ≡ place_before (at_most_all n items.now) items.now }
+    ensures bytes { result.bytes ≡ at_most_all n items.now }
+    ensures passed { result.bytes ≡ length (bytes_in (drop result.items items.now)) }
+    ensures within { result.items ≤ length items.now }
+{
+    let mut reached = Reached {
+        items: items.len(),
+        bytes: 0,
+    };
+    for passed in 0..items.len() {
+        if reached.bytes == n {
+            return reached;
+        }
+        let place = items.len() - passed - 1;
+        if is_gap(items[place]) {
+            continue;
+        }
+        reached = Reached {
+            items: place,
+            bytes: reached.bytes + 1,
+        };
+    }
+    reached
+}
+
+// The first place of a text among these items, if it occurs.
+fn place_of<A: Allocator>(
+    alloc: A,
+    text: &[u8],
+    items: &[Item],
+) -> Result<Option<Reached>, FormError>
+    ensures place { IfOk result (λ r. option_map (λ at. at.items) r ≡ place_of_text text.now items.now) }
+    ensures bytes { IfOk result (λ r. IfSome r (λ at. at.bytes ≡ length (bytes_in (take at.items items.now)))) }
+    ensures within { IfOk result (λ r. IfSome r (λ at. at.items + length text.now ≤ length items.now)) }
+    ensures err { IsOkUnless result FormError.Memory }
+{
+    if text.is_empty() {
+        return Ok(Some(Reached { items: 0, bytes: 0 }));
+    }
+    let finder = Finder::new(text);
+    // the run that is read so far, where it begins, and how many bytes stand before it
+    let mut run = Vec::new(alloc);
+    let mut start = Reached { items: 0, bytes: 0 };
+    for item in items {
+        if let Item::Byte(b) = *item {
+            push_item(b, &mut run)?;
+            continue;
+        }
+        if let Some(place) = finder.find(run.as_slice()) {
+            return Ok(Some(Reached {
+                items: start.items + place,
+                bytes: start.bytes + place,
+            }));
+        }
+        start = Reached {
+            items: start.items + run.len() + 1,
+            bytes: start.bytes + run.len(),
+        };
+        run.clear();
+    }
+    match finder.find(run.as_slice()) {
+        Some(place) => Ok(Some(Reached {
+            items: start.items + place,
+            bytes: start.bytes + place,
+        })),
+        None => Ok(None),
+    }
+}
+
+// Puts the first `most` bytes of these items, or as many as there are, at the end of `out`, and answers how many.
+fn first_bytes_into<B: Allocator>(
+    items: &[Item],
+    most: usize,
+    out: &mut Vec<u8, B>,
+) -> Result<usize, FormError>
+    ensures count { IfOk result (λ put. put ≡ at_most_all most items.now) }
+    ensures ok { OnOk result (out.new.items ≡ out.old.items ++ take most (bytes_in items.now)) }
+    ensures left { OnErr result (IsFrontOf out.old.items out.new.items) }
+    ensures err { IsOkUnless result FormError.Memory }
+{
+    let mut put = 0;
+    for item in items {
+        if put == most {
+            return Ok(put);
+        }
+        if let Item::Byte(b) = *item {
+            byte_into(b, out)?;
+            put += 1;
+        }
+    }
+    Ok(put)
+}
+
+// Puts a byte at the end of `out`.
+fn byte_into<B: Allocator>(b: u8, out: &mut Vec<u8, B>) -> Result<(), FormError>
+    ensures ok { OnOk result (out.new.items ≡ out.old.items ++ b ∷ []) }
+    ensures left { OnErr result (out.new.items ≡ out.old.items) }
+    ensures err { IsOkUnless result FormError.Memory }
+{
+    Ok(out.push(b)?)
+}

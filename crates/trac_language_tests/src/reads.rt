@@ -1,0 +1,108 @@
+//! Reading a form at its pointer: the value of each call and the place where the pointer goes. Each request for memory is
+//! refused in turn.
+use crate::samples::divided;
+use std::alloc::Global;
+use std::process::Abort;
+use std::test::Fail;
+use trac_faults::Refusing;
+use trac_forms::{Form, FormError, Piece};
+
+type Memory<'a> = &'a Refusing<Global>;
+
+// One call.
+#[derive(Clone, Copy)]
+enum Act {
+    Segment,
+    Char,
+    Count(i64),
+    Until(&'static [u8]),
+}
+
+type Given = Option<(&'static [u8], usize)>;
+
+// A place of the pointer in `a<1>bc<2>`, a call from there, and what it must give: the value and the new place, or none.
+const ROWS: &[(usize, Act, Given)] = &[
+    (0, Act::Segment, Some((b"a", 2))),
+    (1, Act::Segment, Some((b"", 2))),
+    (2, Act::Segment, Some((b"bc", 5))),
+    (4, Act::Segment, Some((b"", 5))),
+    (5, Act::Segment, None),
+    (0, Act::Char, Some((b"a", 1))),
+    (1, Act::Char, Some((b"b", 3))),
+    (4, Act::Char, None),
+    (0, Act::Count(2), Some((b"ab", 3))),
+    (0, Act::Count(i64::MAX), Some((b"abc", 4))),
+    (4, Act::Count(1), None),
+    (5, Act::Count(-2), Some((b"bc", 2))),
+    (3, Act::Count(-2), Some((b"ab", 0))),
+    (5, Act::Count(i64::MIN), Some((b"abc", 0))),
+    (0, Act::Count(-1), None),
+    (5, Act::Count(0), Some((b"", 5))),
+    (0, Act::Until(b"c"), Some((b"ab", 4))),
+    (0, Act::Until(b"ab"), None),
+    (2, Act::Until(b"bc"), Some((b"", 4))),
+    (5, Act::Until(b""), Some((b"", 5))),
+    (5, Act::Until(b"c"), None),
+];
+
+fn read(form: &Form<Memory<'_>>, act: Act) -> Result<Option<Piece>, FormError> {
+    match act {
+        Act::Segment => Ok(form.read_segment()),
+        Act::Char => Ok(form.read_char()),
+        Act::Count(n) => Ok(form.read_count(n)),
+        Act::Until(text) => form.read_until(text),
+    }
+}
+
+// What the piece gives, where one request may be refused.
+fn value_of<'a>(
+    memory: Memory<'a>,
+    form: &Form<Memory<'a>>,
+    piece: &Piece,
+) -> Result<Vec<u8, Memory<'a>>, FormError> {
+    let mut out = Vec::new(memory);
+    if form.piece_into(piece, &mut out).is_err() {
+        out.clear();
+        form.piece_into(piece, &mut out)?;
+    }
+    Ok(out)
+}
+
+fn expect_row(
+    rt: &impl Abort,
+    memory: Memory<'_>,
+    place: usize,
+    act: Act,
+    given: Given,
+) -> Result<(), FormError> {
+    let mut form = match divided(memory) {
+        Err(_) => divided(memory)?,
+        Ok(form) => form,
+    };
+    assert!(rt; place <= form.len());
+    form.set_pointer(place);
+    let piece = match read(&form, act) {
+        Err(_) => read(&form, act)?,
+        Ok(piece) => piece,
+    };
+    assert_eq!(rt; form.pointer(), place);
+    assert_eq!(rt;
+        piece.map(|piece| piece.pointer),
+        given.map(|given| given.1)
+    );
+    if let (Some(piece), Some((value, _))) = (piece, given) {
+        assert_eq!(rt; piece.len, value.len());
+        assert_eq!(rt; value_of(memory, &form, &piece)?.as_slice(), value);
+    }
+    Ok(())
+}
+
+#[test]
+fn each_request_of_reads(rt: HostRuntime) -> Result<(), Fail> {
+    let memory = Refusing::new(rt.alloc());
+    for (place, act, given) in ROWS.iter() {
+        let runs = memory.refuse_each(1_000, |_| expect_row(&rt, &memory, *place, *act, *given))?;
+        assert!(rt; runs > Some(1), "{runs:?} runs");
+    }
+    Ok(())
+}

@@ -1,0 +1,100 @@
+//! Calls that read a form at its pointer.
+ghost use Rattle.std.specs.Prelude.{◌≡◌, List, ℕ, Ok, Some, option_map, IfOk, IfSome, IsOkUnless};
+ghost use Rattle.std.specs.FinMap as finite;
+ghost use Rattle.trac_forms.specs.Taken.{IsThere, taken};
+ghost use Rattle.trac_forms.specs.Stored.{storage_in};
+ghost use Rattle.trac_rules.specs.Effect.{argument, forces};
+ghost use Rattle.trac_rules.specs.Handling.{default_argument, gives_piece, handled, piece_read};
+ghost use Rattle.trac_rules.specs.State.{Storage};
+ghost use Rattle.trac_rules.specs.declared.primitive.FormAction.TheVariants.{Read};
+ghost use Rattle.trac_prims.specs.Effects.{IsMade};
+
+use crate::args::Args;
+use crate::change::Change;
+use crate::decimals::number_at;
+use crate::made::Made;
+use std::alloc::Allocator;
+use trac_forms::{Form, Piece, Store};
+use trac_rules::primitive::FormReading;
+use trac_rules::refusal::Refusal;
+
+// `cs`, `cc`, `cn` and `in`: what is read of a form at its pointer, and the pointer where it stands then; where there is nothing
+// to read the default argument, which is forced.
+pub(crate) fn read<A: Allocator + Copy>(
+    alloc: A,
+    reading: FormReading,
+    args: &Args<'_>,
+    store: &Store<A>,
+) -> Result<Made<A>, Refusal>
+    ensures { IsMade (storage_in store.now) (handled (Read reading) args.now (storage_in store.now)) result }
+{
+    let name = args.get(1);
+    let Some(form) = store.get(name) else {
+        return Ok(Made::keeping(alloc));
+    };
+    match piece_of(reading, args, form)? {
+        Some(piece) => give(alloc, name, form, &piece),
+        None => force(alloc, args.get(default_place(reading))),
+    }
+}
+
+// What is read of a form with these arguments; none in the case of the default argument.
+fn piece_of<A: Allocator + Copy>(
+    reading: FormReading,
+    args: &Args<'_>,
+    form: &Form<A>,
+) -> Result<Option<Piece>, Refusal>
+    ensures read { IfOk result (λ found. option_map (λ piece. taken piece form.now) found ≡ piece_read reading args.now form.now) }
+    ensures there { IfOk result (λ found. IfSome found (IsThere form.now)) }
+    ensures err { IsOkUnless result Refusal.Memory }
+{
+    match reading {
+        FormReading::ReadSegment => Ok(form.read_segment()),
+        FormReading::ReadChar => Ok(form.read_char()),
+        FormReading::ReadCount => Ok(form.read_count(number_at(args, 2).unwrap_or(0))),
+        FormReading::ReadUntil => Ok(form.read_until(args.get(2))?),
+    }
+}
+
+// The number of the default argument.
+fn default_place(reading: FormReading) -> usize
+    ensures { (arguments : List (List ℕ)) → argument result arguments ≡ default_argument reading arguments }
+{
+    match reading {
+        FormReading::ReadSegment | FormReading::ReadChar => 2,
+        FormReading::ReadCount | FormReading::ReadUntil => 3,
+    }
+}
+
+// Gives a piece of the form of this name. Its value is made first: the pointer moves when the call is carried out.
+fn give<A: Allocator + Copy>(
+    alloc: A,
+    name: &[u8],
+    form: &Form<A>,
+    piece: &Piece,
+) -> Result<Made<A>, Refusal>
+    requires { IsThere form.now piece.now }
+    ensures { (other : List ℕ) (storage : Storage) → finite.get storage.forms name.now ≡ Some form.now →
+        IsMade storage (Ok (gives_piece (Some (taken piece.now form.now)) other name.now form.now storage)) result }
+{
+    let mut value = Vec::with_capacity(alloc, piece.len)?;
+    form.piece_into(piece, &mut value)?;
+    let name = Vec::from_slice(alloc, name)?;
+    Ok(Made {
+        value,
+        change: Change::Point(name, piece.pointer),
+        ..Made::keeping(alloc)
+    })
+}
+
+// Gives a text, forced.
+fn force<A: Allocator + Copy>(alloc: A, text: &[u8]) -> Result<Made<A>, Refusal>
+    ensures { (storage : Storage) → IsMade storage (Ok (forces text.now storage)) result }
+{
+    let value = Vec::from_slice(alloc, text)?;
+    Ok(Made {
+        value,
+        forced: true,
+        ..Made::keeping(alloc)
+    })
+}

@@ -1,0 +1,29 @@
+//! Sessions over memory of which a request may be refused.
+ghost use Rattle.std.specs.Prelude.{◌≤◌};
+
+use std::alloc::Global;
+use trac_faults::Refusing;
+use trac_rules::limit::JOURNAL_LIMIT;
+use trac_rules::refusal::Refusal;
+use trac_session::Session;
+
+/// Memory of which a request may be refused.
+pub(crate) type Memory<'a> = &'a Refusing<Global>;
+
+fn new_session(memory: Memory<'_>, limit: usize) -> Result<Session<Memory<'_>>, Refusal>
+    requires some { 1 ≤ limit }
+    requires most { limit ≤ JOURNAL_LIMIT }
+{
+    Session::new(memory, limit)
+}
+
+/// A session whose journal may hold so many records, where one request may be refused.
+pub(crate) fn made(memory: Memory<'_>, limit: usize) -> Result<Session<Memory<'_>>, Refusal>
+    requires some { 1 ≤ limit }
+    requires most { limit ≤ JOURNAL_LIMIT }
+{
+    let Ok(session) = new_session(memory, limit) else {
+        return new_session(memory, limit);
+    };
+    Ok(session)
+}

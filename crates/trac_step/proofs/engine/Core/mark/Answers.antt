@@ -1,0 +1,15 @@
+use Rattle.std.proofs.Common.{ap, subst, sym, arith}
+use Rattle.trac_step.specs.Layout.{parts_of, IsSound, Shown}
+use Rattle.trac_step.proofs.Changes.{marked_parts, sound_push, marks_of_view, has_marks}
+use Rattle.trac_step.proofs.engine.Core.mark.Goals as goal
+
+pub invariant_of-self-2 : goal.invariant_of-self-2
+invariant_of-self-2 g c =
+    let p = parts_of (g.E.TwoEnds.ends c.self.inside.text) (g.M.TwoEnds.ends c.self.inside.marks) c.self.inside.store c.self.inside.meta c.self.inside.trace c.self.inside.position c.self.inside.output in
+    let state_is = ap (λ (m : Shown). m.state) c.self.view_is in
+    let count = marks_of_view p c.args.self.now.state c.self.invariant state_is in
+    subst IsSound (sym (marked_parts (g.E.TwoEnds.ends c.self.inside.text) (g.E.TwoEnds.ends c.push_mark.new.text) (g.M.TwoEnds.ends c.self.inside.marks) (g.M.TwoEnds.ends c.push_mark.new.marks)
+    c.self.inside.store c.self.inside.meta c.self.inside.trace c.self.inside.position c.self.inside.output c.args.n c.args.frame
+    c.in_ok-push_mark.ensures.text c.in_ok-push_mark.ensures.marks))
+    (sound_push p c.args.n c.args.frame (g.M.TwoEnds.ends c.push_mark.new.marks).capacity c.self.invariant (omega (arith, count, c.requires.room)) (omega (arith, c.in_ok-push_mark.ensures.holds))
+    (λ e. has_marks p c.args.self.now.state c.self.invariant state_is (c.requires.inside e)))

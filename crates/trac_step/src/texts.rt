@@ -1,0 +1,77 @@
+//! The rules of scanning on the lists alone: the texts, and the marks.
+ghost use Rattle.std.specs.Prelude.{◌≡◌, ◌+◌, ◌<◌, ◌≤◌, [], ◌∷◌, ◌++◌, length, drop, IsOkUnless, OnErr, OnOk};
+ghost use Rattle.trac_gap.specs.Ends.{item_count};
+ghost use Rattle.trac_rules.specs.Bytes.{idle_program};
+ghost use Rattle.trac_rules.specs.Matching.{protected};
+ghost use Rattle.trac_step.specs.Calling.{mark_at, with_protected};
+
+use crate::ends;
+use crate::engine::IDLE_PROGRAM;
+use crate::matching::match_in;
+use std::alloc::Allocator;
+use trac_gap::TwoEnds;
+use trac_prims::Mark;
+use trac_rules::kind::Kind;
+use trac_rules::refusal::Refusal;
+
+// Takes a `(` away: what it protects goes to the left.
+pub(crate) fn take_protected<A: Allocator + Copy, E: TwoEnds<u8, A>>(text: &mut E)
+    requires { 0 < length (E.ends text.old).right }
+    ensures { E.ends text.new ≡ with_protected (protected (drop 1 (E.ends text.old).right)) (E.ends text.old) }
+{
+    text.cut_right(1);
+    if let Some(place) = match_in(text.right()) {
+        text.shift_left(place);
+        text.cut_right(1);
+    } else {
+        text.shift_left(text.right().len());
+    }
+}
+
+// Takes the first n bytes on the right away, and puts a mark behind all others, at the end of the text on the left.
+pub(crate) fn push_mark<A: Allocator + Copy, E: TwoEnds<u8, A>, M: TwoEnds<Mark, A>>(
+    text: &mut E,
+    marks: &mut M,
+    n: usize,
+    frame: Option<Kind>,
+) -> Result<(), Refusal>
+    requires { n ≤ length (E.ends text.old).right }
+    ensures text { OnOk result (E.ends text.new ≡ record (E.ends text.old) { right = drop n (E.ends text.old).right }) }
+    ensures marks { OnOk result ((M.ends marks.new).left ≡ (M.ends marks.old).left ++ mark_at (length (E.ends text.old).left) frame ∷ []) }
+    ensures holds { OnOk result (length (M.ends marks.old).left + 1 ≤ (M.ends marks.new).capacity) }
+    ensures room { (M.ends marks.old).capacity ≤ (M.ends marks.new).capacity }
+    ensures unchanged_text { OnErr result (E.ends text.new ≡ E.ends text.old) }
+    ensures unchanged_marks { OnErr result (M.ends marks.new ≡ M.ends marks.old) }
+    ensures err { IsOkUnless result Refusal.Memory }
+{
+    ends::reserve(marks, 1)?;
+    text.cut_right(n);
+    marks.push_left(Mark {
+        place: text.left().len(),
+        frame,
+    });
+    Ok(())
+}
+
+// Empties both lists, and puts the idle program on the right.
+pub(crate) fn restart<A: Allocator + Copy, E: TwoEnds<u8, A>, M: TwoEnds<Mark, A>>(
+    text: &mut E,
+    marks: &mut M,
+) -> Result<(), Refusal>
+    requires { (E.ends text.old).right ≡ [] }
+    ensures left { OnOk result ((E.ends text.new).left ≡ []) }
+    ensures right { OnOk result ((E.ends text.new).right ≡ idle_program) }
+    ensures holds { OnOk result (11 ≤ (E.ends text.new).capacity) }
+    ensures room { (E.ends text.old).capacity ≤ (E.ends text.new).capacity }
+    ensures marks { OnOk result ((M.ends marks.new).left ≡ []) }
+    ensures mark_room { (M.ends marks.new).capacity ≡ (M.ends marks.old).capacity }
+    ensures unchanged_text { OnErr result (E.ends text.new ≡ E.ends text.old) }
+    ensures unchanged_marks { OnErr result (M.ends marks.new ≡ M.ends marks.old) }
+    ensures err { IsOkUnless result Refusal.Memory }
+{
+    ends::reserve(text, IDLE_PROGRAM.len())?;
+    text.cut_left(text.left().len());
+    marks.cut_left(marks.left().len());
+    text.put_right(IDLE_PROGRAM);
+    Ok(())
+}
