@@ -75,7 +75,7 @@ impl<E: TwoEnds<u8, A>, M: TwoEnds<Mark, A>, A: Allocator + Copy> Core<E, M, A> 
         self.meta
     }
 
-    /// Whether each call is printed. No primitive turns the trace on yet.
+    /// Whether each call is printed.
     pub fn trace(&self) -> bool
         ensures { result ≡ self.now.state.trace }
     {
