@@ -20,7 +20,7 @@ CRATES = ("trac_rules", "trac_gap", "trac_forms")
 
 ROWS = [
     ("define", "define a form of 1 MiB"),
-    ("call", "call it, cut at each sixteenth byte"),
+    ("call", "call it, two of each sixteen bytes cut out"),
     ("point", "move its pointer to the end and back"),
     ("point_without_gaps", "the same for a form without gaps"),
     ("read", "read it byte by byte"),
