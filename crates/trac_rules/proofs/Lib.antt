@@ -15,3 +15,5 @@ pub mod Refusals
 pub mod Replies
 pub mod GoingOn
 pub mod OctalTexts
+pub mod Restored
+pub mod Weighed

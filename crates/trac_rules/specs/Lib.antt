@@ -21,6 +21,8 @@ pub mod Handling
 pub mod Outcomes
 pub mod Performing
 pub mod Stepping
+pub mod Records
+pub mod Weights
 pub mod Session
 pub mod Running
 pub mod GoingOn

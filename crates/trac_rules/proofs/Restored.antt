@@ -1,0 +1,247 @@
+-- The state before a step is got back from its record and the state after it.
+use Rattle.std.proofs.Common.{◌≡◌, ℕ, zero, suc, ◌+◌, ◌-◌, ◌<◌, ◌≤◌, Bool, true, false, List, [], ◌∷◌, ◌++◌, length, take, drop, reverse, get_or, map, refl, sym, ap, subst, ◌∙◌, arith, ⊎_elim}
+use Rattle.std.specs.Prelude.{Option, None, Some, Result, Ok, Err, nat_le, nat_lt, nat_eq, codes, is_some, if◌then◌else◌, option_map, option_and_then, ◌==◌}
+use Rattle.std.specs.Bool.{then_some}
+use Rattle.std.specs.List.{starts_with}
+use Rattle.std.proofs.lemmas.Bool.{eqb-true, le-leb}
+use Rattle.std.proofs.lemmas.Bool.Decides.{Decides-eqb}
+use Rattle.std.proofs.lemmas.List.{append-nil, append_assoc, drop_at, length-append, reverse-append, reverse-reverse, take-append-drop, take_at}
+use Rattle.std.proofs.lemmas.Option.{option_and_then_some}
+use Rattle.std.proofs.lemmas.Slice.Eq.{starts_is}
+use Rattle.trac_rules.specs.declared.byte.TheConstants.{OPENING, CLOSING, COMMA, SHARP}
+use Rattle.trac_rules.specs.declared.kind.Kind.{Kind}
+use Rattle.trac_rules.specs.declared.kind.Kind.TheVariants.{Active, Neutral}
+use Rattle.trac_rules.specs.declared.refusal.Refusal.{Refusal}
+use Rattle.trac_rules.specs.declared.refusal.Refusal.TheVariants.{JournalFull}
+use Rattle.trac_rules.specs.declared.scan.Front.{Front}
+use Rattle.trac_rules.specs.declared.scan.Front.TheVariants as front
+use Rattle.trac_rules.specs.Limits.{texts_fit}
+use Rattle.trac_rules.specs.Matching.{closes_at, match_of, protected, protected_up_to}
+use Rattle.trac_rules.specs.Outcomes.{seen_as}
+use Rattle.trac_rules.specs.Performing.{after_call, beginning_of, performed}
+use Rattle.trac_rules.specs.Proper.{IsProper, is_proper}
+use Rattle.trac_rules.specs.Records.{Record, Moved, Comma, Begun, Quoted, Deleted, Idle, Whole, all_before_last, closing_recorded, comma_recorded, ending_of, frame_of, last_of, led_back, moved_back, put_before, recorded, recorded_at, restored, state_before}
+use Rattle.trac_rules.specs.Scanning.{Call, Scanned, Moves, Calls, closing_in, comma_in, deleted, front_of, gather, gather_first, is_layout, scan, scan_at, sharp_before}
+use Rattle.trac_rules.specs.Session.{PlainSession, Step, accepted_by, answer, over, refused, repeated, stepped_to}
+use Rattle.trac_rules.specs.State.{Environment, Frame, State}
+use Rattle.trac_rules.specs.Stepping.{carried_out, step}
+use Rattle.trac_rules.proofs.Balanced.{first_place_cases, match_at, match_none, split_at_closing}
+use Rattle.trac_rules.proofs.Outcomes.{limited_Ok}
+use Rattle.trac_rules.proofs.ProperDecided.{proper_decided}
+use Rattle.trac_rules.proofs.ProperStates.{step_proper}
+
+-- ---- what the active text begins with
+
+-- a text begins as its front says
+abbrev BeginsSo : Front → List ℕ → Type 0
+BeginsSo front.Nothing text = text ≡ []
+BeginsSo front.Opening text = text ≡ codes "(" ++ drop 1 text
+BeginsSo front.Comma text = text ≡ codes "," ++ drop 1 text
+BeginsSo front.ActiveCall text = text ≡ beginning_of Active ++ drop 2 text
+BeginsSo front.NeutralCall text = text ≡ beginning_of Neutral ++ drop 3 text
+BeginsSo front text = text ≡ get_or text 0 0 ∷ drop 1 text
+
+-- a `#` before a text
+sharp_begins : (rest : List ℕ) (b : ℕ) → b ≡ SHARP → BeginsSo (sharp_before rest) (b ∷ rest)
+sharp_begins rest b sharp =
+    by_tests (starts_with nat_eq rest (codes "(")) (starts_with nat_eq rest (codes "#("))
+    (starts_is Decides-eqb rest (codes "(") (starts_with nat_eq rest (codes "(")) refl).0
+    (starts_is Decides-eqb rest (codes "#(") (starts_with nat_eq rest (codes "#(")) refl).0
+  where
+    by_tests : (one two : Bool) → (one ≡ true → rest ≡ codes "(" ++ drop 1 rest) → (two ≡ true → rest ≡ codes "#(" ++ drop 2 rest) →
+        BeginsSo (if one then front.ActiveCall else if two then front.NeutralCall else front.Sharp) (b ∷ rest)
+    by_tests true two first second = let e : rest ≡ codes "(" ++ drop 1 rest = first refl in λ i. sharp i ∷ e i
+    by_tests false true first second = let e : rest ≡ codes "#(" ++ drop 2 rest = second refl in λ i. sharp i ∷ e i
+    by_tests false false first second = refl
+
+begins_so : (text : List ℕ) → BeginsSo (front_of text) text
+begins_so [] = refl
+begins_so (b ∷ rest) =
+    by_tests (b == OPENING) (b == CLOSING) (b == COMMA) (b == SHARP) (is_layout b) (eqb-true b OPENING) (eqb-true b COMMA) (eqb-true b SHARP)
+  where
+    by_tests : (opening closing comma sharp layout : Bool) → (opening ≡ true → b ≡ OPENING) → (comma ≡ true → b ≡ COMMA) → (sharp ≡ true → b ≡ SHARP) →
+        BeginsSo (
+          if opening then front.Opening else
+          if closing then front.Closing else
+          if comma then front.Comma else
+          if sharp then sharp_before rest else
+          if layout then front.Layout else
+          front.Plain
+        ) (b ∷ rest)
+    by_tests true c m s l is_opening is_comma is_sharp = ap (λ x. x ∷ rest) (is_opening refl)
+    by_tests false true m s l is_opening is_comma is_sharp = refl
+    by_tests false false true s l is_opening is_comma is_sharp = ap (λ x. x ∷ rest) (is_comma refl)
+    by_tests false false false true l is_opening is_comma is_sharp = sharp_begins rest b (is_sharp refl)
+    by_tests false false false false true is_opening is_comma is_sharp = refl
+    by_tests false false false false false is_opening is_comma is_sharp = refl
+
+-- ---- the end of a text
+
+last_of-append : (text more : List ℕ) → last_of (length more) (text ++ more) ≡ more
+last_of-append text more = drop_at text more (length (text ++ more) - length more) (omega (arith, length-append text more))
+
+all_before_last-append : (text more : List ℕ) → all_before_last (length more) (text ++ more) ≡ text
+all_before_last-append text more = take_at text more (length (text ++ more) - length more) (omega (arith, length-append text more))
+
+fits-append : (text more : List ℕ) → nat_le (length more) (length (text ++ more)) ≡ true
+fits-append text more = le-leb (length more) (length (text ++ more)) (omega (arith, length-append text more))
+
+-- what was gathered goes back, also where a text was put before the active text since
+moved_back-gather : (frames : List Frame) (text more : List ℕ) (s : State) →
+    moved_back (length text) (put_before more (gather text (record s { frames = frames }))) ≡ Some (put_before text (put_before more (record s { frames = frames })))
+moved_back-gather [] text more s = rw (fits-append s.base text, last_of-append s.base text, all_before_last-append s.base text) refl
+moved_back-gather (f ∷ fs) text more s = rw (fits-append f.gathered text, last_of-append f.gathered text, all_before_last-append f.gathered text) refl
+
+-- a frame is that of its arguments, the gathered one last
+frame_of-last : (f : Frame) → frame_of f.kind (f.arguments ++ f.gathered ∷ []) ≡ Some f
+frame_of-last f = rw (reverse-append f.arguments (f.gathered ∷ []), reverse-reverse f.arguments) refl
+
+-- ---- what is protected
+
+-- a text splits at its match
+match_splits : (text : List ℕ) (k : ℕ) → match_of text ≡ Some k → text ≡ take k text ++ CLOSING ∷ drop (k + 1) text
+match_splits text k found =
+    ⊎_elim
+    (λ (none : (j : ℕ) → j < length text → closes_at text j ≡ false). absurd (let missing : match_of text ≡ None = match_none text none in cc))
+    (λ (some : (j : ℕ) × (j < length text) × (closes_at text j ≡ true) × ((i : ℕ) → i < j → closes_at text i ≡ false)).
+    let there : match_of text ≡ Some some.0 = match_at text some.0 some.2 some.3 some.1 in
+    let same : some.0 ≡ k = cc in
+    subst (λ (j : ℕ). text ≡ take j text ++ CLOSING ∷ drop (j + 1) text) same (split_at_closing text some.0 some.2 some.1))
+    (first_place_cases (closes_at text) (length text))
+
+-- a text is what is protected in it, the match, and what is behind that
+protected_parts : (text : List ℕ) → text ≡ (protected text).inner ++ (ending_of (is_some (match_of text)) ++ (protected text).rest)
+protected_parts text = by_match (match_of text) refl
+  where
+    by_match : (m : Option ℕ) → match_of text ≡ m → text ≡ (protected_up_to m text).inner ++ (ending_of (is_some m) ++ (protected_up_to m text).rest)
+    by_match None found = sym (append-nil text)
+    by_match (Some k) found = match_splits text k found
+
+-- ---- scanning
+
+-- what scanning leads to is led back by a record; a call has the whole state
+abbrev GoesBack : State → Record → Scanned → Type 0
+GoesBack s r (Moves t) = restored r t ≡ Some s
+GoesBack s r (Calls call) = r ≡ Whole s
+
+-- a byte goes back from the current text
+first_goes_back : (s : State) → s.active ≡ get_or s.active 0 0 ∷ drop 1 s.active → GoesBack s Moved (Moves (gather_first s))
+first_goes_back s e =
+    let one : length (take 1 s.active) ≡ 1 = ap (λ (text : List ℕ). length (take 1 text)) e in
+    ap (λ (n : ℕ). moved_back n (gather_first s)) (sym one)
+    ∙ moved_back-gather s.frames (take 1 s.active) [] (deleted 1 s)
+    ∙ ap (λ (text : List ℕ). Some (record s { active = text })) (take-append-drop 1 s.active)
+
+-- a protected text goes back from there
+protected_goes_back : (s : State) → s.active ≡ codes "(" ++ drop 1 s.active → GoesBack s (recorded_at front.Opening s) (scan_at front.Opening s)
+protected_goes_back s e =
+    let text : List ℕ = drop 1 s.active in
+    let end : List ℕ = ending_of (is_some (match_of text)) in
+    ap (option_map (put_before (codes "("))) (moved_back-gather s.frames (protected text).inner end (record s { active = (protected text).rest }))
+    ∙ ap (λ (all : List ℕ). Some (record s { active = codes "(" ++ all })) (sym (protected_parts text))
+    ∙ ap (λ (all : List ℕ). Some (record s { active = all })) (sym e)
+
+-- a comma goes back to the active text
+comma_goes_back : (frames : List Frame) (s : State) → s.active ≡ codes "," ++ drop 1 s.active →
+    GoesBack (record s { frames = frames }) (comma_recorded frames s) (Moves (comma_in frames (deleted 1 (record s { frames = frames }))))
+comma_goes_back [] s e =
+    let first : get_or s.active 0 0 ≡ COMMA = ap (λ (text : List ℕ). get_or text 0 0) e in
+    let whole : get_or s.active 0 0 ∷ drop 1 s.active ≡ s.active = ap (λ (b : ℕ). b ∷ drop 1 s.active) first ∙ sym e in
+    ap (λ (text : List ℕ). Some (record s { active = text; frames = [] })) whole
+comma_goes_back (f ∷ fs) s e =
+    ap (option_map (λ (g : Frame). put_before (codes ",") (record s { active = drop 1 s.active; frames = g ∷ fs }))) (frame_of-last f)
+    ∙ ap (λ (text : List ℕ). Some (record s { active = text; frames = f ∷ fs })) (sym e)
+
+-- and so does a `)` outside any function
+closing_goes_back : (frames : List Frame) (s : State) → s.active ≡ get_or s.active 0 0 ∷ drop 1 s.active →
+    GoesBack (record s { frames = frames }) (closing_recorded frames (record s { frames = frames })) (closing_in frames (deleted 1 (record s { frames = frames })))
+closing_goes_back [] s e = ap (λ (text : List ℕ). Some (record s { active = text; frames = [] })) (sym e)
+closing_goes_back (f ∷ fs) s e = refl
+
+-- each rule
+goes_back_at : (at : Front) (s : State) → BeginsSo at s.active → GoesBack s (recorded_at at s) (scan_at at s)
+goes_back_at front.Nothing s e = ap (λ (text : List ℕ). Some (record s { active = text })) (sym e)
+goes_back_at front.Opening s e = protected_goes_back s e
+goes_back_at front.Layout s e = ap (λ (text : List ℕ). Some (record s { active = text })) (sym e)
+goes_back_at front.Comma s e = comma_goes_back s.frames s e
+goes_back_at front.ActiveCall s e = ap (λ (text : List ℕ). Some (record s { active = text })) (sym e)
+goes_back_at front.NeutralCall s e = ap (λ (text : List ℕ). Some (record s { active = text })) (sym e)
+goes_back_at front.Sharp s e = first_goes_back s e
+goes_back_at front.Closing s e = closing_goes_back s.frames s e
+goes_back_at front.Plain s e = first_goes_back s e
+
+scan_goes_back : (s : State) → GoesBack s (recorded s) (scan s)
+unfolding scan
+scan_goes_back s = goes_back_at (front_of s.active) s (begins_so s.active)
+
+-- ---- a step
+
+-- what is carried out of that is led back
+carried_back : (e : Environment) (s t : State) (r : Record) (x : Scanned) → GoesBack s r x → carried_out e x ≡ Ok t → restored r t ≡ Some s
+carried_back e s t r (Moves u) back h = let same : u ≡ t = cc in subst (λ (v : State). restored r v ≡ Some s) same back
+carried_back e s t r (Calls call) back h = ap (λ (q : Record). restored q t) back
+
+-- where a proper state is restored, it is the one before
+before_of_restored : (r : Record) (s t : State) → IsProper s → restored r t ≡ Some s → state_before r t ≡ Some s
+unfolding state_before
+before_of_restored r s t proper back =
+    ap (option_and_then (λ (u : State). then_some (is_proper u) u)) back ∙ ap (λ (b : Bool). then_some b s) ((proper_decided s).1 proper)
+
+-- the state before, of the record of a step and the state after it, is the state
+pub step_goes_back : (e : Environment) (s t : State) → IsProper s → step e s ≡ Ok t → state_before (recorded s) t ≡ Some s
+unfolding step
+step_goes_back e s t proper h =
+    before_of_restored (recorded s) s t proper
+    (carried_back e s t (recorded s) (scan s) (scan_goes_back s) (limited_Ok texts_fit (carried_out e (scan s)) t h).0)
+
+-- a state before is proper
+pub before_proper : (r : Record) (s t : State) → state_before r t ≡ Some s → IsProper s
+unfolding state_before
+before_proper r s t h =
+    option_and_then_some (λ (u : State). then_some (is_proper u) u) (restored r t) s h (λ u back. by_test u (is_proper u) refl)
+  where
+    by_test : (u : State) (b : Bool) → is_proper u ≡ b → then_some b u ≡ Some s → IsProper s
+    by_test u true is same = let one : u ≡ s = cc in subst IsProper one ((proper_decided u).0 is)
+    by_test u false is same = absurd (cc)
+
+-- ---- steps of a session
+
+-- an accepted step leads to the next state, and adds the one before it to the list
+step_accepted : (p q : PlainSession) → accepted_by (answer Step p) ≡ Some q → (step (over p.tape) p.last ≡ Ok q.last) × (q.earlier ≡ p.last ∷ p.earlier)
+unfolding answer
+step_accepted p q h = by_room (nat_lt (length p.earlier) p.limit) h
+  where
+    by_outcome : (outcome : Result State Refusal) → accepted_by (stepped_to outcome p) ≡ Some q → (outcome ≡ Ok q.last) × (q.earlier ≡ p.last ∷ p.earlier)
+    by_outcome (Ok t) same =
+        let one : record p { earlier = p.last ∷ p.earlier; last = t } ≡ q = cc in
+        (ap (λ (x : PlainSession). Ok x.last) one, ap (λ (x : PlainSession). x.earlier) (sym one))
+    by_outcome (Err refusal) same = absurd (cc)
+
+    by_room : (b : Bool) → accepted_by (if b then stepped_to (step (over p.tape) p.last) p else refused JournalFull p) ≡ Some q →
+        (step (over p.tape) p.last ≡ Ok q.last) × (q.earlier ≡ p.last ∷ p.earlier)
+    by_room true same = by_outcome (step (over p.tape) p.last) same
+    by_room false same = absurd (cc)
+
+-- as many records lead back as there were steps
+abbrev IsLedBack : ℕ → PlainSession → PlainSession → Type 0
+IsLedBack n old new = led_back (take n (map recorded new.earlier)) new.last ≡ Some old.last
+
+walk_goes_back : (n : ℕ) (old new : PlainSession) → IsProper old.last → repeated Step n old ≡ Some new → IsLedBack n old new × IsProper new.last
+walk_goes_back zero old new proper h =
+    let same : old ≡ new = cc in
+    (ap (λ (p : PlainSession). Some p.last) (sym same), subst (λ (p : PlainSession). IsProper p.last) same proper)
+walk_goes_back (suc n) old new proper h =
+    option_and_then_some (λ (q : PlainSession). accepted_by (answer Step q)) (repeated Step n old) new h
+    (λ q there next. one_more q (walk_goes_back n old q proper there) (step_accepted q new next))
+  where
+    one_more : (q : PlainSession) → IsLedBack n old q × IsProper q.last → (step (over q.tape) q.last ≡ Ok new.last) × (new.earlier ≡ q.last ∷ q.earlier) →
+        IsLedBack (suc n) old new × IsProper new.last
+    one_more q before next = (
+      ap (λ (earlier : List State). led_back (take (suc n) (map recorded earlier)) new.last) next.1
+      ∙ ap (option_and_then (led_back (take n (map recorded q.earlier)))) (step_goes_back (over q.tape) q.last new.last before.1 next.0)
+      ∙ before.0,
+      step_proper (over q.tape) q.last new.last before.1 next.0,
+    )
+
+pub steps_go_back : (n : ℕ) (old new : PlainSession) → IsProper old.last → repeated Step n old ≡ Some new → IsLedBack n old new
+steps_go_back n old new proper h = (walk_goes_back n old new proper h).0
