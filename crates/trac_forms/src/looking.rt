@@ -1,5 +1,6 @@
 //! Looking at blocks.
 ghost use Rattle.std.specs.Prelude.{◌≡◌, ◌≤◌, ◌==◌, length, slice_get, None, Some, MatchOption};
+ghost use Rattle.trac_forms.specs.Stored.{AreApart};
 ghost use Rattle.trac_rules.specs.Blocks.{block_at};
 
 use crate::block::Block;
@@ -26,7 +27,8 @@ impl<A: Allocator + Copy> Store<A> {
 impl<A: Allocator + Copy> Block<A> {
     /// How many forms the block holds. It takes no memory.
     pub fn len(&self) -> usize
-        ensures { result ≡ length self.now.held }
+        ensures len { result ≡ length self.now.held }
+        ensures distinct { AreApart self.now.held }
     {
         self.entries.len()
     }
