@@ -26,7 +26,7 @@ abbrev pub moved_from : List (List ℕ) → Named → Held
 moved_from [] es = []
 moved_from (name ∷ names) es = with_name name (find (slice_cmp nat_cmp) name es) ++ moved_from names (removed name es)
 
-moved_out-held : (names : List (List ℕ)) (es : Named) → moved_out names (held es) ≡ moved_from names es
+pub moved_out-held : (names : List (List ℕ)) (es : Named) → moved_out names (held es) ≡ moved_from names es
 moved_out-held [] es = refl
 moved_out-held (name ∷ names) es =
     ap (λ found. with_name name found ++ moved_out names (finite.remove (held es) name)) (finite.get-from_entries nat_list_cmp_total es name)

@@ -20,3 +20,4 @@ pub mod GoingOn
 pub mod OctalTexts
 pub mod Restored
 pub mod Weighed
+pub mod Losses

@@ -1,11 +1,11 @@
 -- The state before a step is got back from its record and the state after it.
 use Rattle.std.proofs.Common.{◌≡◌, ℕ, zero, suc, ◌+◌, ◌-◌, ◌<◌, ◌≤◌, Bool, true, false, List, [], ◌∷◌, ◌++◌, length, take, drop, reverse, get_or, map, refl, sym, ap, subst, ◌∙◌, arith, ⊎_elim}
-use Rattle.std.specs.Prelude.{Option, None, Some, Result, Ok, Err, nat_le, nat_lt, nat_eq, codes, is_some, if◌then◌else◌, option_map, option_and_then, ◌==◌}
+use Rattle.std.specs.Prelude.{Option, None, Some, Result, Ok, Err, nat_le, nat_lt, nat_eq, codes, is_some, if◌then◌else◌, option_map, option_and_then, ◌==◌, ◌&&◌}
 use Rattle.std.specs.Bool.{then_some}
 use Rattle.std.specs.List.{starts_with}
 use Rattle.std.proofs.lemmas.Bool.{eqb-true, le-leb}
 use Rattle.std.proofs.lemmas.Bool.Decides.{Decides-eqb}
-use Rattle.std.proofs.lemmas.List.{append-nil, append_assoc, drop_at, length-append, reverse-append, reverse-reverse, take-append-drop, take_at}
+use Rattle.std.proofs.lemmas.List.{append-nil, append_assoc, drop_at, length-append, length-map, reverse-append, reverse-reverse, take-append-drop, take_all, take_at}
 use Rattle.std.proofs.lemmas.Option.{option_and_then_some}
 use Rattle.std.proofs.lemmas.Slice.Eq.{starts_is}
 use Rattle.trac_rules.specs.declared.byte.TheConstants.{OPENING, CLOSING, COMMA, SHARP}
@@ -20,7 +20,7 @@ use Rattle.trac_rules.specs.Matching.{closes_at, match_of, protected, protected_
 use Rattle.trac_rules.specs.Outcomes.{seen_as}
 use Rattle.trac_rules.specs.Performing.{after_call, beginning_of, performed}
 use Rattle.trac_rules.specs.Proper.{IsProper, is_proper}
-use Rattle.trac_rules.specs.Records.{Record, Moved, Comma, Begun, Quoted, Deleted, Idle, Whole, all_before_last, closing_recorded, comma_recorded, ending_of, frame_of, last_of, led_back, moved_back, put_before, recorded, recorded_at, restored, state_before}
+use Rattle.trac_rules.specs.Records.{Record, Moved, Comma, Begun, Quoted, Deleted, Idle, Whole, IsOfScanning, all_before_last, closing_recorded, comma_recorded, ending_of, frame_of, gathered_again_in, is_idle, last_of, led_back, moved_back, moved_back_in, not_begun_in, put_before, recorded, recorded_at, restored, state_before}
 use Rattle.trac_rules.specs.Scanning.{Call, Scanned, Moves, Calls, closing_in, comma_in, deleted, front_of, gather, gather_first, is_layout, scan, scan_at, sharp_before}
 use Rattle.trac_rules.specs.Session.{PlainSession, Step, accepted_by, answer, over, refused, repeated, stepped_to}
 use Rattle.trac_rules.specs.State.{Environment, Frame, State}
@@ -61,12 +61,12 @@ begins_so (b ∷ rest) =
   where
     by_tests : (opening closing comma sharp layout : Bool) → (opening ≡ true → b ≡ OPENING) → (comma ≡ true → b ≡ COMMA) → (sharp ≡ true → b ≡ SHARP) →
         BeginsSo (
-          if opening then front.Opening else
-          if closing then front.Closing else
-          if comma then front.Comma else
-          if sharp then sharp_before rest else
-          if layout then front.Layout else
-          front.Plain
+        if opening then front.Opening else
+        if closing then front.Closing else
+        if comma then front.Comma else
+        if sharp then sharp_before rest else
+        if layout then front.Layout else
+        front.Plain
         ) (b ∷ rest)
     by_tests true c m s l is_opening is_comma is_sharp = ap (λ x. x ∷ rest) (is_opening refl)
     by_tests false true m s l is_opening is_comma is_sharp = refl
@@ -238,10 +238,73 @@ walk_goes_back (suc n) old new proper h =
         IsLedBack (suc n) old new × IsProper new.last
     one_more q before next = (
       ap (λ (earlier : List State). led_back (take (suc n) (map recorded earlier)) new.last) next.1
-      ∙ ap (option_and_then (led_back (take n (map recorded q.earlier)))) (step_goes_back (over q.tape) q.last new.last before.1 next.0)
-      ∙ before.0,
+          ∙ ap (option_and_then (led_back (take n (map recorded q.earlier)))) (step_goes_back (over q.tape) q.last new.last before.1 next.0)
+          ∙ before.0,
       step_proper (over q.tape) q.last new.last before.1 next.0,
     )
 
 pub steps_go_back : (n : ℕ) (old new : PlainSession) → IsProper old.last → repeated Step n old ≡ Some new → IsLedBack n old new
 steps_go_back n old new proper h = (walk_goes_back n old new proper h).0
+
+-- all records of a session lead back over as many steps
+pub all_go_back : (n : ℕ) (old new : PlainSession) → IsProper old.last → repeated Step n old ≡ Some new → length new.earlier ≡ n →
+    led_back (map recorded new.earlier) new.last ≡ Some old.last
+all_go_back n old new proper h count =
+    let whole : take n (map recorded new.earlier) ≡ map recorded new.earlier =
+    take_all n (map recorded new.earlier) (omega (arith, length-map new.earlier recorded)) in
+    ap (λ (records : List Record). led_back records new.last) (sym whole) ∙ steps_go_back n old new proper h
+
+-- ---- records name no place of tape or output
+
+-- a state at another place of a tape, and with another output
+abbrev elsewhere : ℕ → List ℕ → State → State
+elsewhere position output s = record s { position = position; output = output }
+
+then_some-map : (f : State → State) (b : Bool) (s : State) → then_some b (f s) ≡ option_map f (then_some b s)
+then_some-map f true s = refl
+then_some-map f false s = refl
+
+moved_back-elsewhere : (p : ℕ) (o : List ℕ) (frames : List Frame) (n : ℕ) (t : State) →
+    moved_back_in frames n (elsewhere p o t) ≡ option_map (elsewhere p o) (moved_back_in frames n t)
+moved_back-elsewhere p o [] n t =
+    then_some-map (elsewhere p o) (nat_le n (length t.base)) (put_before (last_of n t.base) (record t { base = all_before_last n t.base }))
+moved_back-elsewhere p o (f ∷ fs) n t =
+    then_some-map (elsewhere p o) (nat_le n (length f.gathered))
+    (put_before (last_of n f.gathered) (record t { frames = record f { gathered = all_before_last n f.gathered } ∷ fs }))
+
+gathered_again-elsewhere : (p : ℕ) (o : List ℕ) (frames : List Frame) (t : State) →
+    gathered_again_in frames (elsewhere p o t) ≡ option_map (elsewhere p o) (gathered_again_in frames t)
+gathered_again-elsewhere p o [] t = refl
+gathered_again-elsewhere p o (f ∷ fs) t = by_parts (length f.gathered == 0) (frame_of f.kind f.arguments)
+  where
+    by_parts : (b : Bool) (g : Option Frame) →
+        (if b then option_map (λ (h : Frame). put_before (codes ",") (record (elsewhere p o t) { frames = h ∷ fs })) g else None)
+        ≡ option_map (elsewhere p o) (if b then option_map (λ (h : Frame). put_before (codes ",") (record t { frames = h ∷ fs })) g else None)
+    by_parts true None = refl
+    by_parts true (Some g) = refl
+    by_parts false g = refl
+
+not_begun-elsewhere : (p : ℕ) (o : List ℕ) (frames : List Frame) (t : State) →
+    not_begun_in frames (elsewhere p o t) ≡ option_map (elsewhere p o) (not_begun_in frames t)
+not_begun-elsewhere p o [] t = refl
+not_begun-elsewhere p o (f ∷ fs) t =
+    then_some-map (elsewhere p o) (length f.arguments == 0 && length f.gathered == 0) (put_before (beginning_of f.kind) (record t { frames = fs }))
+
+before-elsewhere : (p : ℕ) (o text : List ℕ) (x : Option State) →
+    option_map (put_before text) (option_map (elsewhere p o) x) ≡ option_map (elsewhere p o) (option_map (put_before text) x)
+before-elsewhere p o text None = refl
+before-elsewhere p o text (Some s) = refl
+
+-- what a record of scanning restores stands at the place of the state after, and has its output
+pub restored-elsewhere : (r : Record) (t : State) (p : ℕ) (o : List ℕ) → IsOfScanning r →
+    restored r (elsewhere p o t) ≡ option_map (elsewhere p o) (restored r t)
+restored-elsewhere Moved t p o of = moved_back-elsewhere p o t.frames 1 t
+restored-elsewhere Comma t p o of = gathered_again-elsewhere p o t.frames t
+restored-elsewhere Begun t p o of = not_begun-elsewhere p o t.frames t
+restored-elsewhere (Quoted inner closed) t p o of =
+    ap (option_map (put_before (codes "("))) (moved_back-elsewhere p o t.frames inner (put_before (ending_of closed) t))
+    ∙ before-elsewhere p o (codes "(") (moved_back inner (put_before (ending_of closed) t))
+restored-elsewhere (Deleted b) t p o of = refl
+restored-elsewhere (Idle base frames) t p o of =
+    then_some-map (elsewhere p o) (is_idle t) (record t { active = []; base = base; frames = frames })
+restored-elsewhere (Whole s) t p o of = absurd of

@@ -19,7 +19,7 @@ comma_within : (frames : List Frame) (s : State) → weight (comma_recorded fram
 comma_within [] s = omega arith
 comma_within (f ∷ fs) s = omega arith
 
-closing_within : (frames : List Frame) (s : State) → name_called (closing_in frames (deleted 1 s)) ≡ None → weight (closing_recorded frames s) ≤ closing_loss frames
+closing_within : (frames : List Frame) (s : State) → name_called (closing_in frames (deleted 1 s)) ≡ None → weight (closing_recorded frames s) ≤ closing_loss frames s
 closing_within [] s moves = omega arith
 closing_within (f ∷ fs) s moves = absurd (cc)
 

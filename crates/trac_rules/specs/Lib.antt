@@ -29,5 +29,6 @@ pub mod Running
 pub mod GoingOn
 -- Words in which the worked rows are said.
 pub mod Rows
+pub mod RecordRows
 -- How proofs store these values.
 pub mod Codes

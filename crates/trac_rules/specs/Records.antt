@@ -133,7 +133,12 @@ restored (Whole s) t = Some s
 unfoldable pub state_before : Record → State → Option State
 state_before r t = option_and_then (λ s. then_some (is_proper s) s) (restored r t)
 
--- the state from which records lead to this one, the newest first
+-- the state from which steps with these records lead to this one, the newest record first
 abbrev pub led_back : List Record → State → Option State
 led_back [] t = Some t
 led_back (r ∷ records) t = option_and_then (led_back records) (state_before r t)
+
+-- a record is one of scanning, and not of a call
+abbrev pub IsOfScanning : Record → Type 0
+IsOfScanning (Whole s) = ⊥
+IsOfScanning r = Unit {0}

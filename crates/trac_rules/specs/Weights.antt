@@ -1,21 +1,53 @@
--- What a step may cost the journal, by the state before it, and what a record weighs, by what it keeps: bytes, and one for each comma and
--- each frame.
-use Rattle.std.specs.Prelude.{ℕ, ◌+◌, ◌-◌, List, [], ◌∷◌, ◌++◌, length}
+-- What a record weighs, by what it keeps, and what a step may cost the journal, by the state before it: bytes of texts and names, items of
+-- forms, and one for each comma, frame and form. Lengths, places and flags are not weighed.
+use Rattle.std.specs.Prelude.{ℕ, ◌+◌, ◌-◌, List, [], ◌∷◌, ◌++◌, length, map, take, drop, Option, None, Some}
+use Rattle.std.specs.FinMap as finite
+use Rattle.std.specs.Option.{option_map_or}
+use Rattle.trac_rules.specs.declared.item.Item.{Item}
+use Rattle.trac_rules.specs.declared.item.Item.TheVariants.{Byte, Gap}
+use Rattle.trac_rules.specs.declared.primitive.BlockAction.{BlockAction}
+use Rattle.trac_rules.specs.declared.primitive.BlockAction.TheVariants.{StoreBlock, FetchBlock, EraseBlock}
+use Rattle.trac_rules.specs.declared.primitive.FormAction.{FormAction}
+use Rattle.trac_rules.specs.declared.primitive.FormAction.TheVariants.{Define, Delete, DeleteAll, Segment}
+use Rattle.trac_rules.specs.declared.primitive.Primitive.{Primitive}
+use Rattle.trac_rules.specs.declared.primitive.Primitive.TheVariants.{SetMeta, Handle, HandleBlock}
 use Rattle.trac_rules.specs.declared.scan.Front.{Front}
 use Rattle.trac_rules.specs.declared.scan.Front.TheVariants as front
+use Rattle.trac_rules.specs.Blocks.{block_at, forms_in, moved_out, named_block_number, with_name}
+use Rattle.trac_rules.specs.Effect.{argument}
+use Rattle.trac_rules.specs.Form.{Form, all_items}
+use Rattle.trac_rules.specs.Handling.{named_form, without}
 use Rattle.trac_rules.specs.Limits.{argument_bytes, marks, text_bytes, total_length}
+use Rattle.trac_rules.specs.Performing.{primitive_of}
 use Rattle.trac_rules.specs.Records.{Record, Moved, Comma, Begun, Quoted, Deleted, Idle, Whole}
 use Rattle.trac_rules.specs.Scanning.{front_of}
-use Rattle.trac_rules.specs.State.{Frame, State}
+use Rattle.trac_rules.specs.Segmenting.{segmented}
+use Rattle.trac_rules.specs.State.{Block, Forms, Frame, Held, State, Storage, storage_of}
 
 -- ---- what is kept
 
--- frames: of each the bytes of its arguments, one for each comma, and one
+-- frames: of each the bytes of its arguments, one for each comma between them, and one
 abbrev pub frames_weight : List Frame → ℕ
 frames_weight [] = 0
-frames_weight (f ∷ fs) = 1 + length f.arguments + total_length f.arguments + length f.gathered + frames_weight fs
+frames_weight (f ∷ fs) = 1 + total_length f.arguments + length f.arguments + length f.gathered + frames_weight fs
 
--- what a record weighs: lengths and flags are not weighed
+-- forms with their names: of each its items, the bytes of its name, and one
+abbrev pub held_weight : Held → ℕ
+held_weight [] = 0
+held_weight (entry ∷ held) = length (all_items entry.1) + length entry.0 + 1 + held_weight held
+
+-- blocks: the forms that they hold
+abbrev pub blocks_weight : List Block → ℕ
+blocks_weight [] = 0
+blocks_weight (block ∷ blocks) = held_weight (forms_in block) + blocks_weight blocks
+
+-- a state: its texts, the meta character among them, its frames, forms and blocks
+abbrev pub state_weight : State → ℕ
+state_weight s =
+    length s.active + length s.base + frames_weight s.frames + length s.output + 1
+    + held_weight (finite.entries s.forms) + blocks_weight s.blocks
+
+-- what a record weighs
 abbrev pub weight : Record → ℕ
 weight Moved = 0
 weight Comma = 0
@@ -23,21 +55,71 @@ weight Begun = 0
 weight (Quoted inner closed) = 0
 weight (Deleted b) = 1
 weight (Idle base frames) = length base + frames_weight frames
-weight (Whole s) = 0
+weight (Whole s) = state_weight s
 
--- ---- what may be lost
+-- ---- what a call may lose beside its arguments
 
--- of a `,`, the argument being the state's frames: outside any function it is lost
+-- the form of this name, where there is one
+abbrev pub form_loss : List ℕ → Forms → ℕ
+form_loss name forms = held_weight (with_name name (finite.get forms name))
+
+-- how many gaps there are among items
+abbrev pub gap_count : List Item → ℕ
+gap_count [] = 0
+gap_count (Byte b ∷ items) = gap_count items
+gap_count (Gap ordinal width ∷ items) = 1 + gap_count items
+
+-- how many gaps segmenting with these texts makes
+abbrev pub gaps_made : List (List ℕ) → Form → ℕ
+gaps_made texts form = gap_count (all_items (segmented texts form)) - gap_count (all_items form)
+
+-- a replaced form, the deleted forms, or one for each gap made
+abbrev pub handled_loss : FormAction → List (List ℕ) → Storage → ℕ
+handled_loss Define arguments storage = form_loss (argument 1 arguments) storage.forms
+handled_loss Delete arguments storage = held_weight (moved_out (drop 1 arguments) storage.forms)
+handled_loss DeleteAll arguments storage = held_weight (finite.entries storage.forms)
+handled_loss Segment arguments storage = option_map_or (gaps_made (drop 2 arguments)) (named_form arguments storage) 0
+handled_loss action arguments storage = 0
+
+-- the forms that copies of these replace
+abbrev pub replaced_loss : Held → Forms → ℕ
+replaced_loss held forms = held_weight (moved_out (map (λ entry. entry.0) held) forms)
+
+-- the replaced form, where it was not put aside; the forms that copies replace; the forms of the block, and the form that was its address
+abbrev pub block_loss : BlockAction → List (List ℕ) → Storage → ℕ
+block_loss StoreBlock arguments storage = form_loss (argument 1 arguments) (without (drop 2 arguments) storage.forms)
+block_loss FetchBlock arguments storage =
+    option_map_or (λ number. replaced_loss (forms_in (block_at number storage.blocks)) storage.forms) (named_block_number arguments storage) 0
+block_loss EraseBlock arguments storage =
+    option_map_or (λ number. held_weight (forms_in (block_at number storage.blocks)) + form_loss (argument 1 arguments) storage.forms)
+    (named_block_number arguments storage) 0
+
+-- one for a meta character that is set, or what is lost of forms and blocks
+abbrev pub primitive_loss : Primitive → List (List ℕ) → Storage → ℕ
+primitive_loss SetMeta arguments storage = length (take 1 (argument 1 arguments))
+primitive_loss (Handle action) arguments storage = handled_loss action arguments storage
+primitive_loss (HandleBlock action) arguments storage = block_loss action arguments storage
+primitive_loss primitive arguments storage = 0
+
+-- ---- what a step may lose
+
+-- a call of these arguments: their bytes, one for each comma between them, and what its primitive may lose
+abbrev pub call_loss : List (List ℕ) → Storage → ℕ
+call_loss arguments storage =
+    total_length arguments + (length arguments - 1) + primitive_loss (primitive_of (argument 0 arguments)) arguments storage
+
+-- of a `,`, the argument being the state's frames: outside any function the byte is lost
 abbrev pub comma_loss : List Frame → ℕ
 comma_loss [] = 1
 comma_loss (f ∷ fs) = 0
 
--- of a `)`, the argument being the state's frames: outside any function it is lost
-abbrev pub closing_loss : List Frame → ℕ
-closing_loss [] = 1
-closing_loss (f ∷ fs) = 0
+-- of a `)`, the first argument being the state's frames: outside any function the byte is lost, and else a function is performed
+abbrev pub closing_loss : List Frame → State → ℕ
+closing_loss [] s = 1
+closing_loss (f ∷ fs) s = call_loss (f.arguments ++ f.gathered ∷ []) (storage_of s)
 
 abbrev pub loss_at : Front → State → ℕ
+-- the base text and the arguments, one for each frame, and one for each finished argument
 loss_at front.Nothing s = length s.base + argument_bytes s.frames + marks s.frames
 loss_at front.Opening s = 0
 loss_at front.Layout s = 1
@@ -45,7 +127,7 @@ loss_at front.Comma s = comma_loss s.frames
 loss_at front.ActiveCall s = 0
 loss_at front.NeutralCall s = 0
 loss_at front.Sharp s = 0
-loss_at front.Closing s = closing_loss s.frames
+loss_at front.Closing s = closing_loss s.frames s
 loss_at front.Plain s = 0
 
 -- what the step from a state may cost the journal

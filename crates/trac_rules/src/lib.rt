@@ -11,6 +11,7 @@ pub mod limit;
 pub mod numbers;
 pub mod octals;
 pub mod primitive;
+pub mod records;
 pub mod refusal;
 pub mod reply;
 pub mod rows;

@@ -1,0 +1,92 @@
+//! Records of what a step destroys: laws, and worked rows.
+ghost use Rattle.std.specs.Prelude.{◌≡◌, ◌≤◌, ◌++◌, ◌∷◌, [], codes, map, option_map, replicate, take, List, None, Ok, Some, false, true, ℕ};
+ghost use Rattle.trac_rules.specs.Form.{defined, pointed_at};
+ghost use Rattle.trac_rules.specs.Proper.{IsProper};
+ghost use Rattle.trac_rules.specs.Records.{Begun, Comma, Deleted, Idle, IsOfScanning, Moved, Quoted, Record, led_back, recorded, restored, state_before};
+ghost use Rattle.trac_rules.specs.RecordRows.{Costs, losses_of, records_of};
+ghost use Rattle.trac_rules.specs.Rows.{replies_to, session_after, state_after, texts_of};
+ghost use Rattle.trac_rules.specs.Session.{Feed, PlainSession, Step, new_session, repeated};
+ghost use Rattle.trac_rules.specs.State.{Environment, State, initial};
+ghost use Rattle.trac_rules.specs.Stepping.{call_at, step};
+ghost use Rattle.trac_rules.specs.Weights.{loss, weight};
+ghost use Rattle.trac_rules.specs.declared.byte.TheConstants.{CLOSING, COMMA, TAB};
+ghost use Rattle.trac_rules.specs.declared.item.Item.TheVariants.{Byte, Gap};
+ghost use Rattle.trac_rules.specs.declared.kind.Kind.TheVariants.{Active, Neutral};
+ghost use Rattle.trac_rules.specs.declared.refusal.Refusal.TheVariants.{NeedInput};
+ghost use Rattle.trac_rules.specs.declared.reply.Reply.TheVariants.{Done, Refused};
+
+/// A record, with the state after its step, gives back the state before: nothing else holds what was lost.
+/// The state before is always a proper one. As many records as a session took steps lead back over all of them. A record of
+/// scanning knows no place of the tape and nothing of the output: what it restores stands where the state after stands.
+pub fn records_lead_back()
+    ensures each_step { (environment : Environment) (s t : State) → IsProper s → step environment s ≡ Ok t → state_before (recorded s) t ≡ Some s }
+    ensures only_proper { (r : Record) (s t : State) → state_before r t ≡ Some s → IsProper s }
+    ensures all_steps { (n : ℕ) (old new : PlainSession) → IsProper old.last → repeated Step n old ≡ Some new → led_back (take n (map recorded new.earlier)) new.last ≡ Some old.last }
+    ensures elsewhere { (r : Record) (t : State) (position : ℕ) (output : List ℕ) → IsOfScanning r →
+        restored r (record t { position = position; output = output }) ≡ option_map (λ (s : State). record s { position = position; output = output }) (restored r t) }
+{}
+
+/// The record of a step of scanning weighs no more than the step may lose.
+pub fn records_weigh_no_more()
+    ensures { (s : State) → call_at s ≡ None → weight (recorded s) ≤ loss s }
+{}
+
+/// What the steps of scanning keep, and what is got back from that.
+pub fn worked_records()
+    // The stray `)` of the input ends the idle program's `ps`; then `b` and `c` go to the base text, and the fifteenth step empties it.
+    ensures steps { replies_to (Feed (codes "a)b,c'") ∷ replicate 23 Step) (new_session 64) ≡ replicate 23 Done ++ Refused NeedInput ∷ [] }
+    ensures first_seven { records_of (session_after (Feed (codes "a)b,c'") ∷ replicate 7 Step) (new_session 64)) ≡ Moved ∷ Moved ∷ Begun ∷ Comma ∷ Moved ∷ Moved ∷ Begun ∷ [] }
+    ensures eleventh_to_fifteenth { take 5 (records_of (session_after (Feed (codes "a)b,c'") ∷ replicate 15 Step) (new_session 64))) ≡ Idle (codes "bc") [] ∷ Deleted CLOSING ∷ Moved ∷ Deleted COMMA ∷ Moved ∷ [] }
+    ensures all_back { led_back (records_of (session_after (Feed (codes "a)b,c'") ∷ replicate 22 Step) (new_session 64))) (state_after (Feed (codes "a)b,c'") ∷ replicate 22 Step) (new_session 64)) ≡ Some initial }
+    // Functions that are begun and never ended are emptied with the base text.
+    ensures begun_functions { recorded (state_after (Feed (codes ")x##(a,b#(c,d#(e'") ∷ replicate 21 Step) (new_session 64)) ≡ Idle (codes "x") (record { kind = Active; arguments = codes "c" ∷ []; gathered = codes "d" } ∷ record { kind = Neutral; arguments = codes "a" ∷ []; gathered = codes "b" } ∷ []) }
+    ensures begun_functions_weight { weight (Idle (codes "x") (record { kind = Active; arguments = codes "c" ∷ []; gathered = codes "d" } ∷ record { kind = Neutral; arguments = codes "a" ∷ []; gathered = codes "b" } ∷ [])) ≡ 9 }
+    // A protected text, with a match and without one.
+    ensures matched { recorded (record initial { active = codes "(a,(b))c"; base = codes "x" }) ≡ Quoted 5 true }
+    ensures matched_back { restored (Quoted 5 true) (record initial { active = codes "c"; base = codes "xa,(b)" }) ≡ Some (record initial { active = codes "(a,(b))c"; base = codes "x" }) }
+    ensures unmatched { recorded (record initial { active = codes "((a)"; base = codes "x" }) ≡ Quoted 3 false }
+    ensures unmatched_back { restored (Quoted 3 false) (record initial { active = []; base = codes "x(a)" }) ≡ Some (record initial { active = codes "((a)"; base = codes "x" }) }
+    ensures layout { recorded (record initial { active = TAB ∷ codes "a" }) ≡ Deleted TAB }
+    // An argument that is begun again, and a neutral function that is not.
+    ensures argument_back { restored Comma (record initial { active = codes "b"; frames = record { kind = Neutral; arguments = codes "x" ∷ codes "a" ∷ []; gathered = [] } ∷ [] }) ≡ Some (record initial { active = codes ",b"; frames = record { kind = Neutral; arguments = codes "x" ∷ []; gathered = codes "a" } ∷ [] }) }
+    ensures beginning_back { restored Begun (record initial { active = codes "b"; frames = record { kind = Neutral; arguments = []; gathered = [] } ∷ [] }) ≡ Some (record initial { active = codes "##(b" }) }
+    // A state that does not show what the record names.
+    ensures nothing_moved { state_before Moved initial ≡ None }
+    ensures too_little_protected { state_before (Quoted 3 true) (record initial { active = []; base = codes "ab" }) ≡ None }
+    ensures no_function { state_before Comma initial ≡ None }
+    ensures no_argument { state_before Comma (record initial { frames = record { kind = Active; arguments = []; gathered = [] } ∷ [] }) ≡ None }
+    ensures further_argument { state_before Comma (record initial { frames = record { kind = Active; arguments = codes "a" ∷ []; gathered = codes "b" } ∷ [] }) ≡ None }
+    ensures begun_with_text { state_before Begun (record initial { frames = record { kind = Active; arguments = []; gathered = codes "b" } ∷ [] }) ≡ None }
+    ensures begun_with_argument { state_before Begun (record initial { frames = record { kind = Active; arguments = codes "a" ∷ []; gathered = [] } ∷ [] }) ≡ None }
+    ensures not_idle { state_before (Idle (codes "b") []) (record initial { base = codes "a" }) ≡ None }
+{}
+
+/// What steps may cost the journal.
+pub fn worked_losses()
+    // Whole sessions: scanning, `rs`, `ps` and the idle step.
+    ensures text { losses_of (session_after (Feed (codes "AB'") ∷ replicate 19 Step) (new_session 64)) ≡ 7 }
+    ensures stray { losses_of (session_after (Feed (codes "a)b,c'") ∷ replicate 22 Step) (new_session 64)) ≡ 10 }
+    ensures begun_functions { loss (state_after (Feed (codes ")x##(a,b#(c,d#(e'") ∷ replicate 21 Step) (new_session 64)) ≡ 9 }
+    // A call loses its arguments and the commas between them, and a meta character that it sets.
+    ensures reading { Costs (texts_of (codes "rs")) [] [] 2 }
+    ensures printing { Costs (texts_of (codes "ps,")) [] [] 3 }
+    ensures meta { Costs (texts_of (codes "cm,;x")) [] [] 6 }
+    ensures null_meta { Costs (texts_of (codes "cm,")) [] [] 3 }
+    ensures calling { Costs (texts_of (codes "cl,F")) ((codes "F", defined (codes "abc")) ∷ []) [] 4 }
+    // Forms that are replaced or deleted: their items, their names, and one for each.
+    ensures defining { Costs (texts_of (codes "ds,a,1")) [] [] 6 }
+    ensures defining_again { Costs (texts_of (codes "ds,a,1")) ((codes "a", defined (codes "xyz")) ∷ []) [] 11 }
+    ensures deleting { Costs (texts_of (codes "dd,a")) ((codes "a", defined (codes "1")) ∷ []) [] 7 }
+    ensures deleting_twice { Costs (texts_of (codes "dd,a,c,a")) ((codes "a", defined (codes "1")) ∷ (codes "b", defined (codes "2")) ∷ []) [] 11 }
+    ensures deleting_all { Costs (texts_of (codes "da")) ((codes "a", defined (codes "1")) ∷ (codes "bc", defined (codes "xy")) ∷ []) [] 10 }
+    // Segmenting costs one for each gap that it makes.
+    ensures segmenting { Costs (texts_of (codes "ss,F,b")) ((codes "F", defined (codes "abcb")) ∷ []) [] 8 }
+    ensures segmenting_again { Costs (texts_of (codes "ss,F,b")) ((codes "F", pointed_at 1 (Gap 1 2 ∷ Byte 98 ∷ [])) ∷ []) [] 7 }
+    ensures segmenting_nothing { Costs (texts_of (codes "ss,F,b")) [] [] 6 }
+    // A form that is put aside is not lost; of the forms that a block's copies replace, all are.
+    ensures storing { Costs (texts_of (codes "sb,G,A")) ((codes "A", defined (codes "1")) ∷ (codes "G", defined (codes "xy")) ∷ []) [] 10 }
+    ensures storing_itself { Costs (texts_of (codes "sb,G,G")) ((codes "G", defined (codes "xy")) ∷ []) [] 6 }
+    ensures fetching { Costs (texts_of (codes "fb,G")) ((codes "A", defined (codes "9xx")) ∷ (codes "G", defined (codes "0")) ∷ []) (Some ((codes "A", defined (codes "1")) ∷ (codes "B", defined (codes "2")) ∷ []) ∷ []) 9 }
+    ensures erasing { Costs (texts_of (codes "eb,G")) ((codes "G", defined (codes "0")) ∷ []) (Some ((codes "A", defined (codes "1")) ∷ (codes "BB", defined (codes "2")) ∷ []) ∷ []) 14 }
+    ensures erasing_nothing { Costs (texts_of (codes "eb,G")) ((codes "G", defined (codes "1")) ∷ []) (Some ((codes "A", defined (codes "1")) ∷ []) ∷ []) 4 }
+{}
