@@ -1,24 +1,22 @@
 -- What calls on forms and blocks may lose, computed where the forms stand in a list.
-use Rattle.std.proofs.Common.{◌≡◌, ℕ, ◌+◌, ◌-◌, List, length, drop, map, refl, ap, ◌∙◌}
+use Rattle.std.proofs.Common.{◌≡◌, ℕ, ◌+◌, ◌-◌, List, length, drop, map, ap, ◌∙◌}
 use Rattle.std.specs.Prelude.{Option, None, Some}
 use Rattle.std.specs.Cmp.Lexicographic.{slice_cmp, nat_list_cmp_total}
 use Rattle.std.specs.FinMap as finite
 use Rattle.std.specs.FinMap.Entries.{find}
 use Rattle.std.specs.Option.{option_and_then, option_map_or}
 use Rattle.std.specs.Ordering.{nat_cmp}
-use Rattle.trac_rules.specs.declared.primitive.BlockAction.{BlockAction}
 use Rattle.trac_rules.specs.declared.primitive.BlockAction.TheVariants.{StoreBlock, FetchBlock, EraseBlock}
 use Rattle.trac_rules.specs.declared.primitive.FormAction.TheVariants.{Define, Delete, DeleteAll, Segment}
 use Rattle.trac_rules.specs.declared.primitive.Primitive.{Primitive}
 use Rattle.trac_rules.specs.declared.primitive.Primitive.TheVariants.{Handle, HandleBlock}
-use Rattle.trac_rules.specs.Blocks.{block_at, forms_in, moved_out, number_addressed, with_name}
+use Rattle.trac_rules.specs.Blocks.{block_at, forms_in, number_addressed, with_name}
 use Rattle.trac_rules.specs.Effect.{argument}
 use Rattle.trac_rules.specs.Form.{Form}
-use Rattle.trac_rules.specs.Handling.{without}
 use Rattle.trac_rules.specs.Limits.{total_length}
 use Rattle.trac_rules.specs.Performing.{primitive_of}
 use Rattle.trac_rules.specs.Rows.{Named}
-use Rattle.trac_rules.specs.State.{Block, Forms, Held, Storage}
+use Rattle.trac_rules.specs.State.{Block, Forms, Storage}
 use Rattle.trac_rules.specs.Weights.{call_loss, form_loss, gaps_made, held_weight, primitive_loss, replaced_loss}
 use Rattle.trac_rules.proofs.BlockCalls.{moved_from, moved_out-held}
 use Rattle.trac_rules.proofs.FormCalls.{all_removed, entries-held, held, in_order, without-held}

@@ -1,15 +1,14 @@
 -- The state before a step is got back from its record and the state after it.
-use Rattle.std.proofs.Common.{◌≡◌, ℕ, zero, suc, ◌+◌, ◌-◌, ◌<◌, ◌≤◌, Bool, true, false, List, [], ◌∷◌, ◌++◌, length, take, drop, reverse, get_or, map, refl, sym, ap, subst, ◌∙◌, arith, ⊎_elim}
+use Rattle.std.proofs.Common.{◌≡◌, ℕ, zero, suc, ◌+◌, ◌-◌, ◌<◌, Bool, true, false, List, [], ◌∷◌, ◌++◌, length, take, drop, get_or, map, refl, sym, ap, subst, ◌∙◌, arith, ⊎_elim}
 use Rattle.std.specs.Prelude.{Option, None, Some, Result, Ok, Err, nat_le, nat_lt, nat_eq, codes, is_some, if◌then◌else◌, option_map, option_and_then, ◌==◌, ◌&&◌}
 use Rattle.std.specs.Bool.{then_some}
 use Rattle.std.specs.List.{starts_with}
 use Rattle.std.proofs.lemmas.Bool.{eqb-true, le-leb}
 use Rattle.std.proofs.lemmas.Bool.Decides.{Decides-eqb}
-use Rattle.std.proofs.lemmas.List.{append-nil, append_assoc, drop_at, length-append, length-map, reverse-append, reverse-reverse, take-append-drop, take_all, take_at}
+use Rattle.std.proofs.lemmas.List.{append-nil, drop_at, length-append, length-map, reverse-append, reverse-reverse, take-append-drop, take_all, take_at}
 use Rattle.std.proofs.lemmas.Option.{option_and_then_some}
 use Rattle.std.proofs.lemmas.Slice.Eq.{starts_is}
 use Rattle.trac_rules.specs.declared.byte.TheConstants.{OPENING, CLOSING, COMMA, SHARP}
-use Rattle.trac_rules.specs.declared.kind.Kind.{Kind}
 use Rattle.trac_rules.specs.declared.kind.Kind.TheVariants.{Active, Neutral}
 use Rattle.trac_rules.specs.declared.refusal.Refusal.{Refusal}
 use Rattle.trac_rules.specs.declared.refusal.Refusal.TheVariants.{JournalFull}
@@ -17,11 +16,10 @@ use Rattle.trac_rules.specs.declared.scan.Front.{Front}
 use Rattle.trac_rules.specs.declared.scan.Front.TheVariants as front
 use Rattle.trac_rules.specs.Limits.{texts_fit}
 use Rattle.trac_rules.specs.Matching.{closes_at, match_of, protected, protected_up_to}
-use Rattle.trac_rules.specs.Outcomes.{seen_as}
-use Rattle.trac_rules.specs.Performing.{after_call, beginning_of, performed}
+use Rattle.trac_rules.specs.Performing.{beginning_of}
 use Rattle.trac_rules.specs.Proper.{IsProper, is_proper}
 use Rattle.trac_rules.specs.Records.{Record, Moved, Comma, Begun, Quoted, Deleted, Idle, Whole, IsOfScanning, all_before_last, closing_recorded, comma_recorded, ending_of, frame_of, gathered_again_in, is_idle, last_of, led_back, moved_back, moved_back_in, not_begun_in, put_before, recorded, recorded_at, restored, state_before}
-use Rattle.trac_rules.specs.Scanning.{Call, Scanned, Moves, Calls, closing_in, comma_in, deleted, front_of, gather, gather_first, is_layout, scan, scan_at, sharp_before}
+use Rattle.trac_rules.specs.Scanning.{Scanned, Moves, Calls, closing_in, comma_in, deleted, front_of, gather, gather_first, is_layout, scan, scan_at, sharp_before}
 use Rattle.trac_rules.specs.Session.{PlainSession, Step, accepted_by, answer, over, refused, repeated, stepped_to}
 use Rattle.trac_rules.specs.State.{Environment, Frame, State}
 use Rattle.trac_rules.specs.Stepping.{carried_out, step}

@@ -1,5 +1,5 @@
 -- Words for the worked rows of records.
-use Rattle.std.specs.Prelude.{◌≡◌, ℕ, ◌+◌, List, [], ◌∷◌, map}
+use Rattle.std.specs.Prelude.{◌≡◌, ℕ, ◌+◌, max, List, [], ◌∷◌, map}
 use Rattle.std.specs.FinMap as finite
 use Rattle.trac_rules.specs.Records.{Record, recorded}
 use Rattle.trac_rules.specs.Rows.{Named}
@@ -23,3 +23,12 @@ losses_of p = losses_from p.earlier
 -- a call of these arguments may lose so much where there are these forms and blocks
 abbrev pub Costs : List (List ℕ) → Named → List Block → ℕ → Type 0
 Costs arguments forms blocks n = call_loss arguments (record { forms = finite.from_entries forms; blocks = blocks }) ≡ n
+
+-- the most of these states by a measure
+abbrev pub most_of : (State → ℕ) → List State → ℕ
+most_of measure [] = 0
+most_of measure (s ∷ states) = max (measure s) (most_of measure states)
+
+-- the most that any state of such a session takes by a measure, as of the room of a machine
+abbrev pub most_in : (State → ℕ) → PlainSession → ℕ
+most_in measure p = most_of measure (p.last ∷ p.earlier)

@@ -63,10 +63,11 @@ recorded s = recorded_at (front_of s.active) s
 
 -- ---- the state before a step
 
--- the last n of a list, where there are so many, and all before them
+-- the last n bytes of a text, where there are so many
 abbrev pub last_of : ℕ → List ℕ → List ℕ
 last_of n text = drop (length text - n) text
 
+-- the text without them
 abbrev pub all_before_last : ℕ → List ℕ → List ℕ
 all_before_last n text = take (length text - n) text
 
@@ -119,7 +120,7 @@ abbrev pub is_idle : State → Bool
 is_idle s = bytes_eq s.active idle_program && length s.base == 0 && length s.frames == 0
 
 -- the state before, from a record and the state after, before the limits are looked at; none where the state after does not show what
--- the record names
+-- the record names. Of a protected text without a match it is not asked that the active text behind it is null
 abbrev pub restored : Record → State → Option State
 restored Moved t = moved_back 1 t
 restored Comma t = gathered_again_in t.frames t

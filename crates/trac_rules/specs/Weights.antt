@@ -1,6 +1,6 @@
 -- What a record weighs, by what it keeps, and what a step may cost the journal, by the state before it: bytes of texts and names, items of
 -- forms, and one for each comma, frame and form. Lengths, places and flags are not weighed.
-use Rattle.std.specs.Prelude.{ℕ, ◌+◌, ◌-◌, List, [], ◌∷◌, ◌++◌, length, map, take, drop, Option, None, Some}
+use Rattle.std.specs.Prelude.{ℕ, ◌+◌, ◌-◌, List, [], ◌∷◌, ◌++◌, length, map, take, drop}
 use Rattle.std.specs.FinMap as finite
 use Rattle.std.specs.Option.{option_map_or}
 use Rattle.trac_rules.specs.declared.item.Item.{Item}
@@ -17,7 +17,7 @@ use Rattle.trac_rules.specs.Blocks.{block_at, forms_in, moved_out, named_block_n
 use Rattle.trac_rules.specs.Effect.{argument}
 use Rattle.trac_rules.specs.Form.{Form, all_items}
 use Rattle.trac_rules.specs.Handling.{named_form, without}
-use Rattle.trac_rules.specs.Limits.{argument_bytes, marks, text_bytes, total_length}
+use Rattle.trac_rules.specs.Limits.{argument_bytes, marks, total_length}
 use Rattle.trac_rules.specs.Performing.{primitive_of}
 use Rattle.trac_rules.specs.Records.{Record, Moved, Comma, Begun, Quoted, Deleted, Idle, Whole}
 use Rattle.trac_rules.specs.Scanning.{front_of}

@@ -1,9 +1,10 @@
 //! Records of what a step destroys: laws, and worked rows.
-ghost use Rattle.std.specs.Prelude.{◌≡◌, ◌≤◌, ◌++◌, ◌∷◌, [], codes, map, option_map, replicate, take, List, None, Ok, Some, false, true, ℕ};
+ghost use Rattle.std.specs.Prelude.{◌≡◌, ◌≤◌, ◌++◌, ◌∷◌, [], codes, length, map, option_map, replicate, take, List, None, Ok, Some, false, true, ℕ};
 ghost use Rattle.trac_rules.specs.Form.{defined, pointed_at};
+ghost use Rattle.trac_rules.specs.Limits.{marks, text_bytes};
 ghost use Rattle.trac_rules.specs.Proper.{IsProper};
 ghost use Rattle.trac_rules.specs.Records.{Begun, Comma, Deleted, Idle, IsOfScanning, Moved, Quoted, Record, led_back, recorded, restored, state_before};
-ghost use Rattle.trac_rules.specs.RecordRows.{Costs, losses_of, records_of};
+ghost use Rattle.trac_rules.specs.RecordRows.{Costs, losses_of, most_in, records_of};
 ghost use Rattle.trac_rules.specs.Rows.{replies_to, session_after, state_after, texts_of};
 ghost use Rattle.trac_rules.specs.Session.{Feed, PlainSession, Step, new_session, repeated};
 ghost use Rattle.trac_rules.specs.State.{Environment, State, initial};
@@ -41,6 +42,10 @@ pub fn worked_records()
     // Functions that are begun and never ended are emptied with the base text.
     ensures begun_functions { recorded (state_after (Feed (codes ")x##(a,b#(c,d#(e'") ∷ replicate 21 Step) (new_session 64)) ≡ Idle (codes "x") (record { kind = Active; arguments = codes "c" ∷ []; gathered = codes "d" } ∷ record { kind = Neutral; arguments = codes "a" ∷ []; gathered = codes "b" } ∷ []) }
     ensures begun_functions_weight { weight (Idle (codes "x") (record { kind = Active; arguments = codes "c" ∷ []; gathered = codes "d" } ∷ record { kind = Neutral; arguments = codes "a" ∷ []; gathered = codes "b" } ∷ [])) ≡ 9 }
+    // The room that a machine needs to go there and back.
+    ensures text_room { most_in text_bytes (session_after (Feed (codes "AB'") ∷ replicate 11 Step) (new_session 64)) ≡ 11 }
+    ensures mark_room { most_in (λ s. marks s.frames) (session_after (Feed (codes "AB'") ∷ replicate 11 Step) (new_session 64)) ≡ 3 }
+    ensures output_room { most_in (λ s. length s.output) (session_after (Feed (codes "AB'") ∷ replicate 11 Step) (new_session 64)) ≡ 2 }
     // A protected text, with a match and without one.
     ensures matched { recorded (record initial { active = codes "(a,(b))c"; base = codes "x" }) ≡ Quoted 5 true }
     ensures matched_back { restored (Quoted 5 true) (record initial { active = codes "c"; base = codes "xa,(b)" }) ≡ Some (record initial { active = codes "(a,(b))c"; base = codes "x" }) }

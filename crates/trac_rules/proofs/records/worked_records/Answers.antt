@@ -56,6 +56,18 @@ returns-clause-begun_functions c = refl
 pub returns-clause-begun_functions_weight : goal.returns-clause-begun_functions_weight
 returns-clause-begun_functions_weight c = refl
 
+pub returns-clause-text_room : goal.returns-clause-text_room
+unfolding match_of scan texts_fit performed step answer
+returns-clause-text_room c = refl
+
+pub returns-clause-mark_room : goal.returns-clause-mark_room
+unfolding match_of scan texts_fit performed step answer
+returns-clause-mark_room c = refl
+
+pub returns-clause-output_room : goal.returns-clause-output_room
+unfolding match_of scan texts_fit performed step answer
+returns-clause-output_room c = refl
+
 pub returns-clause-matched : goal.returns-clause-matched
 unfolding match_of
 returns-clause-matched c = refl
