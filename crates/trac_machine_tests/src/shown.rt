@@ -5,7 +5,7 @@ use trac_gap::TwoEnds;
 use trac_step::{Args, Core, Kind, Mark};
 
 // Names under which the programs of these tests keep forms.
-const NAMES: [&[u8]; 7] = [b"", b"AA", b"BB", b"F", b"Factorial", b"a", b"b"];
+const NAMES: [&[u8]; 8] = [b"", b"AA", b"BB", b"F", b"Factorial", b"G", b"a", b"b"];
 
 fn add(out: &mut Vec<u8>, text: &[u8]) -> Result<(), AllocError> {
     Ok(out.extend_from_slice(text)?)

@@ -13,17 +13,23 @@ use trac_session::{Session, Walk};
 // A whole input, what it prints, and after how many steps it ends: 0 where no count is stated.
 type Run = (&'static [u8], &'static [u8], u64);
 
-// Each prints `AB`: in one part, in two, and by calls on a form.
-const SHORT_RUNS: [(&[u8], &[u8]); 3] = [
+// The input of a program that reads a form by segments, single bytes, counts and up to a text, sets the meta character, reads
+// one byte, turns the trace on and off, and halts before it prints what it has gathered.
+const EACH_READING: &[u8] =
+    b"#(ds,F,axbcy)#(ss,F,x,y)#(cs,F)#(cc,F)#(cn,F,-1)#(in,F,c)#(cm,;)'#(rc)xy#(tn)#(tf)z#(hl);w;";
+
+// Three print `AB`: in one part, in two, and by calls on a form.
+const SHORT_RUNS: [(&[u8], &[u8]); 4] = [
     (b"AB'", b"AB"),
     (b"#(ps,A)'B'", b"AB"),
     (
         b"#(ds,a,AxB)'#(ss,a,x)#(cl,a)#(cr,a)#(eq,#(ln,),a,,no)#(dd,a)#(pf,a)#(da)'",
         b"AB",
     ),
+    (EACH_READING, b"abbb#(tf)\n"),
 ];
 
-const RUNS: [Run; 11] = [
+const RUNS: [Run; 21] = [
     (b"", b"", 7),
     (b"AB'", b"AB", 19),
     (b"a(b", b"", 18),
@@ -43,6 +49,36 @@ const RUNS: [Run; 11] = [
         0,
     ),
     (b"#(ds,a,1)'#(dd,a)'#(ds,a,2)'#(cl,a)'", b"2", 0),
+    (
+        b"#(ds,F,AxB)'#(ss,F,x)'#(cs,F,none)'#(cs,F,none)'##(cs,F,(#(ad,1,2)))'#(cr,F)#(cl,F,-)'",
+        b"AB3A-B",
+        0,
+    ),
+    (
+        b"#(ds,F,abcde)'#(cn,F,3,Z);'#(cn,F,-2,Z);'#(cn,F,0,Z);'#(cn,F,9,Z);'#(cn,F,1,Z);'#(cr,F)#(cn,F,-1,Z)'",
+        b"abc;bc;;bcde;Z;Z",
+        0,
+    ),
+    (
+        b"#(ds,G,axbxc)#(ss,G,x)#(in,G,bc,no);#(in,G,c,no);#(cs,G,end)'",
+        b"no;ab;end",
+        0,
+    ),
+    (
+        b"#(tn)'#(ps,a)'#(tf)'",
+        b"#(ps*)\n#(rs)\n#(ps*a)\na#(ps*)\n#(rs)\n#(tf)\n",
+        0,
+    ),
+    (b"#(rc)'x'", b"x", 0),
+    (b"#(cm,;)'A;B;", b"AB", 0),
+    (b"#(ps,a)#(hl)#(ps,b)'c'", b"a", 0),
+    (b"#(#(#(#(#(#(#(#(#(#(#(#(#(#(#(#('", b"", 0),
+    (
+        b"#(ds,AA,Cat)'#(ds,BB,(#(cl,AA)))'#(ps,(#(cl,BB)))'#(ps,##(cl,BB))'#(ps,#(cl,BB))'",
+        b"#(cl,BB)#(cl,AA)Cat",
+        0,
+    ),
+    (EACH_READING, b"abbb#(tf)\n", 0),
 ];
 
 // What the session shows of its last state.
