@@ -56,8 +56,9 @@ def build(name, kind):
     form.write_text(text.replace("GapBuf", kind))
     built = subprocess.run(["rt", "run"], cwd=crates / "forms_bench", capture_output=True, text=True)
     program = crates / "forms_bench" / "out" / "forms_bench"
-    if not program.exists() or "logic=proved" not in built.stdout + built.stderr:
-        sys.exit(built.stdout + built.stderr)
+    said = built.stdout + built.stderr
+    if not program.exists() or ("logic=proved" not in said and "since the last proved build" not in said):
+        sys.exit(said)
     return program
 
 
@@ -66,6 +67,16 @@ def measure(found, *command):
     for line in subprocess.run(command, check=True, capture_output=True, text=True).stdout.splitlines():
         name, nanos = line.split()
         found.setdefault(name, []).append(int(nanos))
+
+
+def shown(nanos):
+    """A time in milliseconds."""
+    return f"{nanos / 1e6:.2f} ms" if nanos > 1e4 else "under 0.01 ms"
+
+
+def ratio(ours, other):
+    """How two times compare."""
+    return f"{ours / other:.2f}" if ours * 100 >= other else "under 0.01"
 
 
 def main():
@@ -80,12 +91,12 @@ def main():
     print("|---|---|---|---|")
     for name, text in ROWS:
         a, b = min(ours[name]), min(theirs[name])
-        print(f"| {text} | {a / 1e6:.2f} ms | {b / 1e6:.2f} ms | {a / b:.2f} |")
+        print(f"| {text} | {shown(a)} | {shown(b)} | {ratio(a, b)} |")
     print("\n| over `GapBuf` | once | twice as long | ratio |")
     print("|---|---|---|---|")
     for once, twice, text in DOUBLED:
         a, b = min(doubled[once]), min(doubled[twice])
-        print(f"| {text} | {a / 1e6:.1f} ms | {b / 1e6:.1f} ms | {b / a:.2f} |")
+        print(f"| {text} | {shown(a)} | {shown(b)} | {ratio(b, a)} |")
 
 
 if __name__ == "__main__":
