@@ -47,7 +47,7 @@ invariant_of-self g c =
     ∙ ap (λ (x : Ends ℕ). x.capacity) c.cut_function.ensures.text in
     subst IsSound (sym q_is)
     (ended_sound p c.args.beginning.number c.args.beginning.place c.args.beginning.kind found.0 found.1 front e (g.E.TwoEnds.ends c.put_value.new.text).capacity
-    (vec_capacity c.append.new.list) c.change_forms.new.store.known c.self.invariant (subst IsProper (sym shows) c.requires.proper)
+    (vec_capacity c.append.new.list) c.change_forms.new.store.known c.change_forms.new.store.spare c.self.invariant (subst IsProper (sym shows) c.requires.proper)
     (omega (arith, c.requires.room.text, ap (λ (m : Shown). m.text_room) c.self.view_is, ap (λ (s : State). text_bytes s) state_is, text_bytes-parts p c.self.invariant.ordered, kept)))
 
 pub returns-clause-state : goal.returns-clause-state
