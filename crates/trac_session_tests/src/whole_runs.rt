@@ -13,17 +13,21 @@ use trac_session::{Session, Walk};
 // A whole input, what it prints, and after how many steps it ends: 0 where no count is stated.
 type Run = (&'static [u8], &'static [u8], u64);
 
-// Each prints `AB`: in one part, in two, and by calls on a form.
-const SHORT_RUNS: [(&[u8], &[u8]); 3] = [
+// Three print `AB`: in one part, in two, and by calls on a form. The last one puts three forms aside and brings them back.
+const SHORT_RUNS: [(&[u8], &[u8]); 4] = [
     (b"AB'", b"AB"),
     (b"#(ps,A)'B'", b"AB"),
     (
         b"#(ds,a,AxB)'#(ss,a,x)#(cl,a)#(cr,a)#(eq,#(ln,),a,,no)#(dd,a)#(pf,a)#(da)'",
         b"AB",
     ),
+    (
+        b"#(ds,A,1)#(ds,B,2)#(ds,a,3)#(sb,G,A,B,a)#(fb,G)#(eb,G)#(cl,A)#(cl,B)#(cl,a)'",
+        b"123",
+    ),
 ];
 
-const RUNS: [Run; 11] = [
+const RUNS: [Run; 15] = [
     (b"", b"", 7),
     (b"AB'", b"AB", 19),
     (b"a(b", b"", 18),
@@ -35,6 +39,27 @@ const RUNS: [Run; 11] = [
     (
         b"#(ds,Factorial,(#(eq,X,1,1,(#(ml,X,#(cl,Factorial,#(su,X,1)))))))'#(ss,Factorial,X)'#(cl,Factorial,5)'",
         b"120",
+        0,
+    ),
+    (
+        b"#(ds,A,1)'#(ds,B,2)'#(sb,G,A,C,B,A)'#(ln,;)'#(cl,G)'#(ds,A,9)#(fb,G)#(cl,A)#(cl,B)'#(eb,G)#(ln,;)'",
+        b";G012;A;B",
+        0,
+    ),
+    (
+        b"#(ds,G,x)#(sb,G,G)#(pf,G)#(fb,G)#(pf,G)#(eb,G)#(cl,G)'",
+        b"<^>0<^>xx",
+        0,
+    ),
+    (
+        b"#(sb,E)#(sb,F)#(cl,E);#(cl,F)'#(eb,E)#(sb,E)#(cl,E)'",
+        b"0;12",
+        0,
+    ),
+    // A pointer that moves in a copy stays where it is in the block.
+    (
+        b"#(ds,A,axb)#(ss,A,x)#(cc,A)#(ds,B,2)#(ds,a,3)#(sb,G,A,B,a)#(fb,G)#(cc,A)#(fb,G)#(pf,A)'",
+        b"a<^><1>bab",
         0,
     ),
     (
