@@ -1,5 +1,5 @@
 -- Blocks as they are kept, and the forms in one of them.
-use Rattle.std.proofs.Common.{◌≡◌, ℕ, ◌+◌, ◌<◌, ◌≤◌, List, [], ◌∷◌, ◌++◌, Bool, true, false, ap, arith, get_or, length, map, subst, sym, take, ◌∙◌}
+use Rattle.std.proofs.Common.{◌≡◌, ℕ, ◌+◌, ◌<◌, ◌≤◌, List, [], ◌∷◌, ◌++◌, false, ap, arith, get_or, length, map, subst, sym, take, ◌∙◌}
 use Rattle.std.specs.Prelude.{MatchOption, Option, None, Some, Vec, bytes_eq, option_map, option_to_list, slice_get, slice_set, vec_capacity, vec_len}
 use Rattle.std.specs.List.{AllByRecursion, IsDistinct, list_any}
 use Rattle.std.specs.Vec.{with_item}

@@ -1,5 +1,6 @@
 //! Looking at blocks.
-ghost use Rattle.std.specs.Prelude.{◌≡◌, ◌≤◌, ◌==◌, length, slice_get, None, Some, MatchOption};
+ghost use Rattle.std.specs.Prelude.{◌≡◌, ◌<◌, ◌≤◌, ◌^◌, ◌==◌, length, slice_get, None, Some, MatchOption};
+ghost use Rattle.trac_forms.specs.Stored.{AreApart};
 ghost use Rattle.trac_rules.specs.Blocks.{block_at};
 
 use crate::block::Block;
@@ -10,7 +11,8 @@ use std::alloc::Allocator;
 impl<A: Allocator + Copy> Store<A> {
     /// How many blocks there are, erased ones counted. It takes no memory.
     pub fn block_count(&self) -> usize
-        ensures { result ≡ length self.now.blocks }
+        ensures count { result ≡ length self.now.blocks }
+        ensures within { length self.now.blocks < 2 ^ 63 }
     {
         self.blocks.len()
     }
@@ -26,7 +28,8 @@ impl<A: Allocator + Copy> Store<A> {
 impl<A: Allocator + Copy> Block<A> {
     /// How many forms the block holds. It takes no memory.
     pub fn len(&self) -> usize
-        ensures { result ≡ length self.now.held }
+        ensures len { result ≡ length self.now.held }
+        ensures distinct { AreApart self.now.held }
     {
         self.entries.len()
     }

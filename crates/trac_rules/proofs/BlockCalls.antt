@@ -15,10 +15,10 @@ use Rattle.trac_rules.specs.declared.refusal.Refusal.TheVariants.{TooLong}
 use Rattle.trac_rules.specs.Blocks.{block_at, block_fits, block_handled, erased, fetching, forms_in, moved_out, number_addressed, on_block, with_all, with_name}
 use Rattle.trac_rules.specs.Effect.{Effect, argument, leaves}
 use Rattle.trac_rules.specs.Form.{Form, defined}
-use Rattle.trac_rules.specs.Handling.{keeping, putting, without}
+use Rattle.trac_rules.specs.Handling.{putting, without}
 use Rattle.trac_rules.specs.Performing.{effect_of, primitive_of}
 use Rattle.trac_rules.specs.Rows.{Named, Turns, with_storage}
-use Rattle.trac_rules.specs.State.{Block, Forms, Held, Storage, storage_of}
+use Rattle.trac_rules.specs.State.{Block, Forms, Held, Storage}
 use Rattle.trac_rules.proofs.FormCalls.{all_removed, entries-held, held, held-removed, in_order, judged, putting-held, removed, same_held, without-held}
 
 -- forms that are moved out of a list

@@ -7,7 +7,7 @@ use Rattle.trac_rules.specs.declared.reply.Reply.{Reply}
 use Rattle.trac_rules.specs.declared.item.Item.{Item}
 use Rattle.trac_rules.specs.declared.item.Item.TheVariants.{Byte, Gap}
 use Rattle.trac_rules.specs.Effect.{argument, forces, leaves}
-use Rattle.trac_rules.specs.Form.{Form, pointed_at}
+use Rattle.trac_rules.specs.Form.{pointed_at}
 use Rattle.trac_rules.specs.Performing.{effect_of, primitive_of}
 use Rattle.trac_rules.specs.State.{Block, Environment, Held, State, storage_of}
 use Rattle.trac_rules.specs.Session.{PlainSession, Command, answer}
