@@ -18,8 +18,8 @@ type Run = (&'static [u8], &'static [u8], u64);
 const EACH_READING: &[u8] =
     b"#(ds,F,axbcy)#(ss,F,x,y)#(cs,F)#(cc,F)#(cn,F,-1)#(in,F,c)#(cm,;)'#(rc)xy#(tn)#(tf)z#(hl);w;";
 
-// Three print `AB`: in one part, in two, and by calls on a form.
-const SHORT_RUNS: [(&[u8], &[u8]); 4] = [
+// Three print `AB`: in one part, in two, and by calls on a form. The last one puts three forms aside and brings them back.
+const SHORT_RUNS: [(&[u8], &[u8]); 5] = [
     (b"AB'", b"AB"),
     (b"#(ps,A)'B'", b"AB"),
     (
@@ -27,9 +27,13 @@ const SHORT_RUNS: [(&[u8], &[u8]); 4] = [
         b"AB",
     ),
     (EACH_READING, b"abbb#(tf)\n"),
+    (
+        b"#(ds,A,1)#(ds,B,2)#(ds,a,3)#(sb,G,A,B,a)#(fb,G)#(eb,G)#(cl,A)#(cl,B)#(cl,a)'",
+        b"123",
+    ),
 ];
 
-const RUNS: [Run; 21] = [
+const RUNS: [Run; 25] = [
     (b"", b"", 7),
     (b"AB'", b"AB", 19),
     (b"a(b", b"", 18),
@@ -41,6 +45,27 @@ const RUNS: [Run; 21] = [
     (
         b"#(ds,Factorial,(#(eq,X,1,1,(#(ml,X,#(cl,Factorial,#(su,X,1)))))))'#(ss,Factorial,X)'#(cl,Factorial,5)'",
         b"120",
+        0,
+    ),
+    (
+        b"#(ds,A,1)'#(ds,B,2)'#(sb,G,A,C,B,A)'#(ln,;)'#(cl,G)'#(ds,A,9)#(fb,G)#(cl,A)#(cl,B)'#(eb,G)#(ln,;)'",
+        b";G012;A;B",
+        0,
+    ),
+    (
+        b"#(ds,G,x)#(sb,G,G)#(pf,G)#(fb,G)#(pf,G)#(eb,G)#(cl,G)'",
+        b"<^>0<^>xx",
+        0,
+    ),
+    (
+        b"#(sb,E)#(sb,F)#(cl,E);#(cl,F)'#(eb,E)#(sb,E)#(cl,E)'",
+        b"0;12",
+        0,
+    ),
+    // A pointer that moves in a copy stays where it is in the block.
+    (
+        b"#(ds,A,axb)#(ss,A,x)#(cc,A)#(ds,B,2)#(ds,a,3)#(sb,G,A,B,a)#(fb,G)#(cc,A)#(fb,G)#(pf,A)'",
+        b"a<^><1>bab",
         0,
     ),
     (
