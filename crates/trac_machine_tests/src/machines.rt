@@ -17,7 +17,7 @@ type Memory<'a> = &'a Refusing<Global>;
 type PlainMachine<'a> = Core<PlainEnds<u8, Memory<'a>>, PlainEnds<Mark, Memory<'a>>, Memory<'a>>;
 
 // Whole inputs, and what they print. Each run ends with its input.
-const RUNS: [(&[u8], &[u8]); 40] = [
+const RUNS: [(&[u8], &[u8]); 44] = [
     (b"", b""),
     (b"AB'", b"AB"),
     (
@@ -61,6 +61,23 @@ const RUNS: [(&[u8], &[u8]); 40] = [
     (
         b"#(ds,F,abcabc)'#(ss,F,b,ca)'#(pf,F)#(cl,F,-,+)'",
         b"<^>a<1><2><1>ca-+-c",
+    ),
+    (
+        b"#(ds,A,1)'#(ds,B,2)'#(sb,G,A,C,B,A)'#(ln,;)'#(cl,G)'#(ds,A,9)#(fb,G)#(cl,A)#(cl,B)'#(eb,G)#(ln,;)'",
+        b";G012;A;B",
+    ),
+    (
+        b"#(ds,G,x)#(sb,G,G)#(pf,G)#(fb,G)#(pf,G)#(eb,G)#(cl,G)'",
+        b"<^>0<^>xx",
+    ),
+    (
+        b"#(sb,E)#(sb,F)#(cl,E);#(cl,F)'#(eb,E)#(sb,E)#(cl,E)'",
+        b"0;12",
+    ),
+    // A pointer that moves in a copy stays where it is in the block.
+    (
+        b"#(ds,A,axb)#(ss,A,x)#(cc,A)#(ds,B,2)#(ds,a,3)#(sb,G,A,B,a)#(fb,G)#(cc,A)#(fb,G)#(pf,A)'",
+        b"a<^><1>bab",
     ),
     (b"#(ds,b,1)#(ds,a,2)##(ln,(,))'", b",a,b"),
     (b"#(ds,,x)#(cl,)'", b"x"),
