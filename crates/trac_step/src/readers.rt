@@ -61,7 +61,8 @@ impl<E: TwoEnds<u8, A>, M: TwoEnds<Mark, A>, A: Allocator + Copy> Core<E, M, A> 
         Some(function.arguments.get(0))
     }
 
-    /// The forms by their names, the blocks, the names that have a place, and how many more blocks have one.
+    /// The forms by their names, the blocks, the names that have a place, and how many more blocks have one
+    /// (this project's profile).
     pub fn store(&self) -> &Store<A>
         ensures { result.now ≡ record { forms = self.now.state.forms; blocks = self.now.state.blocks; known = self.now.known; spare = self.now.spare } }
     {
