@@ -28,8 +28,8 @@ impl<A: Allocator + Copy> Store<A> {
     }
 
     /// Makes the store hold the forms and blocks of `earlier` and no others, with the places that are spare there. The names that
-    /// it knows stay known, and no others become so; each name of a form of `earlier` has to be among them. It takes no memory
-    /// (this project's profile).
+    /// it knows stay known, and no others become so; each name of a form of `earlier` has to be among them.
+    /// It takes no memory (this project's profile).
     pub fn restore(&mut self, earlier: Store<A>)
         requires { KnowsAll self.old.known earlier.forms }
         ensures { self.new ≡ record self.old { forms = earlier.forms; blocks = earlier.blocks; spare = earlier.spare } }
