@@ -1,6 +1,6 @@
 -- Lists that are shown one after another.
 use Rattle.std.proofs.Common.{◌≡◌, ℕ, zero, suc, ◌+◌, ◌-◌, ◌<◌, ◌≤◌, Bool, true, false, cond, ◌&&◌, T, Bor, List, [], ◌∷◌, ◌++◌, length, map, take, drop, get_or, refl, sym, ap, subst, ◌∙◌, arith, ⊎_elim}
-use Rattle.std.specs.Prelude.{Option, None, Some, MatchOption, option_copied, slice_get}
+use Rattle.std.specs.Prelude.{Option, None, Some, MatchOption, slice_get}
 use Rattle.std.specs.Option.{option_map}
 use Rattle.std.specs.Cmp.Lexicographic.{slice_cmp}
 use Rattle.std.specs.FinMap as finite
@@ -17,6 +17,7 @@ use Rattle.trac_rules.specs.declared.kind.Kind.{Kind}
 use Rattle.trac_rules.specs.Listing.{names_of}
 use Rattle.trac_rules.specs.State.{Block, Forms, Frame}
 use Rattle.trac_prims.specs.Frames.{IsFrame}
+use Rattle.trac_forms.specs.Stored.{Gathered}
 use Rattle.trac_debug.specs.Texts.{arguments_line, block_lines, frame_line, lines_of_block}
 use Rattle.trac_rules.proofs.NamedForms.{one_name, ties_itself}
 
@@ -121,7 +122,7 @@ length_numbered from [] = refl
 length_numbered from (x ∷ xs) = omega (arith, length_numbered (from + 1) xs)
 
 -- a block as it is looked at
-pub block_seen : (seen : Option (Bor (List (List ℕ × Form)))) (block : Block) → MatchOption seen (block ≡ None) (λ b. block ≡ Some b.now) → block ≡ option_copied seen
+pub block_seen : (seen : Option (Bor Gathered)) (block : Block) → MatchOption seen (block ≡ None) (λ b. block ≡ Some b.now.held) → block ≡ option_map (λ b. b.now.held) seen
 block_seen None block is = is
 block_seen (Some b) block is = is
 

@@ -1,5 +1,5 @@
 //! The state of a session, as lines.
-ghost use Rattle.std.specs.Prelude.{◌≡◌, ◌++◌, ◌∷◌, reverse, IfOk, OnOk, None, Some, codes, option_copied};
+ghost use Rattle.std.specs.Prelude.{◌≡◌, ◌++◌, ◌∷◌, reverse, IfOk, OnOk, None, Some, codes, option_map};
 ghost use Rattle.std.specs.FinMap as finite;
 ghost use Rattle.std.specs.List.{enumerate_from, flat_map};
 ghost use Rattle.trac_debug.specs.Texts.{arguments_line, block_lines, bracketed, feed, form_line, frame_line, lines_of_block, sharps, state_text, storage_text, texts_text, trace_line};
@@ -156,7 +156,7 @@ fn numbered_block_into<A: Allocator + Copy, B: Allocator>(
     block: Option<&Block<A>>,
     out: &mut Vec<u8, B>,
 ) -> Result<(), AllocError>
-    ensures { OnOk result (out.new.items ≡ out.old.items ++ lines_of_block i (option_copied block.entry)) }
+    ensures { OnOk result (out.new.items ≡ out.old.items ++ lines_of_block i (option_map (λ b. b.now.held) block.entry)) }
 {
     match block {
         Some(block) => block_into(i, block, out),
@@ -179,7 +179,7 @@ fn block_into<A: Allocator + Copy, B: Allocator>(
     block: &Block<A>,
     out: &mut Vec<u8, B>,
 ) -> Result<(), AllocError>
-    ensures { OnOk result (out.new.items ≡ out.old.items ++ lines_of_block i (Some block.now)) }
+    ensures { OnOk result (out.new.items ≡ out.old.items ++ lines_of_block i (Some block.now.held)) }
 {
     number_line_into(b"block", i as u64, out)?;
     for place in 0..block.len() {

@@ -1,3 +1,4 @@
+pub mod BlockLists
 pub mod Cuts
 pub mod Divided
 pub mod Extents

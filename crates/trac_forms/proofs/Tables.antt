@@ -20,9 +20,9 @@ use Rattle.std.proofs.lemmas.Slice.Eq.{bytes_eq-Decides}
 use Rattle.trac_rules.specs.Form.{Form}
 use Rattle.trac_rules.proofs.NamedForms.{only_equal_tie, ties_itself}
 use Rattle.trac_rules.specs.Listing.{names_of}
-use Rattle.trac_rules.specs.State.{Block, Forms}
+use Rattle.trac_rules.specs.State.{Forms}
 use Rattle.trac_forms.specs.Stored.{KnowsAll, Names, Stored, swept}
-use Rattle.trac_forms.specs.Table.{named, with_any, with_entry, forms_of, known_of, stored}
+use Rattle.trac_forms.specs.Table.{Kept, named, with_any, with_entry, forms_of, known_of, stored}
 use Rattle.std.proofs.lemmas.List.{append_assoc, length-map, map-append}
 
 -- entries of a table of forms
@@ -99,7 +99,7 @@ contains-known_of es q =
     ∙ sym (is_some-lookup (bytes_eq q) es)
 
 -- the name of each form is known
-pub form_known : (es : Entries) (bs : List Block) (s : Stored) → stored es bs ≡ s → KnowsAll s.known s.forms
+pub form_known : (es : Entries) (bs : Kept) (s : Stored) → stored es bs ≡ s → KnowsAll s.known s.forms
 form_known es bs s view q there =
     let here : is_some (finite.get (forms_of es) q) ≡ true = subst (λ t. is_some (finite.get t.forms q) ≡ true) (sym view) there in
     subst (λ t. set.contains t.known q ≡ true) view
@@ -274,7 +274,7 @@ keys-taken name (e ∷ es) = ap (λ r. name e.0 ∷ r) (keys-taken name es)
 
 -- ---- a store, of which the table's entries and the names of its keys are given
 
-module _ {K : Type 0} (name : K → List ℕ) (es : List (K × Option Form)) (bs : List Block) (s : Stored) (is : stored (named name es) bs ≡ s) where
+module _ {K : Type 0} (name : K → List ℕ) (es : List (K × Option Form)) (bs : Kept) (s : Stored) (is : stored (named name es) bs ≡ s) where
   -- the form of a name
   pub form_found : (q : List ℕ) (r : Option (Option Form)) → r ≡ lookup (λ k. bytes_eq q (name k)) es → finite.get s.forms q ≡ option_flatten r
   form_found q r e =
@@ -296,8 +296,8 @@ module _ {K : Type 0} (name : K → List ℕ) (es : List (K × Option Form)) (bs
       let same : named name new ≡ set_value (bytes_eq q) (named name es) w = ap (named name) e ∙ set_value-named name (bytes_eq q) es w in
       let there : IsSome (lookup (bytes_eq q) (named name es)) = ap is_some (lookup-named name (bytes_eq q) es) ∙ some in
       ap (λ xs. stored xs bs) same
-      ∙ ap (λ (f : Forms). let t : Stored = record { forms = f; blocks = bs; known = known_of (set_value (bytes_eq q) (named name es) w) } in t) (forms_written (named name es) q w there)
-      ∙ ap (λ (n : Names). let t : Stored = record { forms = with_entry q w (forms_of (named name es)); blocks = bs; known = n } in t) (known_written (named name es) q w)
+      ∙ ap (λ (f : Forms). let t : Stored = record { forms = f; blocks = bs.blocks; spare = bs.spare; known = known_of (set_value (bytes_eq q) (named name es) w) } in t) (forms_written (named name es) q w there)
+      ∙ ap (λ (n : Names). let t : Stored = record { forms = with_entry q w (forms_of (named name es)); blocks = bs.blocks; spare = bs.spare; known = n } in t) (known_written (named name es) q w)
       ∙ ap (λ (t : Stored). let u : Stored = record t { forms = with_entry q w t.forms } in u) is
 
   -- where a name has no entry, no form is taken
@@ -306,7 +306,7 @@ module _ {K : Type 0} (name : K → List ℕ) (es : List (K × Option Form)) (bs
       let gone : finite.remove (forms_of (named name es)) q ≡ forms_of (named name es) =
       forms_not_taken (named name es) q (lookup-named name (bytes_eq q) es ∙ none) in
       sym is
-      ∙ ap (λ (f : Forms). let t : Stored = record { forms = f; blocks = bs; known = known_of (named name es) } in t) (sym gone)
+      ∙ ap (λ (f : Forms). let t : Stored = record { forms = f; blocks = bs.blocks; spare = bs.spare; known = known_of (named name es) } in t) (sym gone)
       ∙ ap (λ (t : Stored). let u : Stored = record t { forms = finite.remove t.forms q } in u) is
 
   -- a new name, which has no form
@@ -314,8 +314,8 @@ module _ {K : Type 0} (name : K → List ℕ) (es : List (K × Option Form)) (bs
   made_known k q new called e =
       let same : named name new ≡ named name es ++ (q, None) ∷ [] = ap (named name) e ∙ pushed es ∙ ap (λ (n : List ℕ). named name es ++ (n, None) ∷ []) called in
       ap (λ xs. stored xs bs) same
-      ∙ ap (λ (f : Forms). let t : Stored = record { forms = f; blocks = bs; known = known_of (named name es ++ (q, None) ∷ []) } in t) (forms_known (named name es) q)
-      ∙ ap (λ (n : Names). let t : Stored = record { forms = forms_of (named name es); blocks = bs; known = n } in t) (known_more (named name es) q)
+      ∙ ap (λ (f : Forms). let t : Stored = record { forms = f; blocks = bs.blocks; spare = bs.spare; known = known_of (named name es ++ (q, None) ∷ []) } in t) (forms_known (named name es) q)
+      ∙ ap (λ (n : Names). let t : Stored = record { forms = forms_of (named name es); blocks = bs.blocks; spare = bs.spare; known = n } in t) (known_more (named name es) q)
       ∙ ap (λ (t : Stored). let u : Stored = record t { known = set.insert t.known q } in u) is
     where
       pushed : (xs : List (K × Option Form)) → named name (xs ++ (k, None) ∷ []) ≡ named name xs ++ (name k, None) ∷ []
@@ -327,16 +327,16 @@ module _ {K : Type 0} (name : K → List ℕ) (es : List (K × Option Form)) (bs
   emptied new e apart =
       let distinct = IsDistinct-named name es apart in
       ap (λ xs. stored xs bs) (ap (named name) e ∙ filter-named name is_some es)
-      ∙ ap (λ (f : Forms). let t : Stored = record { forms = f; blocks = bs; known = known_of (filter (λ x. is_some x.1) (named name es)) } in t) (forms_swept (named name es) distinct)
-      ∙ ap (λ (n : Names). let t : Stored = record { forms = forms_of (named name es); blocks = bs; known = n } in t) (known_swept (named name es) distinct)
+      ∙ ap (λ (f : Forms). let t : Stored = record { forms = f; blocks = bs.blocks; spare = bs.spare; known = known_of (filter (λ x. is_some x.1) (named name es)) } in t) (forms_swept (named name es) distinct)
+      ∙ ap (λ (n : Names). let t : Stored = record { forms = forms_of (named name es); blocks = bs.blocks; spare = bs.spare; known = n } in t) (known_swept (named name es) distinct)
       ∙ ap swept is
 
   -- all forms taken away
   pub cleared : (new : List (K × Option Form)) → new ≡ taken es → stored (named name new) bs ≡ record s { forms = finite.empty }
   cleared new e =
       ap (λ xs. stored (named name xs) bs) e
-      ∙ ap (λ (f : Forms). let t : Stored = record { forms = f; blocks = bs; known = known_of (named name (taken es)) } in t) (no_forms name es)
-      ∙ ap (λ (ks : List (List ℕ)). let t : Stored = record { forms = finite.empty; blocks = bs; known = set.from_list ks } in t) (keys-taken name es)
+      ∙ ap (λ (f : Forms). let t : Stored = record { forms = f; blocks = bs.blocks; spare = bs.spare; known = known_of (named name (taken es)) } in t) (no_forms name es)
+      ∙ ap (λ (ks : List (List ℕ)). let t : Stored = record { forms = finite.empty; blocks = bs.blocks; spare = bs.spare; known = set.from_list ks } in t) (keys-taken name es)
       ∙ ap (λ (t : Stored). let u : Stored = record t { forms = finite.empty } in u) is
 
   -- how many forms there are

@@ -1,5 +1,5 @@
 -- How a form is kept: its items as two lists, before and after the pointer. And what that says of each form.
-use Rattle.std.specs.Prelude.{◌≤◌, List, ◌++◌}
+use Rattle.std.specs.Prelude.{◌≤◌, ◌++◌}
 use Rattle.std.specs.List.{All}
 use Rattle.trac_gap.specs.Ends.{Ends}
 use Rattle.trac_rules.specs.declared.item.Item.{Item}

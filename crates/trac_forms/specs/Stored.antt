@@ -1,33 +1,51 @@
 -- What a store holds.
-use Rattle.std.specs.Prelude.{ℕ, List, [], is_some, refl, IsTrue}
+use Rattle.std.specs.Prelude.{ℕ, List, [], bytes_eq, is_some, map, refl, IsTrue}
 use Rattle.std.specs.Cmp.Lexicographic.{slice_cmp}
-use Rattle.std.specs.Coded.{Coded, code_by, coded×, coded_list}
+use Rattle.std.specs.Coded.{Coded, code_by, coded×, coded_list, coded_ℕ}
 use Rattle.std.specs.FinMap as finite
+use Rattle.std.specs.List.{IsDistinct}
 use Rattle.std.specs.FinSet as set
 use Rattle.std.specs.Ordering.{nat_cmp}
-use Rattle.trac_rules.specs.Codes.{text_code, block_code, forms_code}
+use Rattle.trac_rules.specs.Codes.{block_code, form_code, forms_code, text_code}
 use Rattle.trac_rules.specs.Listing.{names_of}
-use Rattle.trac_rules.specs.State.{Block, Forms, Storage}
+use Rattle.trac_rules.specs.State.{Block, Forms, Held, Storage}
 
 -- a set of names
 abbrev pub Names : Type 0
 Names = set.FinSet (slice_cmp nat_cmp)
 
--- the forms by their names, the blocks, and the names that have a place, with a form or without one
+-- no name stands twice
+abbrev pub AreApart : Held → Type 0
+AreApart held = IsDistinct bytes_eq (map (λ entry. entry.0) held)
+
+-- the forms that a block holds, with their names, and how many more it can take without memory
+pub record Gathered : Type 0 where
+  pub held : Held
+  pub room : ℕ
+
+-- the code of what a block holds, by which a proof tells two of them apart
+abbrev pub gathered_code : Coded Gathered
+gathered_code =
+    code_by (Held × ℕ) (coded× (coded_list (coded× text_code form_code)) coded_ℕ)
+    (λ b. (b.held, b.room)) (λ p. record { held = p.0; room = p.1 }) (λ _. refl)
+
+-- the forms by their names, the blocks, how many more of them have a place without memory, and the names that have a place, with a
+-- form or without one
 pub record Stored : Type 0 where
   pub forms : Forms
   pub blocks : List Block
+  pub spare : ℕ
   pub known : Names
 
 -- the code of what a store holds, by which a proof tells two of them apart
 abbrev pub stored_code : Coded Stored
 stored_code =
-    code_by (Forms × (List Block × Names)) (coded× forms_code (coded× (coded_list block_code) (set.code text_code)))
-    (λ s. (s.forms, (s.blocks, s.known))) (λ p. record { forms = p.0; blocks = p.1.0; known = p.1.1 }) (λ _. refl)
+    code_by (Forms × (List Block × (ℕ × Names))) (coded× forms_code (coded× (coded_list block_code) (coded× coded_ℕ (set.code text_code))))
+    (λ s. (s.forms, (s.blocks, (s.spare, s.known)))) (λ p. record { forms = p.0; blocks = p.1.0; spare = p.1.1.0; known = p.1.1.1 }) (λ _. refl)
 
 -- no form, no block, and no name
 abbrev pub nothing_stored : Stored
-nothing_stored = record { forms = finite.empty; blocks = []; known = set.empty }
+nothing_stored = record { forms = finite.empty; blocks = []; spare = 0; known = set.empty }
 
 -- forms and blocks, as a state has them
 abbrev pub storage_in : Stored → Storage

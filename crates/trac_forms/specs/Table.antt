@@ -1,11 +1,11 @@
 -- How a store is kept: a table with an entry for each known name, which has a form or none.
-use Rattle.std.specs.Prelude.{ℕ, List, [], ◌∷◌, map, Option, None, Some, filter, is_some}
+use Rattle.std.specs.Prelude.{ℕ, ◌-◌, List, [], ◌∷◌, map, Option, None, Some, filter, is_some, option_map, Vec, vec_capacity, vec_len}
 use Rattle.std.specs.FinMap as finite
 use Rattle.std.specs.FinSet as set
 use Rattle.std.specs.Map.{keys_of}
 use Rattle.trac_rules.specs.Form.{Form}
 use Rattle.trac_rules.specs.State.{Block, Forms}
-use Rattle.trac_forms.specs.Stored.{Names, Stored}
+use Rattle.trac_forms.specs.Stored.{Gathered, Names, Stored}
 
 -- the entries of a table, its keys read as texts
 abbrev pub named : {K V : Type 0} → (K → List ℕ) → List (K × V) → List (List ℕ × V)
@@ -30,9 +30,24 @@ forms_of (e ∷ entries) = with_entry e.0 e.1 (forms_of entries)
 abbrev pub known_of : List (List ℕ × Option Form) → Names
 known_of entries = set.from_list (keys_of entries)
 
+-- how many more items a vector has places for
+abbrev pub places_left : {T A : Type 0} → Vec T A → ℕ
+places_left items = vec_capacity items - vec_len items
+
+-- blocks, the rooms of each aside, and how many more have a place
+pub record Kept : Type 0 where
+  pub blocks : List Block
+  pub spare : ℕ
+
+abbrev pub blocks_of : List (Option Gathered) → List Block
+blocks_of entries = map (option_map (λ b. b.held)) entries
+
+abbrev pub kept_in : {A : Type 0} → Vec (Option Gathered) A → Kept
+kept_in blocks = record { blocks = blocks_of blocks.items; spare = places_left blocks }
+
 -- what a table of these entries holds, beside these blocks
-abbrev pub stored : List (List ℕ × Option Form) → List Block → Stored
-stored entries blocks = record { forms = forms_of entries; blocks = blocks; known = known_of entries }
+abbrev pub stored : List (List ℕ × Option Form) → Kept → Stored
+stored entries kept = record { forms = forms_of entries; blocks = kept.blocks; spare = kept.spare; known = known_of entries }
 
 -- a form, if there is one, put under a name
 abbrev pub with_any : List ℕ → Option Form → Forms → Forms

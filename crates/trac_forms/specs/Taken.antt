@@ -1,5 +1,5 @@
 -- What a measured piece of a form says: the bytes that it gives, and where the pointer goes.
-use Rattle.std.specs.Prelude.{ℕ, ◌≤◌, min, List, length, take, drop}
+use Rattle.std.specs.Prelude.{◌≤◌, min, List, length, take, drop}
 use Rattle.trac_rules.specs.declared.item.Item.{Item}
 use Rattle.trac_rules.specs.Form.{Form, all_items}
 use Rattle.trac_rules.specs.Pieces.{Piece, bytes_in}

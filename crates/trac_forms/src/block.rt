@@ -1,57 +1,95 @@
 //! Blocks: forms that were put aside together, with their names.
-ghost use Rattle.std.specs.Prelude.{◌≡◌, IfOk, IsOkUnless};
+ghost use Rattle.std.specs.Prelude.{◌≡◌, ◌+◌, ◌-◌, ◌<◌, ◌≤◌, ◌++◌, ◌∷◌, [], false, vec_capacity, IfOk, IsOkUnless, MatchOption};
+ghost use Rattle.std.specs.List.{list_any};
+ghost use Rattle.std.specs.Str.{bytes_eq};
+ghost use Rattle.trac_forms.specs.Table.{places_left};
 
 use crate::error::FormError;
 use crate::form::Form;
 use std::alloc::{Allocator, Global};
 use std::marker::Model;
 
-/// Forms with their names, in the order in which they came into the block. It is seen as the list of these pairs.
+/// Forms with their names, in the order in which they came into the block. It is seen as the list of these pairs, and beside it
+/// the number of spare places, by which more can come in without memory. No name stands twice in it.
 #[derive(Drop)]
 pub struct Block<A: Allocator + Copy = Global> {
     pub(crate) entries: Vec<(Vec<u8, A>, Form<A>), A>,
 }
 
 impl<A: Allocator + Copy> Model for Block<A> {
-    ghost use Rattle.std.specs.Prelude.{ℕ, List};
-    ghost use Rattle.std.specs.Coded.{coded×, coded_list};
-    ghost use Rattle.trac_rules.specs.Codes.{form_code, text_code};
-    ghost use Rattle.trac_rules.specs.Form.{Form as Divided};
-    ghost use Rattle.trac_forms.specs.Table.{named};
+    ghost use Rattle.trac_forms.specs.Stored.{AreApart, Gathered, gathered_code};
+    ghost use Rattle.trac_forms.specs.Table.{named, places_left};
 
-    ghost Value = { List (List ℕ × Divided) };
+    ghost Value = { Gathered };
 
-    ghost coded = { coded_list (coded× text_code form_code) };
+    ghost coded = { gathered_code };
 
-    ghost view = { λ b. named (λ k. k.items) b.entries.items };
+    ghost view = { λ b. record { held = named (λ k. k.items) b.entries.items; room = places_left b.entries } };
+
+    ghost invariant = { λ b. AreApart (named (λ k. k.items) b.entries.items) };
 }
 
 impl<A: Allocator + Copy> Block<A> {
-    // A second block of the same forms under the same names, with memory of its own.
+    /// A block of no forms, with spare places for at least `n`.
+    /// Refused with `Memory` where the allocator refuses.
+    pub fn with_room(alloc: A, n: usize) -> Result<Self, FormError>
+        ensures none { IfOk result (λ b. b.held ≡ []) }
+        ensures room { IfOk result (λ b. n ≤ b.room) }
+        ensures err { IsOkUnless result FormError.Memory }
+    {
+        Ok(Block {
+            entries: Vec::with_capacity(alloc, n)?,
+        })
+    }
+
+    /// Puts a form under a name behind all others. A place has to be spare, which it takes, and no form of the block may have
+    /// this name. It takes no memory.
+    pub fn push(&mut self, name: Vec<u8, A>, form: Form<A>)
+        requires room { 0 < self.old.room }
+        requires other { list_any (λ entry. bytes_eq name.items entry.0) self.old.held ≡ false }
+        ensures { self.new ≡ record { held = self.old.held ++ (name.items, form) ∷ []; room = self.old.room - 1 } }
+    {
+        self.entries.push_reserved((name, form));
+    }
+
+    /// Takes the last form away with its name, and answers both; `None` where the block holds no forms. It takes no memory, and
+    /// no spare place.
+    pub fn pop(&mut self) -> Option<(Vec<u8, A>, Form<A>)>
+        ensures last { MatchOption result ((self.old.held ≡ []) × (self.new.held ≡ [])) (λ entry. self.old.held ≡ self.new.held ++ (entry.0.items, entry.1) ∷ []) }
+        ensures room { self.old.room ≤ self.new.room }
+    {
+        self.entries.pop()
+    }
+
+    // A second block of the same forms under the same names and with as many spare places, with memory of its own.
     fn copy(&self) -> Result<Self, FormError>
         ensures same { IfOk result (λ b. b ≡ self.now) }
         ensures err { IsOkUnless result FormError.Memory }
     {
         let alloc = *self.entries.allocator();
-        let mut entries = Vec::with_capacity(alloc, self.entries.len())?;
+        let places = self.entries.capacity();
+        let mut entries = Vec::with_capacity(alloc, places)?;
         for (key, form) in &self.entries {
             let name = Vec::from_slice(alloc, key.as_slice())?;
-            entries.push((name, form.copy()?))?;
+            let copy = form.copy()?;
+            entries.push_reserved((name, copy));
         }
         Ok(Block { entries })
     }
 }
 
-// The same blocks, with memory of their own.
+// The same blocks with as many spare places, with memory of their own.
 pub(crate) fn blocks_copy<A: Allocator + Copy>(
     blocks: &Vec<Option<Block<A>>, A>,
 ) -> Result<Vec<Option<Block<A>>, A>, FormError>
     ensures same { IfOk result (λ copy. copy.items ≡ blocks.now.items) }
+    ensures places { IfOk result (λ copy. places_left copy ≡ places_left blocks.now) }
     ensures err { IsOkUnless result FormError.Memory }
 {
-    let mut copy = Vec::with_capacity(*blocks.allocator(), blocks.len())?;
+    let places = blocks.capacity();
+    let mut copy = Vec::with_capacity(*blocks.allocator(), places)?;
     for block in blocks {
-        copy.push(block_copy(block)?)?;
+        copy.push_reserved(block_copy(block)?);
     }
     Ok(copy)
 }

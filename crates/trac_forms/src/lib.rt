@@ -3,6 +3,7 @@
 #![tactic(auto)]
 
 pub mod block;
+mod blocks;
 mod copies;
 mod cutting;
 pub mod error;

@@ -1,5 +1,7 @@
 //! Looking at blocks.
-ghost use Rattle.std.specs.Prelude.{◌≡◌, ◌≤◌, ◌==◌, length, get_or, slice_get, MatchOption};
+ghost use Rattle.std.specs.Prelude.{◌≡◌, ◌<◌, ◌≤◌, ◌^◌, ◌==◌, length, slice_get, None, Some, MatchOption};
+ghost use Rattle.trac_forms.specs.Stored.{AreApart};
+ghost use Rattle.trac_rules.specs.Blocks.{block_at};
 
 use crate::block::Block;
 use crate::form::Form;
@@ -9,14 +11,15 @@ use std::alloc::Allocator;
 impl<A: Allocator + Copy> Store<A> {
     /// How many blocks there are, erased ones counted. It takes no memory.
     pub fn block_count(&self) -> usize
-        ensures { result ≡ length self.now.blocks }
+        ensures count { result ≡ length self.now.blocks }
+        ensures within { length self.now.blocks < 2 ^ 63 }
     {
         self.blocks.len()
     }
 
     /// The block of this number, from 0 on; `None` where it is erased, and past the last. It takes no memory.
     pub fn block(&self, i: usize) -> Option<&Block<A>>
-        ensures { MatchOption result (get_or self.now.blocks i None ≡ None) (λ block. get_or self.now.blocks i None ≡ Some block.now) }
+        ensures { MatchOption result (block_at i self.now.blocks ≡ None) (λ block. block_at i self.now.blocks ≡ Some block.now.held) }
     {
         self.blocks.get(i)?.as_ref()
     }
@@ -25,21 +28,22 @@ impl<A: Allocator + Copy> Store<A> {
 impl<A: Allocator + Copy> Block<A> {
     /// How many forms the block holds. It takes no memory.
     pub fn len(&self) -> usize
-        ensures { result ≡ length self.now }
+        ensures len { result ≡ length self.now.held }
+        ensures distinct { AreApart self.now.held }
     {
         self.entries.len()
     }
 
     /// Whether the block holds no form. It takes no memory.
     pub fn is_empty(&self) -> bool
-        ensures { result ≡ (length self.now == 0) }
+        ensures { result ≡ (length self.now.held == 0) }
     {
         self.len() == 0
     }
 
     /// The form of this number, from 0 on, in the block's order, and its name; `None` past the last. It takes no memory.
     pub fn get(&self, i: usize) -> Option<(&[u8], &Form<A>)>
-        ensures { MatchOption result (length self.now ≤ i) (λ entry. slice_get self.now i ≡ Some (entry.0.now, entry.1.now)) }
+        ensures { MatchOption result (length self.now.held ≤ i) (λ entry. slice_get self.now.held i ≡ Some (entry.0.now, entry.1.now)) }
     {
         let (name, form) = self.entries.get(i)?;
         Some((name.as_slice(), form))

@@ -21,7 +21,7 @@ use std::marker::Model;
 pub(crate) type Table<A> = IndexMap<Vec<u8, A>, Option<Form<A>>, BuildHasherDefault<FoldHasher>, A>;
 
 /// Forms by their names, which are any bytes, and blocks by their numbers, an erased one having none. It is seen as the map of
-/// its forms, the list of its blocks and the set of the names that it knows.
+/// its forms, the list of its blocks and the set of the names that it knows, with the number of places that are spare for blocks.
 ///
 /// A form can be put under a known name without memory. A name stays known when its form is taken, until `sweep`.
 #[derive(Drop)]
@@ -32,13 +32,13 @@ pub struct Store<A: Allocator + Copy = Global> {
 
 impl<A: Allocator + Copy> Model for Store<A> {
     ghost use Rattle.trac_forms.specs.Stored.{Stored, stored_code};
-    ghost use Rattle.trac_forms.specs.Table.{named, stored};
+    ghost use Rattle.trac_forms.specs.Table.{kept_in, named, stored};
 
     ghost Value = { Stored };
 
     ghost coded = { stored_code };
 
-    ghost view = { λ s. stored (named (λ k. k.items) s.table.entries) s.blocks.items };
+    ghost view = { λ s. stored (named (λ k. k.items) s.table.entries) (kept_in s.blocks) };
 }
 
 impl<A: Allocator + Copy> Store<A> {

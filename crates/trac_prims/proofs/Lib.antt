@@ -6,6 +6,10 @@ pub mod Kept
 pub mod Calculated
 pub mod FirstPlaces
 pub mod Putting
+pub mod MovedOut
+pub mod BlockPlans
+pub mod Addressing
+pub mod ComingBack
 pub mod Listed
 pub mod Held
 pub mod Given

@@ -4,13 +4,14 @@ use Rattle.std.specs.FinMap as finite
 use Rattle.std.specs.Option.{unwrap_or}
 use Rattle.trac_rules.specs.declared.limit.TheConstants.{OUTPUT_LIMIT, TEXT_LIMIT}
 use Rattle.trac_rules.specs.declared.refusal.Refusal.{Refusal}
+use Rattle.trac_rules.specs.Blocks.{erased, put_aside, with_all}
 use Rattle.trac_rules.specs.Effect.{Effect}
 use Rattle.trac_rules.specs.Form.{Form}
 use Rattle.trac_rules.specs.Handling.{keeping, pointing, without}
 use Rattle.trac_rules.specs.Outcomes.{MayLackMemory, OrMemory, limited}
-use Rattle.trac_rules.specs.State.{Storage}
+use Rattle.trac_rules.specs.State.{Held, Storage}
 use Rattle.trac_prims.specs.declared.change.Change as code
-use Rattle.trac_prims.specs.declared.change.Change.TheVariants.{Keep, Put, Remove, Clear, Point}
+use Rattle.trac_prims.specs.declared.change.Change.TheVariants.{Keep, Put, Remove, Clear, Point, MoveIn, Bring, Erase}
 use Rattle.trac_prims.specs.declared.effect.Effect as planned
 use Rattle.trac_prims.specs.declared.effect.Now.{Now}
 use Rattle.trac_prims.specs.declared.made.Made as made
@@ -24,6 +25,18 @@ abbrev pub pointed : List ℕ → ℕ → Option Form → Storage → Storage
 pointed name place None storage = storage
 pointed name place (Some form) storage = pointing name place form storage
 
+-- the names of forms
+abbrev pub names_in : Held → List (List ℕ)
+names_in held = map (λ entry. entry.0) held
+
+-- forms of the code with their names
+abbrev pub named_forms : {A : Type 0} → List (Vec ℕ A × Form) → Held
+named_forms forms = map (λ entry. (entry.0.items, entry.1)) forms
+
+-- the storage with this form under a name
+abbrev pub with_form : List ℕ → Form → Storage → Storage
+with_form name form storage = keeping (finite.insert storage.forms name form) storage
+
 -- the storage after a change
 abbrev pub changed : {A : Type 0} → code.Change A → Storage → Storage
 changed Keep storage = storage
@@ -31,6 +44,9 @@ changed (Put name form) storage = keeping (finite.insert storage.forms name.item
 changed (Remove names) storage = keeping (without (texts_of names.items) storage.forms) storage
 changed Clear storage = keeping finite.empty storage
 changed (Point name place) storage = pointed name.items place (finite.get storage.forms name.items) storage
+changed (MoveIn held name address) storage = with_form name.items address (put_aside (texts_of held.items) storage)
+changed (Bring number forms) storage = keeping (with_all (named_forms forms.items) storage.forms) storage
+changed (Erase number name) storage = erased number name.items storage
 
 -- what a primitive made, as an effect on a storage
 abbrev pub effect_on : {A : Type 0} → Storage → made.Made A → Effect

@@ -4,4 +4,5 @@ pub mod Neutral
 pub mod Frames
 pub mod Tape
 pub mod Effects
+pub mod Blocks
 pub mod Plans

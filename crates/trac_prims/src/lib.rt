@@ -3,6 +3,7 @@
 
 pub mod args;
 mod bits;
+mod blocks;
 pub mod change;
 mod decimals;
 mod decisions;

@@ -1,6 +1,7 @@
 //! Planning a call.
 ghost use Rattle.std.specs.Prelude.{◌≡◌, ◌+◌, ◌≤◌, length, Ok, ◌↔◌, IfOk, IsTrue};
 ghost use Rattle.trac_forms.specs.Stored.{storage_in};
+ghost use Rattle.trac_rules.specs.Blocks.{block_handled};
 ghost use Rattle.trac_rules.specs.Computing.{computed};
 ghost use Rattle.trac_rules.specs.Handling.{handled};
 ghost use Rattle.trac_rules.specs.Outcomes.{MayAnswer, limited, seen_as};
@@ -13,6 +14,7 @@ ghost use Rattle.trac_prims.specs.Tape.{environment_of};
 
 use crate::args::Args;
 use crate::bits::{complement_of, meet_of, rotation_of, shift_of, union_of};
+use crate::blocks::{erase_block, fetch_block, store_block};
 use crate::decimals::calculate;
 use crate::decisions::{equal_texts, greater_number};
 use crate::effect::{Effect, Now, completed};
@@ -27,7 +29,7 @@ use std::alloc::Allocator;
 use trac_forms::Store;
 use trac_rules::kind::Kind;
 use trac_rules::limit::{MARK_LIMIT, OUTPUT_LIMIT, TEXT_LIMIT};
-use trac_rules::primitive::{Computation, FormAction, Primitive};
+use trac_rules::primitive::{BlockAction, Computation, FormAction, Primitive};
 use trac_rules::refusal::Refusal;
 
 /// What the call of these arguments by a function of this kind will do, the first of them being the name: everything,
@@ -96,6 +98,7 @@ fn perform<A: Allocator + Copy>(
         Primitive::SetTrace(trace) => Ok(set_trace(alloc, trace)),
         Primitive::Compute(computation) => compute(alloc, computation, args),
         Primitive::Handle(action) => handle(alloc, action, args, store),
+        Primitive::HandleBlock(action) => handle_block(alloc, action, args, store),
         Primitive::Unknown => Ok(Made::keeping(alloc)),
     }
 }
@@ -140,5 +143,21 @@ fn handle<A: Allocator + Copy>(
         FormAction::Read(reading) => read(alloc, reading, args, store),
         FormAction::ListNames => list_names(alloc, args, store),
         FormAction::PrintForm => print_form(alloc, args, store),
+    }
+}
+
+// What a primitive does with blocks.
+fn handle_block<A: Allocator + Copy>(
+    alloc: A,
+    action: BlockAction,
+    args: &Args<'_>,
+    store: &Store<A>,
+) -> Result<Made<A>, Refusal>
+    ensures { IsMade (storage_in store.now) (block_handled action args.now (storage_in store.now)) result }
+{
+    match action {
+        BlockAction::StoreBlock => store_block(alloc, args, store),
+        BlockAction::FetchBlock => fetch_block(alloc, args, store),
+        BlockAction::EraseBlock => erase_block(alloc, args, store),
     }
 }

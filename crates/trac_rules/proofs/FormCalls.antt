@@ -48,7 +48,7 @@ entries-held [] = no_entries
 entries-held (e ∷ es) = finite.entries-insert nat_list_cmp_total (held es) e.0 e.1 ∙ ap (put (slice_cmp nat_cmp) e.0 e.1) (entries-held es)
 
 -- lists with the same order hold the same forms
-same_held : (es fs : Named) → in_order es ≡ in_order fs → held es ≡ held fs
+pub same_held : (es fs : Named) → in_order es ≡ in_order fs → held es ≡ held fs
 same_held es fs same = finite.same_entries_map (held es) (held fs) (entries-held es ∙ same ∙ sym (entries-held fs))
 
 -- a list without the entries of a name
@@ -61,7 +61,7 @@ turned true x y = refl
 turned false x y = refl
 
 -- a name that is taken is taken from the list
-held-removed : (name : List ℕ) (es : Named) → finite.remove (held es) name ≡ held (removed name es)
+pub held-removed : (name : List ℕ) (es : Named) → finite.remove (held es) name ≡ held (removed name es)
 held-removed name es =
     finite.same_map nat_list_cmp_total only_equal_tie (finite.remove (held es) name) (held (removed name es)) (λ q.
     finite.get-remove nat_list_cmp_total (held es) name q
@@ -76,7 +76,7 @@ abbrev pub all_removed : List (List ℕ) → Named → Named
 all_removed [] es = es
 all_removed (name ∷ names) es = all_removed names (removed name es)
 
-without-held : (names : List (List ℕ)) (es : Named) → without names (held es) ≡ held (all_removed names es)
+pub without-held : (names : List (List ℕ)) (es : Named) → without names (held es) ≡ held (all_removed names es)
 without-held [] es = refl
 without-held (name ∷ names) es = ap (without names) (held-removed name es) ∙ without-held names (removed name es)
 
@@ -97,7 +97,7 @@ abbrev holding : Named → Storage → Storage
 holding es storage = keeping (held es) storage
 
 -- a form put into a list
-putting-held : (name : List ℕ) (form : Form) (es after : Named) (storage : Storage) → judged name form es ≡ true → in_order ((name, form) ∷ es) ≡ in_order after →
+pub putting-held : (name : List ℕ) (form : Form) (es after : Named) (storage : Storage) → judged name form es ≡ true → in_order ((name, form) ∷ es) ≡ in_order after →
     putting name form (holding es storage) ≡ Ok (leaves (holding after storage))
 putting-held name form es after storage fits same =
     ap (λ b. cond b (Ok (leaves (holding ((name, form) ∷ es) storage))) (Err TooLong)) (may_be_put-held name form es ∙ fits)

@@ -8,9 +8,12 @@ pub mod Changed
 pub mod Positions
 pub mod Steps
 pub mod NamedForms
+pub mod Addresses
+pub mod ProperBlocks
 pub mod ProperStates
 pub mod ProperDecided
 pub mod FormCalls
+pub mod BlockCalls
 pub mod Refusals
 pub mod Replies
 pub mod GoingOn

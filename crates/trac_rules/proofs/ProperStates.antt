@@ -1,22 +1,25 @@
 -- States stay proper.
-use Rattle.std.proofs.Common.{◌≡◌, ℕ, ◌≤◌, Bool, true, false, List, [], ◌∷◌, drop, All, refl, sym, ap, subst, ◌∙◌, arith, ⊎_elim}
-use Rattle.std.specs.Prelude.{Option, None, Some, Result, Ok, Err, position, nat_le, ◌==◌}
+use Rattle.std.proofs.Common.{◌≡◌, ℕ, ◌+◌, ◌≤◌, Bool, true, false, List, [], ◌∷◌, length, drop, All, refl, sym, ap, subst, ◌∙◌, arith, ⊎_elim}
+use Rattle.std.specs.Prelude.{Option, None, Some, Result, Ok, Err, position, nat_le, ◌==◌, decimal}
 use Rattle.std.specs.Cmp.Lexicographic.{slice_cmp}
 use Rattle.std.specs.FinMap as finite
 use Rattle.std.specs.Ordering.{nat_cmp}
 use Rattle.std.proofs.lemmas.Bool.{and_parts, and_from, leb-true, le-leb, cases_Bool}
-use Rattle.std.proofs.lemmas.List.{take-append-drop}
-use Rattle.std.proofs.lemmas.List.Elements.{All-nil}
+use Rattle.std.proofs.lemmas.List.{length-append, length-set, take-append-drop}
+use Rattle.std.proofs.lemmas.List.Elements.{All-append, All-cons, All-head, All-nil}
 use Rattle.trac_rules.specs.declared.kind.Kind.{Kind}
 use Rattle.trac_rules.specs.declared.kind.Kind.TheVariants.{Active, Neutral}
-use Rattle.trac_rules.specs.declared.limit.TheConstants.{FORM_COUNT_LIMIT}
+use Rattle.trac_rules.specs.declared.limit.TheConstants.{BLOCK_LIMIT, FORM_COUNT_LIMIT}
+use Rattle.trac_rules.specs.declared.primitive.BlockAction.{BlockAction}
+use Rattle.trac_rules.specs.declared.primitive.BlockAction.TheVariants.{StoreBlock, FetchBlock, EraseBlock}
 use Rattle.trac_rules.specs.declared.primitive.Computation.{Computation}
 use Rattle.trac_rules.specs.declared.primitive.Computation.TheVariants.{Calculate}
 use Rattle.trac_rules.specs.declared.primitive.FormAction.{FormAction}
 use Rattle.trac_rules.specs.declared.primitive.FormAction.TheVariants.{Define, Delete, DeleteAll, Segment, Restore, Read, ListNames, PrintForm, Call as CallForm}
 use Rattle.trac_rules.specs.declared.primitive.Primitive.{Primitive}
-use Rattle.trac_rules.specs.declared.primitive.Primitive.TheVariants.{ReadString, ReadByte, Halt, SetMeta, Compute, Handle}
+use Rattle.trac_rules.specs.declared.primitive.Primitive.TheVariants.{ReadString, ReadByte, Halt, SetMeta, Compute, Handle, HandleBlock}
 use Rattle.trac_rules.specs.declared.refusal.Refusal.{Refusal}
+use Rattle.trac_rules.specs.Blocks.{block_at, block_fits, block_handled, erased, fetched, fetching, forms_in, moved_out, named_block_number, on_block, put_aside, storing}
 use Rattle.trac_rules.specs.Computing.{computed, result_of}
 use Rattle.trac_rules.specs.Effect.{Effect, argument, gives, gives_or_forces, leaves, prints}
 use Rattle.trac_rules.specs.Filling.{called}
@@ -36,8 +39,9 @@ use Rattle.trac_rules.specs.Showing.{shown}
 use Rattle.trac_rules.specs.State.{Environment, Forms, State, Storage, initial, storage_of}
 use Rattle.trac_rules.specs.Stepping.{carried_out, step}
 use Rattle.trac_rules.proofs.Cutting.{wide-as_items, wide-segmented_from}
-use Rattle.trac_rules.proofs.NamedForms.{found_of_put, found_of_taken, get-put, len-put_again, len-taken}
+use Rattle.trac_rules.proofs.NamedForms.{found_of_taken, get-put, len-put_again, len-taken}
 use Rattle.trac_rules.proofs.Outcomes.{limited_Ok}
+use Rattle.trac_rules.proofs.ProperBlocks.{All-append_right, each_put, each_with_all, erased_blocks, forms_at_proper, moved_out_held}
 use Rattle.trac_rules.proofs.Scans.{ScanShows, gathered_in_shows, scan_shows}
 
 -- ---- proper forms
@@ -54,11 +58,7 @@ put_proper : (forms : Forms) (name : List ℕ) (form : Form) → AreProperForms 
     finite.len (finite.insert forms name form) ≤ FORM_COUNT_LIMIT → AreProperForms (finite.insert forms name form)
 put_proper forms name form proper one few = record {
   count = few;
-  each = λ q found there.
-      ⊎_elim
-      (λ (same : (q ≡ name) × (found ≡ form)). subst (λ n. IsProperForm n found) (sym same.0) (subst (IsProperForm name) (sym same.1) one))
-      (λ (before : finite.get forms q ≡ Some found). proper.each q found before)
-      (found_of_put forms name q form found there);
+  each = each_put forms name form proper.each one;
 }
 
 -- a form that may be put, its gaps wide, leaves proper forms proper
@@ -160,6 +160,81 @@ handled_proper ListNames arguments storage proper = proper
 handled_proper PrintForm arguments storage proper =
     on_form_proper (named_form arguments storage) (λ form. Ok (prints (shown form) storage)) storage proper (λ form there. proper)
 
+-- ---- blocks
+
+-- forms that are put aside, where their block fits
+put_aside_proper : (names : List (List ℕ)) (storage : Storage) → IsProperStorage storage → block_fits (moved_out names storage.forms) storage.blocks ≡ true →
+    IsProperStorage (put_aside names storage)
+put_aside_proper names storage proper fits =
+    let held = moved_out names storage.forms in
+    let parts = and_parts (nat_le (length held) FORM_COUNT_LIMIT) (nat_le (length storage.blocks + 1) BLOCK_LIMIT) fits in
+    record {
+      forms = without_proper names storage.forms proper.forms;
+      block_count = omega (arith, leb-true (length storage.blocks + 1) BLOCK_LIMIT parts.1, length-append storage.blocks (Some held ∷ []));
+      blocks = All-append IsProperBlock storage.blocks (Some held ∷ []) proper.blocks
+          (All-cons IsProperBlock (Some held) [] (moved_out_held names storage.forms proper.forms (leb-true (length held) FORM_COUNT_LIMIT parts.0)) (All-nil IsProperBlock));
+    }
+
+storing_proper : (name : List ℕ) (names : List (List ℕ)) (storage : Storage) → IsProperStorage storage → LeavesProper (storing name names storage)
+storing_proper name names storage proper =
+    ⊎_elim
+    (λ (t : block_fits (moved_out names storage.forms) storage.blocks ≡ true).
+    rw t (putting_proper name (defined (decimal (length storage.blocks))) (put_aside names storage) (put_aside_proper names storage proper t)
+    (wide-as_items (decimal (length storage.blocks)))))
+    (λ (t : block_fits (moved_out names storage.forms) storage.blocks ≡ false). rw t tt)
+    (cases_Bool (block_fits (moved_out names storage.forms) storage.blocks))
+
+-- copies of proper forms that are put among the others, or refused
+fetching_proper : (number : ℕ) (storage : Storage) → IsProperStorage storage → LeavesProper (fetching number storage)
+fetching_proper number storage proper =
+    ⊎_elim
+    (λ (t : nat_le (finite.len (fetched number storage)) FORM_COUNT_LIMIT ≡ true).
+    rw t (with_proper (fetched number storage) storage proper (record {
+      count = leb-true (finite.len (fetched number storage)) FORM_COUNT_LIMIT t;
+      each = each_with_all (forms_in (block_at number storage.blocks)) storage.forms (forms_at_proper storage.blocks number proper.blocks) proper.forms.each;
+    })))
+    (λ (t : nat_le (finite.len (fetched number storage)) FORM_COUNT_LIMIT ≡ false). rw t tt)
+    (cases_Bool (nat_le (finite.len (fetched number storage)) FORM_COUNT_LIMIT))
+
+erased_proper : (number : ℕ) (name : List ℕ) (storage : Storage) → IsProperStorage storage → IsProperStorage (erased number name storage)
+erased_proper number name storage proper = record {
+  forms = without_proper (name ∷ []) storage.forms proper.forms;
+  block_count = omega (arith, length-set storage.blocks number None, proper.block_count);
+  blocks = erased_blocks storage.blocks number proper.blocks;
+}
+
+-- a block that is acted upon, where there is one
+on_block_proper : (found : Option ℕ) (act : ℕ → Result Effect Refusal) (storage : Storage) → IsProperStorage storage →
+    ((number : ℕ) → LeavesProper (act number)) → LeavesProper (on_block found act storage)
+on_block_proper None act storage proper acts = proper
+on_block_proper (Some number) act storage proper acts = acts number
+
+-- each call on blocks
+block_handled_proper : (action : BlockAction) (arguments : List (List ℕ)) (storage : Storage) → IsProperStorage storage →
+    LeavesProper (block_handled action arguments storage)
+block_handled_proper StoreBlock arguments storage proper = storing_proper (argument 1 arguments) (drop 2 arguments) storage proper
+block_handled_proper FetchBlock arguments storage proper =
+    on_block_proper (named_block_number arguments storage) (λ number. fetching number storage) storage proper (λ number. fetching_proper number storage proper)
+block_handled_proper EraseBlock arguments storage proper =
+    on_block_proper (named_block_number arguments storage) (λ number. Ok (leaves (erased number (argument 1 arguments) storage))) storage proper
+    (λ number. erased_proper number (argument 1 arguments) storage proper)
+
+-- and what is refused would not be proper: a block that does not fit
+pub fits_of_proper : (names : List (List ℕ)) (storage : Storage) → IsProperStorage (put_aside names storage) → block_fits (moved_out names storage.forms) storage.blocks ≡ true
+fits_of_proper names storage proper =
+    let held = moved_out names storage.forms in
+    let last = All-append_right IsProperBlock storage.blocks (Some held ∷ []) proper.blocks in
+    and_from (nat_le (length held) FORM_COUNT_LIMIT) (nat_le (length storage.blocks + 1) BLOCK_LIMIT)
+    (le-leb (length held) FORM_COUNT_LIMIT (All-head IsProperBlock (Some held) [] last).count)
+    (le-leb (length storage.blocks + 1) BLOCK_LIMIT (omega (arith, proper.block_count, length-append storage.blocks (Some held ∷ []))))
+
+-- and forms that are too many
+pub fetching_of_proper : (number : ℕ) (storage : Storage) → AreProperForms (fetched number storage) →
+    fetching number storage ≡ Ok (leaves (keeping (fetched number storage) storage))
+fetching_of_proper number storage proper = rw (le-leb (finite.len (fetched number storage)) FORM_COUNT_LIMIT proper.count) refl
+
+-- ---- each primitive
+
 -- reading
 read_proper : (at : Option ℕ) (text : List ℕ) (ended : Bool) (storage : Storage) → IsProperStorage storage → LeavesProper (read_up_to at text ended storage)
 read_proper (Some k) text ended storage proper = proper
@@ -200,6 +275,7 @@ effect_proper Halt environment arguments s proper = tt
 effect_proper SetMeta environment arguments s proper = meta_proper (argument 1 arguments) (storage_of s) proper
 effect_proper (Compute computation) environment arguments s proper = computed_proper computation arguments (storage_of s) proper
 effect_proper (Handle action) environment arguments s proper = handled_proper action arguments (storage_of s) proper
+effect_proper (HandleBlock action) environment arguments s proper = block_handled_proper action arguments (storage_of s) proper
 effect_proper primitive environment arguments s proper = proper
 
 -- the line of the trace changes no storage

@@ -7,13 +7,14 @@ use Rattle.trac_rules.specs.declared.limit.TheConstants.{TEXT_LIMIT, MARK_LIMIT,
 use Rattle.trac_rules.specs.declared.kind.Kind.{Kind}
 use Rattle.trac_rules.specs.declared.kind.Kind.TheVariants.{Active, Neutral}
 use Rattle.trac_rules.specs.declared.primitive.Primitive.{Primitive}
-use Rattle.trac_rules.specs.declared.primitive.Primitive.TheVariants.{PrintString, ReadString, ReadByte, Halt, SetMeta, SetTrace, Compute, Handle, Unknown}
+use Rattle.trac_rules.specs.declared.primitive.Primitive.TheVariants.{PrintString, ReadString, ReadByte, Halt, SetMeta, SetTrace, Compute, Handle, HandleBlock, Unknown}
 use Rattle.trac_rules.specs.declared.refusal.Refusal.{Refusal}
 use Rattle.trac_rules.specs.declared.refusal.Refusal.TheVariants.{TooLong, NeedInput, Ended}
 use Rattle.trac_rules.specs.State.{Environment, Frame, State, Storage, Tape, storage_of}
 use Rattle.trac_rules.specs.Scanning.{Call, Scanned, Moves, Calls, gathered_in, scan}
 use Rattle.trac_rules.specs.Limits.{texts_fit, text_bytes, marks}
 use Rattle.trac_rules.specs.Effect.{Effect, argument}
+use Rattle.trac_rules.specs.Blocks.{block_handled}
 use Rattle.trac_rules.specs.Handling.{handled}
 use Rattle.trac_rules.specs.Outcomes.{limited, seen_as}
 use Rattle.trac_rules.specs.Reading.{byte_read, read_up_to, rest_read, unread}
@@ -23,7 +24,7 @@ use Rattle.trac_rules.specs.Running.{silent}
 use Rattle.trac_rules.proofs.Outcomes.{limited_beyond, limited_Err, seen_as-Err}
 use Rattle.trac_rules.proofs.Positions.{position-append_None}
 use Rattle.trac_rules.proofs.Scans.{ScanShows, gathered_in_shows, place_of, scan_keeps_place}
-use Rattle.trac_rules.proofs.Steps.{LooksAtForms, handled_looks, lengthened, unread-whole, step-silent_Err}
+use Rattle.trac_rules.proofs.Steps.{LooksAtForms, block_handled_looks, handled_looks, lengthened, unread-whole, step-silent_Err}
 
 -- ---- what is refused
 
@@ -71,6 +72,8 @@ effect_refusals (SetTrace trace) e arguments s r h = absurd (cc)
 effect_refusals (Compute computation) e arguments s r h = absurd (cc)
 effect_refusals (Handle action) e arguments s r h =
     inl (looks_refusals (handled action arguments (storage_of s)) r (handled_looks action arguments (storage_of s)) h)
+effect_refusals (HandleBlock action) e arguments s r h =
+    inl (looks_refusals (block_handled action arguments (storage_of s)) r (block_handled_looks action arguments (storage_of s)) h)
 effect_refusals Unknown e arguments s r h = absurd (cc)
 
 -- why a call is refused
@@ -161,6 +164,9 @@ effect_long (SetTrace trace) e more arguments s l some h = absurd (cc)
 effect_long (Compute computation) e more arguments s l some h = absurd (cc)
 effect_long (Handle action) e more arguments s l some h =
     let long : NeedInput ≡ TooLong = looks_refusals (handled action arguments (storage_of s)) NeedInput (handled_looks action arguments (storage_of s)) h in
+    absurd (cc)
+effect_long (HandleBlock action) e more arguments s l some h =
+    let long : NeedInput ≡ TooLong = looks_refusals (block_handled action arguments (storage_of s)) NeedInput (block_handled_looks action arguments (storage_of s)) h in
     absurd (cc)
 effect_long Unknown e more arguments s l some h = absurd (cc)
 

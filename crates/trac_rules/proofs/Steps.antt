@@ -1,18 +1,21 @@
 -- What a step keeps, and how it depends on the tape and on the output.
 use Rattle.std.proofs.Common.{◌≡◌, ℕ, zero, suc, ◌+◌, ◌-◌, ◌<◌, ◌≤◌, Bool, true, false, List, [], ◌∷◌, ◌++◌, length, take, drop, refl, sym, ap, ◌∙◌, arith, ⊎_elim}
-use Rattle.std.specs.Prelude.{Option, None, Some, Result, Ok, Err, position, ◌==◌, if◌then◌else◌}
+use Rattle.std.specs.Prelude.{Option, None, Some, Result, Ok, Err, decimal, nat_le, position, ◌==◌, if◌then◌else◌}
 use Rattle.std.specs.FinMap as map
 use Rattle.std.proofs.lemmas.List.{append-nil, append_assoc, length-drop, drop-append-le, take-append-le, drop-drop}
 use Rattle.std.proofs.lemmas.Bool.{cases_Bool}
 use Rattle.std.proofs.lemmas.List.Quantifiers.{position-Some}
 use Rattle.trac_rules.specs.declared.kind.Kind.{Kind}
 use Rattle.trac_rules.specs.declared.kind.Kind.TheVariants.{Active, Neutral}
+use Rattle.trac_rules.specs.declared.limit.TheConstants.{FORM_COUNT_LIMIT}
+use Rattle.trac_rules.specs.declared.primitive.BlockAction.{BlockAction}
+use Rattle.trac_rules.specs.declared.primitive.BlockAction.TheVariants.{StoreBlock, FetchBlock, EraseBlock}
 use Rattle.trac_rules.specs.declared.primitive.Computation.{Computation}
 use Rattle.trac_rules.specs.declared.primitive.Computation.TheVariants.{Calculate}
 use Rattle.trac_rules.specs.declared.primitive.FormAction.{FormAction}
 use Rattle.trac_rules.specs.declared.primitive.FormAction.TheVariants.{Define, Delete, DeleteAll, Segment, Restore, Read, ListNames, PrintForm, Call as CallForm}
 use Rattle.trac_rules.specs.declared.primitive.Primitive.{Primitive}
-use Rattle.trac_rules.specs.declared.primitive.Primitive.TheVariants.{PrintString, ReadString, ReadByte, Halt, SetMeta, SetTrace, Compute, Handle, Unknown}
+use Rattle.trac_rules.specs.declared.primitive.Primitive.TheVariants.{PrintString, ReadString, ReadByte, Halt, SetMeta, SetTrace, Compute, Handle, HandleBlock, Unknown}
 use Rattle.trac_rules.specs.declared.refusal.Refusal.{Refusal}
 use Rattle.trac_rules.specs.declared.refusal.Refusal.TheVariants.{TooLong, NeedInput}
 use Rattle.trac_rules.specs.State.{Environment, State, Storage, Tape, storage_of}
@@ -23,6 +26,7 @@ use Rattle.trac_rules.specs.Form.{Form, defined}
 use Rattle.trac_rules.specs.Filling.{called}
 use Rattle.trac_rules.specs.Segmenting.{segmented}
 use Rattle.trac_rules.specs.Showing.{shown}
+use Rattle.trac_rules.specs.Blocks.{block_fits, block_handled, erased, fetched, fetching, moved_out, named_block_number, on_block, put_aside}
 use Rattle.trac_rules.specs.Computing.{computed}
 use Rattle.trac_rules.specs.Handling.{default_argument, form_read, gives_piece, handled, keeping, named_form, on_form, piece_read, pointing, putting}
 use Rattle.trac_rules.specs.Pieces.{Piece}
@@ -113,6 +117,27 @@ handled_looks ListNames arguments storage = refl
 handled_looks PrintForm arguments storage =
     on_form_looks (named_form arguments storage) (λ form. Ok (prints (shown form) storage)) storage (λ form. refl)
 
+-- calls on blocks neither
+fitting_looks : (fits : Bool) (outcome : Result Effect Refusal) → LooksAtForms outcome → LooksAtForms (if fits then outcome else Err TooLong)
+fitting_looks true outcome looks = looks
+fitting_looks false outcome looks = refl
+
+on_block_looks : (number : Option ℕ) (act : ℕ → Result Effect Refusal) (storage : Storage) → ((k : ℕ) → LooksAtForms (act k)) →
+    LooksAtForms (on_block number act storage)
+on_block_looks None act storage looks = refl
+on_block_looks (Some number) act storage looks = looks number
+
+pub block_handled_looks : (action : BlockAction) (arguments : List (List ℕ)) (storage : Storage) → LooksAtForms (block_handled action arguments storage)
+block_handled_looks StoreBlock arguments storage =
+    fitting_looks (block_fits (moved_out (drop 2 arguments) storage.forms) storage.blocks)
+    (putting (argument 1 arguments) (defined (decimal (length storage.blocks))) (put_aside (drop 2 arguments) storage))
+    (putting_looks (argument 1 arguments) (defined (decimal (length storage.blocks))) (put_aside (drop 2 arguments) storage))
+block_handled_looks FetchBlock arguments storage =
+    on_block_looks (named_block_number arguments storage) (λ number. fetching number storage) storage
+    (λ number. fitting_looks (nat_le (map.len (fetched number storage)) FORM_COUNT_LIMIT) (Ok (leaves (keeping (fetched number storage) storage))) refl)
+block_handled_looks EraseBlock arguments storage =
+    on_block_looks (named_block_number arguments storage) (λ number. Ok (leaves (erased number (argument 1 arguments) storage))) storage (λ number. refl)
+
 looks_within : (n : ℕ) (outcome : Result Effect Refusal) → LooksAtForms outcome → ReadsWithin n outcome
 looks_within n (Ok e) looks = omega (arith, looks)
 looks_within n (Err refusal) looks = tt
@@ -149,6 +174,8 @@ effect_within SetMeta e arguments s = meta_within (length (unread e.tape s)) (ar
 effect_within (SetTrace trace) e arguments s = omega arith
 effect_within (Compute computation) e arguments s = computed_within (length (unread e.tape s)) computation arguments (storage_of s)
 effect_within (Handle action) e arguments s = looks_within (length (unread e.tape s)) (handled action arguments (storage_of s)) (handled_looks action arguments (storage_of s))
+effect_within (HandleBlock action) e arguments s =
+    looks_within (length (unread e.tape s)) (block_handled action arguments (storage_of s)) (block_handled_looks action arguments (storage_of s))
 effect_within Unknown e arguments s = omega arith
 
 -- and so does a call
@@ -274,6 +301,7 @@ effect_of-whole SetMeta e more arguments s l unended wanted = refl
 effect_of-whole (SetTrace trace) e more arguments s l unended wanted = refl
 effect_of-whole (Compute computation) e more arguments s l unended wanted = refl
 effect_of-whole (Handle action) e more arguments s l unended wanted = refl
+effect_of-whole (HandleBlock action) e more arguments s l unended wanted = refl
 effect_of-whole Unknown e more arguments s l unended wanted = refl
 
 -- a call that does not want input does the same on a whole tape

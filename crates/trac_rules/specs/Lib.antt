@@ -18,6 +18,7 @@ pub mod Effect
 pub mod Reading
 pub mod Computing
 pub mod Handling
+pub mod Blocks
 pub mod Outcomes
 pub mod Performing
 pub mod Stepping

@@ -7,11 +7,12 @@ use Rattle.trac_rules.specs.declared.byte.TheConstants.{STAR, CLOSING, LINE_FEED
 use Rattle.trac_rules.specs.declared.kind.Kind.{Kind}
 use Rattle.trac_rules.specs.declared.kind.Kind.TheVariants.{Active, Neutral}
 use Rattle.trac_rules.specs.declared.primitive.Primitive.{Primitive}
-use Rattle.trac_rules.specs.declared.primitive.Primitive.TheVariants.{PrintString, ReadString, ReadByte, Halt, SetMeta, SetTrace, Compute, Handle, Unknown}
+use Rattle.trac_rules.specs.declared.primitive.Primitive.TheVariants.{PrintString, ReadString, ReadByte, Halt, SetMeta, SetTrace, Compute, Handle, HandleBlock, Unknown}
 use Rattle.trac_rules.specs.declared.primitive.NamedPrimitive.{NamedPrimitive}
 use Rattle.trac_rules.specs.declared.primitive.TheConstants.{NAMES}
 use Rattle.trac_rules.specs.declared.refusal.Refusal.{Refusal}
 use Rattle.trac_rules.specs.declared.refusal.Refusal.TheVariants.{Ended}
+use Rattle.trac_rules.specs.Blocks.{block_handled}
 use Rattle.trac_rules.specs.Computing.{computed}
 use Rattle.trac_rules.specs.Effect.{Effect, argument, leaves, prints, sets_meta, sets_trace}
 use Rattle.trac_rules.specs.Handling.{handled}
@@ -54,6 +55,7 @@ effect_of SetMeta environment arguments s = Ok (meta_set (argument 1 arguments) 
 effect_of (SetTrace trace) environment arguments s = Ok (sets_trace trace (storage_of s))
 effect_of (Compute computation) environment arguments s = Ok (computed computation arguments (storage_of s))
 effect_of (Handle action) environment arguments s = handled action arguments (storage_of s)
+effect_of (HandleBlock action) environment arguments s = block_handled action arguments (storage_of s)
 effect_of Unknown environment arguments s = Ok (leaves (storage_of s))
 
 -- ---- a call

@@ -6,7 +6,7 @@ use Rattle.std.specs.Str.{bytes_eq}
 use Rattle.trac_rules.specs.declared.limit.TheConstants.{BLOCK_LIMIT, FORM_COUNT_LIMIT}
 use Rattle.trac_rules.specs.Form.{Form, IsWide, all_items, width_of}
 use Rattle.trac_rules.specs.Limits.{form_fits, texts_fit}
-use Rattle.trac_rules.specs.State.{Block, Forms, State, Storage, Tape, storage_of}
+use Rattle.trac_rules.specs.State.{Block, Forms, Held, State, Storage, Tape, storage_of}
 
 -- a form and its name are within the limits, and each gap is at least one byte wide
 pub record IsProperForm (name : List ℕ) (form : Form) : Type 0 where
@@ -19,7 +19,7 @@ pub record AreProperForms (forms : Forms) : Type 0 where
   pub each : (name : List ℕ) → (form : Form) → finite.get forms name ≡ Some form → IsProperForm name form
 
 -- forms of a block: not too many, each of them proper, and no name twice
-pub record AreHeld (held : List (List ℕ × Form)) : Type 0 where
+pub record AreHeld (held : Held) : Type 0 where
   pub count : length held ≤ FORM_COUNT_LIMIT
   pub each : All (λ entry. IsProperForm entry.0 entry.1) held
   pub distinct : IsDistinct bytes_eq (map (λ entry. entry.0) held)

@@ -7,9 +7,9 @@ use Rattle.trac_rules.specs.declared.reply.Reply.{Reply}
 use Rattle.trac_rules.specs.declared.item.Item.{Item}
 use Rattle.trac_rules.specs.declared.item.Item.TheVariants.{Byte, Gap}
 use Rattle.trac_rules.specs.Effect.{argument, forces, leaves}
-use Rattle.trac_rules.specs.Form.{Form, pointed_at}
+use Rattle.trac_rules.specs.Form.{pointed_at}
 use Rattle.trac_rules.specs.Performing.{effect_of, primitive_of}
-use Rattle.trac_rules.specs.State.{Environment, State, storage_of}
+use Rattle.trac_rules.specs.State.{Block, Environment, Held, State, storage_of}
 use Rattle.trac_rules.specs.Session.{PlainSession, Command, answer}
 
 -- ---- sessions
@@ -32,11 +32,15 @@ state_after commands p = (session_after commands p).last
 
 -- forms with their names, in any order and no name twice
 abbrev pub Named : Type 0
-Named = List (List ℕ × Form)
+Named = Held
 
 -- a state with these forms in place of its own
 abbrev pub with_forms : Named → State → State
 with_forms forms s = record s { forms = map.from_entries forms }
+
+-- a state with these forms and these blocks in place of its own
+abbrev pub with_storage : Named → List Block → State → State
+with_storage forms blocks s = record (with_forms forms s) { blocks = blocks }
 
 -- a text cut at its commas: a call's name and arguments, where none of them is protected
 abbrev pub texts_of : List ℕ → List (List ℕ)
@@ -75,3 +79,12 @@ pointing_at place name items = (name, pointed_at place items) ∷ []
 -- the form `a<1>bc<2>` under the name `F`, its pointer at a place
 abbrev pub example_at : ℕ → Named
 example_at place = pointing_at place (codes "F") (Byte 97 ∷ Gap 1 1 ∷ Byte 98 ∷ Byte 99 ∷ Gap 2 1 ∷ [])
+
+-- ---- calls on blocks
+
+-- a call with a null value that prints nothing turns these forms and blocks into those
+abbrev pub Turns : List (List ℕ) → Named → List Block → Named → List Block → Type 0
+Turns arguments before blocks after blocks_after =
+    (environment : Environment) → (s : State) →
+    effect_of (primitive_of (argument 0 arguments)) environment arguments (with_storage before blocks s)
+    ≡ Ok (leaves (storage_of (with_storage after blocks_after s)))

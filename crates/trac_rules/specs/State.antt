@@ -19,10 +19,14 @@ pub record Frame : Type 0 where
 abbrev pub Forms : Type 0
 Forms = FinMap (slice_cmp nat_cmp) Form
 
+-- forms with their names, in an order
+abbrev pub Held : Type 0
+Held = List (List ℕ × Form)
+
 -- a block is the forms that it holds, in their order, with their names; none where it is erased. In a proper state no name stands
 -- twice in it (`AreHeld`)
 abbrev pub Block : Type 0
-Block = Option (List (List ℕ × Form))
+Block = Option Held
 
 -- form storage and block storage
 pub record Storage : Type 0 where

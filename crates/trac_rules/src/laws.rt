@@ -1,12 +1,15 @@
 //! Laws of the definitions, each the contract of a function that does nothing.
 ghost use Rattle.std.specs.FinMap as finite;
-ghost use Rattle.std.specs.List.{All};
-ghost use Rattle.std.specs.Prelude.{◌≡◌, ◌++◌, ◌∷◌, [], List, Ok, true, ℕ};
+ghost use Rattle.std.specs.List.{All, IsDistinct};
+ghost use Rattle.std.specs.Prelude.{◌≡◌, ◌<◌, ◌≤◌, ◌++◌, ◌∷◌, [], bytes_eq, length, map, List, Ok, Some, true, ℕ};
+ghost use Rattle.trac_rules.specs.Blocks.{block_fits, fetched, fetching, is_address, moved_out, number_addressed, put_aside};
+ghost use Rattle.trac_rules.specs.Effect.{leaves};
 ghost use Rattle.trac_rules.specs.Form.{Form, IsWide, all_items};
+ghost use Rattle.trac_rules.specs.Handling.{keeping};
 ghost use Rattle.trac_rules.specs.Limits.{may_be_put};
 ghost use Rattle.trac_rules.specs.Matching.{protected, IsBalanced};
-ghost use Rattle.trac_rules.specs.Proper.{AreProperForms, IsProper, is_proper};
-ghost use Rattle.trac_rules.specs.State.{Environment, Forms, State, initial};
+ghost use Rattle.trac_rules.specs.Proper.{AreProperForms, IsProper, IsProperStorage, is_proper};
+ghost use Rattle.trac_rules.specs.State.{Block, Environment, Forms, State, Storage, initial};
 ghost use Rattle.trac_rules.specs.Stepping.{step};
 
 use crate::byte::CLOSING;
@@ -25,10 +28,11 @@ pub fn match_is_balanced()
         protected text ≡ record { inner = text; rest = [] } }
 {}
 
-/// Judging a form where it is put is the same as judging the whole state after the step.
+/// Judging forms and blocks where they are put is the same as judging the whole state after the step.
 /// The state at the start is proper, and each step leads from a proper state to a proper one: so a step whose new state would pass
 /// any limit is refused. A form that may be put among proper forms, its gaps wide, leaves them proper; and a form that leaves
-/// them proper may be put.
+/// them proper may be put. So too a new block fits where it leaves a proper storage, and a block's forms may be put among the
+/// others where they leave proper forms.
 pub fn states_stay_proper()
     ensures start { IsProper initial }
     ensures each_step { (environment : Environment) (s t : State) → IsProper s → step environment s ≡ Ok t → IsProper t }
@@ -36,6 +40,23 @@ pub fn states_stay_proper()
         may_be_put name form forms ≡ true → AreProperForms (finite.insert forms name form) }
     ensures necessary { (name : List ℕ) (form : Form) (forms : Forms) → AreProperForms (finite.insert forms name form) →
         may_be_put name form forms ≡ true }
+    ensures necessary_of_a_block { (names : List (List ℕ)) (storage : Storage) → IsProperStorage (put_aside names storage) →
+        block_fits (moved_out names storage.forms) storage.blocks ≡ true }
+    ensures necessary_of_its_forms { (number : ℕ) (storage : Storage) → AreProperForms (fetched number storage) →
+        fetching number storage ≡ Ok (leaves (keeping (fetched number storage) storage)) }
+{}
+
+/// A form is the address of one block at most: of a live block whose number its bytes are, where there are not more blocks than
+/// there may be.
+pub fn one_block_is_addressed()
+    ensures { (form : Form) (blocks : List Block) (number : ℕ) → length blocks ≤ BLOCK_LIMIT → number < length blocks →
+        is_address form blocks number ≡ true → number_addressed form blocks ≡ Some number }
+{}
+
+/// What a block holds when it is made: each form as it stood under its name, and no name twice.
+pub fn moved_forms_stand_as_before()
+    ensures forms { (names : List (List ℕ)) (forms : Forms) → All (λ entry. finite.get forms entry.0 ≡ Some entry.1) (moved_out names forms) }
+    ensures distinct { (names : List (List ℕ)) (forms : Forms) → IsDistinct bytes_eq (map (λ entry. entry.0) (moved_out names forms)) }
 {}
 
 /// Whether a state is proper is decided by `is_proper`.

@@ -2,6 +2,7 @@
 //! that both the definitions and the programs name, and the laws of the definitions as contracts.
 #![tactic(auto)]
 
+pub mod blocks;
 pub mod byte;
 pub mod item;
 pub mod kind;

@@ -1,11 +1,12 @@
 //! What the names of the primitives stand for.
 ghost use Rattle.std.specs.Prelude.{◌≡◌, [], codes, false, true};
 ghost use Rattle.trac_rules.specs.Performing.{primitive_of};
+ghost use Rattle.trac_rules.specs.declared.primitive.BlockAction.TheVariants.{EraseBlock, FetchBlock, StoreBlock};
 ghost use Rattle.trac_rules.specs.declared.primitive.Computation.TheVariants.{Calculate, Complement, Equal, Greater, Meet, Rotate, Shift, Union};
 ghost use Rattle.trac_rules.specs.declared.primitive.FormAction.TheVariants.{Call, Define, Delete, DeleteAll, ListNames, PrintForm, Read, Restore, Segment};
 ghost use Rattle.trac_rules.specs.declared.primitive.FormReading.TheVariants.{ReadChar, ReadCount, ReadSegment, ReadUntil};
 ghost use Rattle.trac_rules.specs.declared.primitive.Operation.TheVariants.{Add, Divide, Multiply, Subtract};
-ghost use Rattle.trac_rules.specs.declared.primitive.Primitive.TheVariants.{Compute, Halt, Handle, PrintString, ReadByte, ReadString, SetMeta, SetTrace, Unknown};
+ghost use Rattle.trac_rules.specs.declared.primitive.Primitive.TheVariants.{Compute, Halt, Handle, HandleBlock, PrintString, ReadByte, ReadString, SetMeta, SetTrace, Unknown};
 
 /// What a name stands for. Each letter of a primitive's name may be in either case (this project's profile).
 #[derive(Clone, Copy, Debug, PartialEq, Eq)]
@@ -26,8 +27,9 @@ pub enum Primitive {
     Compute(Computation),
     /// A primitive that looks at the forms or changes them.
     Handle(FormAction),
-    /// Any other name, and that of a primitive that is not there yet: the value is null, and nothing is done (this
-    /// project's profile).
+    /// A primitive that puts forms aside in a block, brings copies of them back, or erases a block.
+    HandleBlock(BlockAction),
+    /// Any other name: the value is null, and nothing is done (this project's profile).
     Unknown,
 }
 
@@ -101,6 +103,17 @@ pub enum FormReading {
     ReadUntil,
 }
 
+/// What a primitive does with blocks of forms.
+#[derive(Clone, Copy, Debug, PartialEq, Eq)]
+pub enum BlockAction {
+    /// `sb`: forms are moved into a new block, and a form becomes its number.
+    StoreBlock,
+    /// `fb`: copies of a block's forms are put among the forms.
+    FetchBlock,
+    /// `eb`: a block is erased, and the form that names it deleted.
+    EraseBlock,
+}
+
 /// A primitive with its name.
 #[derive(Clone, Copy, Debug, PartialEq, Eq)]
 pub struct NamedPrimitive {
@@ -111,7 +124,7 @@ pub struct NamedPrimitive {
 }
 
 /// The names of the primitives. Any other name is unknown.
-pub const NAMES: [NamedPrimitive; 30] = [
+pub const NAMES: [NamedPrimitive; 33] = [
     NamedPrimitive {
         letters: *b"ps",
         primitive: Primitive::PrintString,
@@ -232,6 +245,18 @@ pub const NAMES: [NamedPrimitive; 30] = [
         letters: *b"pf",
         primitive: Primitive::Handle(FormAction::PrintForm),
     },
+    NamedPrimitive {
+        letters: *b"sb",
+        primitive: Primitive::HandleBlock(BlockAction::StoreBlock),
+    },
+    NamedPrimitive {
+        letters: *b"fb",
+        primitive: Primitive::HandleBlock(BlockAction::FetchBlock),
+    },
+    NamedPrimitive {
+        letters: *b"eb",
+        primitive: Primitive::HandleBlock(BlockAction::EraseBlock),
+    },
 ];
 
 /// What each name stands for: the table, read by the definitions.
@@ -266,6 +291,9 @@ pub fn names_stand_for()
     ensures read_until { primitive_of (codes "in") ≡ Handle (Read ReadUntil) }
     ensures list_names { primitive_of (codes "ln") ≡ Handle ListNames }
     ensures print_form { primitive_of (codes "pf") ≡ Handle PrintForm }
+    ensures store_block { primitive_of (codes "sb") ≡ HandleBlock StoreBlock }
+    ensures fetch_block { primitive_of (codes "fb") ≡ HandleBlock FetchBlock }
+    ensures erase_block { primitive_of (codes "eb") ≡ HandleBlock EraseBlock }
     // Each letter may be in either case (this project's profile).
     ensures first_capital { primitive_of (codes "Ps") ≡ PrintString }
     ensures second_capital { primitive_of (codes "pS") ≡ PrintString }

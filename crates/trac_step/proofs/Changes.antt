@@ -126,7 +126,7 @@ taken_unmatched old cut last n c is l found =
 pub rebuilt_parts : {A : Type 0} (old new : Ends ℕ) (ms ns : Ends Mark) (store kept : Stored) (meta : ℕ) (trace : Bool) (position : ℕ) (output copy : Vec ℕ A) →
     new.left ≡ old.left → new.right ≡ old.right → ns.left ≡ ms.left → storage_in kept ≡ storage_in store → copy.items ≡ output.items →
     parts_of new ns kept meta trace position copy
-    ≡ record (parts_of old ms store meta trace position output) { text_room = new.capacity; mark_room = ns.capacity; output_room = vec_capacity copy; known = kept.known }
+    ≡ record (parts_of old ms store meta trace position output) { text_room = new.capacity; mark_room = ns.capacity; output_room = vec_capacity copy; known = kept.known; spare = kept.spare }
 rebuilt_parts old new ms ns store kept meta trace position output copy left right marks same items i =
     record (parts_of old ms store meta trace position output) {
       active = right i;
@@ -138,11 +138,12 @@ rebuilt_parts old new ms ns store kept meta trace position output copy left righ
       mark_room = ns.capacity;
       output_room = vec_capacity copy;
       known = kept.known;
+      spare = kept.spare;
     }
 
-pub sound_rebuilt : (p : Parts) (text_room mark_room output_room : ℕ) (known : Names) → IsSound p → length p.active + length p.text ≤ text_room → length p.marks ≤ mark_room →
-    IsSound (record p { text_room = text_room; mark_room = mark_room; output_room = output_room; known = known })
-sound_rebuilt p text_room mark_room output_room known sound text marked = record {
+pub sound_rebuilt : (p : Parts) (text_room mark_room output_room : ℕ) (known : Names) (spare : ℕ) → IsSound p → length p.active + length p.text ≤ text_room → length p.marks ≤ mark_room →
+    IsSound (record p { text_room = text_room; mark_room = mark_room; output_room = output_room; known = known; spare = spare })
+sound_rebuilt p text_room mark_room output_room known spare sound text marked = record {
   ordered = sound.ordered;
   text_limit = sound.text_limit;
   mark_limit = sound.mark_limit;
@@ -169,6 +170,7 @@ first_parts text_room output_room = record {
   mark_room = 0;
   output_room = output_room;
   known = set.empty;
+  spare = 0;
 }
 
 sound_first : (text_room output_room : ℕ) → 11 ≤ text_room → IsSound (first_parts text_room output_room)

@@ -116,12 +116,12 @@ module _ (p : Parts) (number place : ℕ) (kind : Kind) (texts : List (List ℕ)
   cut_length = omega (arith, length-take-le place p.text inner.place_within, length-drop 1 p.active, inner.place_within)
 
   -- and they are sound, where the state is a proper one and there is room for the value
-  pub ended_sound : (e : Planned) (text_room output_room : ℕ) (known : _) → IsSound p → IsProper (state_of (ended_parts p number place kind e)) →
+  pub ended_sound : (e : Planned) (text_room output_room : ℕ) (known : _) (spare : ℕ) → IsSound p → IsProper (state_of (ended_parts p number place kind e)) →
       length p.active + length p.text + length e.value ≤ text_room →
-      IsSound (record (ended_parts p number place kind e) { text_room = text_room; output_room = output_room; known = known })
-  ended_sound e text_room output_room known sound proper room =
+      IsSound (record (ended_parts p number place kind e) { text_room = text_room; output_room = output_room; known = known; spare = spare })
+  ended_sound e text_room output_room known spare sound proper room =
       let w : Ends ℕ = record { left = take place p.text; right = drop 1 p.active; capacity = p.text_room } in
-      sound_if_proper (record (ended_parts p number place kind e) { text_room = text_room; output_room = output_room; known = known })
+      sound_if_proper (record (ended_parts p number place kind e) { text_room = text_room; output_room = output_room; known = known; spare = spare })
       (value_ordered kind e.forced e.value w (reverse (take number p.marks)) inner.ordered)
       (omega (arith, value_length kind e.forced e.value w, cut_length, room))
       (omega (arith, length-take-le number p.marks (omega (arith, inner.within)), inner.within, sound.mark_room))
@@ -134,7 +134,7 @@ pub finished_parts : {A : Type 0} (old cut put : Ends ℕ) (ms kept : Ends Mark)
     cut ≡ record old { left = take place old.left; right = drop 1 old.right } → put ≡ with_value kind e.forced e.value cut → kept ≡ record ms { left = take number ms.left } →
     storage_in after ≡ e.storage → printed.items ≡ output.items ++ e.printed →
     parts_of put kept after e.meta e.trace e.position printed
-    ≡ record (ended_parts (parts_of old ms store meta trace position output) number place kind e) { text_room = put.capacity; output_room = vec_capacity printed; known = after.known }
+    ≡ record (ended_parts (parts_of old ms store meta trace position output) number place kind e) { text_room = put.capacity; output_room = vec_capacity printed; known = after.known; spare = after.spare }
 finished_parts old cut put ms kept store after meta trace position output printed number place kind e cut_is put_is kept_is storage_is items =
     let put_at : put ≡ with_value kind e.forced e.value (record { left = take place old.left; right = drop 1 old.right; capacity = old.capacity }) =
     put_is ∙ ap (λ (x : Ends ℕ). with_value kind e.forced e.value x) cut_is in
@@ -151,4 +151,5 @@ finished_parts old cut put ms kept store after meta trace position output printe
       mark_room = (kept_is i).capacity;
       output_room = vec_capacity printed;
       known = after.known;
+      spare = after.spare;
     }

@@ -69,7 +69,7 @@ BeginsInnermost s b = BeginsFirst s.frames s.base b
 pub record HasRoomFor {A : Type 0} (e : code.Effect A) (m : Shown) : Type 0 where
   pub text : text_bytes m.state + length e.value.items ≤ m.text_room
   pub output : length m.state.output + length e.print.items ≤ m.output_room
-  pub names : HasPlaceFor e.change m.known
+  pub names : HasPlaceFor e.change m.known m.spare
 
 -- the texts with a value where it goes: behind the neutral text for a neutral function, where it is not forced, else before the active text
 abbrev pub with_value : Kind → Bool → List ℕ → Ends ℕ → Ends ℕ

@@ -14,7 +14,7 @@ use Rattle.trac_prims.specs.Neutral.{MarkedText, IsOrdered, neutral_of}
 -- ---- the state
 
 -- active text, neutral text, its marks from the first on, the storage, and the rest; how many bytes, marks and bytes of output the
--- machine has room for, and the names for which its store has a place
+-- machine has room for; the names for which its store has a place, and how many more blocks have one
 pub record Parts : Type 0 where
   pub active : List ℕ
   pub text : List ℕ
@@ -28,6 +28,7 @@ pub record Parts : Type 0 where
   pub mark_room : ℕ
   pub output_room : ℕ
   pub known : Names
+  pub spare : ℕ
 
 -- the parts as a machine holds them
 abbrev pub parts_of : {A : Type 0} → Ends ℕ → Ends Mark → Stored → ℕ → Bool → ℕ → Vec ℕ A → Parts
@@ -44,6 +45,7 @@ parts_of text marks store meta trace position output = record {
   mark_room = marks.capacity;
   output_room = vec_capacity output;
   known = store.known;
+  spare = store.spare;
 }
 
 -- the neutral text with its marks
@@ -75,14 +77,15 @@ pub record IsSound (p : Parts) : Type 0 where
 
 -- ---- what a contract sees of a machine
 
--- its state; how many bytes of texts, how many marks and how many bytes of output it has room for without more memory; and the
--- names under which it can put a form without more memory
+-- its state; how many bytes of texts, how many marks and how many bytes of output it has room for without more memory; the
+-- names under which it can put a form without more memory, and how many blocks it can add so
 pub record Shown : Type 0 where
   pub state : State
   pub text_room : ℕ
   pub mark_room : ℕ
   pub output_room : ℕ
   pub known : Names
+  pub spare : ℕ
 
 abbrev pub shown_by : Parts → Shown
 shown_by p = record {
@@ -91,11 +94,12 @@ shown_by p = record {
   mark_room = p.mark_room;
   output_room = p.output_room;
   known = p.known;
+  spare = p.spare;
 }
 
 abbrev pub shown_code : Coded Shown
 shown_code =
-    code_by (State × (ℕ × (ℕ × (ℕ × Names)))) (coded× state_code (coded× coded_ℕ (coded× coded_ℕ (coded× coded_ℕ (set.code text_code)))))
-    (λ m. (m.state, (m.text_room, (m.mark_room, (m.output_room, m.known)))))
-    (λ p. record { state = p.0; text_room = p.1.0; mark_room = p.1.1.0; output_room = p.1.1.1.0; known = p.1.1.1.1 })
+    code_by (State × (ℕ × (ℕ × (ℕ × (Names × ℕ))))) (coded× state_code (coded× coded_ℕ (coded× coded_ℕ (coded× coded_ℕ (coded× (set.code text_code) coded_ℕ)))))
+    (λ m. (m.state, (m.text_room, (m.mark_room, (m.output_room, (m.known, m.spare))))))
+    (λ p. record { state = p.0; text_room = p.1.0; mark_room = p.1.1.0; output_room = p.1.1.1.0; known = p.1.1.1.1.0; spare = p.1.1.1.1.1 })
     (λ _. refl)

@@ -1,20 +1,23 @@
 //! The steps that perform a function.
-ghost use Rattle.std.specs.Prelude.{◌≡◌, ◌<◌, ◌≤◌, ◌+◌, ◌^◌, ◌++◌, length, take, drop, IfErr, IfOk, IsOkUnless, OnOk, Ok, Some, vec_capacity, vec_len};
+ghost use Rattle.std.specs.Prelude.{◌≡◌, ◌<◌, ◌≤◌, ◌+◌, ◌^◌, ◌++◌, [], length, take, drop, IfErr, IfOk, IsOkUnless, OnOk, Ok, Some, vec_capacity, vec_len};
 ghost use Rattle.trac_gap.specs.Ends.{item_count};
 ghost use Rattle.trac_rules.specs.Outcomes.{MayAnswer, MayRefuse};
 ghost use Rattle.trac_rules.specs.Proper.{IsProper};
 ghost use Rattle.trac_rules.specs.Scanning.{front_of, scan};
 ghost use Rattle.trac_rules.specs.Stepping.{step};
 ghost use Rattle.trac_prims.specs.Tape.{environment_of};
+ghost use Rattle.trac_step.specs.Changing.{held_by};
 ghost use Rattle.trac_step.specs.Calling.{BeginsInnermost, HasRoomFor, state_after, with_value};
 ghost use Rattle.trac_step.specs.Record.{before};
 ghost use Rattle.trac_step.specs.Room.{HasRoom, IsNoLess};
 
+use crate::blocking::block_for;
 use crate::changing::{change_forms, make_place};
 use crate::ends;
 use crate::engine::Core;
 use crate::record::Record;
 use std::alloc::Allocator;
+use trac_forms::Block;
 use trac_gap::TwoEnds;
 use trac_prims::{Effect, Kind, Mark, Now, Refusal, Tape, plan};
 use trac_rules::scan::Front;
@@ -132,10 +135,12 @@ impl<E: TwoEnds<u8, A>, M: TwoEnds<Mark, A>, A: Allocator + Copy> Core<E, M, A> 
     }
 
     // Performs the call: the function is gone, what it prints is printed, and its value is where it goes. It takes no memory.
-    fn finish_call(&mut self, beginning: Beginning, effect: Effect<A>)
+    fn finish_call(&mut self, beginning: Beginning, effect: Effect<A>, block: Block<A>)
         requires front { front_of self.old.state.active ≡ Front.Closing }
         requires beginning { BeginsInnermost self.old.state beginning }
         requires room { HasRoomFor effect self.old }
+        requires none { block.held ≡ [] }
+        requires places { length (held_by effect.change) ≤ block.room }
         requires proper { IsProper (state_after effect (scan self.old.state)) }
         ensures state { self.new.state ≡ state_after effect (scan self.old.state) }
         ensures room { IsNoLess self.old self.new }
@@ -148,7 +153,7 @@ impl<E: TwoEnds<u8, A>, M: TwoEnds<Mark, A>, A: Allocator + Copy> Core<E, M, A> 
             effect.value.as_slice(),
         );
         append(&mut self.output, effect.print.as_slice());
-        change_forms(&mut self.store, effect.change);
+        change_forms(&mut self.store, effect.change, block);
         self.meta = effect.meta;
         self.trace = effect.trace;
         self.position = effect.position;
@@ -166,8 +171,9 @@ impl<E: TwoEnds<u8, A>, M: TwoEnds<Mark, A>, A: Allocator + Copy> Core<E, M, A> 
     {
         let (beginning, effect) = self.planned(tape)?;
         self.make_room(&effect)?;
+        let block = block_for(*self.output.allocator(), &effect.change)?;
         let before = self.copy()?;
-        self.finish_call(beginning, effect);
+        self.finish_call(beginning, effect, block);
         Ok(Record::Whole(before))
     }
 }

@@ -1,35 +1,52 @@
-//! Changing the forms as a call planned it.
-ghost use Rattle.std.specs.Prelude.{◌≡◌, IsOkUnless, OnErr, OnOk};
+//! Changing forms and blocks as a call planned it.
+ghost use Rattle.std.specs.Prelude.{◌≡◌, ◌≤◌, [], length, IsOkUnless, OnErr, OnOk};
 ghost use Rattle.std.specs.FinMap as finite;
 ghost use Rattle.trac_rules.specs.Handling.{keeping, without};
 ghost use Rattle.trac_forms.specs.Stored.{storage_in};
 ghost use Rattle.trac_prims.specs.Effects.{changed, pointed, texts_of};
-ghost use Rattle.trac_step.specs.Changing.{HasPlaceFor};
+ghost use Rattle.trac_step.specs.Changing.{HasPlaceFor, held_by};
 ghost use Rattle.trac_step.specs.Room.{AreAmong};
 
+use crate::blocking::{know_each, move_into, put_each};
 use std::alloc::Allocator;
-use trac_forms::Store;
+use trac_forms::{Block, Store};
 use trac_prims::{Change, Refusal};
 
-// Makes a place for the form that the change puts, so that it needs no memory. The forms stay as they are.
+// Makes places for the forms and the block that the change puts, so that it needs no memory. Forms and blocks stay as they are.
 pub(crate) fn make_place<A: Allocator + Copy>(
     store: &mut Store<A>,
     change: &Change<A>,
 ) -> Result<(), Refusal>
-    ensures place { OnOk result (HasPlaceFor change.now store.new.known) }
+    ensures place { OnOk result (HasPlaceFor change.now store.new.known store.new.spare) }
     ensures kept { storage_in store.new ≡ storage_in store.old }
     ensures names { AreAmong store.old.known store.new.known }
     ensures err { IsOkUnless result Refusal.Memory }
 {
     match change {
         Change::Put(name, _form) => Ok(store.know(name.as_slice())?),
-        Change::Keep | Change::Remove(_) | Change::Clear | Change::Point(_, _) => Ok(()),
+        Change::MoveIn { name, .. } => {
+            store.know(name.as_slice())?;
+            Ok(store.reserve_blocks(1)?)
+        }
+        Change::Bring { forms, .. } => Ok(know_each(store, forms.as_slice())?),
+        Change::Keep
+        | Change::Remove(_)
+        | Change::Clear
+        | Change::Point(_, _)
+        | Change::Erase { .. } => Ok(()),
     }
 }
 
-// Changes the forms. It takes no memory, and forgets no name.
-pub(crate) fn change_forms<A: Allocator + Copy>(store: &mut Store<A>, change: Change<A>)
-    requires { HasPlaceFor change store.old.known }
+// Changes forms and blocks; what is moved goes into a block that has places for it and holds nothing. It takes no memory, and forgets no
+// name.
+pub(crate) fn change_forms<A: Allocator + Copy>(
+    store: &mut Store<A>,
+    change: Change<A>,
+    mut block: Block<A>,
+)
+    requires place { HasPlaceFor change store.old.known store.old.spare }
+    requires none { block.held ≡ [] }
+    requires room { length (held_by change) ≤ block.room }
     ensures storage { storage_in store.new ≡ changed change (storage_in store.old) }
     ensures names { store.new.known ≡ store.old.known }
 {
@@ -41,6 +58,23 @@ pub(crate) fn change_forms<A: Allocator + Copy>(store: &mut Store<A>, change: Ch
         Change::Remove(names) => remove(store, names.as_slice()),
         Change::Clear => store.clear(),
         Change::Point(name, place) => point(store, name.as_slice(), place),
+        Change::MoveIn {
+            held,
+            name,
+            address,
+        } => {
+            move_into(store, held, &mut block);
+            store.push_block(block);
+            store.put(name.as_slice(), address);
+        }
+        Change::Bring { number: _, forms } => put_each(store, forms),
+        Change::Erase {
+            number,
+            name: address,
+        } => {
+            store.take_block(number);
+            store.take(address.as_slice());
+        }
     }
 }
 

@@ -61,9 +61,9 @@ impl<E: TwoEnds<u8, A>, M: TwoEnds<Mark, A>, A: Allocator + Copy> Core<E, M, A> 
         Some(function.arguments.get(0))
     }
 
-    /// The forms by their names, the blocks, and the names that have a place.
+    /// The forms by their names, the blocks, the names that have a place, and how many more blocks have one.
     pub fn store(&self) -> &Store<A>
-        ensures { result.now ≡ record { forms = self.now.state.forms; blocks = self.now.state.blocks; known = self.now.known } }
+        ensures { result.now ≡ record { forms = self.now.state.forms; blocks = self.now.state.blocks; known = self.now.known; spare = self.now.spare } }
     {
         &self.store
     }

@@ -6,4 +6,4 @@ use Rattle.trac_debug.proofs.states.block_into.Given as goal
 
 -- the forms so far are shown
 abbrev pub invariant-loop-place : goal.invariant-loop-place
-invariant-loop-place g l = l.out.items ≡ (l.fn.out.items ++ number_line (codes "block") l.i) ++ flat_map (form_line (codes "held")) (take l.place l.block)
+invariant-loop-place g l = l.out.items ≡ (l.fn.out.items ++ number_line (codes "block") l.i) ++ flat_map (form_line (codes "held")) (take l.place l.block.held)

@@ -1,8 +1,7 @@
 -- Fewer bytes stand before each earlier place.
-use Rattle.std.proofs.Common.{◌≡◌, ◌+◌, length, take, get_or, sym, ap, arith}
+use Rattle.std.proofs.Common.{◌+◌, take, get_or, sym, ap, arith}
 use Rattle.std.proofs.lemmas.List.{take_all}
 use Rattle.trac_rules.specs.declared.item.Item.TheVariants.{Byte}
-use Rattle.trac_rules.specs.Pieces.{at_most_all, bytes_in}
 use Rattle.trac_forms.proofs.Passing.{count, count-split, count_byte, count_grows, count_next, reached_behind}
 use Rattle.trac_forms.proofs.reading.reach.Goals as goal
 

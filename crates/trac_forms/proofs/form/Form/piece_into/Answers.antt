@@ -1,5 +1,5 @@
 -- The bytes before the pointer, and then those after it.
-use Rattle.std.proofs.Common.{◌≡◌, ◌-◌, ◌++◌, ℕ, List, length, drop, min, take, ap, ◌∙◌}
+use Rattle.std.proofs.Common.{◌≡◌, ◌-◌, ◌++◌, List, length, drop, min, take, ap, ◌∙◌}
 use Rattle.trac_rules.specs.declared.item.Item.{Item}
 use Rattle.trac_rules.specs.Pieces.{bytes_in}
 use Rattle.trac_forms.proofs.Passing.{piece_added}

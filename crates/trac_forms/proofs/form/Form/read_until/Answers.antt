@@ -1,5 +1,4 @@
 -- The bytes up to the first occurrence.
-use Rattle.std.proofs.Common.{refl}
 use Rattle.trac_forms.proofs.Passing.{reads_until, there_until}
 use Rattle.trac_forms.proofs.form.Form.read_until.Goals as goal
 

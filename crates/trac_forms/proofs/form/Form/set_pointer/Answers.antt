@@ -1,7 +1,7 @@
 -- The items between the old place and the new one go to the other list.
 use Rattle.std.proofs.Common.{◌-◌, length, ap, ◌∙◌, arith}
 use Rattle.trac_rules.specs.Form.{Form, all_items, pointed_at}
-use Rattle.trac_forms.proofs.Divided.{kept_back, kept_on, pointed_back, pointed_on}
+use Rattle.trac_forms.proofs.Divided.{kept_back, pointed_on}
 use Rattle.trac_forms.proofs.form.Form.set_pointer.Goals as goal
 
 pub invariant_of-self : goal.invariant_of-self

@@ -1,7 +1,7 @@
 -- What is written at the name's entry, if there is one.
 use Rattle.std.proofs.Common.{sym, ap, ◌∙◌, is_some}
 use Rattle.std.specs.Prelude.{None}
-use Rattle.trac_forms.specs.Table.{named, with_entry, stored}
+use Rattle.trac_forms.specs.Table.{kept_in, named, with_entry, stored}
 use Rattle.trac_forms.proofs.Tables.{form_found, not_taken, written}
 use Rattle.trac_forms.proofs.store.Store.take.Goals as goal
 
@@ -11,7 +11,7 @@ returns-in-None-clause-taken g c =
 
 pub returns-in-None-clause-gone : goal.returns-in-None-clause-gone
 returns-in-None-clause-gone g c =
-    ap (λ table. stored (named (λ k. k.items) table.entries) c.self.inside.blocks.items) c.get_mut.follows.holds-at-none
+    ap (λ table. stored (named (λ k. k.items) table.entries) (kept_in c.self.inside.blocks)) c.get_mut.follows.holds-at-none
     ∙ c.self.view_is
     ∙ not_taken (λ k. k.items) c.self.inside.table.entries _ c.args.self.now c.self.view_is c.args.name.now (sym c.in-None.ensures.value)
 

@@ -13,7 +13,7 @@ invariant_of-result g c =
     c.self.inside.store c.in_ok-copy.field-0 c.self.inside.meta c.self.inside.trace c.self.inside.position c.self.inside.output c.in_ok-copy_of.field-0
     c.in_ok-text.ensures.left c.in_ok-text.ensures.right c.in_ok-text.ensures.marks (ap storage_in c.in_ok-copy.ensures.same) c.in_ok-copy_of.ensures.items in
     subst IsSound (sym same)
-    (sound_rebuilt p _ _ _ _ c.self.invariant (omega (arith, c.self.invariant.text_room, c.in_ok-text.ensures.grows)) (omega (arith, c.self.invariant.mark_room, c.in_ok-text.ensures.marks_grow)))
+    (sound_rebuilt p _ _ _ _ _ c.self.invariant (omega (arith, c.self.invariant.text_room, c.in_ok-text.ensures.grows)) (omega (arith, c.self.invariant.mark_room, c.in_ok-text.ensures.marks_grow)))
 
 pub returns-clause-same : goal.returns-clause-same
 returns-clause-same g c =

@@ -45,7 +45,7 @@ invariant_of-self g c =
     (ap (λ (x : Ends ℕ). x.left) c.refill_both.ensures.text) (ap (λ (x : Ends ℕ). x.right) c.refill_both.ensures.text)
     (ap (λ (x : Ends Mark). x.left) c.refill_both.ensures.marks) (ap storage_in c.restore.ensures)
     (c.overwrite.ensures.items ∙ c.as_slice.ensures.value) in
-    subst IsSound (sym q_is) (sound_rebuilt e _ _ _ _ c.earlier.invariant
+    subst IsSound (sym q_is) (sound_rebuilt e _ _ _ _ _ c.earlier.invariant
     (omega (
       arith,
       c.requires.text,

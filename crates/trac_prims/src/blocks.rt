@@ -1,0 +1,294 @@
+//! Calls that put forms aside in a block, bring copies of them back, or erase a block.
+ghost use Rattle.std.specs.Prelude.{◌≡◌, ◌<◌, ◌≤◌, ◌^◌, ◌++◌, ◌∷◌, [], bytes_eq, decimal, length, nat_le, option_map, option_to_list, List, ℕ, IfOk, IsOkUnless, OnOk};
+ghost use Rattle.std.specs.List.{list_any};
+ghost use Rattle.std.specs.FinMap as finite;
+ghost use Rattle.trac_forms.specs.Stored.{AreApart, storage_in};
+ghost use Rattle.trac_rules.specs.Blocks.{block_handled, moved_out, named_block_number, number_addressed, with_all};
+ghost use Rattle.trac_rules.specs.Form.{Form as Divided, all_items, defined};
+ghost use Rattle.trac_rules.specs.Handling.{without};
+ghost use Rattle.trac_rules.specs.Limits.{may_be_put};
+ghost use Rattle.trac_rules.specs.Pieces.{bytes_in};
+ghost use Rattle.trac_rules.specs.declared.primitive.BlockAction.TheVariants.{EraseBlock, FetchBlock, StoreBlock};
+ghost use Rattle.trac_prims.specs.Blocks.{IsBlock, count_further};
+ghost use Rattle.trac_prims.specs.Effects.{IsMade, named_forms, names_in, texts_of};
+
+use crate::args::{Args, Behind};
+use crate::change::Change;
+use crate::made::Made;
+use std::alloc::Allocator;
+use trac_forms::{Block, Form, Item, Store, Texts};
+use trac_num::{print_into, read_tail, value};
+use trac_rules::limit::{BLOCK_LIMIT, FORM_COUNT_LIMIT, NAME_LIMIT};
+use trac_rules::refusal::Refusal;
+
+/// A form with its name.
+type Named<A> = (Vec<u8, A>, Form<A>);
+
+// `sb`: forms are moved into a new block, and a form becomes its number.
+pub(crate) fn store_block<A: Allocator + Copy>(
+    alloc: A,
+    args: &Args<'_>,
+    store: &Store<A>,
+) -> Result<Made<A>, Refusal>
+    ensures { IsMade (storage_in store.now) (block_handled StoreBlock args.now (storage_in store.now)) result }
+{
+    let name = args.get(1);
+    let held = leaving(alloc, store, &args.behind(2))?;
+    let number = store.block_count();
+    if held.len() > FORM_COUNT_LIMIT || number >= BLOCK_LIMIT {
+        return Err(Refusal::TooLong);
+    }
+    if !may_stand(store, name, held.as_slice()) {
+        return Err(Refusal::TooLong);
+    }
+    let address = address_of(alloc, number)?;
+    let name = Vec::from_slice(alloc, name)?;
+    Ok(Made {
+        change: Change::MoveIn {
+            held,
+            name,
+            address,
+        },
+        ..Made::keeping(alloc)
+    })
+}
+
+// `fb`: copies of a block's forms are put among the forms.
+pub(crate) fn fetch_block<A: Allocator + Copy>(
+    alloc: A,
+    args: &Args<'_>,
+    store: &Store<A>,
+) -> Result<Made<A>, Refusal>
+    ensures { IsMade (storage_in store.now) (block_handled FetchBlock args.now (storage_in store.now)) result }
+{
+    let found = named_block(alloc, args, store)?;
+    let Some((number, block)) = found else {
+        return Ok(Made::keeping(alloc));
+    };
+    if !may_come_back(store, block) {
+        return Err(Refusal::TooLong);
+    }
+    let forms = copies_of(alloc, block)?;
+    Ok(Made {
+        change: Change::Bring { number, forms },
+        ..Made::keeping(alloc)
+    })
+}
+
+// `eb`: a block is erased, and the form that names it deleted.
+pub(crate) fn erase_block<A: Allocator + Copy>(
+    alloc: A,
+    args: &Args<'_>,
+    store: &Store<A>,
+) -> Result<Made<A>, Refusal>
+    ensures { IsMade (storage_in store.now) (block_handled EraseBlock args.now (storage_in store.now)) result }
+{
+    let found = named_block(alloc, args, store)?;
+    let Some((number, _block)) = found else {
+        return Ok(Made::keeping(alloc));
+    };
+    let name = Vec::from_slice(alloc, args.get(1))?;
+    Ok(Made {
+        change: Change::Erase { number, name },
+        ..Made::keeping(alloc)
+    })
+}
+
+// ---- forms that leave
+
+// The names of the forms that leave, of those that are given: each that has a form, once.
+fn leaving<A: Allocator + Copy>(
+    alloc: A,
+    store: &Store<A>,
+    names: &Behind<'_>,
+) -> Result<Vec<Vec<u8, A>, A>, Refusal>
+    ensures made { IfOk result (λ held. texts_of held.items ≡ names_in (moved_out names.now store.now.forms)) }
+    ensures err { IsOkUnless result Refusal.Memory }
+{
+    let mut held = Vec::new(alloc);
+    for i in 0..names.count() {
+        let name = names.get(i);
+        add_leaving(alloc, store, name, &mut held)?;
+    }
+    Ok(held)
+}
+
+// Adds a name to those of the forms that leave, where it has a form and is none of them yet.
+fn add_leaving<A: Allocator + Copy>(
+    alloc: A,
+    store: &Store<A>,
+    name: &[u8],
+    held: &mut Vec<Vec<u8, A>, A>,
+) -> Result<(), Refusal>
+    ensures added { OnOk result ((names : List (List ℕ)) → texts_of held.old.items ≡ names_in (moved_out names store.now.forms) →
+        texts_of held.new.items ≡ names_in (moved_out (names ++ name.now ∷ []) store.now.forms)) }
+    ensures err { IsOkUnless result Refusal.Memory }
+{
+    if store.get(name).is_none() {
+        return Ok(());
+    }
+    if stands_among(held.as_slice(), name) {
+        return Ok(());
+    }
+    let text = Vec::from_slice(alloc, name)?;
+    held.push(text)?;
+    Ok(())
+}
+
+// Whether a name stands among others.
+fn stands_among<A: Allocator + Copy>(names: &[Vec<u8, A>], name: &[u8]) -> bool
+    ensures { result ≡ list_any (bytes_eq name.now) (texts_of names.now) }
+{
+    names.iter().any(|held| name == held.as_slice())
+}
+
+// Whether the number of a block may be put under this name, once the forms of these names have left.
+fn may_stand<A: Allocator + Copy>(store: &Store<A>, name: &[u8], held: &[Vec<u8, A>]) -> bool
+    requires { length held.now ≤ finite.len store.now.forms }
+    ensures { (names : List (List ℕ)) (number : ℕ) → number < 2 ^ 64 → texts_of held.now ≡ names_in (moved_out names store.now.forms) →
+        result ≡ may_be_put name.now (defined (decimal number)) (without names store.now.forms) }
+{
+    if name.len() > NAME_LIMIT {
+        return false;
+    }
+    let left = store.form_count() - held.len();
+    if store.get(name).is_some() && !stands_among(held, name) {
+        left <= FORM_COUNT_LIMIT
+    } else {
+        left < FORM_COUNT_LIMIT
+    }
+}
+
+// The number of a block in decimal, as a form.
+fn address_of<A: Allocator + Copy>(alloc: A, number: usize) -> Result<Form<A>, Refusal>
+    requires { number < BLOCK_LIMIT }
+    ensures made { IfOk result (λ form. form ≡ defined (decimal number)) }
+    ensures err { IsOkUnless result Refusal.Memory }
+{
+    let text = decimal_of(alloc, number)?;
+    Ok(Form::new(alloc, text.as_slice())?)
+}
+
+// The number of a block in decimal.
+fn decimal_of<A: Allocator + Copy>(alloc: A, number: usize) -> Result<Vec<u8, A>, Refusal>
+    requires { number < BLOCK_LIMIT }
+    ensures made { IfOk result (λ text. text.items ≡ decimal number) }
+    ensures err { IsOkUnless result Refusal.Memory }
+{
+    let mut text = Vec::new(alloc);
+    print_into(number as i64, &mut text)?;
+    Ok(text)
+}
+
+// ---- the block that a form names
+
+// The block whose address is the form that the first argument behind the name names, if there is one, and its number.
+fn named_block<'a, A: Allocator + Copy>(
+    alloc: A,
+    args: &Args<'_>,
+    store: &'a Store<A>,
+) -> Result<Option<(usize, &'a Block<A>)>, Refusal>
+    ensures found { IfOk result (λ found. IsBlock (named_block_number args.now (storage_in store.now)) store.now.blocks (option_map (λ x. (x.0, x.1.now.held)) found)) }
+    ensures err { IsOkUnless result Refusal.Memory }
+{
+    let Some(form) = store.get(args.get(1)) else {
+        return Ok(None);
+    };
+    let text = bytes_of(alloc, form)?;
+    addressed(alloc, text.as_slice(), store)
+}
+
+// The bytes of a form on both sides of its pointer, its gaps left out.
+fn bytes_of<A: Allocator + Copy>(alloc: A, form: &Form<A>) -> Result<Vec<u8, A>, Refusal>
+    ensures made { IfOk result (λ text. text.items ≡ bytes_in (all_items form.now)) }
+    ensures err { IsOkUnless result Refusal.Memory }
+{
+    let mut text = Vec::new(alloc);
+    for i in 0..form.len() {
+        add_byte(form.item(i), &mut text)?;
+    }
+    Ok(text)
+}
+
+// Adds the byte of an item, if there is one, to the end of a text; a gap adds nothing.
+fn add_byte<A: Allocator + Copy>(item: Option<Item>, text: &mut Vec<u8, A>) -> Result<(), Refusal>
+    ensures added { OnOk result (text.new.items ≡ text.old.items ++ bytes_in (option_to_list item)) }
+    ensures err { IsOkUnless result Refusal.Memory }
+{
+    match item {
+        Some(Item::Byte(b)) => Ok(text.push(b)?),
+        Some(Item::Gap { .. }) => Ok(()),
+        None => Ok(()),
+    }
+}
+
+// The live block whose number in decimal is this text, if there is one, and that number.
+fn addressed<'a, A: Allocator + Copy>(
+    alloc: A,
+    text: &[u8],
+    store: &'a Store<A>,
+) -> Result<Option<(usize, &'a Block<A>)>, Refusal>
+    ensures found { (form : Divided) → bytes_in (all_items form) ≡ text.now → IfOk result (λ found. IsBlock (number_addressed form store.now.blocks) store.now.blocks (option_map (λ x. (x.0, x.1.now.held)) found)) }
+    ensures err { IsOkUnless result Refusal.Memory }
+{
+    let _count = store.block_count();
+    let Some(number) = value(read_tail(text).numeral) else {
+        return Ok(None);
+    };
+    if number < 0 {
+        return Ok(None);
+    }
+    let Some(block) = store.block(number as usize) else {
+        return Ok(None);
+    };
+    let mut digits = Vec::new(alloc);
+    print_into(number, &mut digits)?;
+    if digits.as_slice() == text {
+        return Ok(Some((number as usize, block)));
+    }
+    Ok(None)
+}
+
+// ---- forms that come back
+
+// Whether copies of a block's forms may be put among the forms: those whose names have no form yet are further ones.
+fn may_come_back<A: Allocator + Copy>(store: &Store<A>, block: &Block<A>) -> bool
+    ensures { result ≡ nat_le (finite.len (with_all block.now.held store.now.forms)) FORM_COUNT_LIMIT }
+{
+    let more = further(store, block);
+    let count = store.form_count();
+    count <= FORM_COUNT_LIMIT && more <= FORM_COUNT_LIMIT - count
+}
+
+// How many names of a block have no form; none stands twice in it.
+fn further<A: Allocator + Copy>(store: &Store<A>, block: &Block<A>) -> usize
+    ensures count { result ≡ count_further block.now.held store.now.forms }
+    ensures distinct { AreApart block.now.held }
+{
+    let mut further = 0;
+    for i in 0..block.len() {
+        if let Some((name, _form)) = block.get(i) {
+            if store.get(name).is_none() {
+                further += 1;
+            }
+        }
+    }
+    further
+}
+
+// The forms of a block with their names, with memory of their own.
+fn copies_of<A: Allocator + Copy>(alloc: A, block: &Block<A>) -> Result<Vec<Named<A>, A>, Refusal>
+    ensures made { IfOk result (λ copies. named_forms copies.items ≡ block.now.held) }
+    ensures err { IsOkUnless result Refusal.Memory }
+{
+    let mut copies = Vec::new(alloc);
+    for i in 0..block.len() {
+        let Some((name, form)) = block.get(i) else {
+            return Ok(copies);
+        };
+        let name = Vec::from_slice(alloc, name)?;
+        let form = form.copy()?;
+        copies.push((name, form))?;
+    }
+    Ok(copies)
+}
