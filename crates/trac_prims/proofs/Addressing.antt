@@ -1,13 +1,19 @@
 -- The block whose number a text is in decimal.
-use Rattle.std.proofs.Common.{◌≡◌, ℕ, ◌<◌, ◌^◌, Bool, true, false, List, [], ◌∷◌, length, refl, sym, ap, ◌∙◌, arith, ⊎_elim}
-use Rattle.std.specs.Prelude.{Option, None, Some, ℤ, pos, bytes_eq, decimal, is_some, nat_le}
+use Rattle.std.proofs.Common.{◌≡◌, ℕ, ◌+◌, ◌<◌, ◌^◌, Bool, true, false, List, [], ◌∷◌, ◌++◌, get_or, length, take, refl, sym, ap, subst, ◌∙◌, arith, ⊎_elim, FitsSigned, w64, to_z, of_z, ◌≤ℤ◌, ◌<ℤ◌}
+use Rattle.std.specs.Prelude.{Option, None, Some, ℤ, pos, negsuc, bytes_eq, decimal, is_some, nat_le, option_to_list, slice_get}
+use Rattle.std.proofs.Math.IntN.{nat_abs}
+use Rattle.std.proofs.lemmas.Int.{ints, to_z-of_z}
+use Rattle.std.proofs.lemmas.Grind.{flat_map-append}
+use Rattle.std.proofs.lemmas.List.{take_more}
+use Rattle.std.proofs.lemmas.Option.{slice_get-get_or}
+use Rattle.trac_rules.specs.declared.item.Item.{Item}
 use Rattle.std.proofs.lemmas.Bool.{and_from, and_right, cases_Bool, leb-false, leb-true, lt-ltb}
 use Rattle.std.proofs.lemmas.List.{get_or_past}
 use Rattle.std.proofs.lemmas.Slice.Eq.{bytes_eq-Decides}
 use Rattle.trac_rules.specs.Blocks.{block_at, is_address, number_addressed}
 use Rattle.trac_rules.specs.Form.{Form, all_items}
 use Rattle.trac_rules.specs.Number.{fits, number_of, numeral_of, is_numeral, number_text}
-use Rattle.trac_rules.specs.Pieces.{bytes_in}
+use Rattle.trac_rules.specs.Pieces.{byte_of, bytes_in}
 use Rattle.trac_rules.specs.State.{Block, Held}
 use Rattle.trac_rules.proofs.Addresses.{addressed_alone, spelled}
 use Rattle.trac_rules.proofs.Balanced.{first_place_none}
@@ -29,6 +35,26 @@ read_back k small =
     within : (n : ℕ) → n < 2 ^ 63 → fits (pos n) ≡ true
     within n l = lt-ltb n (2 ^ 63) l
 
+-- no number of a block is below zero
+not_below : (k : ℕ) → pos k <ℤ pos 0 → ⊥
+not_below k below = omega (arith, ints)
+
+-- a number of the code that is not below zero, as a place
+pub as_place : (z : ℤ) → FitsSigned w64 z → pos 0 ≤ℤ z → pos (nat_abs (to_z w64 (of_z w64 z))) ≡ z
+as_place (pos n) within above = ap (λ (y : ℤ). pos (nat_abs y)) (to_z-of_z w64 (pos n) within)
+as_place (negsuc n) within above = absurd (omega (arith, ints))
+
+-- ---- the bytes of a form
+
+-- one item more
+pub bytes_more : (items : List Item) (i : ℕ) (d : Item) → i < length items → bytes_in (take (i + 1) items) ≡ bytes_in (take i items) ++ bytes_in (option_to_list (slice_get items i))
+bytes_more items i d within =
+    ap bytes_in (take_more items i d within)
+    ∙ flat_map-append byte_of (take i items) (get_or items i d ∷ [])
+    ∙ ap (λ (o : Option Item). bytes_in (take i items) ++ bytes_in (option_to_list o)) (sym (slice_get-get_or items i d within))
+
+-- ---- the block
+
 module _ (form : Form) (text : List ℕ) (blocks : List Block) (small : length blocks < 2 ^ 63) (bytes : bytes_in (all_items form) ≡ text) where
   -- a block whose address the form is has the number that is read
   number_read : (k : ℕ) → k < length blocks → is_address form blocks k ≡ true → number_of (numeral_of text) ≡ Some (pos k)
@@ -37,16 +63,23 @@ module _ (form : Form) (text : List ℕ) (blocks : List Block) (small : length b
 
   -- none where each that is there has another number
   none_but : ((k : ℕ) → k < length blocks → number_of (numeral_of text) ≡ Some (pos k) → is_address form blocks k ≡ false) → number_addressed form blocks ≡ None
-  none_but no =
+  none_but other =
       first_place_none (is_address form blocks) (length blocks) (λ k within.
       ⊎_elim
-      (λ (t : is_address form blocks k ≡ true). no k within (number_read k within t))
+      (λ (t : is_address form blocks k ≡ true). other k within (number_read k within t))
       (λ (t : is_address form blocks k ≡ false). t)
       (cases_Bool (is_address form blocks k)))
 
   -- no number is read
   pub none_read : number_of (numeral_of text) ≡ None → number_addressed form blocks ≡ None
   none_read none = none_but (λ k within is. absurd (let both : None ≡ Some (pos k) = sym none ∙ is in cc))
+
+  -- the number is below zero
+  pub none_below : (z : ℤ) → number_of (numeral_of text) ≡ Some z → z <ℤ pos 0 → number_addressed form blocks ≡ None
+  none_below z read below = none_but (λ k within is.
+      let both : Some z ≡ Some (pos k) = sym read ∙ is in
+      let same : z ≡ pos k = cc in
+      absurd (not_below k (subst (λ (y : ℤ). y <ℤ pos 0) same below)))
 
   -- no block of that number is live
   pub none_live : (n : ℕ) → number_of (numeral_of text) ≡ Some (pos n) → block_at n blocks ≡ None → number_addressed form blocks ≡ None

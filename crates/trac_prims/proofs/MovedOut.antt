@@ -1,13 +1,13 @@
 -- Forms that are moved out one after another: what a further name adds, what is left, and that the names of those that were moved out
 -- say as much as all the names.
-use Rattle.std.proofs.Common.{◌≡◌, ℕ, ◌+◌, Bool, true, false, cond, ◌||◌, List, [], ◌∷◌, ◌++◌, length, map, refl, sym, ap, ◌∙◌, arith, ◌⊎◌, ⊎_elim}
-use Rattle.std.specs.Prelude.{Option, None, Some, bytes_eq, is_some}
+use Rattle.std.proofs.Common.{◌≡◌, ℕ, ◌+◌, ◌≤◌, Bool, true, false, cond, ◌||◌, List, [], ◌∷◌, ◌++◌, length, map, refl, sym, ap, ◌∙◌, arith, ◌⊎◌, ⊎_elim}
+use Rattle.std.specs.Prelude.{Option, None, Some, Vec, bytes_eq, is_some}
 use Rattle.std.specs.Cmp.Lexicographic.{slice_cmp, nat_list_cmp_total}
 use Rattle.std.specs.FinMap as finite
 use Rattle.std.specs.List.{list_any}
 use Rattle.std.specs.Ordering.{nat_cmp, eq_by_cmp}
 use Rattle.std.proofs.lemmas.Bool.{cases_Bool, cond-true, cond-false}
-use Rattle.std.proofs.lemmas.List.{append-nil, append_assoc, length-append, map-append}
+use Rattle.std.proofs.lemmas.List.{append-nil, append_assoc, length-append, length-map, map-append}
 use Rattle.std.proofs.lemmas.Map.Text.{is_eq-slice_cmp}
 use Rattle.std.proofs.lemmas.Slice.Eq.{bytes_eq-Decides}
 use Rattle.trac_rules.specs.Blocks.{moved_out, with_name}
@@ -15,7 +15,7 @@ use Rattle.trac_rules.specs.Form.{Form}
 use Rattle.trac_rules.specs.Handling.{without}
 use Rattle.trac_rules.specs.State.{Forms, Held}
 use Rattle.trac_rules.proofs.NamedForms.{one_name, only_equal_tie, ties_itself}
-use Rattle.trac_prims.specs.Effects.{names_in}
+use Rattle.trac_prims.specs.Effects.{names_in, texts_of}
 
 -- ---- one name
 
@@ -168,3 +168,26 @@ without-again [] forms = refl
 without-again (name ∷ names) forms =
     again_without forms (without names (finite.remove forms name)) name (finite.get forms name) (moved_out names (finite.remove forms name)) refl
     (without-again names (finite.remove forms name))
+
+-- ---- names of the code
+
+-- whether a name stands among texts
+pub any_text : {A : Type 0} (name : List ℕ) (texts : List (Vec ℕ A)) → list_any (λ text. bytes_eq name text.items) texts ≡ list_any (bytes_eq name) (texts_of texts)
+any_text name [] = refl
+any_text name (text ∷ texts) = ap (λ b. bytes_eq name text.items || b) (any_text name texts)
+
+-- a text more
+pub text_added : {A : Type 0} (held new : List (Vec ℕ A)) (text : Vec ℕ A) (name : List ℕ) → new ≡ held ++ text ∷ [] → text.items ≡ name → texts_of new ≡ texts_of held ++ name ∷ []
+text_added {A} held new text name is called =
+    ap (λ (ts : List (Vec ℕ A)). texts_of ts) is
+    ∙ map-append (λ (t : Vec ℕ A). t.items) held (text ∷ [])
+    ∙ ap (λ n. texts_of held ++ n ∷ []) called
+
+-- no more leave than there are
+pub fewer_held : {A : Type 0} (slice held : List (Vec ℕ A)) (names : List (List ℕ)) (forms : Forms) → slice ≡ held → texts_of held ≡ names_in (moved_out names forms) →
+    length slice ≤ finite.len forms
+fewer_held {A} slice held names forms same is =
+    let lens = ap (λ (ts : List (Vec ℕ A)). length ts) same in
+    let texts = length-map held (λ (t : Vec ℕ A). t.items) in
+    let moved = ap (λ (ns : List (List ℕ)). length ns) is ∙ length-map (moved_out names forms) (λ entry. entry.0) in
+    omega (arith, lens, texts, moved, len-without names forms)

@@ -1,8 +1,8 @@
 //! Calls that put forms aside in a block, bring copies of them back, or erase a block.
-ghost use Rattle.std.specs.Prelude.{◌≡◌, ◌<◌, ◌≤◌, ◌^◌, bytes_eq, decimal, length, nat_le, option_map, List, ℕ, IfOk, IsOkUnless};
+ghost use Rattle.std.specs.Prelude.{◌≡◌, ◌<◌, ◌≤◌, ◌^◌, ◌++◌, ◌∷◌, [], bytes_eq, decimal, length, nat_le, option_map, option_to_list, List, ℕ, IfOk, IsOkUnless, OnOk};
 ghost use Rattle.std.specs.List.{list_any};
 ghost use Rattle.std.specs.FinMap as finite;
-ghost use Rattle.trac_forms.specs.Stored.{storage_in};
+ghost use Rattle.trac_forms.specs.Stored.{AreApart, storage_in};
 ghost use Rattle.trac_rules.specs.Blocks.{block_handled, moved_out, named_block_number, number_addressed, with_all};
 ghost use Rattle.trac_rules.specs.Form.{Form as Divided, all_items, defined};
 ghost use Rattle.trac_rules.specs.Handling.{without};
@@ -61,7 +61,8 @@ pub(crate) fn fetch_block<A: Allocator + Copy>(
 ) -> Result<Made<A>, Refusal>
     ensures { IsMade (storage_in store.now) (block_handled FetchBlock args.now (storage_in store.now)) result }
 {
-    let Some((number, block)) = named_block(alloc, args, store)? else {
+    let found = named_block(alloc, args, store)?;
+    let Some((number, block)) = found else {
         return Ok(Made::keeping(alloc));
     };
     if !may_come_back(store, block) {
@@ -82,7 +83,8 @@ pub(crate) fn erase_block<A: Allocator + Copy>(
 ) -> Result<Made<A>, Refusal>
     ensures { IsMade (storage_in store.now) (block_handled EraseBlock args.now (storage_in store.now)) result }
 {
-    let Some((number, _block)) = named_block(alloc, args, store)? else {
+    let found = named_block(alloc, args, store)?;
+    let Some((number, _block)) = found else {
         return Ok(Made::keeping(alloc));
     };
     let name = Vec::from_slice(alloc, args.get(1))?;
@@ -106,18 +108,38 @@ fn leaving<A: Allocator + Copy>(
     let mut held = Vec::new(alloc);
     for i in 0..names.count() {
         let name = names.get(i);
-        if store.get(name).is_some() && !stands_among(held.as_slice(), name) {
-            held.push(Vec::from_slice(alloc, name)?)?;
-        }
+        add_leaving(alloc, store, name, &mut held)?;
     }
     Ok(held)
+}
+
+// Adds a name to those of the forms that leave, where it has a form and is none of them yet.
+fn add_leaving<A: Allocator + Copy>(
+    alloc: A,
+    store: &Store<A>,
+    name: &[u8],
+    held: &mut Vec<Vec<u8, A>, A>,
+) -> Result<(), Refusal>
+    ensures added { OnOk result ((names : List (List ℕ)) → texts_of held.old.items ≡ names_in (moved_out names store.now.forms) →
+        texts_of held.new.items ≡ names_in (moved_out (names ++ name.now ∷ []) store.now.forms)) }
+    ensures err { IsOkUnless result Refusal.Memory }
+{
+    if store.get(name).is_none() {
+        return Ok(());
+    }
+    if stands_among(held.as_slice(), name) {
+        return Ok(());
+    }
+    let text = Vec::from_slice(alloc, name)?;
+    held.push(text)?;
+    Ok(())
 }
 
 // Whether a name stands among others.
 fn stands_among<A: Allocator + Copy>(names: &[Vec<u8, A>], name: &[u8]) -> bool
     ensures { result ≡ list_any (bytes_eq name.now) (texts_of names.now) }
 {
-    names.iter().any(|held| held.as_slice() == name)
+    names.iter().any(|held| name == held.as_slice())
 }
 
 // Whether the number of a block may be put under this name, once the forms of these names have left.
@@ -143,9 +165,19 @@ fn address_of<A: Allocator + Copy>(alloc: A, number: usize) -> Result<Form<A>, R
     ensures made { IfOk result (λ form. form ≡ defined (decimal number)) }
     ensures err { IsOkUnless result Refusal.Memory }
 {
+    let text = decimal_of(alloc, number)?;
+    Ok(Form::new(alloc, text.as_slice())?)
+}
+
+// The number of a block in decimal.
+fn decimal_of<A: Allocator + Copy>(alloc: A, number: usize) -> Result<Vec<u8, A>, Refusal>
+    requires { number < BLOCK_LIMIT }
+    ensures made { IfOk result (λ text. text.items ≡ decimal number) }
+    ensures err { IsOkUnless result Refusal.Memory }
+{
     let mut text = Vec::new(alloc);
     print_into(number as i64, &mut text)?;
-    Ok(Form::new(alloc, text.as_slice())?)
+    Ok(text)
 }
 
 // ---- the block that a form names
@@ -173,11 +205,21 @@ fn bytes_of<A: Allocator + Copy>(alloc: A, form: &Form<A>) -> Result<Vec<u8, A>,
 {
     let mut text = Vec::new(alloc);
     for i in 0..form.len() {
-        if let Some(Item::Byte(b)) = form.item(i) {
-            text.push(b)?;
-        }
+        add_byte(form.item(i), &mut text)?;
     }
     Ok(text)
+}
+
+// Adds the byte of an item, if there is one, to the end of a text; a gap adds nothing.
+fn add_byte<A: Allocator + Copy>(item: Option<Item>, text: &mut Vec<u8, A>) -> Result<(), Refusal>
+    ensures added { OnOk result (text.new.items ≡ text.old.items ++ bytes_in (option_to_list item)) }
+    ensures err { IsOkUnless result Refusal.Memory }
+{
+    match item {
+        Some(Item::Byte(b)) => Ok(text.push(b)?),
+        Some(Item::Gap { .. }) => Ok(()),
+        None => Ok(()),
+    }
 }
 
 // The live block whose number in decimal is this text, if there is one, and that number.
@@ -201,10 +243,10 @@ fn addressed<'a, A: Allocator + Copy>(
     };
     let mut digits = Vec::new(alloc);
     print_into(number, &mut digits)?;
-    if digits.as_slice() != text {
-        return Ok(None);
+    if digits.as_slice() == text {
+        return Ok(Some((number as usize, block)));
     }
-    Ok(Some((number as usize, block)))
+    Ok(None)
 }
 
 // ---- forms that come back
@@ -213,13 +255,15 @@ fn addressed<'a, A: Allocator + Copy>(
 fn may_come_back<A: Allocator + Copy>(store: &Store<A>, block: &Block<A>) -> bool
     ensures { result ≡ nat_le (finite.len (with_all block.now.held store.now.forms)) FORM_COUNT_LIMIT }
 {
+    let more = further(store, block);
     let count = store.form_count();
-    count <= FORM_COUNT_LIMIT && further(store, block) <= FORM_COUNT_LIMIT - count
+    count <= FORM_COUNT_LIMIT && more <= FORM_COUNT_LIMIT - count
 }
 
-// How many names of a block have no form.
+// How many names of a block have no form; none stands twice in it.
 fn further<A: Allocator + Copy>(store: &Store<A>, block: &Block<A>) -> usize
-    ensures { result ≡ count_further block.now.held store.now.forms }
+    ensures count { result ≡ count_further block.now.held store.now.forms }
+    ensures distinct { AreApart block.now.held }
 {
     let mut further = 0;
     for i in 0..block.len() {
@@ -239,10 +283,12 @@ fn copies_of<A: Allocator + Copy>(alloc: A, block: &Block<A>) -> Result<Vec<Name
 {
     let mut copies = Vec::new(alloc);
     for i in 0..block.len() {
-        if let Some((name, form)) = block.get(i) {
-            let name = Vec::from_slice(alloc, name)?;
-            copies.push((name, form.copy()?))?;
-        }
+        let Some((name, form)) = block.get(i) else {
+            return Ok(copies);
+        };
+        let name = Vec::from_slice(alloc, name)?;
+        let form = form.copy()?;
+        copies.push((name, form))?;
     }
     Ok(copies)
 }
