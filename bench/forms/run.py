@@ -2,14 +2,14 @@
 """Times forms over the gap buffer against forms over two plain vectors, and prints tables.
 
 Two copies of the crates are built under target/bench/forms, by `rt run`, which proves them first: one as they are, one with
-the alias `Items` of trac_forms naming PlainEnds. Then both programs run in turn, so that both meet the same machine. Each
-figure is the median of all rounds of all runs. The second table says what a doubling of the length costs.
+the alias `Items` of trac_forms naming PlainEnds. What earlier checks kept of the crates is copied with them. Then both programs
+run in turn, so that both meet the same machine. Each figure is the least of all rounds of all runs: other work on the machine
+can only add to it. The second table says what a doubling of the length costs.
 
     python3 bench/forms/run.py [RUNS]
 """
 import pathlib
 import shutil
-import statistics
 import subprocess
 import sys
 
@@ -23,7 +23,7 @@ ROWS = [
     ("call", "call it, two of each sixteen bytes cut out"),
     ("point", "move its pointer to the end and back"),
     ("point_without_gaps", "the same for a form without gaps"),
-    ("read", "read it byte by byte"),
+    ("read_few", "read one of 16 KiB byte by byte"),
 ]
 
 DOUBLED = [
@@ -44,6 +44,8 @@ def build(name, kind):
             shutil.rmtree(crates / crate / part, ignore_errors=True)
             if (source / part).is_dir():
                 shutil.copytree(source / part, crates / crate / part)
+        if (source / "out").is_dir() and not (crates / crate / "out").exists():
+            shutil.copytree(source / "out", crates / crate / "out", symlinks=True)
     # the gate reads each .rt file as a part of a crate, so the program's file has another ending here
     for file in (crates / "forms_bench").rglob("*.txt"):
         file.rename(file.with_suffix(""))
@@ -54,35 +56,47 @@ def build(name, kind):
     form.write_text(text.replace("GapBuf", kind))
     built = subprocess.run(["rt", "run"], cwd=crates / "forms_bench", capture_output=True, text=True)
     program = crates / "forms_bench" / "out" / "forms_bench"
-    if not program.exists() or "logic=proved" not in built.stdout + built.stderr:
-        sys.exit(built.stdout + built.stderr)
+    said = built.stdout + built.stderr
+    if not program.exists() or ("logic=proved" not in said and "since the last proved build" not in said):
+        sys.exit(said)
     return program
 
 
-def measure(program, found):
+def measure(found, *command):
     """Adds the nanoseconds that each line of the program's output gives."""
-    for line in subprocess.run([str(program)], check=True, capture_output=True, text=True).stdout.splitlines():
+    for line in subprocess.run(command, check=True, capture_output=True, text=True).stdout.splitlines():
         name, nanos = line.split()
         found.setdefault(name, []).append(int(nanos))
+
+
+def shown(nanos):
+    """A time in milliseconds."""
+    return f"{nanos / 1e6:.2f} ms" if nanos > 1e4 else "under 0.01 ms"
+
+
+def ratio(ours, other):
+    """How two times compare."""
+    return f"{ours / other:.2f}" if ours * 100 >= other else "under 0.01"
 
 
 def main():
     runs = int(sys.argv[1]) if len(sys.argv) > 1 else 5
     programs = build("gap", "GapBuf"), build("plain", "PlainEnds")
-    ours, theirs = {}, {}
+    ours, theirs, doubled = {}, {}, {}
     for _ in range(runs):
-        measure(programs[0], ours)
-        measure(programs[1], theirs)
+        measure(ours, programs[0])
+        measure(theirs, programs[1])
+        measure(doubled, programs[0], "doubling")
     print("| | `GapBuf` | `PlainEnds` | ratio |")
     print("|---|---|---|---|")
     for name, text in ROWS:
-        a, b = statistics.median(ours[name]), statistics.median(theirs[name])
-        print(f"| {text} | {a / 1e6:.2f} ms | {b / 1e6:.2f} ms | {a / b:.2f} |")
+        a, b = min(ours[name]), min(theirs[name])
+        print(f"| {text} | {shown(a)} | {shown(b)} | {ratio(a, b)} |")
     print("\n| over `GapBuf` | once | twice as long | ratio |")
     print("|---|---|---|---|")
     for once, twice, text in DOUBLED:
-        a, b = statistics.median(ours[once]), statistics.median(ours[twice])
-        print(f"| {text} | {a / 1e6:.1f} ms | {b / 1e6:.1f} ms | {b / a:.2f} |")
+        a, b = min(doubled[once]), min(doubled[twice])
+        print(f"| {text} | {shown(a)} | {shown(b)} | {ratio(b, a)} |")
 
 
 if __name__ == "__main__":

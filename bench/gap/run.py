@@ -45,8 +45,9 @@ def build():
         file.rename(file.with_suffix(""))
     program = crates / "gap_bench" / "out" / "gap_bench"
     built = subprocess.run(["rt", "run"], cwd=crates / "gap_bench", capture_output=True, text=True)
-    if not program.exists() or "logic=proved" not in built.stdout + built.stderr:
-        sys.exit(built.stdout + built.stderr)
+    said = built.stdout + built.stderr
+    if not program.exists() or ("logic=proved" not in said and "since the last proved build" not in said):
+        sys.exit(said)
     baseline = WORK / "baseline"
     subprocess.run(["rustc", "-O", "-o", str(baseline), str(HERE / "baseline" / "main.rs")], check=True)
     return program, baseline

@@ -73,11 +73,18 @@ fn without<A: Allocator + Copy>(
             continue;
         }
         part_into(number, text, &finder, run.as_slice(), &mut out)?;
-        run.clear();
+        end_run(&mut run);
         push_item(*item, &mut out)?;
     }
     part_into(number, text, &finder, run.as_slice(), &mut out)?;
     Ok(out)
+}
+
+// Ends a run of bytes at a gap: what comes behind it is searched by itself.
+pub(crate) fn end_run<A: Allocator>(run: &mut Vec<u8, A>)
+    ensures { run.new.items ≡ [] }
+{
+    run.clear();
 }
 
 // Puts a run with the text of this number cut out at the end of `out`.

@@ -5,7 +5,7 @@ ghost use Rattle.trac_rules.specs.Fronts.{IsFrontOf};
 ghost use Rattle.trac_rules.specs.Pieces.{at_most_all, bytes_in, char_read, count_read, is_gap, last_bytes, next_bytes, place_before, place_behind, place_of_text, segment_items, segment_read, until_read};
 ghost use Rattle.trac_forms.specs.Taken.{IsThere, taken};
 
-use crate::cutting::push_item;
+use crate::cutting::{end_run, push_item};
 use crate::error::FormError;
 use crate::form::Form;
 use memchr::memmem::Finder;
@@ -92,7 +92,7 @@ impl<A: Allocator + Copy> Form<A> {
     }
 
     /// Puts the bytes of a piece at the end of `out`: the first `piece.len` bytes from the lesser of the form's and the piece's
-    /// pointer on, with gaps passed. The pointer stays.
+    /// pointer on, with gaps passed. The pointer stays. A form that has fewer gives what it has (this project's profile).
     ///
     /// Refused with `Memory` where the allocator refuses; then `out` still begins with what it held.
     pub fn piece_into<B: Allocator>(
@@ -273,7 +273,7 @@ fn place_of<A: Allocator>(
             items: start.items + run.len() + 1,
             bytes: start.bytes + run.len(),
         };
-        run.clear();
+        end_run(&mut run);
     }
     match finder.find(run.as_slice()) {
         Some(place) => Ok(Some(Reached {

@@ -17,7 +17,7 @@ type Memory<'a> = &'a Refusing<Global>;
 type PlainMachine<'a> = Core<PlainEnds<u8, Memory<'a>>, PlainEnds<Mark, Memory<'a>>, Memory<'a>>;
 
 // Whole inputs, and what they print. Each run ends with its input.
-const RUNS: [(&[u8], &[u8]); 27] = [
+const RUNS: [(&[u8], &[u8]); 44] = [
     (b"", b""),
     (b"AB'", b"AB"),
     (
@@ -62,6 +62,23 @@ const RUNS: [(&[u8], &[u8]); 27] = [
         b"#(ds,F,abcabc)'#(ss,F,b,ca)'#(pf,F)#(cl,F,-,+)'",
         b"<^>a<1><2><1>ca-+-c",
     ),
+    (
+        b"#(ds,A,1)'#(ds,B,2)'#(sb,G,A,C,B,A)'#(ln,;)'#(cl,G)'#(ds,A,9)#(fb,G)#(cl,A)#(cl,B)'#(eb,G)#(ln,;)'",
+        b";G012;A;B",
+    ),
+    (
+        b"#(ds,G,x)#(sb,G,G)#(pf,G)#(fb,G)#(pf,G)#(eb,G)#(cl,G)'",
+        b"<^>0<^>xx",
+    ),
+    (
+        b"#(sb,E)#(sb,F)#(cl,E);#(cl,F)'#(eb,E)#(sb,E)#(cl,E)'",
+        b"0;12",
+    ),
+    // A pointer that moves in a copy stays where it is in the block.
+    (
+        b"#(ds,A,axb)#(ss,A,x)#(cc,A)#(ds,B,2)#(ds,a,3)#(sb,G,A,B,a)#(fb,G)#(cc,A)#(fb,G)#(pf,A)'",
+        b"a<^><1>bab",
+    ),
     (b"#(ds,b,1)#(ds,a,2)##(ln,(,))'", b",a,b"),
     (b"#(ds,,x)#(cl,)'", b"x"),
     (b"#(ds,F,banana)#(ss,F,,a)#(pf,F)'", b"<^>b<2>n<2>n<2>"),
@@ -69,6 +86,48 @@ const RUNS: [(&[u8], &[u8]); 27] = [
     (b"#(ds,F,ab)#(cr,F)#(da)#(ln,;)#(pf,F)'", b""),
     (b"\t#(PS,A)#(Ps,(#(ps,B)))'", b"A#(ps,B)"),
     (b"#(ps,A)'B'", b"AB"),
+    (
+        b"#(ds,F,AxB)'#(ss,F,x)'#(cs,F,none)'#(cs,F,none)'##(cs,F,(#(ad,1,2)))'#(cr,F)#(cl,F,-)'",
+        b"AB3A-B",
+    ),
+    (
+        b"#(ds,F,abcde)'#(cn,F,3,Z);'#(cn,F,-2,Z);'#(cn,F,0,Z);'#(cn,F,9,Z);'#(cn,F,1,Z);'#(cr,F)#(cn,F,-1,Z)'",
+        b"abc;bc;;bcde;Z;Z",
+    ),
+    (
+        b"#(ds,F,abcabc)'#(in,F,c,none);#(in,F,c,none);#(in,F,c,none);#(in,F,,none)'",
+        b"ab;ab;none;",
+    ),
+    (
+        b"#(ds,G,axbxc)#(ss,G,x)#(in,G,bc,no);#(in,G,c,no);#(cs,G,end)'",
+        b"no;ab;end",
+    ),
+    // From each place in `a<1>bc<2>`: the value, and where the pointer stands afterwards.
+    (
+        b"#(ds,F,axbcy)#(ss,F,x,y)#(cc,F,Z)'#(pf,F)'#(cc,F,Z)'#(pf,F)'",
+        b"aa<^><1>bc<2>ba<1>b<^>c<2>",
+    ),
+    (
+        b"#(ds,F,axbcy)#(ss,F,x,y)#(cc,F)'#(cl,F,X,Y)'#(cs,F,Z)'#(pf,F)'",
+        b"aXbcYa<1><^>bc<2>",
+    ),
+    (
+        b"#(ds,F,axbcy)#(ss,F,x,y)#(in,F,ab,Z)'#(pf,F)'#(in,F,c,Z)'#(cc,F,Z)'#(pf,F)'",
+        b"Z<^>a<1>bc<2>abZa<1>bc<^><2>",
+    ),
+    (
+        b"#(ds,F,axbcy)#(ss,F,x,y)#(cn,F,3)'#(cs,F,Z)'#(cs,F,Z)'#(pf,F)'#(cn,F,-2)'#(pf,F)'",
+        b"abcZa<1>bc<2><^>bca<1><^>bc<2>",
+    ),
+    (
+        b"#(tn)'#(ps,a)'#(tf)'",
+        b"#(ps*)\n#(rs)\n#(ps*a)\na#(ps*)\n#(rs)\n#(tf)\n",
+    ),
+    (b"#(rc)'x'", b"x"),
+    (b"#(cm,;)'A;B;", b"AB"),
+    (b"#(ps,a)#(hl)#(ps,b)'c'", b"a"),
+    // Functions that are begun one in another, and of which only the innermost is ended.
+    (b"#(#(#(#(#(#(#(#(#(#(#(#(#(#(#(#('", b""),
 ];
 
 /// How many requests a call may make at most.

@@ -1,11 +1,23 @@
 //! What a machine shows of its state, written as texts.
 use std::alloc::{AllocError, Allocator, Global};
-use trac_forms::{Form, Item, Store};
+use trac_forms::{Block, Form, Item, Store};
 use trac_gap::TwoEnds;
 use trac_step::{Args, Core, Kind, Mark};
 
 // Names under which the programs of these tests keep forms.
-const NAMES: [&[u8]; 7] = [b"", b"AA", b"BB", b"F", b"Factorial", b"a", b"b"];
+const NAMES: [&[u8]; 11] = [
+    b"",
+    b"A",
+    b"AA",
+    b"B",
+    b"BB",
+    b"E",
+    b"F",
+    b"Factorial",
+    b"G",
+    b"a",
+    b"b",
+];
 
 fn add(out: &mut Vec<u8>, text: &[u8]) -> Result<(), AllocError> {
     Ok(out.extend_from_slice(text)?)
@@ -72,7 +84,30 @@ fn add_forms<A: Allocator + Copy>(out: &mut Vec<u8>, store: &Store<A>) -> Result
     Ok(())
 }
 
-/// All that a machine shows: its texts, its numbers, its forms, and what is printed. Blocks cannot be there yet.
+fn add_block<A: Allocator + Copy>(out: &mut Vec<u8>, block: &Block<A>) -> Result<(), AllocError> {
+    add_number(out, block.len())?;
+    for i in 0..block.len() {
+        if let Some((name, form)) = block.get(i) {
+            add_number(out, name.len())?;
+            add(out, name)?;
+            add_form(out, form)?;
+        }
+    }
+    Ok(())
+}
+
+fn add_blocks<A: Allocator + Copy>(out: &mut Vec<u8>, store: &Store<A>) -> Result<(), AllocError> {
+    add_number(out, store.block_count())?;
+    for i in 0..store.block_count() {
+        match store.block(i) {
+            Some(block) => add_block(out, block)?,
+            None => add(out, b"erased")?,
+        }
+    }
+    Ok(())
+}
+
+/// All that a machine shows: its texts, its numbers, its forms and blocks, and what is printed.
 pub fn state_shown<E: TwoEnds<u8, A>, M: TwoEnds<Mark, A>, A: Allocator + Copy>(
     alloc: Global,
     machine: &Core<E, M, A>,
@@ -81,6 +116,7 @@ pub fn state_shown<E: TwoEnds<u8, A>, M: TwoEnds<Mark, A>, A: Allocator + Copy>(
     add_number(&mut out, machine.position())?;
     add(&mut out, &[machine.meta(), machine.trace() as u8])?;
     add_forms(&mut out, machine.store())?;
+    add_blocks(&mut out, machine.store())?;
     add(&mut out, machine.output())?;
     Ok(out)
 }

@@ -11,6 +11,11 @@ fn endings(rt: HostRuntime) -> Result<(), Fail> {
         (Ending::Memory, 5, "trac: no memory"),
         (Ending::Read, 6, "trac: read fault"),
         (Ending::Write, 7, "trac: write fault"),
+        (
+            Ending::NotUnderstood { line: 12 },
+            8,
+            "trac: line 12: not understood",
+        ),
     ] {
         assert_eq!(rt; ending.status(), status);
         assert_eq!(rt; ending.to_string(rt.alloc())?.as_str(), line);

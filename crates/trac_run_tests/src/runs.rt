@@ -110,21 +110,29 @@ fn pieces_of_any_size(rt: HostRuntime) -> Result<(), Fail> {
     Ok(())
 }
 
-// Of the 20 steps that this input takes, and one that finds the end.
-const BUDGETS: [(u64, &[u8], Ending); 5] = [
-    (1, b"", Ending::Budget),
-    (10, b"", Ending::Budget),
-    (11, b"AB", Ending::Budget),
-    (19, b"AB", Ending::Budget),
-    (20, b"AB", Ending::Ended),
+// A form that prints `x` and calls itself: at steps 38, 50, 62, 74, 86, 98 and so on.
+const LOOP: &[u8] = b"#(ds,L,(#(ps,x)#(cl,L)))'#(cl,L)'";
+
+// An input, a number of steps, what is printed within them, and how the run ends. `AB'` takes 19 steps, and one more try finds
+// the end.
+const BUDGETS: [(&[u8], u64, &[u8], Ending); 9] = [
+    (b"AB'", 1, b"", Ending::Budget),
+    (b"AB'", 10, b"", Ending::Budget),
+    (b"AB'", 11, b"AB", Ending::Budget),
+    (b"AB'", 19, b"AB", Ending::Budget),
+    (b"AB'", 20, b"AB", Ending::Ended),
+    (LOOP, 37, b"", Ending::Budget),
+    (LOOP, 38, b"x", Ending::Budget),
+    (LOOP, 97, b"xxxxx", Ending::Budget),
+    (LOOP, 100, b"xxxxxx", Ending::Budget),
 ];
 
 #[test]
 fn the_budget_is_kept(rt: HostRuntime) -> Result<(), Fail> {
-    for (budget, output, ending) in BUDGETS {
+    for (input, budget, output, ending) in BUDGETS {
         for journal in [1, 5, 64] {
             let options = Options { budget, journal };
-            expect_run(&rt, b"AB'", 4096, Fault::None, options, output, ending)?;
+            expect_run(&rt, input, 4096, Fault::None, options, output, ending)?;
         }
     }
     Ok(())

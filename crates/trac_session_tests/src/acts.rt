@@ -1,13 +1,14 @@
 //! A session, told what to do by a table: what each act must answer, and what the session must show.
 ghost use Rattle.std.specs.Prelude.{◌≤◌};
 
+use crate::sessions::let_go;
 use std::alloc::{AllocError, Global};
 use std::process::Abort;
 use std::test::Fail;
 use trac_machine_tests::shown::texts_shown;
 use trac_rules::limit::JOURNAL_LIMIT;
 use trac_rules::refusal::Refusal;
-use trac_session::{Session, Walk};
+use trac_session::Session;
 
 /// One act on a session with what it answers, or one part of what it shows then.
 pub(crate) enum Act {
@@ -42,26 +43,9 @@ pub(crate) enum Act {
     Initial,
 }
 
-fn expect_text(rt: &impl Abort, text: &[u8], wanted: &[u8], at: usize) {
-    assert_eq!(rt; text, wanted, "at act {at}");
-}
-
-fn expect_number(rt: &impl Abort, number: usize, wanted: usize, at: usize) {
-    assert_eq!(rt; number, wanted, "at act {at}");
-}
-
-fn expect_walk(rt: &impl Abort, walk: Walk, done: u64, why: Option<Refusal>, at: usize) {
-    assert_eq!(rt; walk.done, done, "at act {at}");
-    assert_eq!(rt; walk.why, why, "at act {at}");
-}
-
-fn expect_answer(
-    rt: &impl Abort,
-    answer: Result<(), Refusal>,
-    wanted: Result<(), Refusal>,
-    at: usize,
-) {
-    assert_eq!(rt; answer, wanted, "at act {at}");
+// This act is met.
+fn expect(rt: &impl Abort, is_met: bool, at: usize) {
+    assert!(rt; is_met, "at act {at}");
 }
 
 fn feed_letters(session: &mut Session, alloc: Global, count: usize) -> Result<(), Refusal> {
@@ -79,72 +63,108 @@ fn forward_to_end(session: &mut Session) -> Result<(), Refusal> {
     }
 }
 
-// Carries out one act that may change the session.
-fn carry_out(rt: &impl Abort, alloc: Global, session: &mut Session, act: &Act, at: usize) {
+// Whether these bytes are fed, or refused so.
+fn feeds(session: &mut Session, bytes: &[u8], answer: Result<(), Refusal>) -> bool {
+    session.feed(bytes) == answer
+}
+
+// Whether a walk of so many steps forward takes the second number of them, and then ends for this reason.
+fn goes_forward(session: &mut Session, n: u64, done: u64, why: Option<Refusal>) -> bool {
+    let walk = session.forward(n);
+    walk.done == done && walk.why == why
+}
+
+// The same for a walk back.
+fn goes_back(session: &mut Session, n: u64, done: u64, why: Option<Refusal>) -> bool {
+    let walk = session.back(n);
+    walk.done == done && walk.why == why
+}
+
+// Carries out one act that may change the session, and says whether it is answered so.
+fn carry_out(alloc: Global, session: &mut Session, act: &Act) -> bool {
     match *act {
-        Act::Feed(bytes) => expect_answer(rt, session.feed(bytes), Ok(()), at),
-        Act::FeedRefused(bytes, why) => expect_answer(rt, session.feed(bytes), Err(why), at),
-        Act::FeedLetters(count) => {
-            expect_answer(rt, feed_letters(session, alloc, count), Ok(()), at)
+        Act::Feed(bytes) => feeds(session, bytes, Ok(())),
+        Act::FeedRefused(bytes, why) => feeds(session, bytes, Err(why)),
+        Act::FeedLetters(count) => feed_letters(session, alloc, count).is_ok(),
+        Act::End => {
+            session.end();
+            true
         }
-        Act::End => session.end(),
-        Act::Commit => session.commit(),
-        Act::Forward(n) => expect_walk(rt, session.forward(n), n, None, at),
-        Act::ForwardRefused(n, done, why) => {
-            expect_walk(rt, session.forward(n), done, Some(why), at)
+        Act::Commit => {
+            session.commit();
+            true
         }
-        Act::ForwardUntil(why) => expect_answer(rt, forward_to_end(session), Err(why), at),
-        Act::Back(n) => expect_walk(rt, session.back(n), n, None, at),
-        Act::BackToStart(n, done) => {
-            expect_walk(rt, session.back(n), done, Some(Refusal::AtStart), at)
-        }
-        _ => {}
+        Act::Forward(n) => goes_forward(session, n, n, None),
+        Act::ForwardRefused(n, done, why) => goes_forward(session, n, done, Some(why)),
+        Act::ForwardUntil(why) => forward_to_end(session) == Err(why),
+        Act::Back(n) => goes_back(session, n, n, None),
+        Act::BackToStart(n, done) => goes_back(session, n, done, Some(Refusal::AtStart)),
+        _ => true,
     }
 }
 
-// All parts are those in which a processor begins.
-fn expect_initial(
-    rt: &impl Abort,
-    alloc: Global,
-    session: &Session,
-    at: usize,
-) -> Result<(), AllocError> {
-    let machine = session.machine();
-    expect_text(
-        rt,
-        texts_shown(alloc, machine)?.as_slice(),
-        b"^#(ps,#(rs))",
-        at,
-    );
-    expect_text(rt, session.pending(), b"", at);
-    expect_number(rt, machine.position(), 0, at);
-    expect_number(rt, machine.store().form_count(), 0, at);
-    expect_text(rt, &[machine.meta()], b"'", at);
-    assert!(rt; !machine.trace(), "at act {at}");
-    Ok(())
+// Whether the texts are these.
+fn shows(alloc: Global, session: &Session, text: &[u8]) -> Result<bool, AllocError> {
+    Ok(texts_shown(alloc, session.machine())?.as_slice() == text)
 }
 
-// Looks at the part that an act speaks of.
-fn look(
+fn has_active(session: &Session, text: &[u8]) -> bool {
+    session.machine().active() == text
+}
+
+fn has_pending(session: &Session, text: &[u8]) -> bool {
+    session.pending() == text
+}
+
+fn has_position(session: &Session, count: usize) -> bool {
+    session.machine().position() == count
+}
+
+fn has_forms(session: &Session, count: usize) -> bool {
+    session.machine().store().form_count() == count
+}
+
+fn has_records(session: &Session, count: usize) -> bool {
+    session.len() == count && session.is_empty() == (count == 0)
+}
+
+fn has_no_trace(session: &Session, meta: u8) -> bool {
+    session.machine().meta() == meta && !session.machine().trace()
+}
+
+// Whether all parts but the texts are those in which a processor begins.
+fn has_initial_parts(session: &Session) -> bool {
+    has_pending(session, b"")
+        && has_position(session, 0)
+        && has_forms(session, 0)
+        && has_no_trace(session, b'\'')
+}
+
+// Whether the part that an act speaks of is so.
+fn look(alloc: Global, session: &Session, act: &Act) -> Result<bool, AllocError> {
+    match *act {
+        Act::Shows(text) => shows(alloc, session, text),
+        Act::Active(text) => Ok(has_active(session, text)),
+        Act::Pending(text) => Ok(has_pending(session, text)),
+        Act::Position(count) => Ok(has_position(session, count)),
+        Act::Forms(count) => Ok(has_forms(session, count)),
+        Act::Records(count) => Ok(has_records(session, count)),
+        Act::Initial => {
+            Ok(has_initial_parts(session) && shows(alloc, session, b"^#(ps,#(rs))")?)
+        }
+        _ => Ok(true),
+    }
+}
+
+fn play_all(
     rt: &impl Abort,
     alloc: Global,
-    session: &Session,
-    act: &Act,
-    at: usize,
+    session: &mut Session,
+    acts: &[Act],
 ) -> Result<(), AllocError> {
-    let machine = session.machine();
-    match *act {
-        Act::Shows(text) => expect_text(rt, texts_shown(alloc, machine)?.as_slice(), text, at),
-        Act::Active(text) => expect_text(rt, machine.active(), text, at),
-        Act::Pending(text) => expect_text(rt, session.pending(), text, at),
-        Act::Position(count) => expect_number(rt, machine.position(), count, at),
-        Act::Forms(count) => expect_number(rt, machine.store().form_count(), count, at),
-        Act::Records(count) => {
-            expect_number(rt, session.len(), count, at);
-            assert_eq!(rt; session.is_empty(), count == 0, "at act {at}");
-        }
-        Act::Initial => expect_initial(rt, alloc, session, at)?,
-        _ => {}
+    for (at, act) in acts.iter().enumerate() {
+        let is_met = carry_out(alloc, session, act) && look(alloc, session, act)?;
+        expect(rt, is_met, at);
     }
     Ok(())
 }
@@ -155,9 +175,8 @@ pub(crate) fn play(rt: &impl Abort, alloc: Global, limit: usize, acts: &[Act]) -
     requires most { limit ≤ JOURNAL_LIMIT }
 {
     let mut session = Session::new(alloc, limit)?;
-    for (at, act) in acts.iter().enumerate() {
-        carry_out(rt, alloc, &mut session, act, at);
-        look(rt, alloc, &session, act, at)?;
-    }
+    let outcome = play_all(rt, alloc, &mut session, acts);
+    let_go(session);
+    outcome?;
     Ok(())
 }

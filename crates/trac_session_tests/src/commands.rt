@@ -1,10 +1,11 @@
 //! Lists of commands to a session.
-use crate::sessions::{Memory, made};
+use crate::sessions::{Memory, let_go, made};
+use std::alloc::Global;
 use std::process::Abort;
 use std::test::Fail;
 use trac_faults::Refusing;
 use trac_rules::refusal::Refusal;
-use trac_session::{Command, Replies, Reply, Session};
+use trac_session::{Command, Reply, Session};
 
 const COMMANDS: [Command<'static>; 11] = [
     Command::Feed(b"AB'"),
@@ -34,45 +35,76 @@ const REPLIES: [Reply; 11] = [
     Reply::Refused(Refusal::AtStart),
 ];
 
-fn perform<'a>(
-    session: &mut Session<Memory<'a>>,
+// Adds what each command of a list is replied to, or says why nothing was done.
+fn perform(
+    session: &mut Session<Memory<'_>>,
     commands: &[Command<'_>],
-) -> Result<Replies<Memory<'a>>, Refusal> {
-    session.perform(commands)
+    replies: &mut Vec<Reply>,
+) -> Result<(), Refusal> {
+    let added = session.perform(commands)?;
+    if replies.extend_from_slice(added.as_slice()).is_err() {
+        return Err(Refusal::Memory);
+    }
+    Ok(())
 }
 
-// Where there is no memory for the replies nothing is done; else a refused request is the reply of its own command.
-fn commands_and_replies(rt: &impl Abort, memory: Memory<'_>) -> Result<(), Refusal> {
-    let mut session = made(memory, 4)?;
+// There is nothing to go back over, and this is not scanned yet.
+fn shows(session: &Session<Memory<'_>>, active: &[u8]) -> bool {
+    session.is_empty() && session.machine().active() == active
+}
+
+// Performs the list, and says whether a request of one of its commands was refused. Where there is no memory for the replies
+// nothing is done, and the next try is accepted.
+fn perform_list(
+    rt: &impl Abort,
+    memory: Memory<'_>,
+    session: &mut Session<Memory<'_>>,
+    replies: &mut Vec<Reply>,
+) -> Result<bool, Refusal> {
     let refusals = memory.refusals();
-    let mut replies = perform(&mut session, &COMMANDS);
-    if let Err(refusal) = replies {
-        assert_eq!(rt; refusal, Refusal::Memory);
-        assert_eq!(rt; session.len(), 0);
-        assert_eq!(rt; session.machine().active(), b"#(ps,#(rs))".as_slice());
-        replies = perform(&mut session, &COMMANDS);
-    } else if memory.refusals() > refusals {
-        assert_eq!(rt; replies?.len(), COMMANDS.len());
-        return Ok(());
-    }
-    assert_eq!(rt; replies?.as_slice(), REPLIES.as_slice());
-    assert_eq!(rt; session.machine().active(), b",#(rs))".as_slice());
-    assert_eq!(rt; session.len(), 0);
-    assert!(rt; perform(&mut session, &[])?.is_empty());
+    let Err(refusal) = perform(session, &COMMANDS, replies) else {
+        return Ok(memory.refusals() > refusals);
+    };
+    assert!(rt; refusal == Refusal::Memory);
+    assert!(rt; shows(session, b"#(ps,#(rs))"));
+    perform(session, &COMMANDS, replies)?;
+    Ok(false)
+}
+
+// A refused request is the reply of its own command. A list of none has no replies.
+fn expect_replies(
+    rt: &impl Abort,
+    plain: Global,
+    memory: Memory<'_>,
+    session: &mut Session<Memory<'_>>,
+) -> Result<(), Refusal> {
+    let mut replies = Vec::new(plain);
+    let is_refused = perform_list(rt, memory, session, &mut replies)?;
+    perform(session, &[], &mut replies)?;
+    assert!(rt; replies.len() == COMMANDS.len());
+    assert!(rt; is_refused || replies.as_slice() == REPLIES.as_slice());
+    assert!(rt; is_refused || shows(session, b",#(rs))"));
     Ok(())
+}
+
+fn commands_and_replies(rt: &impl Abort, plain: Global, memory: Memory<'_>) -> Result<(), Refusal> {
+    let mut session = made(memory, 4)?;
+    let outcome = expect_replies(rt, plain, memory, &mut session);
+    let_go(session);
+    outcome
 }
 
 #[test]
 fn each_command_has_a_reply(rt: HostRuntime) -> Result<(), Fail> {
     let memory = Refusing::new(rt.alloc());
-    commands_and_replies(&rt, &memory)?;
+    commands_and_replies(&rt, rt.alloc(), &memory)?;
     Ok(())
 }
 
 #[test]
 fn each_request_of_a_list(rt: HostRuntime) -> Result<(), Fail> {
     let memory = Refusing::new(rt.alloc());
-    let runs = memory.refuse_each(1_000, |_| commands_and_replies(&rt, &memory))?;
+    let runs = memory.refuse_each(1_000, |_| commands_and_replies(&rt, rt.alloc(), &memory))?;
     assert!(rt; runs > Some(2), "{runs:?} runs");
     Ok(())
 }

@@ -3,7 +3,7 @@ use crate::acts::Act::{self, *};
 use crate::acts::play;
 use std::test::Fail;
 use trac_rules::limit::JOURNAL_LIMIT;
-use trac_rules::refusal::Refusal::{Closed, JournalFull, NeedInput, TooLong};
+use trac_rules::refusal::Refusal::{Closed, Ended, JournalFull, NeedInput, TooLong};
 
 const ELEVEN_STEPS_AND_BACK: &[Act] = &[
     Feed(b"AB'"),
@@ -49,6 +49,38 @@ const MORE_INPUT_IS_WAITED_FOR: &[Act] = &[
     Pending(b""),
 ];
 
+// With the trace on, `rc` waits for a byte: its line is printed once, by the step that reads the byte.
+const A_TRACED_CALL_WAITS_FOR_A_BYTE: &[Act] = &[
+    Feed(b"#(tn)#(rc)'"),
+    ForwardRefused(16, 15, NeedInput),
+    Pending(b""),
+    ForwardRefused(1, 0, NeedInput),
+    Shows(b"#(ps,#(rc^))"),
+    Pending(b""),
+    Position(11),
+    Feed(b"x"),
+    Forward(1),
+    Shows(b"#(ps,^x)"),
+    Pending(b"#(rc)\n"),
+    Position(12),
+    Back(1),
+    Pending(b""),
+];
+
+// With the trace on, `rs` waits for a text, and then finds the end of the input: what the idle program has printed stays.
+const A_TRACED_CALL_WAITS_FOR_A_TEXT: &[Act] = &[
+    Feed(b"#(tn)'"),
+    ForwardRefused(22, 21, NeedInput),
+    Pending(b"#(ps*)\n"),
+    End,
+    ForwardRefused(1, 0, Ended),
+    Shows(b"#(ps,#(rs^))"),
+    Pending(b"#(ps*)\n"),
+    Records(21),
+    BackToStart(22, 21),
+    Initial,
+];
+
 const NOTHING_BEHIND_THE_END: &[Act] = &[
     Feed(b"A"),
     End,
@@ -92,6 +124,8 @@ fn forwards_and_backwards(rt: HostRuntime) -> Result<(), Fail> {
         AN_UNMATCHED_OPENING,
         TWO_FUNCTIONS_ARE_BEGUN,
         MORE_INPUT_IS_WAITED_FOR,
+        A_TRACED_CALL_WAITS_FOR_A_BYTE,
+        A_TRACED_CALL_WAITS_FOR_A_TEXT,
         NOTHING_BEHIND_THE_END,
         A_COMMIT_KEEPS_WHAT_IS_UNREAD,
         FORMS_COME_AND_GO,

@@ -1,6 +1,6 @@
 //! Whole runs of a session: to the end, and all the way back, where each state is the one on the way out. Each request for
 //! memory is refused in turn, and then all of them on the way back.
-use crate::sessions::{Memory, made};
+use crate::sessions::{Memory, let_go, made};
 use std::alloc::{AllocError, Global};
 use std::process::Abort;
 use std::test::Fail;
@@ -13,17 +13,27 @@ use trac_session::{Session, Walk};
 // A whole input, what it prints, and after how many steps it ends: 0 where no count is stated.
 type Run = (&'static [u8], &'static [u8], u64);
 
-// Each prints `AB`: in one part, in two, and by calls on a form.
-const SHORT_RUNS: [(&[u8], &[u8]); 3] = [
+// The input of a program that reads a form by segments, single bytes, counts and up to a text, sets the meta character, reads
+// one byte, turns the trace on and off, and halts before it prints what it has gathered.
+const EACH_READING: &[u8] =
+    b"#(ds,F,axbcy)#(ss,F,x,y)#(cs,F)#(cc,F)#(cn,F,-1)#(in,F,c)#(cm,;)'#(rc)xy#(tn)#(tf)z#(hl);w;";
+
+// Three print `AB`: in one part, in two, and by calls on a form. The last one puts three forms aside and brings them back.
+const SHORT_RUNS: [(&[u8], &[u8]); 5] = [
     (b"AB'", b"AB"),
     (b"#(ps,A)'B'", b"AB"),
     (
         b"#(ds,a,AxB)'#(ss,a,x)#(cl,a)#(cr,a)#(eq,#(ln,),a,,no)#(dd,a)#(pf,a)#(da)'",
         b"AB",
     ),
+    (EACH_READING, b"abbb#(tf)\n"),
+    (
+        b"#(ds,A,1)#(ds,B,2)#(ds,a,3)#(sb,G,A,B,a)#(fb,G)#(eb,G)#(cl,A)#(cl,B)#(cl,a)'",
+        b"123",
+    ),
 ];
 
-const RUNS: [Run; 11] = [
+const RUNS: [Run; 25] = [
     (b"", b"", 7),
     (b"AB'", b"AB", 19),
     (b"a(b", b"", 18),
@@ -38,11 +48,62 @@ const RUNS: [Run; 11] = [
         0,
     ),
     (
+        b"#(ds,A,1)'#(ds,B,2)'#(sb,G,A,C,B,A)'#(ln,;)'#(cl,G)'#(ds,A,9)#(fb,G)#(cl,A)#(cl,B)'#(eb,G)#(ln,;)'",
+        b";G012;A;B",
+        0,
+    ),
+    (
+        b"#(ds,G,x)#(sb,G,G)#(pf,G)#(fb,G)#(pf,G)#(eb,G)#(cl,G)'",
+        b"<^>0<^>xx",
+        0,
+    ),
+    (
+        b"#(sb,E)#(sb,F)#(cl,E);#(cl,F)'#(eb,E)#(sb,E)#(cl,E)'",
+        b"0;12",
+        0,
+    ),
+    // A pointer that moves in a copy stays where it is in the block.
+    (
+        b"#(ds,A,axb)#(ss,A,x)#(cc,A)#(ds,B,2)#(ds,a,3)#(sb,G,A,B,a)#(fb,G)#(cc,A)#(fb,G)#(pf,A)'",
+        b"a<^><1>bab",
+        0,
+    ),
+    (
         b"#(ds,F,yxb)'#(ss,F,y)'#(pf,F)'#(ss,F,x)'#(pf,F)'",
         b"<^><1>xb<^><1><1>b",
         0,
     ),
     (b"#(ds,a,1)'#(dd,a)'#(ds,a,2)'#(cl,a)'", b"2", 0),
+    (
+        b"#(ds,F,AxB)'#(ss,F,x)'#(cs,F,none)'#(cs,F,none)'##(cs,F,(#(ad,1,2)))'#(cr,F)#(cl,F,-)'",
+        b"AB3A-B",
+        0,
+    ),
+    (
+        b"#(ds,F,abcde)'#(cn,F,3,Z);'#(cn,F,-2,Z);'#(cn,F,0,Z);'#(cn,F,9,Z);'#(cn,F,1,Z);'#(cr,F)#(cn,F,-1,Z)'",
+        b"abc;bc;;bcde;Z;Z",
+        0,
+    ),
+    (
+        b"#(ds,G,axbxc)#(ss,G,x)#(in,G,bc,no);#(in,G,c,no);#(cs,G,end)'",
+        b"no;ab;end",
+        0,
+    ),
+    (
+        b"#(tn)'#(ps,a)'#(tf)'",
+        b"#(ps*)\n#(rs)\n#(ps*a)\na#(ps*)\n#(rs)\n#(tf)\n",
+        0,
+    ),
+    (b"#(rc)'x'", b"x", 0),
+    (b"#(cm,;)'A;B;", b"AB", 0),
+    (b"#(ps,a)#(hl)#(ps,b)'c'", b"a", 0),
+    (b"#(#(#(#(#(#(#(#(#(#(#(#(#(#(#(#('", b"", 0),
+    (
+        b"#(ds,AA,Cat)'#(ds,BB,(#(cl,AA)))'#(ps,(#(cl,BB)))'#(ps,##(cl,BB))'#(ps,#(cl,BB))'",
+        b"#(cl,BB)#(cl,AA)Cat",
+        0,
+    ),
+    (EACH_READING, b"abbb#(tf)\n", 0),
 ];
 
 // What the session shows of its last state.
@@ -58,23 +119,25 @@ fn back(session: &mut Session<Memory<'_>>, n: u64) -> Walk {
     session.back(n)
 }
 
-fn expect_walk(rt: &impl Abort, walk: Walk, done: u64, why: Option<Refusal>) {
-    assert_eq!(rt; walk.done, done);
-    assert_eq!(rt; walk.why, why);
+fn expect_walk(rt: &impl Abort, walk: Walk, done: u64, why: Refusal) {
+    assert!(rt; walk.done == done && walk.why == Some(why));
+}
+
+fn expect_text(rt: &impl Abort, text: &[u8], wanted: &[u8], input: &[u8]) {
+    assert!(rt; text == wanted, "from {input:?}");
 }
 
 fn feed(session: &mut Session<Memory<'_>>, input: &[u8]) -> Result<(), Refusal> {
     session.feed(input)
 }
 
-// A session over all of this input, where one request may be refused: nothing is done then.
-fn fed<'a>(memory: Memory<'a>, input: &[u8]) -> Result<Session<Memory<'a>>, Refusal> {
-    let mut session = made(memory, JOURNAL_LIMIT)?;
-    if feed(&mut session, input).is_err() {
-        feed(&mut session, input)?;
+// All of this input is fed, where one request may be refused: nothing is done then.
+fn feed_all(session: &mut Session<Memory<'_>>, input: &[u8]) -> Result<(), Refusal> {
+    if feed(session, input).is_err() {
+        feed(session, input)?;
     }
     session.end();
-    Ok(session)
+    Ok(())
 }
 
 // Keeps what a session shows behind the states that were kept before.
@@ -91,18 +154,18 @@ fn to_end(
     rt: &impl Abort,
     plain: Global,
     session: &mut Session<Memory<'_>>,
-) -> Result<Vec<Vec<u8>>, AllocError> {
-    let mut states = Vec::new(plain);
+    states: &mut Vec<Vec<u8>>,
+) -> Result<(), AllocError> {
     let mut why = None;
     for _ in 0..5_000 {
-        keep(plain, session, &mut states)?;
+        keep(plain, session, states)?;
         why = forward(session, 1).why;
         if why.is_some() {
             break;
         }
     }
-    assert_eq!(rt; why, Some(Refusal::Ended));
-    Ok(states)
+    assert!(rt; why == Some(Refusal::Ended));
+    Ok(())
 }
 
 // All the way back, step by step.
@@ -111,27 +174,50 @@ fn to_start(
     plain: Global,
     session: &mut Session<Memory<'_>>,
     states: &[Vec<u8>],
+    input: &[u8],
 ) -> Result<(), AllocError> {
     for state in states.iter().rev() {
-        assert_eq!(rt; shown(plain, session)?.as_slice(), state.as_slice());
+        expect_text(
+            rt,
+            shown(plain, session)?.as_slice(),
+            state.as_slice(),
+            input,
+        );
         back(session, 1);
     }
-    expect_walk(rt, back(session, 1), 0, Some(Refusal::AtStart));
+    expect_walk(rt, back(session, 1), 0, Refusal::AtStart);
     Ok(())
 }
 
-// To the end and all the way back: each state is the one on the way out. The answer is those states.
+// To the end and all the way back: each state is the one on the way out.
 fn there_and_back(
+    rt: &impl Abort,
+    plain: Global,
+    session: &mut Session<Memory<'_>>,
+    input: &[u8],
+    output: &[u8],
+    states: &mut Vec<Vec<u8>>,
+) -> Result<(), Fail> {
+    feed_all(session, input)?;
+    to_end(rt, plain, session, states)?;
+    expect_text(rt, session.pending(), output, input);
+    to_start(rt, plain, session, states.as_slice(), input)?;
+    Ok(())
+}
+
+// The states of such a run, the first one first.
+fn states_of(
     rt: &impl Abort,
     plain: Global,
     memory: Memory<'_>,
     input: &[u8],
     output: &[u8],
 ) -> Result<Vec<Vec<u8>>, Fail> {
-    let mut session = fed(memory, input)?;
-    let states = to_end(rt, plain, &mut session)?;
-    assert_eq!(rt; session.pending(), output, "from {input:?}");
-    to_start(rt, plain, &mut session, states.as_slice())?;
+    let mut session = made(memory, JOURNAL_LIMIT)?;
+    let mut states = Vec::new(plain);
+    let outcome = there_and_back(rt, plain, &mut session, input, output, &mut states);
+    let_go(session);
+    outcome?;
     Ok(states)
 }
 
@@ -139,18 +225,36 @@ fn steps_over(states: &[Vec<u8>]) -> u64 {
     states.len().saturating_sub(1) as u64
 }
 
+fn expect_run(
+    rt: &impl Abort,
+    plain: Global,
+    memory: Memory<'_>,
+    (input, output, steps): Run,
+) -> Result<(), Fail> {
+    let states = states_of(rt, plain, memory, input, output)?;
+    let taken = steps_over(states.as_slice());
+    assert!(rt;
+        steps == 0 || taken == steps,
+        "{taken} steps from {input:?}"
+    );
+    Ok(())
+}
+
 #[test]
 fn each_state_on_the_way_back(rt: HostRuntime) -> Result<(), Fail> {
     let memory = Refusing::new(rt.alloc());
-    for (input, output, steps) in RUNS {
-        let states = there_and_back(&rt, rt.alloc(), &memory, input, output)?;
-        let taken = steps_over(states.as_slice());
-        assert!(rt;
-            steps == 0 || taken == steps,
-            "{taken} steps from {input:?}"
-        );
+    for run in RUNS {
+        expect_run(&rt, rt.alloc(), &memory, run)?;
     }
     Ok(())
+}
+
+// Whether this is the state after so many steps.
+fn is_state(states: &[Vec<u8>], steps: u64, text: &[u8]) -> bool {
+    match states.get(steps as usize) {
+        Some(state) => state.as_slice() == text,
+        None => false,
+    }
 }
 
 // A session shows the state after so many steps.
@@ -162,15 +266,47 @@ fn expect_state(
     steps: u64,
 ) -> Result<(), AllocError> {
     let text = shown(plain, session)?;
-    assert_eq!(rt;
-        states.get(steps as usize).map(|s| s.as_slice()),
-        Some(text.as_slice())
-    );
+    assert!(rt; is_state(states, steps, text.as_slice()));
     Ok(())
 }
 
-// To the end, where one request may be refused: nothing has changed then, and the next try goes on. All the way back while
-// every request is refused.
+// To the end, where one request may be refused: nothing has changed then, and the next try goes on.
+fn to_end_at_once(
+    rt: &impl Abort,
+    plain: Global,
+    session: &mut Session<Memory<'_>>,
+    states: &[Vec<u8>],
+) -> Result<(), AllocError> {
+    let steps = steps_over(states);
+    let walk = forward(session, u64::MAX);
+    expect_state(rt, plain, session, states, walk.done)?;
+    if walk.why == Some(Refusal::Memory) {
+        let left = steps.saturating_sub(walk.done);
+        expect_walk(rt, forward(session, u64::MAX), left, Refusal::Ended);
+    } else {
+        expect_walk(rt, walk, steps, Refusal::Ended);
+    }
+    expect_state(rt, plain, session, states, steps)
+}
+
+// To the end, where one request may be refused, and all the way back while every request is refused.
+fn there_and_back_at_once(
+    rt: &impl Abort,
+    plain: Global,
+    memory: Memory<'_>,
+    session: &mut Session<Memory<'_>>,
+    input: &[u8],
+    states: &[Vec<u8>],
+) -> Result<(), Fail> {
+    feed_all(session, input)?;
+    to_end_at_once(rt, plain, session, states)?;
+    memory.refuse_all();
+    let walk = back(session, u64::MAX);
+    expect_walk(rt, walk, steps_over(states), Refusal::AtStart);
+    expect_state(rt, plain, session, states, 0)?;
+    Ok(())
+}
+
 fn again(
     rt: &impl Abort,
     plain: Global,
@@ -178,26 +314,26 @@ fn again(
     input: &[u8],
     states: &[Vec<u8>],
 ) -> Result<(), Fail> {
-    let mut session = fed(memory, input)?;
-    let steps = steps_over(states);
-    let mut walk = forward(&mut session, u64::MAX);
-    if walk.why == Some(Refusal::Memory) {
-        let done = walk.done;
-        expect_state(rt, plain, &session, states, done)?;
-        walk = forward(&mut session, u64::MAX);
-        expect_walk(rt, walk, steps.saturating_sub(done), Some(Refusal::Ended));
-    } else {
-        expect_walk(rt, walk, steps, Some(Refusal::Ended));
-    }
-    expect_state(rt, plain, &session, states, steps)?;
-    memory.refuse_all();
-    expect_walk(
-        rt,
-        back(&mut session, u64::MAX),
-        steps,
-        Some(Refusal::AtStart),
+    let mut session = made(memory, JOURNAL_LIMIT)?;
+    let outcome = there_and_back_at_once(rt, plain, memory, &mut session, input, states);
+    let_go(session);
+    outcome
+}
+
+fn expect_short_run(
+    rt: &(impl Abort + AllocGlobal),
+    memory: Memory<'_>,
+    input: &[u8],
+    output: &[u8],
+) -> Result<(), Fail> {
+    let states = states_of(rt, rt.alloc(), memory, input, output)?;
+    let runs = memory.refuse_each(10_000, |_| {
+        again(rt, rt.alloc(), memory, input, states.as_slice())
+    })?;
+    assert!(rt;
+        runs > Some(states.len() as u64),
+        "{runs:?} runs from {input:?}"
     );
-    expect_state(rt, plain, &session, states, 0)?;
     Ok(())
 }
 
@@ -205,14 +341,7 @@ fn again(
 fn each_request(rt: HostRuntime) -> Result<(), Fail> {
     let memory = Refusing::new(rt.alloc());
     for (input, output) in SHORT_RUNS {
-        let states = there_and_back(&rt, rt.alloc(), &memory, input, output)?;
-        let runs = memory.refuse_each(10_000, |_| {
-            again(&rt, rt.alloc(), &memory, input, states.as_slice())
-        })?;
-        assert!(rt;
-            runs > Some(states.len() as u64),
-            "{runs:?} runs from {input:?}"
-        );
+        expect_short_run(&rt, &memory, input, output)?;
     }
     Ok(())
 }
@@ -227,7 +356,7 @@ fn single_bytes(rt: HostRuntime) -> Result<(), Fail> {
             b'\'' | b'(' | b')' | b',' | b'\r' | b'\n' | b'\t' => b"".as_slice(),
             _ => input.as_slice(),
         };
-        there_and_back(&rt, rt.alloc(), &memory, &input, output)?;
+        states_of(&rt, rt.alloc(), &memory, &input, output)?;
     }
     Ok(())
 }

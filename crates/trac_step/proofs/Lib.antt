@@ -11,3 +11,4 @@ pub mod Beginnings
 pub mod Ended
 pub mod Pointers
 pub mod Planned
+pub mod MovedForms

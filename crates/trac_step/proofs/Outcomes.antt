@@ -16,6 +16,10 @@ use Rattle.trac_step.proofs.Scans.{moves_of}
 pub refuses_memory : (outcome : Result State Refusal) (e : Refusal) → e ≡ Memory → MayLackMemory outcome → MayRefuse outcome e
 refuses_memory outcome e is lacks = subst (MayRefuse outcome) (sym is) lacks
 
+-- which it may where a step leads on
+pub taken_lacks : (outcome : Result State Refusal) (t : State) → outcome ≡ Ok t → MayLackMemory outcome
+taken_lacks outcome t is = subst MayLackMemory (sym is) tt
+
 pub step_as : (environment : Environment) (s : State) (scanned : Scanned) → scan s ≡ scanned → step environment s ≡ limited texts_fit (carried_out environment scanned)
 unfolding step
 step_as environment s scanned e = ap (λ x. limited texts_fit (carried_out environment x)) e

@@ -25,11 +25,23 @@ pub(crate) fn block_for<A: Allocator + Copy>(
     ensures room { IfOk result (λ block. length (held_by change.now) ≤ block.room) }
     ensures err { IsOkUnless result Refusal.Memory }
 {
-    let places = match change {
+    Ok(Block::with_room(alloc, count_held(change))?)
+}
+
+// How many forms a change moves into a block.
+fn count_held<A: Allocator + Copy>(change: &Change<A>) -> usize
+    ensures { result ≡ length (held_by change.now) }
+{
+    match change {
         Change::MoveIn { held, .. } => held.len(),
-        _ => 0,
-    };
-    Ok(Block::with_room(alloc, places)?)
+        Change::Keep
+        | Change::Put(_, _)
+        | Change::Remove(_)
+        | Change::Clear
+        | Change::Point(_, _)
+        | Change::Bring { .. }
+        | Change::Erase { .. } => 0,
+    }
 }
 
 // Makes a place for each of these forms. The forms of the store stay as they are.

@@ -68,9 +68,12 @@ pub(crate) fn change_forms<A: Allocator + Copy>(
             store.put(name.as_slice(), address);
         }
         Change::Bring { number: _, forms } => put_each(store, forms),
-        Change::Erase { number, name } => {
+        Change::Erase {
+            number,
+            name: address,
+        } => {
             store.take_block(number);
-            store.take(name.as_slice());
+            store.take(address.as_slice());
         }
     }
 }

@@ -19,7 +19,8 @@ pub(crate) const IDLE_PROGRAM: &[u8; 11] = b"#(ps,#(rs))";
 /// A machine over lists with two ends: its neutral text stands on the left of the one pair of lists, its active text on the
 /// right; its marks stand on the left of the other.
 /// It is seen as the state that it shows, which is always a proper one; how many bytes of texts, how many marks and how many
-/// bytes of output it has room for without more memory; and the names under which it can put a form without more memory.
+/// bytes of output it has room for without more memory; and the names under which it can put a form, and how many blocks it can add,
+/// without more memory.
 #[derive(Drop)]
 pub struct Core<E: TwoEnds<u8, A>, M: TwoEnds<Mark, A>, A: Allocator + Copy> {
     pub(crate) text: E,
@@ -68,7 +69,8 @@ impl<E: TwoEnds<u8, A>, M: TwoEnds<Mark, A>, A: Allocator + Copy> Core<E, M, A> 
         })
     }
 
-    /// A second machine that shows the same state, with memory of its own: it has no less room, and knows no fewer names.
+    /// A second machine that shows the same state, with memory of its own: it has no less room, and knows no fewer names
+    /// (this project's profile).
     /// Refused with `Memory` where the allocator refuses.
     pub fn copy(&self) -> Result<Self, Refusal>
         ensures same { IfOk result (λ m. m.state ≡ self.now.state) }

@@ -12,12 +12,12 @@ loop-item-preserved g c =
     let items = c.args.items.now in
     let i = c.loop-item.item-index in
     let next = drop_more items i (Byte 0) (omega arith) in (
-      ap (λ (r : List ℕ). c.push_item-in-loop-item.new.out.items ++ cut_out c.args.number c.args.text.now (as_items r ++ drop (i + 1) items)) c.clear.ensures.items
+      ap (λ (r : List ℕ). c.push_item-in-loop-item.new.out.items ++ cut_out c.args.number c.args.text.now (as_items r ++ drop (i + 1) items)) c.end_run.ensures
           ∙ gap_read c.args.number c.args.text.now c.loop-item.run.items c.loop-item.out.items (drop i items) (cut_out c.args.number c.args.text.now items) (get_or items i (Byte 0)) (drop (i + 1) items)
           c.part_into.new.out.items c.push_item-in-loop-item.new.out.items next c.in_default.not-Byte
           (c.in_ok-part_into.ensures.ok ∙ ap (λ (r : List ℕ). c.loop-item.out.items ++ part c.args.number c.args.text.now r) c.as_slice.ensures.value) c.in_ok-push_item-2.ensures.ok
           c.loop-item.invariant.0,
-      omega (arith, ap length c.clear.ensures.items, ap extent next, c.loop-item.invariant.1),
+      omega (arith, ap length c.end_run.ensures, ap extent next, c.loop-item.invariant.1),
     )
 
 pub returns-clause-cut : goal.returns-clause-cut

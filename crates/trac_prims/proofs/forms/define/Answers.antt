@@ -1,12 +1,12 @@
-use Rattle.std.proofs.Common.{ℕ, List, length, sym, subst}
+use Rattle.std.proofs.Common.{◌≡◌, ℕ, List, length, sym, ap, subst, ◌∙◌}
 use Rattle.std.proofs.lemmas.Result.{err_from_is_err_and}
 use Rattle.trac_forms.specs.Layout.{IsSound}
 use Rattle.trac_forms.specs.Outcomes.{MayRefuseForm}
 use Rattle.trac_rules.specs.Effect.{argument}
-use Rattle.trac_rules.specs.Form.{defined}
+use Rattle.trac_rules.specs.Form.{Form, defined}
 use Rattle.trac_rules.specs.Handling.{putting}
 use Rattle.trac_forms.specs.Stored.{storage_in}
-use Rattle.trac_prims.specs.Effects.{MayFail}
+use Rattle.trac_prims.specs.Effects.{IsMade, MayFail}
 use Rattle.trac_prims.proofs.Held.{not_made}
 use Rattle.trac_prims.proofs.Putting.{sound_defined}
 use Rattle.trac_prims.proofs.forms.define.Goals as goal
@@ -22,3 +22,10 @@ returns-in_err-form g c =
 
 pub put-requires : goal.put-requires
 put-requires g c = subst IsSound (sym c.in_ok-form.ensures.made) (sound_defined c.get.result.now c.in_ok-form.ensures.fits)
+
+pub returns : goal.returns
+returns g c =
+    let storage = storage_in c.args.store.now in
+    let form : c.in_ok-form.form ≡ defined (argument 2 c.args.args.now) = c.in_ok-form.ensures.made ∙ ap defined c.get.ensures in
+    subst (λ (name : List ℕ). IsMade storage (putting name (defined (argument 2 c.args.args.now)) storage) c.put.result) c.get-2.ensures
+    (subst (λ (f : Form). IsMade storage (putting c.get-2.result.now f storage) c.put.result) form c.put.ensures)

@@ -1,16 +1,20 @@
-use Rattle.std.proofs.Common.{List, ℕ, ◌++◌, sym, ap, ◌∙◌, subst, arith}
+use Rattle.std.proofs.Common.{List, ℕ, ◌++◌, length, sym, ap, ◌∙◌, subst, arith, IsTrue}
 use Rattle.std.specs.Prelude.{vec_capacity}
-use Rattle.trac_gap.specs.Ends.{Ends}
+use Rattle.std.specs.FinSet as set
+use Rattle.std.proofs.lemmas.List.{length-drop, length-take}
+use Rattle.trac_gap.specs.Ends.{Ends, item_count}
 use Rattle.trac_rules.specs.Limits.{text_bytes}
 use Rattle.trac_rules.specs.Proper.{IsProper}
 use Rattle.trac_rules.specs.Scanning.{front_of, scan}
 use Rattle.trac_rules.specs.State.{State}
-use Rattle.trac_forms.specs.Stored.{storage_in}
+use Rattle.trac_forms.specs.Stored.{Names, storage_in}
+use Rattle.trac_prims.specs.declared.mark.Mark.{Mark}
 use Rattle.trac_prims.specs.Effects.{planned_on}
 use Rattle.trac_step.specs.Calling.{state_after, with_value}
 use Rattle.trac_step.specs.Layout.{parts_of, state_of, IsSound, Shown}
 use Rattle.trac_step.proofs.Beginnings.{innermost_parts}
 use Rattle.trac_step.proofs.Ended.{ended_shows, ended_sound, finished_parts, value_capacity}
+use Rattle.trac_step.proofs.Rooms.{IsNoLess-parts}
 use Rattle.trac_step.proofs.Rules.{text_bytes-parts}
 use Rattle.trac_step.proofs.engine.Core.finish_call.Goals as goal
 
@@ -27,6 +31,23 @@ cut_function-requires-clause-number g c =
     let state_is = ap (λ (m : Shown). m.state) c.self.view_is in
     let found = innermost_parts p c.args.self.now.state c.args.beginning c.self.invariant state_is c.requires.beginning in
     omega (arith, found.1.within)
+
+pub put_value-requires : goal.put_value-requires
+put_value-requires g c =
+    let old = g.E.TwoEnds.ends c.self.inside.text in
+    let p = parts_of old (g.M.TwoEnds.ends c.self.inside.marks) c.self.inside.store c.self.inside.meta c.self.inside.trace c.self.inside.position c.self.inside.output in
+    omega (
+      arith,
+      c.requires.room.text,
+      ap (λ (m : Shown). m.text_room) c.self.view_is,
+      ap (λ (m : Shown). text_bytes m.state) c.self.view_is,
+      text_bytes-parts p c.self.invariant.ordered,
+      ap item_count c.cut_function.ensures.text,
+      ap (λ (x : Ends ℕ). x.capacity) c.cut_function.ensures.text,
+      length-take c.args.beginning.place old.left,
+      length-drop 1 old.right,
+      ap (λ (xs : List ℕ). length xs) c.as_slice.ensures.value,
+    )
 
 pub invariant_of-self : goal.invariant_of-self
 invariant_of-self g c =
@@ -66,3 +87,13 @@ returns-clause-state g c =
     let shows = ended_shows p c.args.beginning.number c.args.beginning.place c.args.beginning.kind found.0 found.1 front c.args.effect
     ∙ ap (λ (s : State). state_after c.args.effect (scan s)) state_is in
     ap state_of q_is ∙ shows
+
+pub returns-clause-room : goal.returns-clause-room
+returns-clause-room g c =
+    let p = parts_of (g.E.TwoEnds.ends c.self.inside.text) (g.M.TwoEnds.ends c.self.inside.marks) c.self.inside.store c.self.inside.meta c.self.inside.trace c.self.inside.position c.self.inside.output in
+    let q = parts_of (g.E.TwoEnds.ends c.put_value.new.text) (g.M.TwoEnds.ends c.cut_function.new.marks) c.change_forms.new.store c.args.effect.meta c.args.effect.trace c.args.effect.position c.append.new.list in
+    let kept = ap (λ (x : Ends ℕ). x.capacity) c.put_value.ensures
+    ∙ value_capacity c.args.beginning.kind c.args.effect.forced c.as_slice.result.now (g.E.TwoEnds.ends c.cut_function.new.text)
+    ∙ ap (λ (x : Ends ℕ). x.capacity) c.cut_function.ensures.text in
+    IsNoLess-parts p q c.args.self.now c.self.view_is (omega (arith, kept)) (omega (arith, ap (λ (x : Ends Mark). x.capacity) c.cut_function.ensures.marks)) c.append.ensures.room
+    (λ name h. subst (λ (ns : Names). IsTrue (set.contains ns name)) (sym c.change_forms.ensures.names) h)
