@@ -96,10 +96,7 @@ fn add_block<A: Allocator + Copy>(out: &mut Vec<u8>, block: &Block<A>) -> Result
     Ok(())
 }
 
-fn add_blocks<A: Allocator + Copy>(
-    out: &mut Vec<u8>,
-    store: &Store<A>,
-) -> Result<(), AllocError> {
+fn add_blocks<A: Allocator + Copy>(out: &mut Vec<u8>, store: &Store<A>) -> Result<(), AllocError> {
     add_number(out, store.block_count())?;
     for i in 0..store.block_count() {
         match store.block(i) {
