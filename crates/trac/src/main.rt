@@ -1,7 +1,6 @@
 //! The program `trac`: a processor for the language TRAC T-64.
 #![tactic(auto)]
 
-pub mod tape;
 #[cfg(test)]
 mod tests;
 pub mod words;
@@ -15,8 +14,7 @@ use std::alloc::AllocError;
 use std::process::ExitCode;
 use std::rt::Env;
 use std::{env, fs, io};
-use tape::read_tape;
-use trac_debug::debug;
+use trac_debug::{debug, read_tape};
 use trac_rules::limit::JOURNAL_LIMIT;
 use trac_run::{Ending, Options, run};
 use words::{Line, read_line};
@@ -63,17 +61,12 @@ fn asked_line(rt: &(impl Env + AllocGlobal)) -> Result<Line, AllocError>
     read_line(alloc, texts.as_slice())
 }
 
-// Debugs the program in the file at this path, which is read before any command is.
+// Debugs the program in the file at this path.
 fn debug_file(rt: &HostRuntime, path: &str, options: Options) -> Ending
     requires some_records { 1 ≤ options.journal }
     requires most_records { options.journal ≤ JOURNAL_LIMIT }
 {
-    let mut file = match fs::File::open(rt, path) {
-        Ok(file) => file,
-        Err(error) if error.kind() == io::ErrorKind::OutOfMemory => return Ending::Memory,
-        Err(_) => return Ending::Read,
-    };
-    match read_tape(rt.alloc(), &mut file) {
+    match tape_in(rt, path) {
         Ok(tape) => debug(
             rt.alloc(),
             tape.as_slice(),
@@ -82,6 +75,16 @@ fn debug_file(rt: &HostRuntime, path: &str, options: Options) -> Ending
             options,
         ),
         Err(ending) => ending,
+    }
+}
+
+// The bytes of the file at this path, which is closed before any command is read: where standard input is closed, the system opens
+// the file in its place.
+fn tape_in(rt: &HostRuntime, path: &str) -> Result<Vec<u8>, Ending> {
+    match fs::File::open(rt, path) {
+        Ok(mut file) => read_tape(rt.alloc(), &mut file),
+        Err(error) if error.kind() == io::ErrorKind::OutOfMemory => Err(Ending::Memory),
+        Err(_) => Err(Ending::Read),
     }
 }
 

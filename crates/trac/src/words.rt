@@ -128,7 +128,10 @@ fn command<'a>(alloc: Global) -> Result<Command<'a>, AllocError> {
     let run = Command::new(alloc, "run")
         .about("Runs the program on standard input")
         .arg(budget)?
-        .arg(journal(alloc)?)?
+        .arg(journal(
+            alloc,
+            "How many steps are kept before their output is written: 1 to 1048576 [default: 64]",
+        )?)?
         .after_help(USE);
     let file = Arg::new(alloc, "FILE")
         .required(true)
@@ -136,7 +139,10 @@ fn command<'a>(alloc: Global) -> Result<Command<'a>, AllocError> {
     let debug = Command::new(alloc, "debug")
         .about("Steps through the program in FILE, forwards and backwards")
         .arg(file)?
-        .arg(journal(alloc)?)?
+        .arg(journal(
+            alloc,
+            "How many steps can be gone back over: 1 to 1048576 [default: 64]",
+        )?)?
         .after_help(USE);
     Command::new(alloc, "trac")
         .about("A processor for TRAC T-64")
@@ -148,13 +154,13 @@ fn command<'a>(alloc: Global) -> Result<Command<'a>, AllocError> {
         .subcommand(debug)
 }
 
-// The option that says how many records a journal may hold.
-fn journal<'a>(alloc: Global) -> Result<Arg<'a>, AllocError> {
+// The option that says how many records a journal may hold, with what that means for this command.
+fn journal<'a>(alloc: Global, help: &'a str) -> Result<Arg<'a>, AllocError> {
     Ok(
         Arg::new(alloc, "journal")
             .long("journal")
             .value_name("N")
             .value_parser(value_parser!(u64).range(1..=JOURNAL_LIMIT as i64))
-            .help("How many steps can be gone back over: 1 to 1048576 [default: 64]"),
+            .help(help),
     )
 }

@@ -5,6 +5,7 @@ use Rattle.std.specs.Io.KnownBytes.{Appends, Consumes, IsAtEnd, Keeps}
 use Rattle.std.proofs.lemmas.Bool.{false≢true, cond-true, cond-false, le-leb, lt-leb, cases_lt}
 use Rattle.std.proofs.lemmas.Bool.Decides.{nat_tests}
 use Rattle.std.proofs.lemmas.List.{append-nil, append_assoc, length-append, length-take-le}
+use Rattle.std.proofs.Math.Seq.{take-append_seam}
 use Rattle.trac_rules.specs.declared.limit.TheConstants.{TAPE_LIMIT}
 use Rattle.trac_rules.specs.Fronts.{IsFrontOf}
 use Rattle.trac_rules.specs.Session.{PlainSession, Feed, End, answer, done, new_session}
@@ -20,8 +21,8 @@ use Rattle.trac_debug.specs.declared.lines.TheConstants.{LINE_LIMIT, LINE_COUNT_
 use Rattle.trac_debug.specs.Lines.{lines_of, is_within}
 use Rattle.trac_debug.specs.Commands.{Command, command_of}
 use Rattle.trac_debug.specs.Replies.{Replies}
-use Rattle.trac_debug.specs.Debugging.{Turn, Passes, Does, Ends, Takes, MayWrite, MayShow, ready, shown_where, turn_at, turn_of}
-use Rattle.trac_debug.specs.Debugs.{UnlessFault, Debugs, IsReady, MayRefuseTape, IsNotReplied, Settles, Stops, Advances, Halts}
+use Rattle.trac_debug.specs.Debugging.{Turn, Passes, Does, Ends, Takes, MayWrite, MayShow, RepliesToFirst, ready, shown_where, turn_at, turn_of}
+use Rattle.trac_debug.specs.Debugs.{UnlessFault, UnlessWrite, Debugs, IsReady, MayRefuseTape, IsNotReplied, Settles, Stops, Advances, Halts}
 use Rattle.trac_debug.specs.Pending.{Pending}
 use Rattle.trac_debug.specs.Reading.{IsFront, Gathers, MayFail}
 use Rattle.trac_debug.specs.Views.{command_seen}
@@ -97,6 +98,7 @@ pub record IsStopped (turn : Turn) (p : PlainSession) (a b : Option (List ℕ)) 
   pub front : (lines : List (List ℕ)) → (number : ℕ) →
       (text : List ℕ) × (stop : Ending) × Takes turn p (λ r rest. MayWrite lines number r rest stop) text stop × IsFrontOf written text
   pub whole : (lines : List (List ℕ)) → (number : ℕ) → UnlessFault ending (Takes turn p (λ r rest. MayWrite lines number r rest ending) written ending)
+  pub nothing : UnlessWrite ending (written ≡ [])
 
 -- without a fault the whole is said; after one nothing is
 unless_always : (ending : Ending) (Fact : Type 0) → Fact → UnlessFault ending Fact
@@ -117,6 +119,31 @@ unless_Write ending Fact is = subst (λ e. UnlessFault e Fact) (sym is) tt
 unless_Read : (ending : Ending) (Fact : Type 0) → ending ≡ Read → UnlessFault ending Fact
 unless_Read ending Fact is = subst (λ e. UnlessFault e Fact) (sym is) tt
 
+-- the same of an ending but a fault of the writer
+always_unless : (ending : Ending) (Fact : Type 0) → Fact → UnlessWrite ending Fact
+always_unless Ended Fact fact = fact
+always_unless Budget Fact fact = fact
+always_unless Limit Fact fact = fact
+always_unless Memory Fact fact = fact
+always_unless Read Fact fact = fact
+always_unless Write Fact fact = tt
+always_unless (NotUnderstood line) Fact fact = fact
+
+behind_unless : (ending : Ending) (Fact Other : Type 0) → (Fact → Other) → UnlessWrite ending Fact → UnlessWrite ending Other
+behind_unless Ended Fact Other go fact = go fact
+behind_unless Budget Fact Other go fact = go fact
+behind_unless Limit Fact Other go fact = go fact
+behind_unless Memory Fact Other go fact = go fact
+behind_unless Read Fact Other go fact = go fact
+behind_unless Write Fact Other go fact = tt
+behind_unless (NotUnderstood line) Fact Other go fact = go fact
+
+write_unless : (ending : Ending) (Fact : Type 0) → ending ≡ Write → UnlessWrite ending Fact
+write_unless ending Fact is = subst (λ e. UnlessWrite e Fact) (sym is) tt
+
+wrote_nothing : (ending : Ending) (written : List ℕ) → written ≡ [] → UnlessWrite ending (written ≡ [])
+wrote_nothing ending written none = always_unless ending (written ≡ []) none
+
 -- a front of a front, with more behind it
 front_before : (written text rest : List ℕ) → IsFrontOf written text → IsFrontOf written (text ++ rest)
 front_before written text rest front = front_of_front written text (text ++ rest) front (rest, refl)
@@ -133,12 +160,17 @@ stopped (Does command) p a b ending stops = record {
       (λ (none : (ending ≡ Memory) × (stops.written ≡ [])). unless_Memory ending (Takes (Does command) p (λ r rest. MayWrite lines number r rest ending) stops.written ending) none.0)
       (λ (fault : ending ≡ Write). unless_Write ending (Takes (Does command) p (λ r rest. MayWrite lines number r rest ending) stops.written ending) fault)
       stops.fault;
+  nothing = ⊎_elim
+      (λ (none : (ending ≡ Memory) × (stops.written ≡ [])). always_unless ending (stops.written ≡ []) none.1)
+      (λ (fault : ending ≡ Write). write_unless ending (stops.written ≡ []) fault)
+      stops.fault;
 }
 stopped (Ends stop) p a b ending stops = record {
   written = [];
   gave = Appends-none a b stops.1;
   front = λ lines number. ([], stop, (refl, refl), front_of_nothing []);
   whole = λ lines number. unless_always ending (Takes (Ends stop) p (λ r rest. MayWrite lines number r rest ending) [] ending) (refl, stops.0);
+  nothing = wrote_nothing ending [] refl;
 }
 
 -- ---- a line
@@ -162,12 +194,11 @@ advances in_old in_new out_old out_new number old mid new p q len whole read fro
       gave = turn.gave;
       closed = λ over. ((read.closed over).0, ended ∙ (read.closed over).1);
       at_end = λ over. read.at_end (sym ended ∙ over);
-      rest = λ more none text stop rest_.
-          let left : List (List ℕ) = lines_of (drop whole mid.bytes ++ more) in
-          let here : MayWrite left (number + 1) q text stop = subst (λ (l : Pending). MayWrite (lines_of (l.bytes ++ more)) (number + 1) q text stop) after rest_ in
-          let all : lines_of (mid.bytes ++ more) ≡ line ∷ left = front.2 more (λ over. none (ended ∙ over)) in
-          subst (λ t. MayWrite (lines_of t) number p (turn.written ++ text) stop) (read_on old mid read.got more read.bytes)
-          (subst (λ ls. MayWrite ls number p (turn.written ++ text) stop) (sym all) (turn.takes left (number + 1) text stop here));
+      line = line;
+      splits = λ more none.
+          ap lines_of (sym (read_on old mid read.got more read.bytes)) ∙ front.2 more (λ over. none (ended ∙ over))
+          ∙ ap (λ (l : Pending). line ∷ lines_of (l.bytes ++ more)) (sym after);
+      rest = λ lines text stop rest_. turn.takes lines (number + 1) text stop rest_;
     }
 
 -- what is said of lines that are the same
@@ -199,6 +230,7 @@ halts_in in_old in_new out_old out_new number old mid p len whole ending read fr
           let left : List (List ℕ) = lines_of (drop whole mid.bytes ++ more) in
           let all : line ∷ left ≡ lines_of (old.bytes ++ (read.got ++ more)) = sym (front.2 more none) ∙ ap lines_of (read_on old mid read.got more read.bytes) in
           unless_same ending number p turn.written (line ∷ left) (lines_of (old.bytes ++ (read.got ++ more))) all (turn.whole left (number + 1));
+      nothing = turn.nothing;
     }
 
 -- the session ends before a line, and nothing is written: the lines, whatever more there are, say that it ends so
@@ -217,6 +249,7 @@ halts_before in_old in_new output number old mid p ending read says =
       at_end = read.at_end;
       front = λ more none. ([], ending, all more none, front_of_nothing []);
       whole = λ more none. unless_always ending (MayWrite (lines_of (old.bytes ++ (read.got ++ more))) number p [] ending) (all more none);
+      nothing = wrote_nothing ending [] refl;
     }
 
 -- at the end of the lines
@@ -275,19 +308,23 @@ halts_unread in_old in_new output number old p ending failed = record {
       (λ (none_ : ending ≡ Memory). unless_Memory ending (MayWrite (lines_of (old.bytes ++ (failed.got ++ more))) number p [] ending) none_)
       (λ (fault : ending ≡ Read). unless_Read ending (MayWrite (lines_of (old.bytes ++ (failed.got ++ more))) number p [] ending) fault)
       failed.fault;
+  nothing = wrote_nothing ending [] refl;
 }
 
 -- ---- a whole session
 
--- what a session has done so far: what was read, what was written, and that what may be written from the line of this number on is the rest
+-- what a session has done so far: what was read, what was written, the lines that were replied to, and that what may be written from the
+-- line of this number on is the rest
 pub record SoFar (in_old in_now out_old out_now : Option (List ℕ)) (tape : List ℕ) (limit number : ℕ) (lines : Pending) (p : PlainSession) : Type 0 where
   pub got : List ℕ
   pub written : List ℕ
   pub took : Consumes in_old in_now got
   pub gave : Appends out_old out_now written
   pub at_end : lines.ended ≡ true → IsAtEnd in_now
-  pub rest : (more : List ℕ) → (lines.ended ≡ true → more ≡ []) → (text : List ℕ) → (stop : Ending) →
-      MayWrite (lines_of (lines.bytes ++ more)) number p text stop → MayShow tape limit (got ++ more) (written ++ text) stop
+  pub within : length tape ≤ TAPE_LIMIT
+  pub before : List (List ℕ)
+  pub splits : (more : List ℕ) → (lines.ended ≡ true → more ≡ []) → lines_of (got ++ more) ≡ before ++ lines_of (lines.bytes ++ more)
+  pub rest : (behind : List (List ℕ)) → (text : List ℕ) → (stop : Ending) → MayWrite behind number p text stop → MayWrite (before ++ behind) 1 (ready tape limit) (written ++ text) stop
 
 -- a tape that is not too long is gone over
 shown_within : (tape : List ℕ) (limit : ℕ) (commands text : List ℕ) (stop : Ending) → length tape ≤ TAPE_LIMIT →
@@ -309,10 +346,10 @@ so_far_none input output tape limit lines p is none = record {
   took = Consumes-nothing input;
   gave = Appends-nothing output;
   at_end = λ over. absurd (false≢true (sym (ap (λ (l : Pending). l.ended) none) ∙ over));
-  rest = λ more _ text stop may.
-      shown_within tape limit more text stop is.within
-      (subst (λ q. MayWrite (lines_of more) 1 q text stop) is.is
-      (subst (λ (l : Pending). MayWrite (lines_of (l.bytes ++ more)) 1 p text stop) none may));
+  within = is.within;
+  before = [];
+  splits = λ more _. ap (λ (l : Pending). lines_of (l.bytes ++ more)) (sym none);
+  rest = λ behind text stop may. subst (λ q. MayWrite behind 1 q text stop) is.is may;
 }
 
 -- a line more
@@ -325,10 +362,15 @@ so_far_more in_old in_now in_new out_old out_now out_new tape limit number lines
   took = Consumes-both in_old in_now in_new far.got on.got far.took on.took;
   gave = Appends-both out_old out_now out_new far.written on.written far.gave on.gave;
   at_end = on.at_end;
-  rest = λ more none text stop may.
-      let here = far.rest (on.got ++ more) (λ over. let at = on.closed over in ap (λ g. g ++ more) at.0 ∙ none at.1) (on.written ++ text) stop (on.rest more none text stop may) in
-      subst (λ t. MayShow tape limit t ((far.written ++ on.written) ++ text) stop) (sym (append_assoc far.got on.got more))
-      (subst (λ w. MayShow tape limit (far.got ++ (on.got ++ more)) w stop) (sym (append_assoc far.written on.written text)) here);
+  within = far.within;
+  before = far.before ++ (on.line ∷ []);
+  splits = λ more none.
+      ap lines_of (append_assoc far.got on.got more) ∙ far.splits (on.got ++ more) (λ over. let at = on.closed over in ap (λ g. g ++ more) at.0 ∙ none at.1)
+      ∙ ap (λ ls. far.before ++ ls) (on.splits more none) ∙ sym (append_assoc far.before (on.line ∷ []) (lines_of (after.bytes ++ more)));
+  rest = λ behind text stop may.
+      let here = far.rest (on.line ∷ behind) (on.written ++ text) stop (on.rest behind text stop may) in
+      subst (λ ls. MayWrite ls 1 (ready tape limit) ((far.written ++ on.written) ++ text) stop) (sym (append_assoc far.before (on.line ∷ []) behind))
+      (subst (λ w. MayWrite (far.before ++ (on.line ∷ behind)) 1 (ready tape limit) w stop) (sym (append_assoc far.written on.written text)) here);
 }
 
 -- what is said of an ending without a fault, behind what was written
@@ -341,16 +383,28 @@ unless_behind Read Fact Other go fact = tt
 unless_behind Write Fact Other go fact = tt
 unless_behind (NotUnderstood line) Fact Other go fact = go fact
 
+-- the first lines of all, and nothing behind the replies to them
+first_replied : (tape : List ℕ) (limit : ℕ) (before behind lines : List (List ℕ)) (written nothing : List ℕ) → lines ≡ before ++ behind → nothing ≡ [] →
+    MayWrite (before ++ []) 1 (ready tape limit) (written ++ []) Ended → MayWrite (take (length before) lines) 1 (ready tape limit) (written ++ nothing) Ended
+first_replied tape limit before behind lines written nothing splits none may =
+    subst (λ ls. MayWrite ls 1 (ready tape limit) (written ++ nothing) Ended)
+    (append-nil before ∙ sym (take-append_seam before behind) ∙ ap (take (length before)) (sym splits))
+    (subst (λ t. MayWrite (before ++ []) 1 (ready tape limit) (written ++ t) Ended) (sym none) may)
+
 -- the end
 pub debugged : (in_old in_now in_new out_old out_now out_new : Option (List ℕ)) (tape : List ℕ) (limit number : ℕ) (lines : Pending) (p : PlainSession) (ending : Ending) →
     SoFar in_old in_now out_old out_now tape limit number lines p → Halts in_now in_new out_now out_new number lines p ending →
-    Debugs in_old in_new out_old out_new (MayShow tape limit) ending
+    Debugs in_old in_new out_old out_new (MayShow tape limit) (RepliesToFirst tape limit) ending
 debugged in_old in_now in_new out_old out_now out_new tape limit number lines p ending far last =
+    let splits : (more : List ℕ) → (last.saw_end ≡ true → more ≡ []) → lines_of ((far.got ++ last.got) ++ more) ≡ far.before ++ lines_of (lines.bytes ++ (last.got ++ more)) =
+    λ more none.
+    ap lines_of (append_assoc far.got last.got more) ∙ far.splits (last.got ++ more) (λ over. let at = last.closed over in ap (λ g. g ++ more) at.0 ∙ none at.1) in
     let all : (more : List ℕ) → (last.saw_end ≡ true → more ≡ []) → (text : List ℕ) → (stop : Ending) → MayWrite (lines_of (lines.bytes ++ (last.got ++ more))) number p text stop →
     MayShow tape limit ((far.got ++ last.got) ++ more) (far.written ++ text) stop =
     λ more none text stop may.
-    subst (λ t. MayShow tape limit t (far.written ++ text) stop) (sym (append_assoc far.got last.got more))
-    (far.rest (last.got ++ more) (λ over. let at = last.closed over in ap (λ g. g ++ more) at.0 ∙ none at.1) text stop may) in
+    shown_within tape limit ((far.got ++ last.got) ++ more) (far.written ++ text) stop far.within
+    (subst (λ ls. MayWrite ls 1 (ready tape limit) (far.written ++ text) stop) (sym (splits more none))
+    (far.rest (lines_of (lines.bytes ++ (last.got ++ more))) text stop may)) in
     record {
       got = far.got ++ last.got;
       written = far.written ++ last.written;
@@ -365,6 +419,12 @@ debugged in_old in_now in_new out_old out_now out_new tape limit number lines p 
           unless_behind ending (MayWrite (lines_of (lines.bytes ++ (last.got ++ more))) number p last.written ending)
           (MayShow tape limit ((far.got ++ last.got) ++ more) (far.written ++ last.written) ending)
           (λ may. all more none last.written ending may) (last.whole more none);
+      replied = length far.before;
+      replies = λ more none.
+          behind_unless ending (last.written ≡ []) (RepliesToFirst tape limit (length far.before) ((far.got ++ last.got) ++ more) (far.written ++ last.written))
+          (λ nothing. first_replied tape limit far.before (lines_of (lines.bytes ++ (last.got ++ more))) (lines_of ((far.got ++ last.got) ++ more)) far.written last.written (splits more none) nothing
+          (far.rest [] [] Ended (refl, refl)))
+          last.nothing;
     }
 
 -- over each tape something may be written
@@ -377,7 +437,7 @@ some_shown tape limit commands = ⊎_elim
     (cases_lt TAPE_LIMIT (length tape))
 
 -- a session that did not begin
-pub debugged_not : (input output : Option (List ℕ)) (tape : List ℕ) (limit : ℕ) (ending : Ending) → MayRefuseTape tape ending → Debugs input input output output (MayShow tape limit) ending
+pub debugged_not : (input output : Option (List ℕ)) (tape : List ℕ) (limit : ℕ) (ending : Ending) → MayRefuseTape tape ending → Debugs input input output output (MayShow tape limit) (RepliesToFirst tape limit) ending
 debugged_not input output tape limit ending why = record {
   got = [];
   written = [];
@@ -391,6 +451,8 @@ debugged_not input output tape limit ending why = record {
       (λ (beyond : (ending ≡ Limit) × (TAPE_LIMIT < length tape)).
       unless_always ending (MayShow tape limit more [] ending) (subst (λ stop. MayShow tape limit more [] stop) (sym beyond.0) (shown_beyond tape limit more beyond.1)))
       why;
+  replied = 0;
+  replies = λ more none. always_unless ending (RepliesToFirst tape limit 0 more []) (refl, refl);
 }
 
 -- ---- replies

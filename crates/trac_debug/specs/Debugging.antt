@@ -1,5 +1,5 @@
 -- A whole session of the debugger: what is written, and how it ends.
-use Rattle.std.specs.Prelude.{◌≡◌, ℕ, ◌+◌, nat_le, List, [], ◌∷◌, ◌++◌, length, if◌then◌else◌, Bool, true, false, Option, None, Some}
+use Rattle.std.specs.Prelude.{◌≡◌, ℕ, ◌+◌, nat_le, List, [], ◌∷◌, ◌++◌, length, take, if◌then◌else◌, Bool, true, false, Option, None, Some}
 use Rattle.trac_rules.specs.declared.limit.TheConstants.{TAPE_LIMIT}
 use Rattle.trac_rules.specs.Session.{PlainSession, new_session}
 use Rattle.trac_run.specs.declared.ending.Ending.{Ending}
@@ -64,3 +64,8 @@ shown_where tape limit commands text ending false = (text ≡ []) × (ending ≡
 -- over this tape, with such a journal and these commands, this text may be written, and then the session ends so
 abbrev pub MayShow : List ℕ → ℕ → List ℕ → List ℕ → Ending → Type 0
 MayShow tape limit commands text ending = shown_where tape limit commands text ending (nat_le (length tape) TAPE_LIMIT)
+
+-- over this tape, with such a journal, this text may be written where the first so many of the lines of these commands are all that
+-- there are: each of them is replied to whole
+abbrev pub RepliesToFirst : List ℕ → ℕ → ℕ → List ℕ → List ℕ → Type 0
+RepliesToFirst tape limit count commands text = MayWrite (take count (lines_of commands)) 1 (ready tape limit) text Ended

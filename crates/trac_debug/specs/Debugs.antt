@@ -1,5 +1,5 @@
 -- What the debugger reads and writes.
-use Rattle.std.specs.Prelude.{◌≡◌, ◌⊎◌, ℕ, ◌+◌, ◌<◌, ◌≤◌, Bool, true, List, [], ◌++◌, length, Option}
+use Rattle.std.specs.Prelude.{◌≡◌, ◌⊎◌, ℕ, ◌+◌, ◌<◌, ◌≤◌, Bool, true, List, [], ◌∷◌, ◌++◌, length, Option}
 use Rattle.std.specs.Io.KnownBytes.{Appends, Consumes, IsAtEnd, Keeps}
 use Rattle.trac_rules.specs.declared.limit.TheConstants.{TAPE_LIMIT}
 use Rattle.trac_rules.specs.Fronts.{IsFrontOf}
@@ -21,10 +21,16 @@ UnlessFault Read Fact = Unit {0}
 UnlessFault Write Fact = Unit {0}
 UnlessFault ending Fact = Fact
 
+-- what is said of an ending but a fault of the writer
+abbrev pub UnlessWrite : Ending → Type 0 → Type 0
+UnlessWrite Write Fact = Unit {0}
+UnlessWrite ending Fact = Fact
+
 -- a session read some commands, and perhaps saw the end of them, and wrote some bytes: however the commands go on behind what was
--- read (not at all where the end was seen), what was written is a front of a text that is stated for all of the commands; and where its
--- ending is not a fault or want of memory it is a whole one, with that ending
-pub record Debugs (in_old in_new out_old out_new : Option (List ℕ)) (Stated : List ℕ → List ℕ → Ending → Type 0) (ending : Ending) : Type 0 where
+-- read (not at all where the end was seen), what was written is a front of a text that is stated for all of the commands; where its
+-- ending is not a fault or want of memory it is a whole one, with that ending; and unless the writer failed, what was written are whole
+-- replies, those to the first so many lines: so a reply for which memory was refused is not written in part
+pub record Debugs (in_old in_new out_old out_new : Option (List ℕ)) (Stated : List ℕ → List ℕ → Ending → Type 0) (ToFirst : ℕ → List ℕ → List ℕ → Type 0) (ending : Ending) : Type 0 where
   pub got : List ℕ
   pub written : List ℕ
   pub saw_end : Bool
@@ -33,6 +39,8 @@ pub record Debugs (in_old in_new out_old out_new : Option (List ℕ)) (Stated : 
   pub at_end : saw_end ≡ true → IsAtEnd in_new
   pub front : (more : List ℕ) → (saw_end ≡ true → more ≡ []) → (text : List ℕ) × (stop : Ending) × Stated (got ++ more) text stop × IsFrontOf written text
   pub whole : (more : List ℕ) → (saw_end ≡ true → more ≡ []) → UnlessFault ending (Stated (got ++ more) written ending)
+  pub replied : ℕ
+  pub replies : (more : List ℕ) → (saw_end ≡ true → more ≡ []) → UnlessWrite ending (ToFirst replied (got ++ more) written)
 
 -- ---- parts of a session
 
@@ -73,7 +81,8 @@ Stops Passes old out_old out_new ending = ⊥
 Stops (Does command) old out_old out_new ending = IsNotReplied command old out_old out_new ending
 Stops (Ends stop) old out_old out_new ending = (ending ≡ stop) × Keeps out_old out_new
 
--- what may be written from the next line on, behind what was written, may be written from the line of this number on
+-- a line stands at the front of the text, whatever comes behind it; and what may be written from the next line on, behind what was
+-- written, may be written from the line of this number on
 pub record Advances (in_old in_new out_old out_new : Option (List ℕ)) (number : ℕ) (lines_old : Pending) (p : PlainSession) (lines_new : Pending) (q : PlainSession) : Type 0 where
   pub got : List ℕ
   pub written : List ℕ
@@ -81,10 +90,12 @@ pub record Advances (in_old in_new out_old out_new : Option (List ℕ)) (number 
   pub gave : Appends out_old out_new written
   pub closed : lines_old.ended ≡ true → (got ≡ []) × (lines_new.ended ≡ true)
   pub at_end : lines_new.ended ≡ true → IsAtEnd in_new
-  pub rest : (more : List ℕ) → (lines_new.ended ≡ true → more ≡ []) → (text : List ℕ) → (stop : Ending) →
-      MayWrite (lines_of (lines_new.bytes ++ more)) (number + 1) q text stop → MayWrite (lines_of (lines_old.bytes ++ (got ++ more))) number p (written ++ text) stop
+  pub line : List ℕ
+  pub splits : (more : List ℕ) → (lines_new.ended ≡ true → more ≡ []) → lines_of (lines_old.bytes ++ (got ++ more)) ≡ line ∷ lines_of (lines_new.bytes ++ more)
+  pub rest : (lines : List (List ℕ)) → (text : List ℕ) → (stop : Ending) → MayWrite lines (number + 1) q text stop → MayWrite (line ∷ lines) number p (written ++ text) stop
 
--- the session ends: a front was written of what may be written from the line of this number on, or, without a fault, the whole
+-- the session ends: a front was written of what may be written from the line of this number on, or, without a fault, the whole; and
+-- nothing, unless the writer failed
 pub record Halts (in_old in_new out_old out_new : Option (List ℕ)) (number : ℕ) (lines_old : Pending) (p : PlainSession) (ending : Ending) : Type 0 where
   pub got : List ℕ
   pub written : List ℕ
@@ -95,3 +106,4 @@ pub record Halts (in_old in_new out_old out_new : Option (List ℕ)) (number : �
   pub at_end : saw_end ≡ true → IsAtEnd in_new
   pub front : (more : List ℕ) → (saw_end ≡ true → more ≡ []) → (text : List ℕ) × (stop : Ending) × MayWrite (lines_of (lines_old.bytes ++ (got ++ more))) number p text stop × IsFrontOf written text
   pub whole : (more : List ℕ) → (saw_end ≡ true → more ≡ []) → UnlessFault ending (MayWrite (lines_of (lines_old.bytes ++ (got ++ more))) number p written ending)
+  pub nothing : UnlessWrite ending (written ≡ [])

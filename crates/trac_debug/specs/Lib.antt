@@ -10,4 +10,5 @@ pub mod Views
 pub mod Pending
 pub mod Reading
 -- What the debugger reads and writes.
+pub mod Tape
 pub mod Debugs

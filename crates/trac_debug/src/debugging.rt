@@ -1,7 +1,7 @@
 //! A session of the debugger: commands from a reader, replies to a writer.
 ghost use Rattle.std.specs.Prelude.{◌≡◌, ◌≤◌, true, length, IfOk, IfErr, OnOk};
 ghost use Rattle.std.specs.Io.KnownBytes.{IsAtEnd};
-ghost use Rattle.trac_debug.specs.Debugging.{MayShow, turn_at, turn_of};
+ghost use Rattle.trac_debug.specs.Debugging.{MayShow, RepliesToFirst, turn_at, turn_of};
 ghost use Rattle.trac_debug.specs.Debugs.{Advances, Debugs, Halts, IsReady, MayRefuseTape, IsReplied, IsNotReplied, Settles, Stops};
 ghost use Rattle.trac_debug.specs.Views.{command_seen};
 
@@ -33,7 +33,7 @@ pub fn debug<R: Read, W: Write, A: Allocator + Copy>(
     requires some_records { 1 ≤ options.journal }
     requires most_records { options.journal ≤ JOURNAL_LIMIT }
     ensures { Debugs (R.remaining commands.old) (R.remaining commands.new) (W.contents output.old) (W.contents output.new)
-        (MayShow tape.now options.journal) result }
+        (MayShow tape.now options.journal) (RepliesToFirst tape.now options.journal) result }
 {
     let mut session = match session_over(alloc, tape, options.journal) {
         Ok(session) => session,

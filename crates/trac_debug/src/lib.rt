@@ -7,9 +7,11 @@ mod lines;
 mod places;
 mod replies;
 mod states;
+mod tape;
 mod texts;
 
 pub use command::{Command, command_in};
 pub use debugging::debug;
 pub use lines::{Front, Lines};
 pub use replies::reply_to;
+pub use tape::read_tape;

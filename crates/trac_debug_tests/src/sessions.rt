@@ -1,13 +1,14 @@
 //! Whole sessions.
 use crate::session::{DEFAULTS, expect_session, session};
 use std::alloc::{AllocError, Global};
+use std::io::Read;
 use std::process::Abort;
 use std::test::Fail;
 use trac_faults::{FaultyReader, FaultyWriter};
 use trac_run::{Ending, Options};
 
 // A tape, commands, what is written, and the ending.
-const SESSIONS: [(&[u8], &[u8], &[u8], Ending); 4] = [
+const SESSIONS: [(&[u8], &[u8], &[u8], Ending); 5] = [
     (
         b"AB'",
         b"s 11\nb 1\np\nu rs 100\nc\nq\n",
@@ -32,6 +33,12 @@ const SESSIONS: [(&[u8], &[u8], &[u8], Ending); 4] = [
         b"until 5 NotMet\nreturn 5 NotMet\n",
         Ending::Ended,
     ),
+    (
+        b"AB'",
+        b"\r\n\ns 007\r\n\nb 1\r",
+        b"forward 7\nback 1\n",
+        Ending::Ended,
+    ),
 ];
 
 #[test]
@@ -42,6 +49,32 @@ fn sessions_in_pieces(rt: HostRuntime) -> Result<(), Fail> {
         }
     }
     Ok(())
+}
+
+// A session whose commands come in two pieces.
+fn expect_cut(
+    rt: &(impl Abort + AllocGlobal),
+    tape: &[u8],
+    first: &[u8],
+    rest: &[u8],
+    output: &[u8],
+    ending: Ending,
+) {
+    let mut reader = FaultyReader::new(first).chain(FaultyReader::new(rest));
+    let mut writer = FaultyWriter::new(rt.alloc());
+    let met = session(rt, rt.alloc(), tape, &mut reader, &mut writer, DEFAULTS);
+    assert_eq!(rt; met, ending, "behind {first:?}");
+    assert_eq!(rt; writer.contents(), output, "behind {first:?}");
+}
+
+#[test]
+fn a_cut_at_every_place(rt: HostRuntime) {
+    for (tape, commands, output, ending) in SESSIONS {
+        for at in 0..commands.len() + 1 {
+            let (first, rest) = commands.split_at(at);
+            expect_cut(&rt, tape, first, rest, output, ending);
+        }
+    }
 }
 
 // Behind the longest line the journal is full.

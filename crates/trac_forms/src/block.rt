@@ -30,7 +30,7 @@ impl<A: Allocator + Copy> Model for Block<A> {
 }
 
 impl<A: Allocator + Copy> Block<A> {
-    /// A block of no forms, with spare places for at least `n`.
+    /// A block of no forms, with spare places for at least `n` (this project's profile).
     /// Refused with `Memory` where the allocator refuses.
     pub fn with_room(alloc: A, n: usize) -> Result<Self, FormError>
         ensures none { IfOk result (λ b. b.held ≡ []) }
@@ -43,7 +43,7 @@ impl<A: Allocator + Copy> Block<A> {
     }
 
     /// Puts a form under a name behind all others. A place has to be spare, which it takes, and no form of the block may have
-    /// this name. It takes no memory.
+    /// this name. It takes no memory (this project's profile).
     pub fn push(&mut self, name: Vec<u8, A>, form: Form<A>)
         requires room { 0 < self.old.room }
         requires other { list_any (λ entry. bytes_eq name.items entry.0) self.old.held ≡ false }
@@ -53,7 +53,7 @@ impl<A: Allocator + Copy> Block<A> {
     }
 
     /// Takes the last form away with its name, and answers both; `None` where the block holds no forms. It takes no memory, and
-    /// no spare place.
+    /// no spare place (this project's profile).
     pub fn pop(&mut self) -> Option<(Vec<u8, A>, Form<A>)>
         ensures last { MatchOption result ((self.old.held ≡ []) × (self.new.held ≡ [])) (λ entry. self.old.held ≡ self.new.held ++ (entry.0.items, entry.1) ∷ []) }
         ensures room { self.old.room ≤ self.new.room }

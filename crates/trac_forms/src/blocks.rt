@@ -10,7 +10,7 @@ use std::alloc::Allocator;
 
 impl<A: Allocator + Copy> Store<A> {
     /// Makes places for at least `n` more blocks, so that `push_block` needs no memory. Forms, blocks and names stay as they are.
-    /// Refused with `Memory` where the allocator refuses, and then nothing has changed.
+    /// Refused with `Memory` where the allocator refuses, and then nothing has changed (this project's profile).
     pub fn reserve_blocks(&mut self, n: usize) -> Result<(), FormError>
         ensures room { OnOk result (n ≤ self.new.spare) }
         ensures no_less { self.old.spare ≤ self.new.spare }
@@ -22,7 +22,7 @@ impl<A: Allocator + Copy> Store<A> {
     }
 
     /// Puts a block at the end of the blocks: its number is how many there were before. A place has to be spare, which it takes.
-    /// It takes no memory.
+    /// It takes no memory (this project's profile).
     pub fn push_block(&mut self, block: Block<A>)
         requires { 0 < self.old.spare }
         ensures { self.new ≡ record self.old { blocks = self.old.blocks ++ Some block.held ∷ []; spare = self.old.spare - 1 } }
@@ -31,7 +31,7 @@ impl<A: Allocator + Copy> Store<A> {
     }
 
     /// Takes the last block off the list, and answers it; `None` where it is an erased one, or where there are no blocks. It takes
-    /// no memory, and no spare place.
+    /// no memory, and no spare place (this project's profile).
     pub fn pop_block(&mut self) -> Option<Block<A>>
         ensures last { option_map (λ b. b.held) result ≡ block_at (length self.old.blocks - 1) self.old.blocks }
         ensures others { self.new ≡ record self.old { blocks = take (length self.old.blocks - 1) self.old.blocks; spare = self.new.spare } }
@@ -41,7 +41,7 @@ impl<A: Allocator + Copy> Store<A> {
     }
 
     /// Takes the block of this number away and answers it; its place stays, as that of an erased block. `None` where it is erased
-    /// already, and past the last, and then nothing has changed. It takes no memory.
+    /// already, and past the last, and then nothing has changed. It takes no memory (this project's profile).
     pub fn take_block(&mut self, i: usize) -> Option<Block<A>>
         ensures taken { option_map (λ b. b.held) result ≡ block_at i self.old.blocks }
         ensures erased { self.new ≡ record self.old { blocks = slice_set self.old.blocks i None } }
@@ -52,7 +52,8 @@ impl<A: Allocator + Copy> Store<A> {
         self.blocks[i].take()
     }
 
-    /// Puts a block in the place of an erased one, under whose number it stands then. It takes no memory.
+    /// Puts a block in the place of an erased one, under whose number it stands then. It takes no memory
+    /// (this project's profile).
     pub fn set_block(&mut self, i: usize, block: Block<A>)
         requires { slice_get self.old.blocks i ≡ Some None }
         ensures { self.new ≡ record self.old { blocks = slice_set self.old.blocks i (Some block.held) } }

@@ -13,7 +13,7 @@ use std::alloc::Allocator;
 
 impl<A: Allocator + Copy> Store<A> {
     /// A second store of the same forms and blocks that knows the same names, with memory of its own and as many spare places.
-    /// Refused with `Memory` where the allocator refuses.
+    /// Refused with `Memory` where the allocator refuses (this project's profile).
     pub fn copy(&self) -> Result<Self, FormError>
         ensures same { IfOk result (λ s. s ≡ self.now) }
         ensures err { IsOkUnless result FormError.Memory }
@@ -28,7 +28,8 @@ impl<A: Allocator + Copy> Store<A> {
     }
 
     /// Makes the store hold the forms and blocks of `earlier` and no others, with the places that are spare there. The names that
-    /// it knows stay known, and no others become so; each name of a form of `earlier` has to be among them. It takes no memory.
+    /// it knows stay known, and no others become so; each name of a form of `earlier` has to be among them.
+    /// It takes no memory (this project's profile).
     pub fn restore(&mut self, earlier: Store<A>)
         requires { KnowsAll self.old.known earlier.forms }
         ensures { self.new ≡ record self.old { forms = earlier.forms; blocks = earlier.blocks; spare = earlier.spare } }

@@ -79,7 +79,7 @@ impl<A: Allocator + Copy> Form<A> {
         Ok(Form { alloc, items })
     }
 
-    /// How many items the form has, gaps counted like bytes. It takes no memory.
+    /// How many items the form has, gaps counted like bytes. It takes no memory (this project's profile).
     pub fn len(&self) -> usize
         ensures len { result ≡ length (all_items self.now) }
         ensures within { extent (all_items self.now) ≤ FORM_LIMIT }
@@ -88,14 +88,14 @@ impl<A: Allocator + Copy> Form<A> {
         self.items.left().len() + self.items.right().len()
     }
 
-    /// How many items are before the pointer. It takes no memory.
+    /// How many items are before the pointer. It takes no memory (this project's profile).
     pub fn pointer(&self) -> usize
         ensures { result ≡ length self.now.before }
     {
         self.before().len()
     }
 
-    /// The item at this place, from 0 on; `None` past the last. It takes no memory.
+    /// The item at this place, from 0 on; `None` past the last. It takes no memory (this project's profile).
     pub fn item(&self, i: usize) -> Option<Item>
         ensures { result ≡ slice_get (all_items self.now) i }
     {
@@ -106,7 +106,7 @@ impl<A: Allocator + Copy> Form<A> {
         self.after().get(i - before.len()).copied()
     }
 
-    /// A second form of the same items and with the same pointer, with memory and room of its own.
+    /// A second form of the same items and with the same pointer, with memory and room of its own (this project's profile).
     /// Refused with `Memory` where the allocator refuses.
     pub fn copy(&self) -> Result<Self, FormError>
         ensures same { IfOk result (λ f. f ≡ self.now) }
@@ -120,7 +120,7 @@ impl<A: Allocator + Copy> Form<A> {
     }
 
     /// Sets the pointer before the item at this place, or at the end, and answers its old place.
-    /// It takes no memory.
+    /// The form has to have at least as many items. It takes no memory (this project's profile).
     pub fn set_pointer(&mut self, place: usize) -> usize
         requires { place ≤ length (all_items self.old) }
         ensures old { result ≡ length self.old.before }

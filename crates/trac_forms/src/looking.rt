@@ -9,7 +9,7 @@ use crate::store::Store;
 use std::alloc::Allocator;
 
 impl<A: Allocator + Copy> Store<A> {
-    /// How many blocks there are, erased ones counted. It takes no memory.
+    /// How many blocks there are, erased ones counted. It takes no memory (this project's profile).
     pub fn block_count(&self) -> usize
         ensures count { result ≡ length self.now.blocks }
         ensures within { length self.now.blocks < 2 ^ 63 }
@@ -17,7 +17,8 @@ impl<A: Allocator + Copy> Store<A> {
         self.blocks.len()
     }
 
-    /// The block of this number, from 0 on; `None` where it is erased, and past the last. It takes no memory.
+    /// The block of this number, from 0 on; `None` where it is erased, and past the last. It takes no memory
+    /// (this project's profile).
     pub fn block(&self, i: usize) -> Option<&Block<A>>
         ensures { MatchOption result (block_at i self.now.blocks ≡ None) (λ block. block_at i self.now.blocks ≡ Some block.now.held) }
     {
@@ -26,7 +27,7 @@ impl<A: Allocator + Copy> Store<A> {
 }
 
 impl<A: Allocator + Copy> Block<A> {
-    /// How many forms the block holds. It takes no memory.
+    /// How many forms the block holds. It takes no memory (this project's profile).
     pub fn len(&self) -> usize
         ensures len { result ≡ length self.now.held }
         ensures distinct { AreApart self.now.held }
@@ -34,14 +35,15 @@ impl<A: Allocator + Copy> Block<A> {
         self.entries.len()
     }
 
-    /// Whether the block holds no form. It takes no memory.
+    /// Whether the block holds no form. It takes no memory (this project's profile).
     pub fn is_empty(&self) -> bool
         ensures { result ≡ (length self.now.held == 0) }
     {
         self.len() == 0
     }
 
-    /// The form of this number, from 0 on, in the block's order, and its name; `None` past the last. It takes no memory.
+    /// The form of this number, from 0 on, in the block's order, and its name; `None` past the last. It takes no memory
+    /// (this project's profile).
     pub fn get(&self, i: usize) -> Option<(&[u8], &Form<A>)>
         ensures { MatchOption result (length self.now.held ≤ i) (λ entry. slice_get self.now.held i ≡ Some (entry.0.now, entry.1.now)) }
     {

@@ -92,7 +92,7 @@ impl<A: Allocator + Copy> Form<A> {
     }
 
     /// Puts the bytes of a piece at the end of `out`: the first `piece.len` bytes from the lesser of the form's and the piece's
-    /// pointer on, with gaps passed. The pointer stays.
+    /// pointer on, with gaps passed. The pointer stays. A form that has fewer gives what it has (this project's profile).
     ///
     /// Refused with `Memory` where the allocator refuses; then `out` still begins with what it held.
     pub fn piece_into<B: Allocator>(

@@ -42,7 +42,8 @@ impl<A: Allocator + Copy> Model for Store<A> {
 }
 
 impl<A: Allocator + Copy> Store<A> {
-    /// A store without forms and blocks, which knows no name. It takes no memory; `alloc` is kept for later.
+    /// A store without forms and blocks, which knows no name. It takes no memory (this project's profile); `alloc` is kept for
+    /// later.
     pub fn new(alloc: A) -> Self
         ensures { result ≡ nothing_stored }
     {
@@ -52,14 +53,15 @@ impl<A: Allocator + Copy> Store<A> {
         }
     }
 
-    /// How many forms there are. It takes no memory.
+    /// How many forms there are. It takes no memory (this project's profile).
     pub fn form_count(&self) -> usize
         ensures { result ≡ finite.len self.now.forms }
     {
         count_full(&self.table)
     }
 
-    /// The form of this name, if there is one. It takes no memory.
+    /// The form of this name, if there is one: names are compared byte for byte. It takes no memory
+    /// (this project's profile).
     pub fn get(&self, name: &[u8]) -> Option<&Form<A>>
         ensures value { option_copied result ≡ finite.get self.now.forms name.now }
 
@@ -74,7 +76,8 @@ impl<A: Allocator + Copy> Store<A> {
         Some(form)
     }
 
-    /// Makes a place for a form of this name, so that `put` needs no memory. The forms stay as they are.
+    /// Makes a place for a form of this name, so that `put` needs no memory (this project's profile). The forms stay as they
+    /// are.
     /// Refused with `Memory` where the allocator refuses, and then nothing has changed.
     pub fn know(&mut self, name: &[u8]) -> Result<(), FormError>
         ensures known { OnOk result (self.new ≡ record self.old { known = set.insert self.old.known name.now }) }
@@ -91,7 +94,8 @@ impl<A: Allocator + Copy> Store<A> {
         add_entry(&mut self.table, key, None)
     }
 
-    /// Puts a form under a name that is known, and answers the one that it replaces. It takes no memory.
+    /// Puts a form under a name that is known, and answers the one that it replaces. It takes no memory
+    /// (this project's profile).
     pub fn put(&mut self, name: &[u8], form: Form<A>) -> Option<Form<A>>
         requires { IsTrue (set.contains self.old.known name.now) }
         ensures replaced { result ≡ finite.get self.old.forms name.now }
@@ -103,7 +107,8 @@ impl<A: Allocator + Copy> Store<A> {
         }
     }
 
-    /// Takes the form of this name away, if there is one, and answers it. The name stays known. It takes no memory.
+    /// Takes the form of this name away, if there is one, and answers it. The name stays known. It takes no memory
+    /// (this project's profile).
     pub fn take(&mut self, name: &[u8]) -> Option<Form<A>>
         ensures taken { result ≡ finite.get self.old.forms name.now }
         ensures gone { self.new ≡ record self.old { forms = finite.remove self.old.forms name.now } }
@@ -114,14 +119,14 @@ impl<A: Allocator + Copy> Store<A> {
         }
     }
 
-    /// Takes all forms away. The names stay known. It takes no memory.
+    /// Takes all forms away. The names stay known. It takes no memory (this project's profile).
     pub fn clear(&mut self)
         ensures { self.new ≡ record self.old { forms = finite.empty } }
     {
         take_values(&mut self.table);
     }
 
-    /// Forgets the names without a form. It takes no memory.
+    /// Forgets the names without a form. It takes no memory (this project's profile).
     pub fn sweep(&mut self)
         ensures { self.new ≡ swept self.old }
     {

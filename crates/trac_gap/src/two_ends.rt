@@ -8,6 +8,9 @@ use std::alloc::Allocator;
 /// A list on the left that grows at its end, and a list on the right that grows at its front.
 /// They share `capacity` places, so that an item passes from one to the other without memory.
 /// Lengths, places and the capacity count items.
+///
+/// Only `reserve` and `copy` can be refused. All other calls take no memory, and keep the capacity. T-64 says nothing of
+/// such lists: all of this is this project's profile.
 pub trait TwoEnds<T: Copy, A: Allocator + Copy>: Sized + Drop {
     ghost ends: { Self → Ends T };
 
@@ -45,22 +48,22 @@ pub trait TwoEnds<T: Copy, A: Allocator + Copy>: Sized + Drop {
         ensures right { result.now ≡ (ends self.now).right }
         ensures within { item_count (ends self.now) ≤ (ends self.now).capacity };
 
-    /// Puts `x` at the end of the left list.
+    /// Puts `x` at the end of the left list. There has to be room for it.
     fn push_left(&mut self, x: T)
         requires { item_count (ends self.old) < (ends self.old).capacity }
         ensures { ends self.new ≡ record (ends self.old) { left = (ends self.old).left ++ x ∷ [] } };
 
-    /// Puts `items`, in order, at the end of the left list.
+    /// Puts `items`, in order, at the end of the left list. There has to be room for them.
     fn put_left(&mut self, items: &[T])
         requires { item_count (ends self.old) + length items.now ≤ (ends self.old).capacity }
         ensures { ends self.new ≡ record (ends self.old) { left = (ends self.old).left ++ items.now } };
 
-    /// Puts `x` before the first item of the right list.
+    /// Puts `x` before the first item of the right list. There has to be room for it.
     fn push_right(&mut self, x: T)
         requires { item_count (ends self.old) < (ends self.old).capacity }
         ensures { ends self.new ≡ record (ends self.old) { right = x ∷ (ends self.old).right } };
 
-    /// Puts `items`, in order, before the first item of the right list.
+    /// Puts `items`, in order, before the first item of the right list. There has to be room for them.
     fn put_right(&mut self, items: &[T])
         requires { item_count (ends self.old) + length items.now ≤ (ends self.old).capacity }
         ensures { ends self.new ≡ record (ends self.old) { right = items.now ++ (ends self.old).right } };
@@ -79,19 +82,19 @@ pub trait TwoEnds<T: Copy, A: Allocator + Copy>: Sized + Drop {
             (λ x.
             ends self.old ≡ record (ends self.new) { right = x ∷ (ends self.new).right }) };
 
-    /// Drops the last `n` items of the left list.
+    /// Drops the last `n` items of the left list, which have to be there.
     fn cut_left(&mut self, n: usize)
         requires { n ≤ length (ends self.old).left }
         ensures { ends self.new ≡ record (ends self.old) {
           left = take (length (ends self.old).left - n) (ends self.old).left;
         } };
 
-    /// Drops the first `n` items of the right list.
+    /// Drops the first `n` items of the right list, which have to be there.
     fn cut_right(&mut self, n: usize)
         requires { n ≤ length (ends self.old).right }
         ensures { ends self.new ≡ record (ends self.old) { right = drop n (ends self.old).right } };
 
-    /// Moves the first `n` items of the right list, in order, to the end of the left list.
+    /// Moves the first `n` items of the right list, which have to be there, in order to the end of the left list.
     fn shift_left(&mut self, n: usize)
         requires { n ≤ length (ends self.old).right }
         ensures { ends self.new ≡ record (ends self.old) {
@@ -99,7 +102,7 @@ pub trait TwoEnds<T: Copy, A: Allocator + Copy>: Sized + Drop {
           right = drop n (ends self.old).right;
         } };
 
-    /// Moves the last `n` items of the left list, in order, before the first of the right list.
+    /// Moves the last `n` items of the left list, which have to be there, in order before the first of the right list.
     fn shift_right(&mut self, n: usize)
         requires { n ≤ length (ends self.old).left }
         ensures { let kept = length (ends self.old).left - n in

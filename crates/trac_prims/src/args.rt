@@ -27,7 +27,7 @@ impl<'a> Model for Args<'a> {
 
 impl<'a> Args<'a> {
     /// The text from the place `from` on, cut at the places of the marks: one argument more than there are marks.
-    /// Places count bytes. They may not fall, nor pass the end of the text.
+    /// Places count bytes. They may not fall, nor pass the end of the text. Nothing is copied (this project's profile).
     pub fn new(text: &'a [u8], marks: &'a [Mark], from: usize) -> Args<'a>
         requires { AreCuts from marks.now (length text.now) }
         ensures { result ≡ cut from marks.now text.now }
@@ -35,7 +35,7 @@ impl<'a> Args<'a> {
         Args { text, marks, from }
     }
 
-    /// How many arguments there are, at least one.
+    /// How many arguments there are, at least one: as T-64 has it, a call without text has one null argument.
     pub fn count(&self) -> usize
         ensures { result ≡ length self.now }
     {
@@ -54,7 +54,7 @@ impl<'a> Args<'a> {
         part(self.text, start, end)
     }
 
-    /// All arguments but the first n; none where there are no more than n. Nothing is copied.
+    /// All arguments but the first n; none where there are no more than n. Nothing is copied (this project's profile).
     pub fn behind(&self, n: usize) -> Behind<'_>
         ensures { result ≡ drop n self.now }
     {

@@ -44,7 +44,7 @@ pub struct Innermost<'a> {
 
 impl<'a> NeutralText<'a> {
     /// This text with these marks. No place of a mark may be less than that of a mark before it, or pass the end of the
-    /// text, and the first of the marks has to begin a function.
+    /// text, and the first of the marks has to begin a function. Nothing is copied (this project's profile).
     pub fn new(text: &'a [u8], marks: &'a [Mark]) -> NeutralText<'a>
         requires { AreMarks (length text.now) (reverse marks.now) }
         ensures { result ≡ record { text = text.now; marks = marks.now } }
@@ -52,14 +52,14 @@ impl<'a> NeutralText<'a> {
         NeutralText { text, marks }
     }
 
-    /// Whether no function is begun. It takes the same time however long the text is.
+    /// Whether no function is begun, by T-64's rules of scanning. It takes the same time however long the text is.
     pub fn is_outside(&self) -> bool
         ensures { result ≡ (length (neutral_of self.now).frames == 0) }
     {
         self.marks.is_empty()
     }
 
-    /// The text outside all begun functions.
+    /// The text outside all begun functions, a front of T-64's neutral string.
     pub fn base(&self) -> &'a [u8]
         ensures { result.now ≡ (neutral_of self.now).base }
     {
@@ -69,14 +69,14 @@ impl<'a> NeutralText<'a> {
         self.text.split_at(self.marks[0].place).0
     }
 
-    /// How many functions are begun.
+    /// How many functions are begun, by T-64's rules of scanning, and not ended.
     pub fn depth(&self) -> usize
         ensures { result ≡ length (neutral_of self.now).frames }
     {
         frame_count(self.marks)
     }
 
-    /// The innermost begun function; none where no function is begun.
+    /// The innermost begun function, which the next `)` ends by T-64's rule; none where no function is begun.
     pub fn innermost(&self) -> Option<Innermost<'a>>
         ensures { MatchOption result ((neutral_of self.now).frames ≡ []) (λ f. IsInnermost self.now f.number f.place f.kind f.arguments) }
     {
@@ -102,7 +102,7 @@ impl<'a> NeutralText<'a> {
     }
 
     /// The begun function of this number, the outermost being number 0: its kind, and all its arguments, of which the
-    /// last is being gathered. None past the innermost.
+    /// last is being gathered. None past the innermost. That they are counted from outside is this project's profile.
     pub fn frame(&self, i: usize) -> Option<(Kind, Args<'a>)>
         ensures { MatchOption result (length (neutral_of self.now).frames ≤ i) (λ r. IsFrame (slice_get (reverse (neutral_of self.now).frames) i) r.0 r.1) }
     {

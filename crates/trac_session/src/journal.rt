@@ -16,7 +16,7 @@ use trac_step::{Machine, Record, Tape};
 pub type Kept<A> = Record<Machine<A>>;
 
 /// Takes a step and keeps its record at the end of the journal, or changes nothing.
-/// Refused as the step is, or with `Memory` where the journal cannot grow: the step is undone then.
+/// Refused as the step is, or with `Memory` where the journal cannot grow: the step is undone then (this project's profile).
 pub fn step_kept<A: Allocator + Copy>(
     machine: &mut Machine<A>,
     journal: &mut Vec<Kept<A>, A>,

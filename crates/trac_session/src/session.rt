@@ -112,7 +112,7 @@ impl<A: Allocator + Copy> Session<A> {
         Ok(())
     }
 
-    /// What is printed and not released yet.
+    /// What is printed and not released yet. It takes no memory (this project's profile).
     pub fn pending(&self) -> &[u8]
         ensures { result.now ≡ self.now.last.output }
     {
@@ -131,21 +131,21 @@ impl<A: Allocator + Copy> Session<A> {
         self.machine.settle();
     }
 
-    /// How many steps can be gone back over.
+    /// How many steps can be gone back over. It takes no memory (this project's profile).
     pub fn len(&self) -> usize
         ensures { result ≡ length self.now.earlier }
     {
         self.journal.len()
     }
 
-    /// Whether there is no step to go back over.
+    /// Whether there is no step to go back over. It takes no memory (this project's profile).
     pub fn is_empty(&self) -> bool
         ensures { result ≡ (length self.now.earlier == 0) }
     {
         self.len() == 0
     }
 
-    /// The machine, which shows the last state.
+    /// The machine, which shows the last state. It takes no memory (this project's profile).
     pub fn machine(&self) -> &Machine<A>
         ensures last { result.now.state ≡ self.now.last }
         ensures on_tape { self.now.last.position ≤ length self.now.tape.bytes }

@@ -1,6 +1,7 @@
 //! A session, told what to do by a table: what each act must answer, and what the session must show.
 ghost use Rattle.std.specs.Prelude.{◌≤◌};
 
+use crate::sessions::let_go;
 use std::alloc::{AllocError, Global};
 use std::process::Abort;
 use std::test::Fail;
@@ -174,6 +175,8 @@ pub(crate) fn play(rt: &impl Abort, alloc: Global, limit: usize, acts: &[Act]) -
     requires most { limit ≤ JOURNAL_LIMIT }
 {
     let mut session = Session::new(alloc, limit)?;
-    play_all(rt, alloc, &mut session, acts)?;
+    let outcome = play_all(rt, alloc, &mut session, acts);
+    let_go(session);
+    outcome?;
     Ok(())
 }

@@ -1,5 +1,5 @@
 //! Lists of commands to a session.
-use crate::sessions::{Memory, made};
+use crate::sessions::{Memory, let_go, made};
 use std::alloc::Global;
 use std::process::Abort;
 use std::test::Fail;
@@ -89,7 +89,9 @@ fn expect_replies(
 
 fn commands_and_replies(rt: &impl Abort, plain: Global, memory: Memory<'_>) -> Result<(), Refusal> {
     let mut session = made(memory, 4)?;
-    expect_replies(rt, plain, memory, &mut session)
+    let outcome = expect_replies(rt, plain, memory, &mut session);
+    let_go(session);
+    outcome
 }
 
 #[test]

@@ -1,7 +1,7 @@
 //! Sessions over memory of which a request may be refused.
 ghost use Rattle.std.specs.Prelude.{◌≤◌};
 
-use std::alloc::Global;
+use std::alloc::{Allocator, Global};
 use trac_faults::Refusing;
 use trac_rules::limit::JOURNAL_LIMIT;
 use trac_rules::refusal::Refusal;
@@ -26,4 +26,9 @@ pub(crate) fn made(memory: Memory<'_>, limit: usize) -> Result<Session<Memory<'_
         return new_session(memory, limit);
     };
     Ok(session)
+}
+
+/// Lets a session go. A function that owns one ends with this call, since its own proof would else carry all that is freed.
+pub(crate) fn let_go<A: Allocator + Copy>(session: Session<A>) {
+    let _last = session;
 }

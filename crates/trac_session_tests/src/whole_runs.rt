@@ -1,6 +1,6 @@
 //! Whole runs of a session: to the end, and all the way back, where each state is the one on the way out. Each request for
 //! memory is refused in turn, and then all of them on the way back.
-use crate::sessions::{Memory, made};
+use crate::sessions::{Memory, let_go, made};
 use std::alloc::{AllocError, Global};
 use std::process::Abort;
 use std::test::Fail;
@@ -215,7 +215,9 @@ fn states_of(
 ) -> Result<Vec<Vec<u8>>, Fail> {
     let mut session = made(memory, JOURNAL_LIMIT)?;
     let mut states = Vec::new(plain);
-    there_and_back(rt, plain, &mut session, input, output, &mut states)?;
+    let outcome = there_and_back(rt, plain, &mut session, input, output, &mut states);
+    let_go(session);
+    outcome?;
     Ok(states)
 }
 
@@ -313,7 +315,9 @@ fn again(
     states: &[Vec<u8>],
 ) -> Result<(), Fail> {
     let mut session = made(memory, JOURNAL_LIMIT)?;
-    there_and_back_at_once(rt, plain, memory, &mut session, input, states)
+    let outcome = there_and_back_at_once(rt, plain, memory, &mut session, input, states);
+    let_go(session);
+    outcome
 }
 
 fn expect_short_run(

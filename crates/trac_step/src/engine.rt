@@ -69,7 +69,8 @@ impl<E: TwoEnds<u8, A>, M: TwoEnds<Mark, A>, A: Allocator + Copy> Core<E, M, A> 
         })
     }
 
-    /// A second machine that shows the same state, with memory of its own: it has no less room, and knows no fewer names.
+    /// A second machine that shows the same state, with memory of its own: it has no less room, and knows no fewer names
+    /// (this project's profile).
     /// Refused with `Memory` where the allocator refuses.
     pub fn copy(&self) -> Result<Self, Refusal>
         ensures same { IfOk result (λ m. m.state ≡ self.now.state) }

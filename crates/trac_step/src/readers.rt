@@ -13,7 +13,7 @@ use trac_prims::{Args, Kind, Mark, NeutralText};
 use trac_rules::scan::Front;
 
 impl<E: TwoEnds<u8, A>, M: TwoEnds<Mark, A>, A: Allocator + Copy> Core<E, M, A> {
-    /// What is not scanned yet.
+    /// What is not scanned yet: the active string of T-64.
     pub fn active(&self) -> &[u8]
         ensures { result.now ≡ self.now.state.active }
     {
@@ -27,14 +27,14 @@ impl<E: TwoEnds<u8, A>, M: TwoEnds<Mark, A>, A: Allocator + Copy> Core<E, M, A> 
         NeutralText::new(self.text.left(), self.marks.left())
     }
 
-    /// The neutral text outside all begun functions.
+    /// The neutral text outside all begun functions, a front of T-64's neutral string.
     pub fn base(&self) -> &[u8]
         ensures { result.now ≡ self.now.state.base }
     {
         self.neutral().base()
     }
 
-    /// How many functions are begun and not ended.
+    /// How many functions are begun, by T-64's rules of scanning, and not ended.
     pub fn depth(&self) -> usize
         ensures { result ≡ length self.now.state.frames }
     {
@@ -42,7 +42,7 @@ impl<E: TwoEnds<u8, A>, M: TwoEnds<Mark, A>, A: Allocator + Copy> Core<E, M, A> 
     }
 
     /// The begun function of this number, the outermost being number 0: its kind, and all its arguments, of which the
-    /// last is being gathered. None past the innermost.
+    /// last is being gathered. None past the innermost. That they are counted from outside is this project's profile.
     pub fn frame(&self, i: usize) -> Option<(Kind, Args<'_>)>
         ensures { MatchOption result (length self.now.state.frames ≤ i) (λ r. IsFrame (slice_get (reverse self.now.state.frames) i) r.0 r.1) }
     {
@@ -61,35 +61,36 @@ impl<E: TwoEnds<u8, A>, M: TwoEnds<Mark, A>, A: Allocator + Copy> Core<E, M, A> 
         Some(function.arguments.get(0))
     }
 
-    /// The forms by their names, the blocks, the names that have a place, and how many more blocks have one.
+    /// The forms by their names, the blocks, the names that have a place, and how many more blocks have one
+    /// (this project's profile).
     pub fn store(&self) -> &Store<A>
         ensures { result.now ≡ record { forms = self.now.state.forms; blocks = self.now.state.blocks; known = self.now.known; spare = self.now.spare } }
     {
         &self.store
     }
 
-    /// The byte that ends a text of the input.
+    /// The byte that ends a text of the input: the meta character of T-64.
     pub fn meta(&self) -> u8
         ensures { result ≡ self.now.state.meta }
     {
         self.meta
     }
 
-    /// Whether each call is printed.
+    /// Whether each call is printed: the trace of T-64, in this project's profile.
     pub fn trace(&self) -> bool
         ensures { result ≡ self.now.state.trace }
     {
         self.trace
     }
 
-    /// How many bytes of the tape are read.
+    /// How many bytes of the tape are read (this project's profile).
     pub fn position(&self) -> usize
         ensures { result ≡ self.now.state.position }
     {
         self.position
     }
 
-    /// What is printed and not released yet.
+    /// What is printed and not released yet (this project's profile).
     pub fn output(&self) -> &[u8]
         ensures { result.now ≡ self.now.state.output }
     {

@@ -1,4 +1,4 @@
-use Rattle.std.proofs.Common.{◌≡◌, List, ℕ, ◌++◌, ap, arith, refl, sym, true, ◌∙◌, pos, w64, to_z, of_z, ◌≤ℤ◌, ◌<ℤ◌}
+use Rattle.std.proofs.Common.{◌≡◌, List, ℕ, ◌++◌, ap, arith, refl, sym, true, ◌∙◌, pos, rules, w64, to_z, of_z, ◌≤ℤ◌, ◌<ℤ◌}
 use Rattle.std.specs.Prelude.{None, Some, bytes_eq, decimal}
 use Rattle.std.proofs.Math.IntN.{nat_abs}
 use Rattle.std.proofs.lemmas.Int.{ints, to_z-of_z}
@@ -22,7 +22,7 @@ pub returns-in_default-block-clause-found : goal.returns-in_default-block-clause
 returns-in_default-block-clause-found g c = λ form bytes.
     let above : pos 0 ≤ℤ c.in-Some.number = first_of (omega (arith, ints, c.if-number-lt0.false), grind (arith, ints, c.if-number-lt0.false)) in
     let place = nat_abs (to_z w64 (of_z w64 c.in-Some.number)) in
-    let is : pos place ≡ c.in-Some.number = as_place c.in-Some.number search above in
+    let is : pos place ≡ c.in-Some.number = as_place c.in-Some.number (search rules) above in
     none_live form c.args.text.now c.args.store.now.blocks c.block_count-count.ensures.within bytes place
     (sym (ap Some is ∙ c.in-Some.ensures ∙ ap number_of c.read_tail.ensures.numeral)) c.in_default-block.ensures
 
@@ -30,7 +30,7 @@ pub returns-then-eq-clause-found : goal.returns-then-eq-clause-found
 returns-then-eq-clause-found g c = λ form bytes.
     let above : pos 0 ≤ℤ c.in-Some.number = first_of (omega (arith, ints, c.if-number-lt0.false), grind (arith, ints, c.if-number-lt0.false)) in
     let place = nat_abs (to_z w64 (of_z w64 c.in-Some.number)) in
-    let is : pos place ≡ c.in-Some.number = as_place c.in-Some.number search above in
+    let is : pos place ≡ c.in-Some.number = as_place c.in-Some.number (search rules) above in
     let printed : c.as_slice.result.now ≡ number_text c.in-Some.number =
     c.as_slice.ensures.value
     ∙ c.in_ok-print_into.ensures.ok
@@ -46,7 +46,7 @@ pub returns-clause-found : goal.returns-clause-found
 returns-clause-found g c = λ form bytes.
     let above : pos 0 ≤ℤ c.in-Some.number = first_of (omega (arith, ints, c.if-number-lt0.false), grind (arith, ints, c.if-number-lt0.false)) in
     let place = nat_abs (to_z w64 (of_z w64 c.in-Some.number)) in
-    let is : pos place ≡ c.in-Some.number = as_place c.in-Some.number search above in
+    let is : pos place ≡ c.in-Some.number = as_place c.in-Some.number (search rules) above in
     let printed : c.as_slice.result.now ≡ number_text c.in-Some.number =
     c.as_slice.ensures.value
     ∙ c.in_ok-print_into.ensures.ok
