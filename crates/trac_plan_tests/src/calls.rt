@@ -19,7 +19,7 @@ const UNREAD: Input = Input {
 
 // A call over the forms `B`, `F` and `R` (`with_forms`): its arguments one behind another, the places where the further ones
 // begin, and what is planned. Each makes a request for memory.
-const CALLS: [(&[u8], &[usize], &[u8]); 22] = [
+const CALLS: &[(&[u8], &[usize], &[u8])] = &[
     (b"adapples5pears3", &[2, 9], b"apples8||keep 0"),
     // A quotient by zero: the default argument, forced.
     (b"DV10none", &[2, 3, 4], b"none!||keep 0"),
@@ -50,7 +50,7 @@ const CALLS: [(&[u8], &[usize], &[u8]); 22] = [
 ];
 
 // Calls that make no request for memory. Where there is no form of the name, the value is null and nothing changes.
-const CALLS_WITHOUT_MEMORY: [(&[u8], &[usize], &[u8]); 13] = [
+const CALLS_WITHOUT_MEMORY: &[(&[u8], &[usize], &[u8])] = &[
     (b"ssGb", &[2, 3], b"||keep 0"),
     (b"crGb", &[2, 3], b"||keep 0"),
     (b"clGb", &[2, 3], b"||keep 0"),
@@ -141,7 +141,7 @@ fn runs_of(
 #[test]
 fn each_request_of_a_call(rt: HostRuntime) -> Result<(), Fail> {
     let memory = Refusing::new(rt.alloc());
-    for (text, places, wanted) in CALLS {
+    for (text, places, wanted) in CALLS.iter() {
         let runs = runs_of(&rt, rt.alloc(), &memory, &call_of(text, places), wanted)?;
         assert!(rt; runs > 1, "{runs} runs for {text:?}");
     }
@@ -154,7 +154,7 @@ fn expect_without_memory<'a>(
     memory: Memory<'a>,
     store: &Store<Memory<'a>>,
 ) -> Result<(), Refusal> {
-    for (text, places, wanted) in CALLS_WITHOUT_MEMORY {
+    for (text, places, wanted) in CALLS_WITHOUT_MEMORY.iter() {
         expect_planned(rt, plain, memory, store, &call_of(text, places), wanted)?;
     }
     Ok(())
@@ -171,7 +171,7 @@ fn calls_without_memory(rt: HostRuntime) -> Result<(), Fail> {
 
 // What a call without arguments gives: its name, whether the trace is on, whether the tape has ended, and how many of its bytes
 // are read.
-const READINGS: [(&[u8], bool, bool, usize, Result<&[u8], Refusal>); 12] = [
+const READINGS: &[(&[u8], bool, bool, usize, Result<&[u8], Refusal>)] = &[
     (b"rs", false, false, 0, Ok(b"AB||keep 3")),
     (b"rs", false, false, 3, Err(Refusal::NeedInput)),
     (b"rs", false, true, 0, Ok(b"AB||keep 3")),
@@ -190,18 +190,18 @@ const READINGS: [(&[u8], bool, bool, usize, Result<&[u8], Refusal>); 12] = [
 #[test]
 fn input_is_read(rt: HostRuntime) {
     let store = Store::new(rt.alloc());
-    for (name, trace, ended, position, wanted) in READINGS {
+    for (name, trace, ended, position, wanted) in READINGS.iter() {
         let input = Input {
             bytes: b"AB'C",
-            ended,
-            position,
-            trace,
+            ended: *ended,
+            position: *position,
+            trace: *trace,
         };
         let call = Call {
             text: name,
             places: &[],
             input,
         };
-        expect_outcome(&rt, rt.alloc(), &store, &call, wanted);
+        expect_outcome(&rt, rt.alloc(), &store, &call, *wanted);
     }
 }

@@ -84,7 +84,7 @@ fn called_with<'a>(
 }
 
 // How many letters a call has, whether all memory is refused, and the length of what is planned for it, or the refusal.
-const LONG_CALLS: [(usize, bool, Result<usize, Refusal>); 4] = [
+const LONG_CALLS: &[(usize, bool, Result<usize, Refusal>)] = &[
     // the value, and `||keep 0` behind it
     (4_096, false, Ok(16_777_224)),
     (4_097, false, Err(Refusal::TooLong)),
@@ -97,9 +97,9 @@ const LONG_CALLS: [(usize, bool, Result<usize, Refusal>); 4] = [
 fn a_value_that_is_too_long(rt: HostRuntime) -> Result<(), Fail> {
     let memory = Refusing::new(rt.alloc());
     let store = with_gaps(&memory)?;
-    for (count, is_refused, outcome) in LONG_CALLS {
-        let met = called_with(&rt, rt.alloc(), &memory, &store, count, is_refused)?;
-        assert!(rt; met == outcome, "{count} letters");
+    for (count, is_refused, outcome) in LONG_CALLS.iter() {
+        let met = called_with(&rt, rt.alloc(), &memory, &store, *count, *is_refused)?;
+        assert!(rt; met == *outcome, "{count} letters");
     }
     Ok(())
 }
