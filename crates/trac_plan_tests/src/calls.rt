@@ -1,5 +1,5 @@
 //! Calls, what is planned for them, and each request for memory refused in turn.
-use crate::planned::{Call, Input, planned};
+use crate::planned::{Call, Input, expect_outcome, expect_text, planned};
 use std::alloc::Global;
 use std::process::Abort;
 use std::test::Fail;
@@ -19,7 +19,7 @@ const UNREAD: Input = Input {
 
 // A call over the forms `B`, `F` and `R` (`with_forms`): its arguments one behind another, the places where the further ones
 // begin, and what is planned. Each makes a request for memory.
-const CALLS: [(&[u8], &[usize], &[u8]); 22] = [
+const CALLS: &[(&[u8], &[usize], &[u8])] = &[
     (b"adapples5pears3", &[2, 9], b"apples8||keep 0"),
     // A quotient by zero: the default argument, forced.
     (b"DV10none", &[2, 3, 4], b"none!||keep 0"),
@@ -50,7 +50,7 @@ const CALLS: [(&[u8], &[usize], &[u8]); 22] = [
 ];
 
 // Calls that make no request for memory. Where there is no form of the name, the value is null and nothing changes.
-const CALLS_WITHOUT_MEMORY: [(&[u8], &[usize], &[u8]); 13] = [
+const CALLS_WITHOUT_MEMORY: &[(&[u8], &[usize], &[u8])] = &[
     (b"ssGb", &[2, 3], b"||keep 0"),
     (b"crGb", &[2, 3], b"||keep 0"),
     (b"clGb", &[2, 3], b"||keep 0"),
@@ -74,6 +74,21 @@ fn call_of<'a>(text: &'a [u8], places: &'a [usize]) -> Call<'a> {
     }
 }
 
+// Plans a call, where one request may be refused.
+fn planned_once<'a>(
+    rt: &impl Abort,
+    memory: Memory<'a>,
+    store: &Store<Memory<'a>>,
+    call: &Call<'_>,
+    out: &mut Vec<u8>,
+) -> Result<(), Refusal> {
+    let outcome = planned(rt, memory, store, call, out);
+    if outcome == Err(Refusal::Memory) {
+        return planned(rt, memory, store, call, out);
+    }
+    outcome
+}
+
 // The call is planned so, where one request may be refused.
 fn expect_planned<'a>(
     rt: &impl Abort,
@@ -82,28 +97,27 @@ fn expect_planned<'a>(
     store: &Store<Memory<'a>>,
     call: &Call<'_>,
     wanted: &[u8],
-) -> Result<(), Fail> {
-    let mut outcome = planned(rt, plain, memory, store, call)?;
-    if outcome == Err(Refusal::Memory) {
-        outcome = planned(rt, plain, memory, store, call)?;
-    }
-    assert_eq!(rt; outcome?.as_slice(), wanted, "for {:?}", call.text);
+) -> Result<(), Refusal> {
+    let mut out = Vec::new(plain);
+    planned_once(rt, memory, store, call, &mut out)?;
+    expect_text(rt, out.as_slice(), wanted);
     Ok(())
 }
 
 // Plans a call again and again, with one more request accepted before the refused one each time, until none is refused:
-// how often that was. The store is made before, and lent to each call, which no closure may do here.
-fn runs_of(
-    rt: &(impl Abort + AllocGlobal),
-    memory: &Refusing<Global>,
+// how often that was. The store is lent to each call, which no closure may do here.
+fn runs_over<'a>(
+    rt: &impl Abort,
+    plain: Global,
+    memory: Memory<'a>,
+    store: &Store<Memory<'a>>,
     call: &Call<'_>,
     wanted: &[u8],
-) -> Result<u64, Fail> {
-    let store = with_forms(memory)?;
+) -> Result<u64, Refusal> {
     for nth in 1..100 {
         let refusals = memory.refusals();
         memory.refuse_nth(nth);
-        expect_planned(rt, rt.alloc(), memory, &store, call, wanted)?;
+        expect_planned(rt, plain, memory, store, call, wanted)?;
         memory.accept_all();
         if memory.refusals() == refusals {
             return Ok(nth);
@@ -112,12 +126,36 @@ fn runs_of(
     panic!(rt; "too few runs")
 }
 
+fn runs_of(
+    rt: &impl Abort,
+    plain: Global,
+    memory: Memory<'_>,
+    call: &Call<'_>,
+    wanted: &[u8],
+) -> Result<u64, Fail> {
+    let store = with_forms(memory)?;
+    let runs = runs_over(rt, plain, memory, &store, call, wanted)?;
+    Ok(runs)
+}
+
 #[test]
 fn each_request_of_a_call(rt: HostRuntime) -> Result<(), Fail> {
     let memory = Refusing::new(rt.alloc());
-    for (text, places, wanted) in CALLS {
-        let runs = runs_of(&rt, &memory, &call_of(text, places), wanted)?;
+    for (text, places, wanted) in CALLS.iter() {
+        let runs = runs_of(&rt, rt.alloc(), &memory, &call_of(text, places), wanted)?;
         assert!(rt; runs > 1, "{runs} runs for {text:?}");
+    }
+    Ok(())
+}
+
+fn expect_without_memory<'a>(
+    rt: &impl Abort,
+    plain: Global,
+    memory: Memory<'a>,
+    store: &Store<Memory<'a>>,
+) -> Result<(), Refusal> {
+    for (text, places, wanted) in CALLS_WITHOUT_MEMORY.iter() {
+        expect_planned(rt, plain, memory, store, &call_of(text, places), wanted)?;
     }
     Ok(())
 }
@@ -127,22 +165,13 @@ fn calls_without_memory(rt: HostRuntime) -> Result<(), Fail> {
     let memory = Refusing::new(rt.alloc());
     let store = with_forms(&memory)?;
     memory.refuse_all();
-    for (text, places, wanted) in CALLS_WITHOUT_MEMORY {
-        expect_planned(
-            &rt,
-            rt.alloc(),
-            &memory,
-            &store,
-            &call_of(text, places),
-            wanted,
-        )?;
-    }
+    expect_without_memory(&rt, rt.alloc(), &memory, &store)?;
     Ok(())
 }
 
 // What a call without arguments gives: its name, whether the trace is on, whether the tape has ended, and how many of its bytes
 // are read.
-const READINGS: [(&[u8], bool, bool, usize, Result<&[u8], Refusal>); 12] = [
+const READINGS: &[(&[u8], bool, bool, usize, Result<&[u8], Refusal>)] = &[
     (b"rs", false, false, 0, Ok(b"AB||keep 3")),
     (b"rs", false, false, 3, Err(Refusal::NeedInput)),
     (b"rs", false, true, 0, Ok(b"AB||keep 3")),
@@ -158,38 +187,21 @@ const READINGS: [(&[u8], bool, bool, usize, Result<&[u8], Refusal>); 12] = [
     (b"tf", true, false, 0, Ok(b"|#(tf)\n|keep 0")),
 ];
 
-fn expect_outcome(
-    rt: &impl Abort,
-    outcome: Result<Vec<u8>, Refusal>,
-    wanted: Result<&[u8], Refusal>,
-) {
-    match (outcome, wanted) {
-        (Ok(text), Ok(wanted)) => assert_eq!(rt; text.as_slice(), wanted),
-        (Err(refusal), Err(wanted)) => assert_eq!(rt; refusal, wanted),
-        _ => panic!(rt; "one is refused and the other is not"),
-    }
-}
-
 #[test]
-fn input_is_read(rt: HostRuntime) -> Result<(), Fail> {
+fn input_is_read(rt: HostRuntime) {
     let store = Store::new(rt.alloc());
-    for (name, trace, ended, position, wanted) in READINGS {
+    for (name, trace, ended, position, wanted) in READINGS.iter() {
         let input = Input {
             bytes: b"AB'C",
-            ended,
-            position,
-            trace,
+            ended: *ended,
+            position: *position,
+            trace: *trace,
         };
         let call = Call {
             text: name,
             places: &[],
             input,
         };
-        expect_outcome(
-            &rt,
-            planned(&rt, rt.alloc(), rt.alloc(), &store, &call)?,
-            wanted,
-        );
+        expect_outcome(&rt, rt.alloc(), &store, &call, *wanted);
     }
-    Ok(())
 }

@@ -1,5 +1,5 @@
 //! Calls that pass a limit.
-use crate::planned::{Call, Input, planned};
+use crate::planned::{Call, Input, expect_outcome, planned};
 use std::alloc::{AllocError, Allocator, Global};
 use std::process::Abort;
 use std::test::Fail;
@@ -22,97 +22,124 @@ fn letters<A: Allocator + Copy>(alloc: A, count: usize) -> Result<Vec<u8, A>, Al
     Ok(text)
 }
 
+fn put_gaps<A: Allocator + Copy>(
+    alloc: A,
+    store: &mut Store<A>,
+    row: &[u8],
+) -> Result<(), FormError> {
+    let letter: [&[u8]; 1] = [b"x"];
+    let form = Form::new(alloc, row)?;
+    put_form(store, b"F", form.segmented(&letter.as_slice())?)
+}
+
 // A store with a form of 4,096 gaps of number 1 under the name `F`.
 fn with_gaps<A: Allocator + Copy>(alloc: A) -> Result<Store<A>, FormError> {
     let row = letters(alloc, 4_096)?;
-    let letter: [&[u8]; 1] = [b"x"];
-    let form = Form::new(alloc, row.as_slice())?;
     let mut store = Store::new(alloc);
-    put_form(&mut store, b"F", form.segmented(&letter.as_slice())?)?;
+    put_gaps(alloc, &mut store, row.as_slice())?;
     Ok(store)
 }
 
-// What a call of that form with so many letters gives, which is 4,096 times as long; while memory is refused or accepted.
-fn called_with(
-    rt: &(impl Abort + AllocGlobal),
-    memory: &Refusing<Global>,
-    count: usize,
-    is_refused: bool,
-) -> Result<Result<usize, Refusal>, Fail> {
-    let store = with_gaps(memory)?;
-    let mut text = Vec::from_slice(rt.alloc(), b"clF")?;
-    text.extend_from_slice(letters(rt.alloc(), count)?.as_slice())?;
-    let call = Call {
-        text: text.as_slice(),
-        places: &[2, 3],
-        input: NO_INPUT,
-    };
-    if is_refused {
-        memory.refuse_all();
-    }
-    let outcome = planned(rt, rt.alloc(), memory, &store, &call)?;
-    memory.accept_all();
-    Ok(outcome.map(|text| text.len()))
+// A call of that form with so many letters, its arguments one behind another.
+fn call_text(plain: Global, count: usize) -> Result<Vec<u8>, AllocError> {
+    let mut text = Vec::from_slice(plain, b"clF")?;
+    text.resize(count.saturating_add(3), b'x')?;
+    Ok(text)
 }
 
-// A value may have 16,777,216 bytes and no more. One that is too long is refused before a request for it is made.
-#[test]
-fn a_value_that_is_too_long(rt: HostRuntime) -> Result<(), Fail> {
-    let memory = Refusing::new(rt.alloc());
-    for (count, is_refused, outcome) in [
-        (4_096, false, Ok(16_777_216 + b"||keep 0".len())),
-        (4_097, false, Err(Refusal::TooLong)),
-        (4_096, true, Err(Refusal::Memory)),
-        (4_097, true, Err(Refusal::TooLong)),
-    ] {
-        assert_eq!(rt;
-            called_with(&rt, &memory, count, is_refused)?,
-            outcome,
-            "{count} letters"
-        );
-    }
-    Ok(())
-}
-
-// What is planned for `ds` with this name and text.
-fn defined(
+// How long what is planned for a call is as a text.
+fn planned_len<'a>(
     rt: &impl Abort,
-    alloc: Global,
-    store: &Store,
+    plain: Global,
+    memory: &'a Refusing<Global>,
+    store: &Store<&'a Refusing<Global>>,
     text: &[u8],
-) -> Result<Result<Vec<u8>, Refusal>, Fail> {
+) -> Result<usize, Refusal> {
     let call = Call {
         text,
         places: &[2, 3],
         input: NO_INPUT,
     };
-    planned(rt, alloc, alloc, store, &call)
+    let mut out = Vec::new(plain);
+    planned(rt, memory, store, &call, &mut out)?;
+    Ok(out.len())
 }
 
+// What a call of that form with so many letters gives, which is 4,096 times as long; while memory is refused or accepted.
+fn called_with<'a>(
+    rt: &impl Abort,
+    plain: Global,
+    memory: &'a Refusing<Global>,
+    store: &Store<&'a Refusing<Global>>,
+    count: usize,
+    is_refused: bool,
+) -> Result<Result<usize, Refusal>, AllocError> {
+    let text = call_text(plain, count)?;
+    if is_refused {
+        memory.refuse_all();
+    }
+    let outcome = planned_len(rt, plain, memory, store, text.as_slice());
+    memory.accept_all();
+    Ok(outcome)
+}
+
+// How many letters a call has, whether all memory is refused, and the length of what is planned for it, or the refusal.
+const LONG_CALLS: &[(usize, bool, Result<usize, Refusal>)] = &[
+    // the value, and `||keep 0` behind it
+    (4_096, false, Ok(16_777_224)),
+    (4_097, false, Err(Refusal::TooLong)),
+    (4_096, true, Err(Refusal::Memory)),
+    (4_097, true, Err(Refusal::TooLong)),
+];
+
+// A value may have 16,777,216 bytes and no more. One that is too long is refused before a request for it is made.
+#[test]
+fn a_value_that_is_too_long(rt: HostRuntime) -> Result<(), Fail> {
+    let memory = Refusing::new(rt.alloc());
+    let store = with_gaps(&memory)?;
+    for (count, is_refused, outcome) in LONG_CALLS.iter() {
+        let met = called_with(&rt, rt.alloc(), &memory, &store, *count, *is_refused)?;
+        assert!(rt; met == *outcome, "{count} letters");
+    }
+    Ok(())
+}
+
+// For `ds` with this name and text this is planned, or it is refused so.
 fn expect_defined(
     rt: &impl Abort,
     alloc: Global,
     store: &Store,
     text: &[u8],
-    wanted: &[u8],
-) -> Result<(), Fail> {
-    assert_eq!(rt; defined(rt, alloc, store, text)??.as_slice(), wanted);
+    wanted: Result<&[u8], Refusal>,
+) {
+    let call = Call {
+        text,
+        places: &[2, 3],
+        input: NO_INPUT,
+    };
+    expect_outcome(rt, alloc, store, &call, wanted);
+}
+
+fn define_many(alloc: Global, store: &mut Store) -> Result<(), FormError> {
+    for i in 0..65_535_u16 {
+        define(alloc, store, &i.to_be_bytes(), b"")?;
+    }
+    Ok(())
+}
+
+fn expect_limit(rt: &impl Abort, alloc: Global, store: &mut Store) -> Result<(), FormError> {
+    define_many(alloc, store)?;
+    expect_defined(rt, alloc, store, b"dsAx", Ok(b"||put A <^>x 0"));
+    define(alloc, store, b"A", b"x")?;
+    expect_defined(rt, alloc, store, b"dsBx", Err(Refusal::TooLong));
+    expect_defined(rt, alloc, store, b"dsAy", Ok(b"||put A <^>y 0"));
     Ok(())
 }
 
 // There may be 65,536 forms and no more; at that number a form can still be replaced.
 #[test]
 fn a_form_too_many(rt: HostRuntime) -> Result<(), Fail> {
-    let alloc = rt.alloc();
-    let mut store = Store::new(alloc);
-    for i in 0..65_535_u16 {
-        define(alloc, &mut store, &i.to_be_bytes(), b"")?;
-    }
-    expect_defined(&rt, alloc, &store, b"dsAx", b"||put A <^>x 0")?;
-    define(alloc, &mut store, b"A", b"x")?;
-    assert_eq!(rt;
-        defined(&rt, alloc, &store, b"dsBx")?.err(),
-        Some(Refusal::TooLong)
-    );
-    expect_defined(&rt, alloc, &store, b"dsAy", b"||put A <^>y 0")
+    let mut store = Store::new(rt.alloc());
+    expect_limit(&rt, rt.alloc(), &mut store)?;
+    Ok(())
 }

@@ -4,7 +4,6 @@ ghost use Rattle.std.specs.Prelude.{◌≡◌, ◌≤◌, length, None};
 
 use std::alloc::{AllocError, Allocator, Global};
 use std::process::Abort;
-use std::test::Fail;
 use trac_forms::{FormError, Store};
 use trac_prims::{Args, Change, Effect, Kind, Mark, Now, Tape, plan};
 use trac_rules::limit::MARK_LIMIT;
@@ -58,8 +57,8 @@ fn plan_args<A: Allocator + Copy>(
     plan(alloc, args, Kind::Active, store, tape, now)
 }
 
-/// What is planned for a call of at most four arguments.
-pub(crate) fn plan_call<A: Allocator + Copy>(
+// What is planned for a call of at most four arguments.
+fn plan_call<A: Allocator + Copy>(
     rt: &impl Abort,
     alloc: A,
     store: &Store<A>,
@@ -92,7 +91,7 @@ fn add(out: &mut Vec<u8>, text: &[u8]) -> Result<(), AllocError> {
     Ok(out.extend_from_slice(text)?)
 }
 
-fn add_change<A: Allocator + Copy>(out: &mut Vec<u8>, change: &Change<A>) -> Result<(), Fail> {
+fn add_change<A: Allocator + Copy>(out: &mut Vec<u8>, change: &Change<A>) -> Result<(), FormError> {
     match change {
         Change::Keep => add(out, b"keep")?,
         Change::Put(name, form) => {
@@ -123,55 +122,78 @@ fn add_number(out: &mut Vec<u8>, number: usize) -> Result<(), AllocError> {
     add(out, &[b' ', b'0' + number.min(9) as u8])
 }
 
-/// What is planned, as a text: the value, with `!` behind it where it is scanned in any case; behind `|` what is printed;
-/// behind `|` what becomes of the forms; how many bytes of the input are read by then; and the meta character, where it is
-/// another one than `'`, and whether the trace is on.
-pub(crate) fn effect_text<A: Allocator + Copy>(
-    plain: Global,
+// What is planned, as a text: the value, with `!` behind it where it is scanned in any case; behind `|` what is printed;
+// behind `|` what becomes of the forms; how many bytes of the input are read by then; and the meta character, where it is
+// another one than `'`, and whether the trace is on.
+fn effect_into<A: Allocator + Copy>(
+    out: &mut Vec<u8>,
     effect: &Effect<A>,
-) -> Result<Vec<u8>, Fail> {
-    let mut out = Vec::new(plain);
-    add(&mut out, effect.value.as_slice())?;
+) -> Result<(), FormError> {
+    add(out, effect.value.as_slice())?;
     if effect.forced {
-        add(&mut out, b"!")?;
+        add(out, b"!")?;
     }
-    add(&mut out, b"|")?;
-    add(&mut out, effect.print.as_slice())?;
-    add(&mut out, b"|")?;
-    add_change(&mut out, &effect.change)?;
-    add_number(&mut out, effect.position)?;
+    add(out, b"|")?;
+    add(out, effect.print.as_slice())?;
+    add(out, b"|")?;
+    add_change(out, &effect.change)?;
+    add_number(out, effect.position)?;
     if effect.meta != b'\'' {
-        add(&mut out, &[b' ', effect.meta])?;
+        add(out, &[b' ', effect.meta])?;
     }
     if effect.trace {
-        add(&mut out, b" traced")?;
+        add(out, b" traced")?;
     }
-    Ok(out)
+    Ok(())
 }
 
-/// What is planned for a call, as a text, or why it is refused.
+/// Writes what is planned for a call as a text, or says why it is refused.
 pub(crate) fn planned<A: Allocator + Copy>(
     rt: &impl Abort,
-    plain: Global,
     alloc: A,
     store: &Store<A>,
     call: &Call<'_>,
-) -> Result<Result<Vec<u8>, Refusal>, Fail> {
-    match plan_call(rt, alloc, store, call) {
-        Ok(effect) => Ok(Ok(effect_text(plain, &effect)?)),
-        Err(refusal) => Ok(Err(refusal)),
+    out: &mut Vec<u8>,
+) -> Result<(), Refusal> {
+    let effect = plan_call(rt, alloc, store, call)?;
+    let is_written = effect_into(out, &effect).is_ok();
+    assert!(rt; is_written, "there is memory for the text");
+    Ok(())
+}
+
+/// The text is this one.
+pub(crate) fn expect_text(rt: &impl Abort, text: &[u8], wanted: &[u8]) {
+    assert_eq!(rt; text, wanted);
+}
+
+/// A call is planned so, or refused so.
+pub(crate) fn expect_outcome(
+    rt: &impl Abort,
+    alloc: Global,
+    store: &Store,
+    call: &Call<'_>,
+    wanted: Result<&[u8], Refusal>,
+) {
+    let mut out = Vec::new(alloc);
+    let outcome = planned(rt, alloc, store, call, &mut out);
+    match wanted {
+        Ok(text) => {
+            assert!(rt; outcome.is_ok());
+            expect_text(rt, out.as_slice(), text);
+        }
+        Err(refusal) => assert!(rt; outcome == Err(refusal)),
     }
 }
 
 fn expect_argument(rt: &impl Abort, args: &Args<'_>, number: usize, wanted: &[u8]) {
-    assert_eq!(rt; args.get(number), wanted);
+    expect_text(rt, args.get(number), wanted);
 }
 
 #[test]
 fn arguments_lie_one_behind_another(rt: HostRuntime) {
     let marks = [behind(2), behind(9)];
     let args = Args::new(b"adapples5pears3", &marks, 0);
-    assert_eq!(rt; args.count(), 3);
+    assert!(rt; args.count() == 3);
     for (number, wanted) in [
         (0, b"ad".as_slice()),
         (1, b"apples5".as_slice()),

@@ -12,7 +12,7 @@ use Rattle.std.proofs.lemmas.List.{get_or_past}
 use Rattle.std.proofs.lemmas.Slice.Eq.{bytes_eq-Decides}
 use Rattle.trac_rules.specs.Blocks.{block_at, is_address, number_addressed}
 use Rattle.trac_rules.specs.Form.{Form, all_items}
-use Rattle.trac_rules.specs.Number.{fits, number_of, numeral_of, is_numeral, number_text}
+use Rattle.trac_rules.specs.Number.{fits, number_of, numeral_of, is_numeral}
 use Rattle.trac_rules.specs.Pieces.{byte_of, bytes_in}
 use Rattle.trac_rules.specs.State.{Block, Held}
 use Rattle.trac_rules.proofs.Addresses.{addressed_alone, spelled}

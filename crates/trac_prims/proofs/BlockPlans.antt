@@ -1,25 +1,23 @@
 -- What calls on blocks come to, and what is judged for them.
-use Rattle.std.proofs.Common.{◌≡◌, ℕ, ◌+◌, ◌<◌, ◌≤◌, ◌^◌, Bool, true, false, List, [], ◌∷◌, ◌++◌, length, map, refl, sym, ap, subst, ◌∙◌, arith}
-use Rattle.std.specs.Prelude.{Option, None, Some, Result, Ok, Err, Vec, ◌&&◌, bytes_eq, cond, decimal, is_some, nat_le, nat_lt, option_map, if◌then◌else◌}
+use Rattle.std.proofs.Common.{◌≡◌, ℕ, ◌+◌, ◌<◌, ◌≤◌, ◌^◌, Bool, true, false, List, [], ◌∷◌, ◌++◌, length, refl, sym, ap, subst, ◌∙◌, arith}
+use Rattle.std.specs.Prelude.{Option, None, Some, Result, Ok, Err, bytes_eq, cond, decimal, is_some, nat_le, option_map, if◌then◌else◌}
 use Rattle.std.specs.Borrow.{Bor}
 use Rattle.std.specs.FinMap as finite
 use Rattle.std.specs.List.{list_any}
-use Rattle.std.proofs.lemmas.Bool.{and_left, and_right, lt-leb, le-leb}
+use Rattle.std.proofs.lemmas.Bool.{le-leb}
 use Rattle.std.proofs.lemmas.Fmt.{length-decimal-le}
 use Rattle.std.proofs.lemmas.List.{length-map}
-use Rattle.trac_rules.specs.declared.limit.TheConstants.{BLOCK_LIMIT, FORM_COUNT_LIMIT, FORM_LIMIT, NAME_LIMIT}
+use Rattle.trac_rules.specs.declared.limit.TheConstants.{BLOCK_LIMIT, FORM_COUNT_LIMIT}
 use Rattle.trac_rules.specs.declared.refusal.Refusal.{Refusal}
 use Rattle.trac_rules.specs.declared.refusal.Refusal.TheVariants.{Memory, TooLong}
 use Rattle.trac_rules.specs.declared.primitive.BlockAction.TheVariants.{EraseBlock, FetchBlock}
-use Rattle.trac_rules.specs.Blocks.{block_at, block_fits, block_handled, erased, fetched, fetching, forms_in, moved_out, named_block_number, on_block, put_aside, storing, with_all}
+use Rattle.trac_rules.specs.Blocks.{block_at, block_handled, erased, fetched, fetching, forms_in, moved_out, named_block_number, on_block, put_aside, storing, with_all}
 use Rattle.trac_rules.specs.Effect.{Effect, argument, leaves}
 use Rattle.trac_rules.specs.Form.{Form, defined}
-use Rattle.trac_rules.specs.Handling.{keeping, putting, without}
+use Rattle.trac_rules.specs.Handling.{keeping, without}
 use Rattle.trac_rules.specs.Limits.{may_be_put}
-use Rattle.trac_rules.specs.Outcomes.{MayLackMemory}
 use Rattle.trac_rules.specs.State.{Block, Forms, Held, Storage}
 use Rattle.trac_rules.proofs.Cutting.{extent-as_items, wide-as_items}
-use Rattle.trac_rules.proofs.Steps.{LooksAtForms}
 use Rattle.trac_forms.specs.declared.error.FormError.{FormError}
 use Rattle.trac_forms.specs.declared.error.FormError.TheVariants.{Memory as NoMemory, TooLong as LongForm}
 use Rattle.trac_forms.specs.Layout.{IsSound}
@@ -28,11 +26,6 @@ use Rattle.trac_forms.specs.Stored.{Gathered}
 use Rattle.trac_prims.specs.Blocks.{IsBlock}
 use Rattle.trac_prims.specs.Effects.{names_in, with_form}
 use Rattle.trac_prims.proofs.MovedOut.{get-without, len-without, moved_out-again, without-again}
-
--- what is refused for a limit alone may be refused for memory instead
-pub looks_lack : (outcome : Result Effect Refusal) → LooksAtForms outcome → MayLackMemory outcome
-looks_lack (Ok e) looks = tt
-looks_lack (Err refusal) looks = subst (λ (r : Refusal). MayLackMemory (let outcome : Result Effect Refusal = Err r in outcome)) (sym looks) tt
 
 -- ---- `sb`
 
@@ -50,26 +43,6 @@ number_memory number text LongForm small is long =
     absurd (omega (arith, long, ap length is, length-decimal-le 20 number (omega arith) (omega arith) (omega arith)))
 
 module _ (name : List ℕ) (names : List (List ℕ)) (storage : Storage) where
-  -- too many forms for a block
-  pub held_too_many : (count : ℕ) → count ≡ length (moved_out names storage.forms) → FORM_COUNT_LIMIT < count → storing name names storage ≡ Err TooLong
-  held_too_many count is long =
-      let fits : nat_le (length (moved_out names storage.forms)) FORM_COUNT_LIMIT ≡ false = lt-leb (length (moved_out names storage.forms)) FORM_COUNT_LIMIT (omega (arith, is, long)) in
-      rw (and_left (nat_le (length (moved_out names storage.forms)) FORM_COUNT_LIMIT) (nat_le (length storage.blocks + 1) BLOCK_LIMIT) fits) refl
-
-  -- too many blocks
-  pub blocks_too_many : BLOCK_LIMIT ≤ length storage.blocks → storing name names storage ≡ Err TooLong
-  blocks_too_many full =
-      rw (and_right (nat_le (length (moved_out names storage.forms)) FORM_COUNT_LIMIT) (nat_le (length storage.blocks + 1) BLOCK_LIMIT)
-      (lt-leb (length storage.blocks + 1) BLOCK_LIMIT (omega (arith, full)))) refl
-
-  -- the number of the block may not be put
-  pub address_too_long : may_be_put name (defined (decimal (length storage.blocks))) (without names storage.forms) ≡ false → storing name names storage ≡ Err TooLong
-  address_too_long may = either (block_fits (moved_out names storage.forms) storage.blocks)
-    where
-      either : (fits : Bool) → (let outcome : Result Effect Refusal = if fits then putting name (defined (decimal (length storage.blocks))) (put_aside names storage) else Err TooLong in outcome) ≡ Err TooLong
-      either true = rw may refl
-      either false = refl
-
   -- the names of those that are moved say as much
   put_aside-again : put_aside (names_in (moved_out names storage.forms)) storage ≡ put_aside names storage
   put_aside-again =
@@ -119,38 +92,27 @@ named_so number blocks found k block is there =
     subst (λ (f : Option (ℕ × Bor Gathered)). IsBlock number blocks (option_map (λ x. (x.0, x.1.now.held)) f)) is there
 
 module _ (arguments : List (List ℕ)) (storage : Storage) where
-  -- there is none
-  pub none_fetched : named_block_number arguments storage ≡ None → block_handled FetchBlock arguments storage ≡ Ok (leaves storage)
-  none_fetched none = ap (λ n. on_block n (λ number. fetching number storage) storage) none
-
-  pub none_erased : named_block_number arguments storage ≡ None → block_handled EraseBlock arguments storage ≡ Ok (leaves storage)
-  none_erased none = ap (λ n. on_block n (λ number. Ok (leaves (erased number (argument 1 arguments) storage))) storage) none
-
-  -- there is one, and it is erased
+  -- a block is named, and it is erased
   pub erased_so : (number : ℕ) (name : List ℕ) → named_block_number arguments storage ≡ Some number → name ≡ argument 1 arguments →
       block_handled EraseBlock arguments storage ≡ Ok (leaves (erased number name storage))
   erased_so number name named called =
       ap (λ n. on_block n (λ k. Ok (leaves (erased k (argument 1 arguments) storage))) storage) named
       ∙ ap (λ (n : List ℕ). Ok (leaves (erased number n storage))) (sym called)
 
-  -- there is one, and this is what it holds
+  -- a block is named, and this is what it holds
   module _ (number : ℕ) (held : Held) (named : named_block_number arguments storage ≡ Some number) (block : block_at number storage.blocks ≡ Some held) where
     fetched_forms : fetched number storage ≡ with_all held storage.forms
     fetched_forms = ap (λ b. with_all (forms_in b) storage.forms) block
 
-    fetched_by : (fits : Bool) → nat_le (finite.len (with_all held storage.forms)) FORM_COUNT_LIMIT ≡ fits →
-        block_handled FetchBlock arguments storage ≡ (let outcome : Result Effect Refusal = if fits then Ok (leaves (keeping (with_all held storage.forms) storage)) else Err TooLong in outcome)
-    fetched_by fits judged =
+    fetched_by : nat_le (finite.len (with_all held storage.forms)) FORM_COUNT_LIMIT ≡ true →
+        block_handled FetchBlock arguments storage ≡ Ok (leaves (keeping (with_all held storage.forms) storage))
+    fetched_by judged =
         ap (λ n. on_block n (λ k. fetching k storage) storage) named
         ∙ ap (λ (forms : Forms). let outcome : Result Effect Refusal = if nat_le (finite.len forms) FORM_COUNT_LIMIT then Ok (leaves (keeping forms storage)) else Err TooLong in outcome) fetched_forms
         ∙ ap (λ b. let outcome : Result Effect Refusal = if b then Ok (leaves (keeping (with_all held storage.forms) storage)) else Err TooLong in outcome) judged
-
-    -- its forms would be too many
-    pub too_many_fetched : nat_le (finite.len (with_all held storage.forms)) FORM_COUNT_LIMIT ≡ false → block_handled FetchBlock arguments storage ≡ Err TooLong
-    too_many_fetched many = fetched_by false many
 
     -- copies of them are put
     pub fetched_so : (copies : Held) → nat_le (finite.len (with_all held storage.forms)) FORM_COUNT_LIMIT ≡ true → copies ≡ held →
         block_handled FetchBlock arguments storage ≡ Ok (leaves (keeping (with_all copies storage.forms) storage))
     fetched_so copies few same =
-        fetched_by true few ∙ ap (λ (h : Held). Ok (leaves (keeping (with_all h storage.forms) storage))) (sym same)
+        fetched_by few ∙ ap (λ (h : Held). Ok (leaves (keeping (with_all h storage.forms) storage))) (sym same)

@@ -1,8 +1,6 @@
-//! Moving forms into a block, bringing copies of them back, and erasing a block, as a call planned it.
-ghost use Rattle.std.specs.Prelude.{◌≡◌, ◌≤◌, ◌<◌, ◌++◌, ◌∷◌, [], length, IfOk, IsOkUnless, IsTrue, None, OnOk, Some};
-ghost use Rattle.std.specs.FinMap as finite;
-ghost use Rattle.std.specs.FinSet as set;
-ghost use Rattle.trac_rules.specs.Blocks.{erased, moved_out, with_all};
+//! Moving forms into a block, and bringing copies of them back, as a call planned it.
+ghost use Rattle.std.specs.Prelude.{◌≡◌, ◌≤◌, [], length, IfOk, IsOkUnless, OnOk};
+ghost use Rattle.trac_rules.specs.Blocks.{moved_out, with_all};
 ghost use Rattle.trac_rules.specs.Handling.{without};
 ghost use Rattle.trac_forms.specs.Stored.{storage_in};
 ghost use Rattle.trac_prims.specs.Effects.{named_forms, texts_of};

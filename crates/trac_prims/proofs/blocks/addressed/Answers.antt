@@ -1,9 +1,9 @@
-use Rattle.std.proofs.Common.{◌≡◌, List, ℕ, ◌++◌, ap, arith, refl, sym, true, ◌∙◌, pos, rules, w64, to_z, of_z, ◌≤ℤ◌, ◌<ℤ◌}
-use Rattle.std.specs.Prelude.{None, Some, bytes_eq, decimal}
+use Rattle.std.proofs.Common.{◌≡◌, List, ℕ, ◌++◌, ap, arith, sym, ◌∙◌, pos, rules, w64, to_z, of_z, ◌≤ℤ◌, ◌<ℤ◌}
+use Rattle.std.specs.Prelude.{Some, bytes_eq, decimal}
 use Rattle.std.proofs.Math.IntN.{nat_abs}
 use Rattle.std.proofs.lemmas.Int.{ints, to_z-of_z}
 use Rattle.std.proofs.lemmas.Slice.Eq.{bytes_eq-Decides}
-use Rattle.trac_rules.specs.Number.{number_of, number_text, numeral_of}
+use Rattle.trac_rules.specs.Number.{number_of, number_text}
 use Rattle.trac_prims.proofs.Addressing.{as_place, found_so, none_below, none_live, none_read, none_spelled}
 use Rattle.trac_prims.proofs.blocks.addressed.Goals as goal
 

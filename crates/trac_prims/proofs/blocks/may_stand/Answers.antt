@@ -1,7 +1,6 @@
-use Rattle.std.proofs.Common.{◌≡◌, ℕ, ◌-◌, ap, arith, false, length, not, sym, true, ◌∙◌}
-use Rattle.std.specs.Prelude.{bytes_eq, decimal, is_some}
+use Rattle.std.proofs.Common.{◌≡◌, ◌-◌, arith, false, length, sym, true, ◌∙◌}
+use Rattle.std.specs.Prelude.{decimal, is_some}
 use Rattle.std.specs.FinMap as finite
-use Rattle.std.specs.List.{list_any}
 use Rattle.std.proofs.lemmas.List.{length-map}
 use Rattle.trac_rules.specs.Form.{defined}
 use Rattle.trac_rules.specs.Handling.{without}

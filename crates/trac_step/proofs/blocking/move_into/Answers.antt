@@ -1,5 +1,5 @@
 -- A form that is taken goes into the block; nothing does for a name without a form.
-use Rattle.std.proofs.Common.{List, ap, arith}
+use Rattle.std.proofs.Common.{ap, arith}
 use Rattle.std.specs.Prelude.{length}
 use Rattle.trac_forms.specs.Stored.{Gathered}
 use Rattle.trac_step.proofs.MovedForms.{left_next, left_still, left_also, moved_next, none_next}

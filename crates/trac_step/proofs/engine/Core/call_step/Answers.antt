@@ -22,7 +22,7 @@ pub returns-clause-taken : goal.returns-clause-taken
 returns-clause-taken g c = (
   ap Some (c.in_ok-before.ensures.same ∙ c.make_room.ensures.state),
   c.in_ok-beginning.ensures.outcome
-  ∙ ap Ok (ap (λ (s : State). state_after c.in_ok-beginning.effect (scan s)) (sym c.make_room.ensures.state) ∙ sym c.finish_call.ensures.state),
+      ∙ ap Ok (ap (λ (s : State). state_after c.in_ok-beginning.effect (scan s)) (sym c.make_room.ensures.state) ∙ sym c.finish_call.ensures.state),
 )
 
 pub returns-clause-held : goal.returns-clause-held
