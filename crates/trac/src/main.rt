@@ -1,23 +1,20 @@
 //! The program `trac`: a processor for the language TRAC T-64.
 #![tactic(auto)]
 
-#[cfg(test)]
-mod tests;
-pub mod words;
-
 ghost use Rattle.std.specs.Prelude.{◌≡◌, ◌≤◌, IfOk};
 ghost use Rattle.std.specs.Process.{exit_status};
 ghost use Rattle.trac_run.specs.Runs.{status_of};
-ghost use Rattle.trac.specs.Words.{IsLine};
+ghost use Rattle.trac_words.specs.Words.{IsLine};
 
-use std::alloc::AllocError;
+use std::alloc::{AllocError, Global};
+use std::env::Args;
 use std::process::ExitCode;
 use std::rt::Env;
 use std::{env, fs, io};
 use trac_debug::{debug, read_tape};
 use trac_rules::limit::JOURNAL_LIMIT;
 use trac_run::{Ending, Options, run};
-use words::{Line, read_line};
+use trac_words::words::{Line, read_line};
 
 /// The status of a command line that is not understood.
 const NOT_UNDERSTOOD: u8 = 2;
@@ -48,15 +45,26 @@ fn main(rt: HostRuntime) -> ExitCode {
 fn asked_line(rt: &(impl Env + AllocGlobal)) -> Result<Line, AllocError>
     ensures { IfOk result IsLine }
 {
-    let alloc = rt.alloc();
-    let words: Vec<String> = match env::args(rt) {
-        Ok(words) => words.collect(alloc)?,
-        Err(error) if error.kind() == io::ErrorKind::OutOfMemory => return Err(AllocError),
+    match env::args(rt) {
+        Ok(words) => line_in(rt.alloc(), words),
+        Err(error) if error.kind() == io::ErrorKind::OutOfMemory => Err(AllocError),
         Err(_) => {
             let text = "error: invalid UTF-8 was detected in one or more arguments\n";
-            return Ok(Line::Bad(String::from_str(alloc, text)?));
+            Ok(Line::Bad(String::from_str(rt.alloc(), text)?))
         }
-    };
+    }
+}
+
+fn line_in(alloc: Global, words: Args<Global>) -> Result<Line, AllocError>
+    ensures { IfOk result IsLine }
+{
+    let words: Vec<String> = words.collect(alloc)?;
+    line_of(alloc, words.as_slice())
+}
+
+fn line_of(alloc: Global, words: &[String]) -> Result<Line, AllocError>
+    ensures { IfOk result IsLine }
+{
     let texts: Vec<&str> = words.iter().map(|word| word.as_str()).collect(alloc)?;
     read_line(alloc, texts.as_slice())
 }

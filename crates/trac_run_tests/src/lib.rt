@@ -1,5 +1,5 @@
-//! Tests of runs: over readers and writers that fail, and with too little memory. The library itself is empty. What whole
-//! programs print stands in `tests/programs`.
+//! Tests of runs, over readers and writers that fail and with too little memory, and of the command line. The library itself is
+//! empty. What whole programs print stands in `tests/programs`.
 #![tactic(auto)]
 
 #[cfg(test)]
@@ -8,3 +8,5 @@ mod cuts;
 mod endings;
 #[cfg(test)]
 mod runs;
+#[cfg(test)]
+mod words;

@@ -3,8 +3,8 @@ use Rattle.std.specs.Prelude.{◌≤◌}
 use Rattle.trac_rules.specs.declared.limit.TheConstants.{JOURNAL_LIMIT}
 use Rattle.trac_run.specs.declared.running.TheConstants.{BUDGET_LIMIT}
 use Rattle.trac_run.specs.declared.running.Options.{Options}
-use Rattle.trac.specs.declared.words.Line.{Line}
-use Rattle.trac.specs.declared.words.Line.TheVariants.{Run, Debug, Help, Bad}
+use Rattle.trac_words.specs.declared.words.Line.{Line}
+use Rattle.trac_words.specs.declared.words.Line.TheVariants.{Run, Debug, Help, Bad}
 
 -- the options of a run or of the debugger are within their ranges
 pub record AreWithin (options : Options) : Type 0 where

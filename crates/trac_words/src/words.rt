@@ -1,9 +1,9 @@
 //! The command line.
 ghost use Rattle.std.specs.Prelude.{◌≤◌, IfOk};
-ghost use Rattle.trac.specs.Words.{IsLine};
+ghost use Rattle.trac_words.specs.Words.{IsLine};
 
 use clap::error::ErrorKind;
-use clap::{Arg, ArgMatches, Command, value_parser};
+use clap::{Arg, ArgMatches, Command, Error, value_parser};
 use std::alloc::{AllocError, Global};
 use trac_rules::limit::JOURNAL_LIMIT;
 use trac_run::{BUDGET_LIMIT, Options};
@@ -67,13 +67,22 @@ pub fn read_line(alloc: Global, words: &[&str]) -> Result<Line, AllocError>
 {
     match command(alloc)?.try_get_matches_from(words) {
         Ok(matches) => line_of(alloc, &matches),
-        Err(error) => match error.kind() {
-            ErrorKind::OutOfMemory => Err(AllocError),
-            ErrorKind::DisplayHelp | ErrorKind::DisplayVersion => {
-                Ok(Line::Help(error.to_string(alloc)?))
-            }
-            _ => Ok(Line::Bad(error.to_string(alloc)?)),
-        },
+        Err(error) => line_without(alloc, &error),
+    }
+}
+
+// What is said where a command line asks for no run and for no debugger.
+fn line_without(alloc: Global, error: &Error) -> Result<Line, AllocError>
+    ensures { IfOk result IsLine }
+{
+    let kind = error.kind();
+    if kind == ErrorKind::OutOfMemory {
+        return Err(AllocError);
+    }
+    let text = error.to_string(alloc)?;
+    match kind {
+        ErrorKind::DisplayHelp | ErrorKind::DisplayVersion => Ok(Line::Help(text)),
+        _ => Ok(Line::Bad(text)),
     }
 }
 
@@ -81,19 +90,28 @@ pub fn read_line(alloc: Global, words: &[&str]) -> Result<Line, AllocError>
 fn line_of(alloc: Global, matches: &ArgMatches<'_>) -> Result<Line, AllocError>
     ensures { IfOk result IsLine }
 {
-    if let Some(("debug", found)) = matches.subcommand() {
-        let path = found.get_str("FILE").unwrap_or("");
-        let options = Options {
-            budget: DEFAULT_BUDGET,
+    match matches.subcommand() {
+        Some(("debug", found)) => debug_line(alloc, found),
+        Some((_, found)) => Ok(Line::Run(Options {
+            budget: budget_in(found),
             journal: journal_in(found),
-        };
-        return Ok(Line::Debug(String::from_str(alloc, path)?, options));
+        })),
+        None => Ok(Line::Run(Options {
+            budget: DEFAULT_BUDGET,
+            journal: DEFAULT_JOURNAL,
+        })),
     }
-    let (budget, journal) = match matches.subcommand() {
-        Some((_, found)) => (budget_in(found), journal_in(found)),
-        None => (DEFAULT_BUDGET, DEFAULT_JOURNAL),
+}
+
+fn debug_line(alloc: Global, found: &ArgMatches<'_>) -> Result<Line, AllocError>
+    ensures { IfOk result IsLine }
+{
+    let path = String::from_str(alloc, found.get_str("FILE").unwrap_or(""))?;
+    let options = Options {
+        budget: DEFAULT_BUDGET,
+        journal: journal_in(found),
     };
-    Ok(Line::Run(Options { budget, journal }))
+    Ok(Line::Debug(path, options))
 }
 
 // The budget that was asked for, or the default one. `clap` has judged its range; the bounds here only say so again.
@@ -118,49 +136,68 @@ fn journal_in(matches: &ArgMatches<'_>) -> usize
     }
 }
 
-// The program's commands.
+// The program's commands. What can be refused is made before what would have to be let go then.
 fn command<'a>(alloc: Global) -> Result<Command<'a>, AllocError> {
-    let budget = Arg::new(alloc, "budget")
-        .long("budget")
-        .value_name("N")
-        .value_parser(value_parser!(u64).range(1..=BUDGET_LIMIT as i64))
-        .help("How many steps the run may take: 1 to 1000000000000 [default: 1000000000]");
-    let run = Command::new(alloc, "run")
-        .about("Runs the program on standard input")
-        .arg(budget)?
-        .arg(journal(
-            alloc,
-            "How many steps are kept before their output is written: 1 to 1048576 [default: 64]",
-        )?)?
-        .after_help(USE);
-    let file = Arg::new(alloc, "FILE")
-        .required(true)
-        .help("The file that holds the program");
-    let debug = Command::new(alloc, "debug")
-        .about("Steps through the program in FILE, forwards and backwards")
-        .arg(file)?
-        .arg(journal(
-            alloc,
-            "How many steps can be gone back over: 1 to 1048576 [default: 64]",
-        )?)?
-        .after_help(USE);
+    let debug = debug_command(alloc)?;
+    command_to_run(alloc)?.subcommand(debug)
+}
+
+fn command_to_run<'a>(alloc: Global) -> Result<Command<'a>, AllocError> {
+    let run = run_command(alloc)?;
+    whole_command(alloc).subcommand(run)
+}
+
+fn whole_command<'a>(alloc: Global) -> Command<'a> {
     Command::new(alloc, "trac")
         .about("A processor for TRAC T-64")
         .version(VERSION)
         .after_help(USE)
         .subcommand_required(true)
         .disable_help_subcommand(true)
-        .subcommand(run)?
-        .subcommand(debug)
+}
+
+fn run_command<'a>(alloc: Global) -> Result<Command<'a>, AllocError> {
+    Command::new(alloc, "run")
+        .about("Runs the program on standard input")
+        .after_help(USE)
+        .arg(budget(alloc))?
+        .arg(journal(
+            alloc,
+            "How many steps are kept before their output is written: 1 to 1048576 [default: 64]",
+        ))
+}
+
+fn debug_command<'a>(alloc: Global) -> Result<Command<'a>, AllocError> {
+    Command::new(alloc, "debug")
+        .about("Steps through the program in FILE, forwards and backwards")
+        .after_help(USE)
+        .arg(file(alloc))?
+        .arg(journal(
+            alloc,
+            "How many steps can be gone back over: 1 to 1048576 [default: 64]",
+        ))
+}
+
+fn file<'a>(alloc: Global) -> Arg<'a> {
+    Arg::new(alloc, "FILE")
+        .required(true)
+        .help("The file that holds the program")
+}
+
+// The option that says how many steps a run may take.
+fn budget<'a>(alloc: Global) -> Arg<'a> {
+    Arg::new(alloc, "budget")
+        .long("budget")
+        .value_name("N")
+        .value_parser(value_parser!(u64).range(1..=BUDGET_LIMIT as i64))
+        .help("How many steps the run may take: 1 to 1000000000000 [default: 1000000000]")
 }
 
 // The option that says how many records a journal may hold, with what that means for this command.
-fn journal<'a>(alloc: Global, help: &'a str) -> Result<Arg<'a>, AllocError> {
-    Ok(
-        Arg::new(alloc, "journal")
-            .long("journal")
-            .value_name("N")
-            .value_parser(value_parser!(u64).range(1..=JOURNAL_LIMIT as i64))
-            .help(help),
-    )
+fn journal<'a>(alloc: Global, help: &'a str) -> Arg<'a> {
+    Arg::new(alloc, "journal")
+        .long("journal")
+        .value_name("N")
+        .value_parser(value_parser!(u64).range(1..=JOURNAL_LIMIT as i64))
+        .help(help)
 }

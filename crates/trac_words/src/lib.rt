@@ -1,0 +1,4 @@
+//! The command line of the program `trac`: what its words ask for.
+#![tactic(auto)]
+
+pub mod words;
