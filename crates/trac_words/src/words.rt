@@ -161,7 +161,10 @@ fn run_command<'a>(alloc: Global) -> Result<Command<'a>, AllocError> {
         .about("Runs the program on standard input")
         .after_help(USE)
         .arg(budget(alloc))?
-        .arg(journal(alloc))
+        .arg(journal(
+            alloc,
+            "How many steps are kept before their output is written: 1 to 1048576 [default: 64]",
+        ))
 }
 
 fn debug_command<'a>(alloc: Global) -> Result<Command<'a>, AllocError> {
@@ -169,7 +172,10 @@ fn debug_command<'a>(alloc: Global) -> Result<Command<'a>, AllocError> {
         .about("Steps through the program in FILE, forwards and backwards")
         .after_help(USE)
         .arg(file(alloc))?
-        .arg(journal(alloc))
+        .arg(journal(
+            alloc,
+            "How many steps can be gone back over: 1 to 1048576 [default: 64]",
+        ))
 }
 
 fn file<'a>(alloc: Global) -> Arg<'a> {
@@ -187,11 +193,11 @@ fn budget<'a>(alloc: Global) -> Arg<'a> {
         .help("How many steps the run may take: 1 to 1000000000000 [default: 1000000000]")
 }
 
-// The option that says how many records a journal may hold.
-fn journal<'a>(alloc: Global) -> Arg<'a> {
+// The option that says how many records a journal may hold, with what that means for this command.
+fn journal<'a>(alloc: Global, help: &'a str) -> Arg<'a> {
     Arg::new(alloc, "journal")
         .long("journal")
         .value_name("N")
         .value_parser(value_parser!(u64).range(1..=JOURNAL_LIMIT as i64))
-        .help("How many steps can be gone back over: 1 to 1048576 [default: 64]")
+        .help(help)
 }
