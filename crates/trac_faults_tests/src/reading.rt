@@ -87,9 +87,9 @@ fn with_choice<'a>(reader: FaultyReader<'a>, choice: &Choice) -> FaultyReader<'a
 // Each call gives this, and the reader counts its calls.
 fn expect_readings(rt: &impl Abort, reader: &mut FaultyReader<'_>, readings: &[Reading]) {
     for reading in readings.iter() {
-        assert_eq!(rt; read_once(reader), *reading);
+        assert!(rt; read_once(reader) == *reading);
     }
-    assert_eq!(rt; reader.reads(), readings.len() as u64);
+    assert!(rt; reader.reads() == readings.len() as u64);
 }
 
 #[test]
@@ -106,8 +106,8 @@ fn reads_as_it_is_told_to(rt: HostRuntime) {
 #[test]
 fn shows_what_is_left(rt: HostRuntime) {
     let mut reader = FaultyReader::new(b"abc").at_most(2);
-    assert_eq!(rt; read_once(&mut reader), Ok((2, b'a')));
-    assert_eq!(rt; reader.rest(), b"c".as_slice());
+    assert!(rt; read_once(&mut reader) == Ok((2, b'a')));
+    assert!(rt; reader.rest() == b"c".as_slice());
 }
 
 // std tries a call again that was interrupted.
@@ -118,9 +118,9 @@ fn is_read_to_its_end(rt: HostRuntime) -> Result<(), Fail> {
         .failing_at(2)
         .with_kind(ErrorKind::Interrupted);
     let mut all = Vec::new(rt.alloc());
-    assert_eq!(rt; reader.read_to_end(&mut all)?, 2);
-    assert_eq!(rt; all.as_slice(), b"ab".as_slice());
-    assert_eq!(rt; reader.reads(), 4);
+    assert!(rt; reader.read_to_end(&mut all)? == 2);
+    assert!(rt; all.as_slice() == b"ab".as_slice());
+    assert!(rt; reader.reads() == 4);
     Ok(())
 }
 
@@ -128,7 +128,7 @@ fn is_read_to_its_end(rt: HostRuntime) -> Result<(), Fail> {
 fn repeats_its_bytes(rt: HostRuntime) {
     let mut reader = RepeatingReader::new(b"abcdef");
     for given in [(4, b'a'), (2, b'e'), (4, b'a'), (2, b'e')] {
-        assert_eq!(rt; read_once(&mut reader), Ok(given));
+        assert!(rt; read_once(&mut reader) == Ok(given));
     }
-    assert_eq!(rt; read_once(&mut RepeatingReader::new(b"")), Ok((0, 0)));
+    assert!(rt; read_once(&mut RepeatingReader::new(b"")) == Ok((0, 0)));
 }

@@ -13,19 +13,27 @@ type Memory<'a> = &'a Refusing<Global>;
 
 type Numbered<'a> = IndexMap<Vec<u8, Memory<'a>>, u8, BuildHasherDefault<FoldHasher>, Memory<'a>>;
 
-// Generic over its allocator, as code under test is.
-fn push_all<A: Allocator + Copy>(rt: &impl Abort, alloc: A) -> Result<(), AllocError> {
-    let mut numbers = Vec::new(alloc);
+fn push_each<A: Allocator + Copy>(
+    rt: &impl Abort,
+    numbers: &mut Vec<u8, A>,
+) -> Result<(), AllocError> {
     for n in 0..100u8 {
         if numbers.push(n).is_err() {
-            assert_eq!(rt; numbers.len(), n as usize, "as before");
+            assert!(rt; numbers.len() == n as usize, "as before");
             numbers.push(n)?;
         }
     }
+    Ok(())
+}
+
+// Generic over its allocator, as code under test is.
+fn push_all<A: Allocator + Copy>(rt: &impl Abort, alloc: A) -> Result<(), AllocError> {
+    let mut numbers = Vec::new(alloc);
+    push_each(rt, &mut numbers)?;
     for (i, n) in numbers.iter().enumerate() {
-        assert_eq!(rt; i, *n as usize);
+        assert!(rt; i == *n as usize);
     }
-    assert_eq!(rt; numbers.len(), 100);
+    assert!(rt; numbers.len() == 100);
     Ok(())
 }
 
@@ -46,20 +54,28 @@ fn number_at(map: &Numbered<'_>, n: u8) -> Option<u8> {
     }
 }
 
-fn insert_all(rt: &impl Abort, memory: Memory<'_>) -> Result<(), AllocError> {
-    let mut map = IndexMap::new(memory);
+fn insert_each<'a>(
+    rt: &impl Abort,
+    memory: Memory<'a>,
+    map: &mut Numbered<'a>,
+) -> Result<(), AllocError> {
     for n in 0..40u8 {
-        if insert_number(&mut map, memory, n).is_err() {
-            assert_eq!(rt; map.len(), n as usize, "as before");
-            assert_eq!(rt; number_at(&map, n), None, "as before");
-            insert_number(&mut map, memory, n)?;
+        if insert_number(map, memory, n).is_err() {
+            assert!(rt; map.len() == n as usize, "as before");
+            assert!(rt; number_at(map, n).is_none(), "as before");
+            insert_number(map, memory, n)?;
         }
     }
     for n in 0..40u8 {
-        assert_eq!(rt; number_at(&map, n), Some(n));
+        assert!(rt; number_at(map, n) == Some(n));
     }
-    assert_eq!(rt; map.len(), 40);
+    assert!(rt; map.len() == 40);
     Ok(())
+}
+
+fn insert_all(rt: &impl Abort, memory: Memory<'_>) -> Result<(), AllocError> {
+    let mut map = IndexMap::new(memory);
+    insert_each(rt, memory, &mut map)
 }
 
 #[test]
@@ -68,10 +84,8 @@ fn each_request_of_a_vector(rt: HostRuntime) -> Result<(), Fail> {
     let runs = memory.refuse_each(1_000, |_| push_all(&rt, &memory))?;
     let requests = memory.requests();
     push_all(&rt, &memory)?;
-    assert_eq!(rt;
-        runs,
-        Some(memory.requests().saturating_sub(requests).saturating_add(1))
-    );
+    let made = memory.requests().saturating_sub(requests);
+    assert!(rt; runs == Some(made.saturating_add(1)));
     assert!(rt; runs > Some(3), "{runs:?} runs");
     Ok(())
 }
@@ -83,7 +97,7 @@ fn each_request_of_a_map(rt: HostRuntime) -> Result<(), Fail> {
     for (most_runs, is_enough) in [(1_000, true), (3, false), (0, false)] {
         let refusals = memory.refusals();
         let runs = memory.refuse_each(most_runs, |_| insert_all(&rt, &memory))?;
-        assert_eq!(rt; runs > Some(40), is_enough, "{runs:?} runs");
+        assert!(rt; (runs > Some(40)) == is_enough, "{runs:?} runs");
         let met = memory.refusals().saturating_sub(refusals);
         assert!(rt;
             is_enough || runs.is_none() && met == most_runs,
@@ -105,8 +119,7 @@ fn hands_on_an_error(rt: HostRuntime) {
             Err(nth)
         }
     });
-    assert_eq!(rt; ended, Err(2));
-    assert_eq!(rt; calls, 2);
+    assert!(rt; ended == Err(2) && calls == 2);
 }
 
 // What fails: the call of this number.
@@ -164,7 +177,7 @@ const RUNS: &[(Fault, u64, Option<u64>)] = &[
 fn each_call_of_readers_and_writers(rt: HostRuntime) -> Result<(), Fail> {
     for (fault, most_runs, wanted) in RUNS.iter() {
         let runs = each_fault::<AllocError, _>(*most_runs, |nth| Ok(fails(&rt, *fault, nth)))?;
-        assert_eq!(rt; runs, *wanted);
+        assert!(rt; runs == *wanted);
     }
     Ok(())
 }

@@ -115,28 +115,32 @@ fn expect_answers(rt: &impl Abort, writer: &mut FaultyWriter<Memory<'_>>, acts: 
     for act in acts.iter() {
         match *act {
             Act::Write(text, answer) => {
-                assert_eq!(rt; write_once(writer, text), answer);
+                assert!(rt; write_once(writer, text) == answer);
                 writes = writes.saturating_add(1);
             }
             Act::Flush(answer) => {
-                assert_eq!(rt; flush_once(writer), answer);
+                assert!(rt; flush_once(writer) == answer);
                 flushes = flushes.saturating_add(1);
             }
         }
     }
-    assert_eq!(rt; writer.writes(), writes);
-    assert_eq!(rt; writer.flushes(), flushes);
+    assert!(rt; writer.writes() == writes && writer.flushes() == flushes);
+}
+
+fn made<'a>(memory: Memory<'a>, choices: &[Choice]) -> FaultyWriter<Memory<'a>> {
+    let mut writer = FaultyWriter::new(memory);
+    for choice in choices.iter() {
+        writer = with_choice(memory, writer, choice);
+    }
+    writer
 }
 
 #[test]
 fn writes_as_it_is_told_to(rt: HostRuntime) {
     for (choices, acts, taken) in WRITERS.iter() {
         let memory = Refusing::new(rt.alloc());
-        let mut writer = FaultyWriter::new(&memory);
-        for choice in choices.iter() {
-            writer = with_choice(&memory, writer, choice);
-        }
+        let mut writer = made(&memory, choices);
         expect_answers(&rt, &mut writer, acts);
-        assert_eq!(rt; writer.contents(), *taken);
+        assert!(rt; writer.contents() == *taken);
     }
 }
