@@ -24,7 +24,7 @@ losses_of p = losses_from p.earlier
 abbrev pub Costs : List (List ℕ) → Named → List Block → ℕ → Type 0
 Costs arguments forms blocks n = call_loss arguments (record { forms = finite.from_entries forms; blocks = blocks }) ≡ n
 
--- the most of these states by a measure
+-- the greatest measure of these states
 abbrev pub most_of : (State → ℕ) → List State → ℕ
 most_of measure [] = 0
 most_of measure (s ∷ states) = max (measure s) (most_of measure states)

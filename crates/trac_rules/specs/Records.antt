@@ -25,7 +25,7 @@ pub data Record : Type 0 where
   Quoted : ℕ → Bool → Record
   -- this byte was deleted
   Deleted : ℕ → Record
-  -- this base text and these frames were emptied
+  -- this base text and these frames, the innermost first, were emptied
   Idle : List ℕ → List Frame → Record
   -- a function was performed, in this state
   Whole : State → Record
@@ -115,7 +115,7 @@ abbrev pub ending_of : Bool → List ℕ
 ending_of true = codes ")"
 ending_of false = []
 
--- whether nothing but the idle program is there to be scanned, and nothing is gathered
+-- whether nothing but the idle program is there to be scanned, and no function is begun
 abbrev pub is_idle : State → Bool
 is_idle s = bytes_eq s.active idle_program && length s.base == 0 && length s.frames == 0
 

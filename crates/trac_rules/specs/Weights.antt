@@ -1,5 +1,5 @@
 -- What a record weighs, by what it keeps, and what a step may cost the journal, by the state before it: bytes of texts and names, items of
--- forms, and one for each comma, frame and form. Lengths, places and flags are not weighed.
+-- forms, and one for each comma, frame and form. Lengths and flags are not weighed.
 use Rattle.std.specs.Prelude.{ℕ, ◌+◌, ◌-◌, List, [], ◌∷◌, ◌++◌, length, map, take, drop}
 use Rattle.std.specs.FinMap as finite
 use Rattle.std.specs.Option.{option_map_or}
@@ -41,7 +41,7 @@ abbrev pub blocks_weight : List Block → ℕ
 blocks_weight [] = 0
 blocks_weight (block ∷ blocks) = held_weight (forms_in block) + blocks_weight blocks
 
--- a state: its texts, the meta character among them, its frames, forms and blocks
+-- a state: its texts, one for the meta character, its frames, forms and blocks
 abbrev pub state_weight : State → ℕ
 state_weight s =
     length s.active + length s.base + frames_weight s.frames + length s.output + 1

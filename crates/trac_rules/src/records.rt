@@ -16,9 +16,10 @@ ghost use Rattle.trac_rules.specs.declared.kind.Kind.TheVariants.{Active, Neutra
 ghost use Rattle.trac_rules.specs.declared.refusal.Refusal.TheVariants.{NeedInput};
 ghost use Rattle.trac_rules.specs.declared.reply.Reply.TheVariants.{Done, Refused};
 
-/// A record, with the state after its step, gives back the state before: nothing else holds what was lost.
-/// The state before is always a proper one. As many records as a session took steps lead back over all of them. A record of
-/// scanning knows no place of the tape and nothing of the output: what it restores stands where the state after stands.
+/// A record, with the state after its step from a proper state, gives back the state before: nothing else holds what was lost.
+/// The state before is always a proper one. Where a session takes so many steps one after another, as many records lead back
+/// over all of them. A record of scanning knows no place of the tape and nothing of the output: what it restores stands where
+/// the state after stands.
 pub fn records_lead_back()
     ensures each_step { (environment : Environment) (s t : State) → IsProper s → step environment s ≡ Ok t → state_before (recorded s) t ≡ Some s }
     ensures only_proper { (r : Record) (s t : State) → state_before r t ≡ Some s → IsProper s }
@@ -42,7 +43,7 @@ pub fn worked_records()
     // Functions that are begun and never ended are emptied with the base text.
     ensures begun_functions { recorded (state_after (Feed (codes ")x##(a,b#(c,d#(e'") ∷ replicate 21 Step) (new_session 64)) ≡ Idle (codes "x") (record { kind = Active; arguments = codes "c" ∷ []; gathered = codes "d" } ∷ record { kind = Neutral; arguments = codes "a" ∷ []; gathered = codes "b" } ∷ []) }
     ensures begun_functions_weight { weight (Idle (codes "x") (record { kind = Active; arguments = codes "c" ∷ []; gathered = codes "d" } ∷ record { kind = Neutral; arguments = codes "a" ∷ []; gathered = codes "b" } ∷ [])) ≡ 9 }
-    // The room that a machine needs to go there and back.
+    // The room that a machine needs for the first eleven steps over `AB'`, and back.
     ensures text_room { most_in text_bytes (session_after (Feed (codes "AB'") ∷ replicate 11 Step) (new_session 64)) ≡ 11 }
     ensures mark_room { most_in (λ s. marks s.frames) (session_after (Feed (codes "AB'") ∷ replicate 11 Step) (new_session 64)) ≡ 3 }
     ensures output_room { most_in (λ s. length s.output) (session_after (Feed (codes "AB'") ∷ replicate 11 Step) (new_session 64)) ≡ 2 }
@@ -52,7 +53,7 @@ pub fn worked_records()
     ensures unmatched { recorded (record initial { active = codes "((a)"; base = codes "x" }) ≡ Quoted 3 false }
     ensures unmatched_back { restored (Quoted 3 false) (record initial { active = []; base = codes "x(a)" }) ≡ Some (record initial { active = codes "((a)"; base = codes "x" }) }
     ensures layout { recorded (record initial { active = TAB ∷ codes "a" }) ≡ Deleted TAB }
-    // An argument that is begun again, and a neutral function that is not.
+    // An argument that is gathered again, and a neutral function that is no longer begun.
     ensures argument_back { restored Comma (record initial { active = codes "b"; frames = record { kind = Neutral; arguments = codes "x" ∷ codes "a" ∷ []; gathered = [] } ∷ [] }) ≡ Some (record initial { active = codes ",b"; frames = record { kind = Neutral; arguments = codes "x" ∷ []; gathered = codes "a" } ∷ [] }) }
     ensures beginning_back { restored Begun (record initial { active = codes "b"; frames = record { kind = Neutral; arguments = []; gathered = [] } ∷ [] }) ≡ Some (record initial { active = codes "##(b" }) }
     // A state that does not show what the record names.
