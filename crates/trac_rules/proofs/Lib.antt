@@ -14,6 +14,7 @@ pub mod ProperStates
 pub mod ProperDecided
 pub mod FormCalls
 pub mod BlockCalls
+pub mod BlocksStay
 pub mod Refusals
 pub mod Replies
 pub mod GoingOn

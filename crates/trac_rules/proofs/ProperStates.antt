@@ -298,7 +298,7 @@ StepsProper (Ok t) = IsProperStorage (storage_of t)
 StepsProper (Err refusal) = Unit {0}
 
 -- a placed value leaves the storage
-storage-placed : (kind : Kind) (forced : Bool) (value : List ℕ) (s : State) → storage_of (placed kind forced value s) ≡ storage_of s
+pub storage-placed : (kind : Kind) (forced : Bool) (value : List ℕ) (s : State) → storage_of (placed kind forced value s) ≡ storage_of s
 storage-placed Active forced value s = refl
 storage-placed Neutral true value s = refl
 storage-placed Neutral false value s = gathered_in_shows storage_of (λ _ _ _ _. refl) s.frames value s

@@ -28,6 +28,11 @@ pub fn match_is_balanced()
         protected text ≡ record { inner = text; rest = [] } }
 {}
 
+/// No step takes a block off the list: an erased one keeps its place, so no number of a block is used again.
+pub fn blocks_stay()
+    ensures { (environment : Environment) (s t : State) → step environment s ≡ Ok t → length s.blocks ≤ length t.blocks }
+{}
+
 /// Judging forms and blocks where they are put is the same as judging the whole state after the step.
 /// The state at the start is proper, and each step leads from a proper state to a proper one: so a step whose new state would pass
 /// any limit is refused. A form that may be put among proper forms, its gaps wide, leaves them proper; and a form that leaves

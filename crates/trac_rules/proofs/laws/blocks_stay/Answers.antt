@@ -1,0 +1,6 @@
+-- The law is that of `BlocksStay`.
+use Rattle.trac_rules.proofs.BlocksStay as stay
+use Rattle.trac_rules.proofs.laws.blocks_stay.Goals as goal
+
+pub returns : goal.returns
+returns c = stay.blocks_stay
