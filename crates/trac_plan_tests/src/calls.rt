@@ -47,6 +47,12 @@ const CALLS: &[(&[u8], &[usize], &[u8])] = &[
     (b"ddF", &[2], b"||remove F; 0"),
     (b"ddF", &[2, 3], b"||remove F;; 0"),
     (b"ddFG", &[2, 3], b"||remove F;G; 0"),
+    // A name without a form, and one that is given again, are passed over.
+    (b"sbGXB", &[2, 3, 4], b"||move in B; put G <^>0 0"),
+    (b"sbGBB", &[2, 3, 4], b"||move in B; put G <^>0 0"),
+    // A form that names no block.
+    (b"fbF", &[2], b"||keep 0"),
+    (b"ebF", &[2], b"||keep 0"),
 ];
 
 // Calls that make no request for memory. Where there is no form of the name, the value is null and nothing changes.
@@ -54,6 +60,8 @@ const CALLS_WITHOUT_MEMORY: &[(&[u8], &[usize], &[u8])] = &[
     (b"ssGb", &[2, 3], b"||keep 0"),
     (b"crGb", &[2, 3], b"||keep 0"),
     (b"clGb", &[2, 3], b"||keep 0"),
+    (b"fbG", &[2], b"||keep 0"),
+    (b"ebG", &[2], b"||keep 0"),
     (b"pfGb", &[2, 3], b"||keep 0"),
     (b"ccGb", &[2, 3], b"||keep 0"),
     (b"cm;x", &[2], b"||keep 0 ;"),

@@ -4,7 +4,7 @@ ghost use Rattle.std.specs.Prelude.{◌≡◌, ◌≤◌, length, None};
 
 use std::alloc::{AllocError, Allocator, Global};
 use std::process::Abort;
-use trac_forms::{FormError, Store};
+use trac_forms::{Form, FormError, Store};
 use trac_prims::{Args, Change, Effect, Kind, Mark, Now, Tape, plan};
 use trac_rules::limit::MARK_LIMIT;
 use trac_rules::refusal::Refusal;
@@ -91,21 +91,39 @@ fn add(out: &mut Vec<u8>, text: &[u8]) -> Result<(), AllocError> {
     Ok(out.extend_from_slice(text)?)
 }
 
+// Names, each with a `;` behind it.
+fn add_names<A: Allocator + Copy>(
+    out: &mut Vec<u8>,
+    names: &[Vec<u8, A>],
+) -> Result<(), AllocError> {
+    for name in names.iter() {
+        add(out, name.as_slice())?;
+        add(out, b";")?;
+    }
+    Ok(())
+}
+
+// A name, a blank, and the form that is put under it.
+fn add_form<A: Allocator + Copy>(
+    out: &mut Vec<u8>,
+    name: &[u8],
+    form: &Form<A>,
+) -> Result<(), FormError> {
+    add(out, name)?;
+    add(out, b" ")?;
+    form.show_into(out)
+}
+
 fn add_change<A: Allocator + Copy>(out: &mut Vec<u8>, change: &Change<A>) -> Result<(), FormError> {
     match change {
         Change::Keep => add(out, b"keep")?,
         Change::Put(name, form) => {
             add(out, b"put ")?;
-            add(out, name.as_slice())?;
-            add(out, b" ")?;
-            form.show_into(out)?;
+            add_form(out, name.as_slice(), form)?;
         }
         Change::Remove(names) => {
             add(out, b"remove ")?;
-            for name in names.iter() {
-                add(out, name.as_slice())?;
-                add(out, b";")?;
-            }
+            add_names(out, names.as_slice())?;
         }
         Change::Clear => add(out, b"clear")?,
         Change::Point(name, place) => {
@@ -113,6 +131,36 @@ fn add_change<A: Allocator + Copy>(out: &mut Vec<u8>, change: &Change<A>) -> Res
             add(out, name.as_slice())?;
             add_number(out, *place)?;
         }
+        Change::MoveIn {
+            held,
+            name,
+            address,
+        } => {
+            add(out, b"move in ")?;
+            add_names(out, held.as_slice())?;
+            add(out, b" put ")?;
+            add_form(out, name.as_slice(), address)?;
+        }
+        Change::Bring { .. } | Change::Erase { .. } => add_block(out, change)?,
+    }
+    Ok(())
+}
+
+// What becomes of a block.
+fn add_block<A: Allocator + Copy>(out: &mut Vec<u8>, change: &Change<A>) -> Result<(), FormError> {
+    if let Change::Bring { number, forms } = change {
+        add(out, b"bring")?;
+        add_number(out, *number)?;
+        for (name, form) in forms.iter() {
+            add(out, b" ")?;
+            add_form(out, name.as_slice(), form)?;
+        }
+    }
+    if let Change::Erase { number, name } = change {
+        add(out, b"erase")?;
+        add_number(out, *number)?;
+        add(out, b" remove ")?;
+        add(out, name.as_slice())?;
     }
     Ok(())
 }
