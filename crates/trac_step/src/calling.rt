@@ -161,6 +161,7 @@ impl<E: TwoEnds<u8, A>, M: TwoEnds<Mark, A>, A: Allocator + Copy> Core<E, M, A> 
     }
 
     // The next step, where it performs a function.
+    #[tactic(auto, using(crate::proofs::Recorded::call_lacks_nothing))]
     pub(crate) fn call_step(&mut self, tape: Tape<'_>) -> Result<Record<Self, A>, Refusal>
         requires front { front_of self.old.state.active ≡ Front.Closing }
         requires inside { 0 < length self.old.state.frames }

@@ -52,13 +52,8 @@ impl<E: TwoEnds<u8, A>, M: TwoEnds<Mark, A>, A: Allocator + Copy> Core<E, M, A> 
         ensures room { IsNoLess self.old self.new }
     {
         match taken {
-            Record::Moved => self.move_back(1),
-            Record::Comma => self.gather_again(),
-            Record::Begun => self.take_beginning_back(),
-            Record::Quoted { inner, closed } => self.take_quoted_back(inner, closed),
-            Record::Deleted(byte) => self.put_byte_back(byte),
-            Record::Idle { base, frames } => self.unload(base, frames),
             Record::Whole(earlier) => self.put_back(earlier),
+            _ => unreachable!(),
         }
     }
 

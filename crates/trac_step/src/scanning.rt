@@ -6,10 +6,12 @@ ghost use Rattle.trac_rules.specs.Scanning.{protect, deleted, comma_in, gather_f
 ghost use Rattle.trac_rules.specs.Limits.{marks};
 ghost use Rattle.trac_rules.specs.Records.{comma_recorded};
 ghost use Rattle.trac_step.specs.Calling.{with_mark};
+ghost use Rattle.trac_step.specs.Pieces.{frames_in};
 ghost use Rattle.trac_step.specs.Record.{recorded_by};
 ghost use Rattle.trac_step.specs.Room.{IsNoLess};
 
 use crate::engine::Core;
+use crate::pieces::Pieces;
 use crate::record::Record;
 use crate::texts::{push_mark, restart, take_first, take_protected};
 use std::alloc::Allocator;
@@ -19,17 +21,23 @@ use trac_rules::kind::Kind;
 use trac_rules::limit::MARK_LIMIT;
 use trac_rules::refusal::Refusal;
 
+// A text outside all begun functions, and these, the innermost first.
+type Emptied<A> = (Vec<u8, A>, Vec<(Kind, Pieces<A>), A>);
+
 impl<E: TwoEnds<u8, A>, M: TwoEnds<Mark, A>, A: Allocator + Copy> Core<E, M, A> {
-    // The active text is null: all other text goes, and the idle program is loaded.
-    pub(crate) fn reload(&mut self) -> Result<(), Refusal>
+    // The active text is null: all other text goes, and the idle program is loaded. Answers what went: the text outside all begun
+    // functions, and these.
+    pub(crate) fn reload(&mut self) -> Result<Emptied<A>, Refusal>
         requires { self.old.state.active ≡ [] }
         ensures ok { OnOk result (self.new.state ≡ record self.old.state { active = idle_program; base = []; frames = [] }) }
+        ensures kept { IfOk result (λ kept. (kept.0.items ≡ self.old.state.base) × (frames_in kept.1.items ≡ self.old.state.frames)) }
         ensures room { IsNoLess self.old self.new }
         ensures unchanged { OnErr result (self.new ≡ self.old) }
         ensures err { IsOkUnless result Refusal.Memory }
     {
+        let alloc = *self.output.allocator();
         restart(&mut self.text, &mut self.marks)?;
-        Ok(())
+        Ok((Vec::new(alloc), Vec::new(alloc)))
     }
 
     // A `(`: what it protects goes to the current text. Answers how many bytes that is, and whether there was a match.
@@ -59,8 +67,7 @@ impl<E: TwoEnds<u8, A>, M: TwoEnds<Mark, A>, A: Allocator + Copy> Core<E, M, A> 
         ensures recorded { IfOk result (λ r. recorded_by r ≡ comma_recorded self.old.state.frames self.old.state) }
         ensures room { IsNoLess self.old self.new }
         ensures unchanged { OnErr result (self.new ≡ self.old) }
-        ensures inside { OnErr result (0 < length self.old.state.frames) }
-        ensures full { OnErr result (self.old.mark_room ≤ marks self.old.state.frames) }
+        ensures full { OnErr result ((0 < length self.old.state.frames) × (self.old.mark_room ≤ marks self.old.state.frames)) }
         ensures err { IsOkUnless result Refusal.Memory }
     {
         if self.marks.left().is_empty() {
