@@ -227,89 +227,102 @@ pub record IsBack (r : Record) (p q : Parts) : Type 0 where
   pub state : restored r (state_of p) ≡ Some (state_of q)
   pub sound : IsSound q
 
+-- the parts with a protected text of this length before the active text
+abbrev pub unprotected_parts : ℕ → Bool → Parts → Parts
+unprotected_parts inner closed p =
+    let moved : Parts = moved_parts inner (record p { active = ending_of closed ++ p.active }) in
+    record moved { active = codes "(" ++ moved.active }
+
+-- the parts without their last mark, and with these bytes before the active text
+abbrev pub unmarked_parts : List ℕ → Parts → Parts
+unmarked_parts bytes p = record p { active = bytes ++ p.active; marks = take (length p.marks - 1) p.marks }
+
+pub record IsUnprotected (inner : ℕ) (closed : Bool) (p : Parts) : Type 0 where
+  pub within : inner ≤ length p.text
+  pub room : length p.text + length p.active + length (ending_of closed) < p.text_room
+  pub back : IsBack (Quoted inner closed) p (unprotected_parts inner closed p)
+
+pub record IsGatheredAgain (p : Parts) : Type 0 where
+  pub some : 0 < length p.marks
+  pub room : length p.text + length p.active + 1 ≤ p.text_room
+  pub back : IsBack Comma p (unmarked_parts (codes ",") p)
+
+pub record IsNotBegun (p : Parts) : Type 0 where
+  pub kind : Kind
+  pub frame : last_begun (reverse p.marks) ≡ Some kind
+  pub some : 0 < length p.marks
+  pub room : length p.text + length p.active + length (beginning_of kind) ≤ p.text_room
+  pub back : IsBack Begun p (unmarked_parts (beginning_of kind) p)
+
+-- no byte is lost or added
+moved_length : (n : ℕ) (p : Parts) → n ≤ length p.text → length (moved_parts n p).active + length (moved_parts n p).text ≡ length p.active + length p.text
+moved_length n p within =
+    let kept : ℕ = length p.text - n in
+    omega (arith, length-append (drop kept p.text) p.active, length-drop kept p.text, length-take-le kept p.text (omega arith))
+
+-- so all is as sound as before
+sound_moved_back : (n : ℕ) (p : Parts) → IsSound p → IsMovedBack n p → IsSound (moved_parts n p)
+sound_moved_back n p sound back =
+    let size = moved_length n p back.within in
+    record {
+      ordered = back.ordered;
+      text_limit = omega (arith, size, sound.text_limit);
+      mark_limit = sound.mark_limit;
+      output_limit = sound.output_limit;
+      text_room = omega (arith, size, sound.text_room);
+      mark_room = sound.mark_room;
+      storage = sound.storage;
+    }
+
+back_unmarked : (r : Record) (bytes : List ℕ) (p : Parts) → CanShow (shown_by p) (restored r (state_of p)) →
+    IsUnmarked p.text (reverse p.marks) (state_of p) bytes (restored r (state_of p)) → IsBack r p (unmarked_parts bytes p)
+back_unmarked r bytes p can rest =
+    let state : restored r (state_of p) ≡ Some (state_of (unmarked_parts bytes p)) =
+    rest.state ∙ ap (λ (ms : List Mark). back_to (state_of p) (neutral p.text ms) bytes) (sym (reverse_front p.marks)) in
+    let ordered : AreMarks (length p.text) (reverse (take (length p.marks - 1) p.marks)) = subst (AreMarks (length p.text)) (sym (reverse_front p.marks)) rest.ordered in
+    record { state = state; sound = sound_back p (unmarked_parts bytes p) _ can state ordered refl refl }
+
 module _ (p : Parts) (m : Shown) (sound : IsSound p) (view : shown_by p ≡ m) where
   can_here : (r : Record) → CanShow m (restored r m.state) → CanShow (shown_by p) (restored r (state_of p))
   can_here r = subst (λ (n : Shown). CanShow n (restored r n.state)) (sym view)
 
-  pub is_moved_back_in : (n : ℕ) → IsSome (moved_back n m.state) → IsMovedBack n p
-  is_moved_back_in n h = is_moved_back n p sound.ordered (subst (λ (shown : Shown). IsSome (moved_back n shown.state)) (sym view) h)
+  pub moves_back : (n : ℕ) → IsSome (moved_back n m.state) → IsMovedBack n p × IsSound (moved_parts n p)
+  moves_back n h =
+      let back : IsMovedBack n p = is_moved_back n p sound.ordered (subst (λ (shown : Shown). IsSome (moved_back n shown.state)) (sym view) h) in
+      (back, sound_moved_back n p sound back)
 
-  -- no byte is lost or added, so all is as sound as before
-  pub sound_moved_back : (n : ℕ) → IsMovedBack n p → IsSound (moved_parts n p)
-  sound_moved_back n back =
-      let kept : ℕ = length p.text - n in
-      let size : length (drop kept p.text ++ p.active) + length (take kept p.text) ≡ length p.active + length p.text =
-      omega (arith, length-append (drop kept p.text) p.active, length-drop kept p.text, length-take-le kept p.text (omega arith)) in
-      record {
-        ordered = back.ordered;
-        text_limit = omega (arith, size, sound.text_limit);
-        mark_limit = sound.mark_limit;
-        output_limit = sound.output_limit;
-        text_room = omega (arith, size, sound.text_room);
-        mark_room = sound.mark_room;
-        storage = sound.storage;
-      }
+  pub undeletes : (b : ℕ) → CanShow m (restored (Deleted b) m.state) → IsBack (Deleted b) p (record p { active = b ∷ p.active })
+  undeletes b can = record { state = refl; sound = sound_back p (record p { active = b ∷ p.active }) _ (can_here (Deleted b) can) refl sound.ordered refl refl }
 
-  -- a deleted byte
-  pub undeleted : (b : ℕ) → CanShow m (restored (Deleted b) m.state) → IsBack (Deleted b) p (record p { active = b ∷ p.active })
-  undeleted b can = record { state = refl; sound = sound_back p (record p { active = b ∷ p.active }) _ (can_here (Deleted b) can) refl sound.ordered refl refl }
-
-  -- a protected text
-  abbrev pub unprotected_parts : ℕ → Bool → Parts
-  unprotected_parts inner closed =
-      let moved : Parts = moved_parts inner (record p { active = ending_of closed ++ p.active }) in
-      record moved { active = codes "(" ++ moved.active }
-
-  pub record IsUnprotected (inner : ℕ) (closed : Bool) : Type 0 where
-    pub within : inner ≤ length p.text
-    pub back : IsBack (Quoted inner closed) p (unprotected_parts inner closed)
-
-  pub unprotected : (inner : ℕ) (closed : Bool) → CanShow m (restored (Quoted inner closed) m.state) → IsUnprotected inner closed
-  unprotected inner closed can =
+  pub unprotects : (inner : ℕ) (closed : Bool) → CanShow m (restored (Quoted inner closed) m.state) → IsUnprotected inner closed p
+  unprotects inner closed can =
       let here : CanShow (shown_by p) (restored (Quoted inner closed) (state_of p)) = can_here (Quoted inner closed) can in
       let ended : Parts = record p { active = ending_of closed ++ p.active } in
       let moved : IsMovedBack inner ended = is_moved_back inner ended sound.ordered (some_map (put_before (codes "(")) _ (shown_is_some _ _ here)) in
-      let state : restored (Quoted inner closed) (state_of p) ≡ Some (state_of (unprotected_parts inner closed)) = ap (option_map (put_before (codes "("))) moved.state in
+      let state : restored (Quoted inner closed) (state_of p) ≡ Some (state_of (unprotected_parts inner closed p)) = ap (option_map (put_before (codes "("))) moved.state in
+      let back : IsSound (unprotected_parts inner closed p) = sound_back p (unprotected_parts inner closed p) _ here state moved.ordered refl refl in
       record {
         within = moved.within;
-        back = record { state = state; sound = sound_back p (unprotected_parts inner closed) _ here state moved.ordered refl refl };
+        room = omega (arith, back.text_room, moved_length inner ended moved.within, length-append (ending_of closed) p.active);
+        back = record { state = state; sound = back };
       }
 
-  -- the last mark, with these bytes before the active text
-  abbrev pub unmarked_parts : List ℕ → Parts
-  unmarked_parts bytes = record p { active = bytes ++ p.active; marks = take (length p.marks - 1) p.marks }
-
-  back_unmarked : (r : Record) (bytes : List ℕ) → CanShow (shown_by p) (restored r (state_of p)) → IsUnmarked p.text (reverse p.marks) (state_of p) bytes (restored r (state_of p)) →
-      IsBack r p (unmarked_parts bytes)
-  back_unmarked r bytes can rest =
-      let state : restored r (state_of p) ≡ Some (state_of (unmarked_parts bytes)) =
-      rest.state ∙ ap (λ (ms : List Mark). back_to (state_of p) (neutral p.text ms) bytes) (sym (reverse_front p.marks)) in
-      let ordered : AreMarks (length p.text) (reverse (take (length p.marks - 1) p.marks)) = subst (AreMarks (length p.text)) (sym (reverse_front p.marks)) rest.ordered in
-      record { state = state; sound = sound_back p (unmarked_parts bytes) _ can state ordered refl refl }
-
-  pub record IsGatheredAgain : Type 0 where
-    pub some : 0 < length p.marks
-    pub back : IsBack Comma p (unmarked_parts (codes ","))
-
-  pub gathered_again : CanShow m (restored Comma m.state) → IsGatheredAgain
-  gathered_again can =
+  pub gathers_again : CanShow m (restored Comma m.state) → IsGatheredAgain p
+  gathers_again can =
       let here : CanShow (shown_by p) (restored Comma (state_of p)) = can_here Comma can in
       let rest = comma_unmarked p.text (reverse p.marks) (state_of p) sound.ordered (shown_is_some _ _ here) in
-      record { some = omega (arith, rest.some, length-reverse p.marks); back = back_unmarked Comma (codes ",") here rest }
+      let back : IsBack Comma p (unmarked_parts (codes ",") p) = back_unmarked Comma (codes ",") p here rest in
+      record { some = omega (arith, rest.some, length-reverse p.marks); room = omega (arith, back.sound.text_room); back = back }
 
-  pub record IsNotBegun : Type 0 where
-    pub kind : Kind
-    pub frame : last_begun (reverse p.marks) ≡ Some kind
-    pub some : 0 < length p.marks
-    pub back : IsBack Begun p (unmarked_parts (beginning_of kind))
-
-  pub not_begun : CanShow m (restored Begun m.state) → IsNotBegun
-  not_begun can =
+  pub takes_beginning_back : CanShow m (restored Begun m.state) → IsNotBegun p
+  takes_beginning_back can =
       let here : CanShow (shown_by p) (restored Begun (state_of p)) = can_here Begun can in
       let gone = begun_unmarked p.text (reverse p.marks) (state_of p) sound.ordered (shown_is_some _ _ here) in
+      let back : IsBack Begun p (unmarked_parts (beginning_of gone.kind) p) = back_unmarked Begun (beginning_of gone.kind) p here gone.rest in
       record {
         kind = gone.kind;
         frame = gone.frame;
         some = omega (arith, gone.rest.some, length-reverse p.marks);
-        back = back_unmarked Begun (beginning_of gone.kind) here gone.rest;
+        room = omega (arith, back.sound.text_room, length-append (beginning_of gone.kind) p.active);
+        back = back;
       }
