@@ -5,3 +5,4 @@ pub mod Calling
 pub mod Room
 pub mod Pieces
 pub mod Record
+pub mod Undoing

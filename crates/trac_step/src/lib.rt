@@ -15,6 +15,8 @@ pub mod record;
 mod scanning;
 mod stepping;
 mod texts;
+mod texts_back;
+mod undoing;
 
 pub use engine::{Core, Machine};
 pub use pieces::Pieces;
