@@ -7,6 +7,7 @@ mod changing;
 mod ends;
 pub mod engine;
 mod front;
+mod idle;
 mod matching;
 mod moves;
 pub mod pieces;

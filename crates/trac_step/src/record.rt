@@ -52,8 +52,13 @@ impl<E: TwoEnds<u8, A>, M: TwoEnds<Mark, A>, A: Allocator + Copy> Core<E, M, A> 
         ensures room { IsNoLess self.old self.new }
     {
         match taken {
+            Record::Moved => self.move_back(1),
+            Record::Comma => self.gather_again(),
+            Record::Begun => self.take_beginning_back(),
+            Record::Quoted { inner, closed } => self.unprotect(inner, closed),
+            Record::Deleted(byte) => self.undelete(byte),
+            Record::Idle { base, frames } => self.unload(base.as_slice(), frames),
             Record::Whole(earlier) => self.put_back(earlier),
-            _ => unreachable!(),
         }
     }
 
