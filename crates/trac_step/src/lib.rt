@@ -7,8 +7,10 @@ mod changing;
 mod ends;
 pub mod engine;
 mod front;
+mod idle;
 mod matching;
 mod moves;
+pub mod pieces;
 mod readers;
 pub mod record;
 mod scanning;
@@ -16,6 +18,7 @@ mod stepping;
 mod texts;
 
 pub use engine::{Core, Machine};
+pub use pieces::Pieces;
 pub use record::Record;
 pub use trac_forms::Store;
 pub use trac_prims::{Args, Kind, Mark, Refusal, Tape};
