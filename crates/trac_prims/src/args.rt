@@ -1,5 +1,5 @@
 //! The arguments of a function, borrowed from the neutral text.
-ghost use Rattle.std.specs.Prelude.{◌≡◌, ◌≤◌, ◌-◌, [], length, get_or, take, drop};
+ghost use Rattle.std.specs.Prelude.{◌≡◌, ◌≤◌, ◌+◌, ◌-◌, [], length, get_or, take, drop};
 ghost use Rattle.std.specs.List.{concat};
 ghost use Rattle.trac_prims.specs.Cuts.{AreCuts, cut, start_of, end_of};
 
@@ -41,6 +41,13 @@ impl<'a> Args<'a> {
         ensures { result ≡ length self.now }
     {
         self.marks.len() + 1
+    }
+
+    /// How many commas stand between the arguments: one less than there are arguments.
+    pub fn comma_count(&self) -> usize
+        ensures { result + 1 ≡ length self.now }
+    {
+        self.marks.len()
     }
 
     /// The argument of this number, from 0 on; null past the last, as T-64 has it.

@@ -27,7 +27,7 @@ pub(crate) fn functions_of<A: Allocator + Copy>(
     let mut rest = text;
     while let Some(innermost) = rest.innermost() {
         let arguments = Pieces::of(alloc, &innermost.arguments)?;
-        functions.push((innermost.kind, arguments))?;
+        functions.push_reserved((innermost.kind, arguments));
         rest = rest.before(&innermost);
     }
     Ok(functions)

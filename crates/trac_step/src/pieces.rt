@@ -42,10 +42,10 @@ impl<A: Allocator + Copy> Pieces<A> {
         let bytes = arguments.joined();
         let mut text = Vec::with_capacity(alloc, bytes.len())?;
         text.extend_from_slice(bytes)?;
-        let commas = arguments.count() - 1;
+        let commas = arguments.comma_count();
         let mut lengths = Vec::with_capacity(alloc, commas)?;
         for i in 0..commas {
-            lengths.push(arguments.get(i).len())?;
+            lengths.push_reserved(arguments.get(i).len());
         }
         Ok(Pieces { text, lengths })
     }
