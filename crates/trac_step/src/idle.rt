@@ -20,7 +20,7 @@ pub(crate) fn functions_of<A: Allocator + Copy>(
     alloc: A,
     text: NeutralText<'_>,
 ) -> Result<Functions<A>, Refusal>
-    ensures same { IfOk result (λ functions. frames_in functions.items ≡ (neutral_of text).frames) }
+    ensures same { IfOk result (λ functions. frames_in functions.items ≡ (neutral_of text.entry).frames) }
     ensures err { IsOkUnless result Refusal.Memory }
 {
     let mut functions = Vec::with_capacity(alloc, text.depth())?;
@@ -38,7 +38,7 @@ pub(crate) fn put_functions<A: Allocator + Copy, E: TwoEnds<u8, A>, M: TwoEnds<M
     text: &mut E,
     marks: &mut M,
     base: &[u8],
-    functions: Functions<A>,
+    mut functions: Functions<A>,
 )
     requires text_room { length base.now + argument_bytes (frames_in functions.items) ≤ (E.ends text.old).capacity }
     requires mark_room { mark_count (frames_in functions.items) ≤ (M.ends marks.old).capacity }
@@ -50,8 +50,7 @@ pub(crate) fn put_functions<A: Allocator + Copy, E: TwoEnds<u8, A>, M: TwoEnds<M
 {
     refill(text, base, &[]);
     refill(marks, &[], &[]);
-    let mut left = functions;
-    while let Some((kind, arguments)) = left.pop() {
+    while let Some((kind, arguments)) = functions.pop() {
         put_function(text, marks, kind, &arguments);
     }
 }
