@@ -1,18 +1,26 @@
--- The neutral text with begun functions put back: what it shows, and how large it is.
+-- The neutral text with begun functions put back: what it shows, how large it is, and that a machine may hold it.
 use Rattle.std.proofs.Common.{◌≡◌, ℕ, ◌+◌, ◌<◌, ◌≤◌, List, [], ◌∷◌, ◌++◌, length, map, reverse, refl, sym, ap, ◌∙◌, subst, arith}
-use Rattle.std.specs.Prelude.{Option, Some, None}
+use Rattle.std.specs.Bool.{then_some}
+use Rattle.std.specs.Prelude.{Bool, true, false, IsSomeAnd, Option, Some, None, Vec}
 use Rattle.std.specs.List.{concat}
 use Rattle.std.proofs.lemmas.List.{append-nil, append_assoc, map-append, length-append, length-map, length-reverse}
 use Rattle.std.proofs.lemmas.Option.{none-some}
 use Rattle.trac_rules.specs.declared.kind.Kind.{Kind}
-use Rattle.trac_rules.specs.Limits.{argument_bytes, marks, total_length}
-use Rattle.trac_rules.specs.State.{Frame}
+use Rattle.trac_gap.specs.Ends.{Ends}
+use Rattle.trac_forms.specs.Stored.{Stored}
+use Rattle.trac_rules.specs.Limits.{argument_bytes, marks, text_bytes, total_length}
+use Rattle.trac_rules.specs.Proper.{IsProper}
+use Rattle.trac_rules.specs.Records.{Idle, is_idle, restored}
+use Rattle.trac_rules.specs.State.{Frame, State}
 use Rattle.trac_prims.specs.declared.mark.Mark.{Mark}
 use Rattle.trac_prims.specs.Neutral.{AreMarks, Neutral, marked, neutral}
 use Rattle.trac_prims.proofs.Neutral.{AreMarks-longer, longer, neutral-append, neutral_bytes, bytes-neutral, marks-neutral}
 use Rattle.trac_step.specs.Calling.{mark_at}
+use Rattle.trac_step.specs.Layout.{IsSound, Parts, Shown, parts_of, shown_by, state_of}
 use Rattle.trac_step.specs.Pieces.{Arguments, all_texts, comma_marks, frame_in, frames_in, function_marks}
-use Rattle.trac_step.proofs.Rules.{neutral-push, reverse_push}
+use Rattle.trac_step.specs.Room.{HasRoom}
+use Rattle.trac_step.proofs.Limited.{sound_if_proper}
+use Rattle.trac_step.proofs.Rules.{marks-parts, neutral-push, reverse_push, text_bytes-parts}
 
 -- a text with these marks, which are in order, is read as this base text and these frames
 pub record Shows (text : List ℕ) (ms : List Mark) (n : Neutral) : Type 0 where
@@ -96,3 +104,45 @@ function_fits [] back kind a = (omega (arith, function_bytes a.finished a.gather
 function_fits (f ∷ left) back kind a =
     let behind = function_fits left back kind a in
     (omega (arith, behind.0), omega (arith, behind.1))
+
+-- ---- the machine
+
+-- a state with no active text, this base text and these frames
+abbrev pub before_idle : List ℕ → List Frame → State → State
+before_idle base frames s = record s { active = []; base = base; frames = frames }
+
+-- where the state before the idle step can be shown, it is this one
+pub record CanLeave (base : List ℕ) (frames : List Frame) (m : Shown) : Type 0 where
+  pub state : restored (Idle base frames) m.state ≡ Some (before_idle base frames m.state)
+  pub room : HasRoom m (before_idle base frames m.state)
+  pub proper : IsProper (before_idle base frames m.state)
+
+pub can_leave : (base : List ℕ) (frames : List Frame) (m : Shown) → IsSomeAnd (restored (Idle base frames) m.state) (λ s. HasRoom m s × IsProper s) → CanLeave base frames m
+can_leave base frames m h = by_test (is_idle m.state) refl
+  where
+    before : State
+    before = before_idle base frames m.state
+
+    by_test : (b : Bool) → is_idle m.state ≡ b → CanLeave base frames m
+    by_test true is =
+        let there : HasRoom m before × IsProper before = subst (λ (b : Bool). IsSomeAnd (then_some b before) (λ s. HasRoom m s × IsProper s)) is h in
+        record { state = ap (λ (b : Bool). then_some b before) is; room = there.0; proper = there.1 }
+    by_test false is = absurd (subst (λ (b : Bool). IsSomeAnd (then_some b before) (λ s. HasRoom m s × IsProper s)) is h)
+
+-- the parts with base text and functions put back, where these can be shown: they are sound, and show them
+module _ {A : Type 0} (old new : Ends ℕ) (ms ns : Ends Mark) (store : Stored) (meta : ℕ) (trace : Bool) (position : ℕ) (output : Vec ℕ A) (base : List ℕ) (frames : List Frame) (m : Shown) (view : shown_by (parts_of old ms store meta trace position output) ≡ m) (right : new.right ≡ []) (text_room : new.capacity ≡ old.capacity) (mark_room : ns.capacity ≡ ms.capacity) (same : neutral new.left (reverse ns.left) ≡ record { base = base; frames = frames }) where
+  abbrev q : Parts
+  q = parts_of new ns store meta trace position output
+
+  pub back_shows : shown_by q ≡ record m { state = before_idle base frames m.state }
+  back_shows =
+      (λ i. record (shown_by q) { state = record (state_of q) { active = right i; base = (same i).base; frames = (same i).frames }; text_room = text_room i; mark_room = mark_room i })
+      ∙ ap (λ (n : Shown). record n { state = before_idle base frames n.state }) view
+
+  pub back_sound : IsSound (parts_of old ms store meta trace position output) → AreMarks (length new.left) (reverse ns.left) → CanLeave base frames m → IsSound q
+  back_sound sound ordered back =
+      let shows : state_of q ≡ before_idle base frames m.state = ap (λ (n : Shown). n.state) back_shows in
+      sound_if_proper q ordered
+      (omega (arith, text_bytes-parts q ordered, ap text_bytes shows, back.room.text, ap (λ (n : Shown). n.text_room) back_shows))
+      (omega (arith, marks-parts q ordered, ap (λ (s : State). marks s.frames) shows, back.room.marks, ap (λ (n : Shown). n.mark_room) back_shows))
+      (subst IsProper (sym shows) back.proper)

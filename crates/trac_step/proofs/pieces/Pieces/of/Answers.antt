@@ -17,4 +17,4 @@ returns-clause-same g c =
     let bytes : c.extend_from_slice.new.self.items ≡ concat c.args.arguments.now =
     c.in_ok-extend_from_slice.ensures.items ∙ ap (λ (none : List ℕ). none ++ c.joined-bytes.result.now) c.in_ok-text.ensures.items ∙ c.joined-bytes.ensures in
     (λ i. all_texts (cut_at (c.loop-i.invariant.so_far i) (bytes i)))
-    ∙ cut-joined c.args.arguments.now c.loop-i.i (omega (arith, c.comma_count-commas.ensures))
+    ∙ cut-joined c.args.arguments.now c.loop-i.i (omega (arith, c.comma_count-count.ensures))

@@ -5,6 +5,6 @@ use Rattle.trac_step.proofs.pieces.Pieces.of.Given as goal
 
 abbrev pub invariant-loop-i : goal.invariant-loop-i
 invariant-loop-i g l = record {
-  so_far : l.lengths.items ≡ map length (take l.i l.arguments);
-  places : vec_capacity l.lengths ≡ l.commas;
+  so_far : l.commas.items ≡ map length (take l.i l.arguments);
+  places : vec_capacity l.commas ≡ l.count;
 }

@@ -7,5 +7,5 @@ use Rattle.trac_step.proofs.pieces.Pieces.text.Goals as goal
 pub returns : goal.returns
 returns g c =
     c.as_slice.ensures.value
-    ∙ sym (joined-cut c.self.inside.lengths.items c.self.inside.text.items)
+    ∙ sym (joined-cut c.self.inside.commas.items c.self.inside.text.items)
     ∙ ap (λ (a : Arguments). concat (all_texts a)) c.self.view_is
