@@ -14,3 +14,5 @@ pub mod Planned
 pub mod MovedForms
 pub mod Recorded
 pub mod Undone
+pub mod Functions
+pub mod NeutralAgain

@@ -12,8 +12,8 @@ use trac_prims::{Args, Refusal};
 #[derive(Drop)]
 pub struct Pieces<A: Allocator + Copy = Global> {
     text: Vec<u8, A>,
-    // the commas end these arguments
-    lengths: Vec<usize, A>,
+    // how many bytes the argument has that each `,` ended
+    commas: Vec<usize, A>,
 }
 
 impl<A: Allocator + Copy> Model for Pieces<A> {
@@ -25,9 +25,9 @@ impl<A: Allocator + Copy> Model for Pieces<A> {
 
     ghost coded = { arguments_code };
 
-    ghost view = { λ p. cut_at p.lengths.items p.text.items };
+    ghost view = { λ p. cut_at p.commas.items p.text.items };
 
-    ghost invariant = { λ p. sum p.lengths.items ≤ length p.text.items };
+    ghost invariant = { λ p. sum p.commas.items ≤ length p.text.items };
 }
 
 impl<A: Allocator + Copy> Pieces<A> {
@@ -39,10 +39,15 @@ impl<A: Allocator + Copy> Pieces<A> {
         ensures nothing { arguments.now ≡ [] ∷ [] → IsOk result }
         ensures err { IsOkUnless result Refusal.Memory }
     {
-        Ok(Pieces {
-            text: Vec::new(alloc),
-            lengths: Vec::new(alloc),
-        })
+        let bytes = arguments.joined();
+        let mut text = Vec::with_capacity(alloc, bytes.len())?;
+        text.extend_from_slice(bytes)?;
+        let count = arguments.comma_count();
+        let mut commas = Vec::with_capacity(alloc, count)?;
+        for i in 0..count {
+            commas.push_reserved(arguments.get(i).len());
+        }
+        Ok(Pieces { text, commas })
     }
 
     /// The bytes of all arguments, one behind another.
@@ -52,10 +57,10 @@ impl<A: Allocator + Copy> Pieces<A> {
         self.text.as_slice()
     }
 
-    /// How many bytes each argument has, but for the last one: as many lengths as `,` ended arguments, by T-64's rules of scanning.
-    pub fn lengths(&self) -> &[usize]
+    /// How many bytes each argument has, but for the last one: a length for each `,` that ended one, by T-64's rules of scanning.
+    pub fn commas(&self) -> &[usize]
         ensures { result.now ≡ map length self.now.finished }
     {
-        self.lengths.as_slice()
+        self.commas.as_slice()
     }
 }

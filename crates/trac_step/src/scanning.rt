@@ -1,20 +1,16 @@
 //! The rules of scanning that perform no function, each on the machine's own parts.
-ghost use Rattle.std.specs.Prelude.{◌≡◌, ◌<◌, ◌≤◌, ◌+◌, [], ◌∷◌, get_or, is_some, length, drop, None, IfOk, IsOkUnless, OnErr, OnOk, Some};
-ghost use Rattle.trac_rules.specs.Bytes.{idle_program};
+ghost use Rattle.std.specs.Prelude.{◌≡◌, ◌<◌, ◌≤◌, ◌+◌, get_or, is_some, length, drop, None, IfOk, IsOkUnless, OnErr, OnOk};
 ghost use Rattle.trac_rules.specs.Matching.{match_of, protected};
 ghost use Rattle.trac_rules.specs.Scanning.{protect, deleted, comma_in, gather_first};
 ghost use Rattle.trac_rules.specs.Limits.{marks};
-ghost use Rattle.trac_rules.specs.Records.{Idle, comma_recorded, restored};
+ghost use Rattle.trac_rules.specs.Records.{comma_recorded};
 ghost use Rattle.trac_step.specs.Calling.{with_mark};
-ghost use Rattle.trac_step.specs.Pieces.{frames_in};
 ghost use Rattle.trac_step.specs.Record.{recorded_by};
 ghost use Rattle.trac_step.specs.Room.{IsNoLess};
-ghost use Rattle.trac_step.specs.Undoing.{CanShow};
 
 use crate::engine::Core;
-use crate::idle::Functions;
 use crate::record::Record;
-use crate::texts::{push_mark, restart, take_first, take_protected};
+use crate::texts::{push_mark, take_first, take_protected};
 use std::alloc::Allocator;
 use trac_gap::TwoEnds;
 use trac_prims::Mark;
@@ -23,28 +19,6 @@ use trac_rules::limit::MARK_LIMIT;
 use trac_rules::refusal::Refusal;
 
 impl<E: TwoEnds<u8, A>, M: TwoEnds<Mark, A>, A: Allocator + Copy> Core<E, M, A> {
-    // The active text is null: all other text goes, and the idle program is loaded. Answers what went: the text outside all begun
-    // functions, and these.
-    pub(crate) fn reload(&mut self) -> Result<(Vec<u8, A>, Functions<A>), Refusal>
-        requires { self.old.state.active ≡ [] }
-        ensures ok { OnOk result (self.new.state ≡ record self.old.state { active = idle_program; base = []; frames = [] }) }
-        ensures kept { IfOk result (λ kept. (kept.0.items ≡ self.old.state.base) × (frames_in kept.1.items ≡ self.old.state.frames)) }
-        ensures room { IsNoLess self.old self.new }
-        ensures unchanged { OnErr result (self.new ≡ self.old) }
-        ensures err { IsOkUnless result Refusal.Memory }
-    {
-        let alloc = *self.output.allocator();
-        restart(&mut self.text, &mut self.marks)?;
-        Ok((Vec::new(alloc), Vec::new(alloc)))
-    }
-
-    pub(crate) fn unload(&mut self, base: &[u8], functions: Functions<A>)
-        requires { CanShow self.old (restored (Idle base.now (frames_in functions.items)) self.old.state) }
-        ensures state { restored (Idle base.now (frames_in functions.items)) self.old.state ≡ Some self.new.state }
-        ensures others { self.new ≡ record self.old { state = self.new.state } }
-    {
-    }
-
     // A `(`: what it protects goes to the current text. Answers how many bytes that is, and whether there was a match.
     pub(crate) fn protect(&mut self) -> (usize, bool)
         requires { 0 < length self.old.state.active }
