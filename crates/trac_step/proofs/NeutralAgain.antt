@@ -3,7 +3,7 @@ use Rattle.std.proofs.Common.{◌≡◌, ℕ, ◌+◌, ◌<◌, ◌≤◌, List,
 use Rattle.std.specs.Bool.{then_some}
 use Rattle.std.specs.Prelude.{Bool, true, false, IsSomeAnd, Option, Some, None, Vec}
 use Rattle.std.specs.List.{concat}
-use Rattle.std.proofs.lemmas.List.{append-nil, append_assoc, map-append, length-append, length-map, length-reverse}
+use Rattle.std.proofs.lemmas.List.{append-nil, append_assoc, length-append, length-reverse}
 use Rattle.std.proofs.lemmas.Option.{none-some}
 use Rattle.trac_rules.specs.declared.kind.Kind.{Kind}
 use Rattle.trac_gap.specs.Ends.{Ends}

@@ -1,8 +1,7 @@
 -- The innermost function that was left is taken out.
-use Rattle.std.proofs.Common.{◌≡◌, ◌+◌, ◌∷◌, length, sym, ap, ◌∙◌, arith, List}
+use Rattle.std.proofs.Common.{◌≡◌, ◌∷◌, length, sym, ap, ◌∙◌, arith}
 use Rattle.std.proofs.lemmas.List.{length_push}
-use Rattle.trac_rules.specs.State.{Frame}
-use Rattle.trac_prims.specs.Neutral.{MarkedText, cut_back, neutral_of}
+use Rattle.trac_prims.specs.Neutral.{MarkedText, neutral_of}
 use Rattle.trac_step.specs.Pieces.{frame_in}
 use Rattle.trac_step.proofs.Functions.{one_more, same_frame}
 use Rattle.trac_step.proofs.idle.functions_of.Goals as goal

@@ -1,9 +1,8 @@
 -- A mark for each comma, at a place within the text.
-use Rattle.std.proofs.Common.{◌≡◌, ◌≤◌, ◌<◌, ◌+◌, ◌^◌, length, map, ap, ◌∙◌, arith, ℕ, List}
+use Rattle.std.proofs.Common.{◌≡◌, ◌≤◌, ◌+◌, length, ap, ◌∙◌, arith, ℕ}
 use Rattle.std.proofs.lemmas.List.{length-append}
-use Rattle.std.specs.List.{concat, sum}
+use Rattle.std.specs.List.{sum}
 use Rattle.trac_gap.specs.Ends.{Ends}
-use Rattle.trac_step.specs.Pieces.{all_texts}
 use Rattle.trac_step.proofs.Functions.{finished_within, next_length}
 use Rattle.trac_step.proofs.idle.put_function.Goals as goal
 

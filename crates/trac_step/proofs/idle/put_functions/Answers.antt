@@ -1,12 +1,12 @@
 -- Each function is put behind those further out, in the room that there is for all.
-use Rattle.std.proofs.Common.{◌≡◌, ◌+◌, ◌∷◌, ◌++◌, [], List, ℕ, length, map, refl, sym, ap, ◌∙◌, subst, arith}
+use Rattle.std.proofs.Common.{◌≡◌, ◌∷◌, ◌++◌, [], List, ℕ, length, sym, ap, ◌∙◌, subst, arith}
 use Rattle.std.specs.List.{concat}
 use Rattle.std.proofs.lemmas.List.{append-nil, append_assoc}
 use Rattle.trac_gap.specs.Ends.{Ends}
 use Rattle.trac_rules.specs.declared.kind.Kind.{Kind}
 use Rattle.trac_rules.specs.Limits.{argument_bytes, marks}
 use Rattle.trac_prims.specs.declared.mark.Mark.{Mark}
-use Rattle.trac_step.specs.Pieces.{Arguments, all_texts, frames_in, function_marks}
+use Rattle.trac_step.specs.Pieces.{Arguments, all_texts, frames_in}
 use Rattle.trac_step.proofs.NeutralAgain.{Shows, function_fits, mark_size, shows_base, shows_function, text_size}
 use Rattle.trac_step.proofs.idle.put_functions.Goals as goal
 
@@ -15,8 +15,8 @@ loop-kind-init g c = record {
   back = [];
   all = append-nil c.args.functions.items;
   shows =
-    subst (λ (e : Ends ℕ). Shows e.left (g.M.TwoEnds.ends c.refill-2.new.list).left (record { base = c.args.base.now; frames = [] })) (sym c.refill.ensures)
-    (subst (λ (e : Ends Mark). Shows c.args.base.now e.left (record { base = c.args.base.now; frames = [] })) (sym c.refill-2.ensures) (shows_base c.args.base.now));
+      subst (λ (e : Ends ℕ). Shows e.left (g.M.TwoEnds.ends c.refill-2.new.list).left (record { base = c.args.base.now; frames = [] })) (sym c.refill.ensures)
+      (subst (λ (e : Ends Mark). Shows c.args.base.now e.left (record { base = c.args.base.now; frames = [] })) (sym c.refill-2.ensures) (shows_base c.args.base.now));
   text_right = ap (λ (e : Ends ℕ). e.right) c.refill.ensures;
   mark_right = ap (λ (e : Ends Mark). e.right) c.refill-2.ensures;
   text_room = ap (λ (e : Ends ℕ). e.capacity) c.refill.ensures;
@@ -73,9 +73,9 @@ loop-kind-preserved g c =
       back = (kind, a) ∷ held.back;
       all = next_back c.loop-kind.functions.items c.pop.new.self.items held.back c.args.functions.items kind a c.in-Some.ensures.items held.all;
       shows =
-        subst (λ (e : Ends ℕ). Shows e.left (g.M.TwoEnds.ends c.put_function.new.marks).left (record { base = base; frames = frames })) (sym c.put_function.ensures.text)
-        (subst (λ (e : Ends Mark). Shows (text ++ concat (all_texts a)) e.left (record { base = base; frames = frames })) (sym c.put_function.ensures.marks)
-        (shows_function text ms (record { base = base; frames = frames_in held.back }) kind a held.shows));
+          subst (λ (e : Ends ℕ). Shows e.left (g.M.TwoEnds.ends c.put_function.new.marks).left (record { base = base; frames = frames })) (sym c.put_function.ensures.text)
+          (subst (λ (e : Ends Mark). Shows (text ++ concat (all_texts a)) e.left (record { base = base; frames = frames })) (sym c.put_function.ensures.marks)
+          (shows_function text ms (record { base = base; frames = frames_in held.back }) kind a held.shows));
       text_right = ap (λ (e : Ends ℕ). e.right) c.put_function.ensures.text ∙ held.text_right;
       mark_right = ap (λ (e : Ends Mark). e.right) c.put_function.ensures.marks ∙ held.mark_right;
       text_room = ap (λ (e : Ends ℕ). e.capacity) c.put_function.ensures.text ∙ held.text_room;

@@ -1,12 +1,12 @@
 use Rattle.std.proofs.Common.{◌≡◌, sym, ap, ◌∙◌, subst, arith, refl}
 use Rattle.std.specs.Prelude.{Some}
-use Rattle.trac_step.specs.Layout.{Shown, state_of, shown_by, parts_of}
+use Rattle.trac_step.specs.Layout.{Shown}
 use Rattle.trac_step.specs.Pieces.{frames_in}
-use Rattle.trac_step.proofs.NeutralAgain.{back_shows, back_sound, before_idle, can_leave}
+use Rattle.trac_step.proofs.NeutralAgain.{back_shows, back_sound, can_leave}
 use Rattle.trac_step.proofs.engine.Core.unload.Goals as goal
 
 pub put_functions-requires : goal.put_functions-requires
-put_functions-requires g c = 
+put_functions-requires g c =
     let back = can_leave c.args.base.now (frames_in c.args.functions.items) c.args.self.now c.requires in
     record {
       text_room = omega (arith, back.room.text, ap (λ (m : Shown). m.text_room) c.self.view_is);

@@ -1,5 +1,5 @@
 -- The lengths so far, and a place for each.
-use Rattle.std.proofs.Common.{◌≡◌, List, length, map, take}
+use Rattle.std.proofs.Common.{◌≡◌, length, map, take}
 use Rattle.std.specs.Vec.{vec_capacity}
 use Rattle.trac_step.proofs.pieces.Pieces.of.Given as goal
 
