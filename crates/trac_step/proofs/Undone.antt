@@ -1,17 +1,16 @@
 -- Going back over a step of scanning: the parts before it, and that they show the state that its record restores.
 use Rattle.std.proofs.Common.{◌≡◌, ℕ, ◌+◌, ◌-◌, ◌<◌, ◌≤◌, Bool, true, false, List, [], ◌∷◌, ◌++◌, length, take, drop, reverse, refl, sym, ap, ◌∙◌, subst, arith}
-use Rattle.std.specs.Prelude.{Option, Some, None, IsSome, IsSomeAnd, codes, if◌then◌else◌, is_some, nat_le, option_map, ◌==◌, ◌&&◌}
+use Rattle.std.specs.Prelude.{Option, Some, None, IsSome, IsSomeAnd, codes, if◌then◌else◌, option_map, ◌==◌, ◌&&◌}
 use Rattle.std.specs.Bool.{then_some}
 use Rattle.std.proofs.lemmas.Bool.{eqb-true, leb-true, ne_eqb}
-use Rattle.std.proofs.lemmas.List.{length-append, length-drop, length-reverse, length-take-le, nil_from_length, reverse-append, reverse-reverse, take-append-drop, take_all, take_at}
+use Rattle.std.proofs.lemmas.List.{length-append, length-drop, length-reverse, length-take-le, reverse-append, reverse-reverse, take-append-drop, take_all, take_at}
 use Rattle.trac_rules.specs.declared.kind.Kind.{Kind}
-use Rattle.trac_rules.specs.Limits.{marks, text_bytes}
 use Rattle.trac_rules.specs.Performing.{beginning_of}
 use Rattle.trac_rules.specs.Proper.{IsProper}
 use Rattle.trac_rules.specs.Records.{Record, Begun, Comma, Deleted, Quoted, ending_of, frame_of, gathered_again_in, moved_back, moved_back_in, not_begun_in, put_before, restored, state_before}
-use Rattle.trac_rules.specs.Scanning.{gather, with_next_argument}
+use Rattle.trac_rules.specs.Scanning.{gather}
 use Rattle.trac_rules.specs.State.{Frame, State}
-use Rattle.trac_rules.proofs.Restored.{before_of_restored, frame_of-last, moved_back-gather, restored_of_before}
+use Rattle.trac_rules.proofs.Restored.{frame_of-last, moved_back-gather, restored_of_before}
 use Rattle.trac_prims.specs.declared.mark.Mark.{Mark}
 use Rattle.trac_prims.specs.Neutral.{AreMarks, Neutral, marked, neutral}
 use Rattle.trac_prims.proofs.Neutral.{has_frames}
@@ -34,8 +33,8 @@ module _ (r : Record) (m : Shown) (t : State) where
   -- where there is room for the state before, that is restored and can be shown
   pub can_show_before : IsSomeAnd (state_before r t) (λ s. HasRoom m s) → CanShow m (restored r t)
   can_show_before = by_before (CanShow m (restored r t)) (λ s e room.
-    let both : (restored r t ≡ Some s) × IsProper s = restored_of_before r s t e in
-    subst (CanShow m) (sym both.0) (room, both.1))
+      let both : (restored r t ≡ Some s) × IsProper s = restored_of_before r s t e in
+      subst (CanShow m) (sym both.0) (room, both.1))
 
   -- and what is restored is the state before
   pub before_is_restored : (s : State) → IsSomeAnd (state_before r t) (λ s. HasRoom m s) → restored r t ≡ Some s → state_before r t ≡ Some s
