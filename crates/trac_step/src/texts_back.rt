@@ -28,7 +28,7 @@ pub(crate) fn give_protected_back<A: Allocator + Copy, E: TwoEnds<u8, A>>(
     text.push_right(OPENING);
 }
 
-// Takes the last mark away, and puts the bytes that it was made of before the text on the right.
+// Takes the last mark away, and puts these bytes before the text on the right.
 pub(crate) fn pop_mark<A: Allocator + Copy, E: TwoEnds<u8, A>, M: TwoEnds<Mark, A>>(
     text: &mut E,
     marks: &mut M,
