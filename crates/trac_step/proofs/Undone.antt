@@ -1,23 +1,22 @@
 -- Going back over a step of scanning: the parts before it, and that they show the state that its record restores.
 use Rattle.std.proofs.Common.{◌≡◌, ℕ, ◌+◌, ◌-◌, ◌<◌, ◌≤◌, Bool, true, false, List, [], ◌∷◌, ◌++◌, length, take, drop, reverse, refl, sym, ap, ◌∙◌, subst, arith}
-use Rattle.std.specs.Prelude.{Option, Some, None, IsSome, IsSomeAnd, codes, if◌then◌else◌, is_some, nat_le, option_map, ◌==◌, ◌&&◌}
+use Rattle.std.specs.Prelude.{Option, Some, None, IsSome, IsSomeAnd, codes, if◌then◌else◌, option_map, ◌==◌, ◌&&◌}
 use Rattle.std.specs.Bool.{then_some}
 use Rattle.std.proofs.lemmas.Bool.{eqb-true, leb-true, ne_eqb}
-use Rattle.std.proofs.lemmas.List.{length-append, length-drop, length-reverse, length-take-le, nil_from_length, reverse-append, reverse-reverse, take-append-drop, take_all, take_at}
+use Rattle.std.proofs.lemmas.List.{length-append, length-drop, length-take-le, reverse-append, reverse-reverse, take-append-drop, take_all, take_at}
 use Rattle.trac_rules.specs.declared.kind.Kind.{Kind}
-use Rattle.trac_rules.specs.Limits.{marks, text_bytes}
 use Rattle.trac_rules.specs.Performing.{beginning_of}
 use Rattle.trac_rules.specs.Proper.{IsProper}
 use Rattle.trac_rules.specs.Records.{Record, Begun, Comma, Deleted, Quoted, ending_of, frame_of, gathered_again_in, moved_back, moved_back_in, not_begun_in, put_before, restored, state_before}
-use Rattle.trac_rules.specs.Scanning.{gather, with_next_argument}
+use Rattle.trac_rules.specs.Scanning.{gather}
 use Rattle.trac_rules.specs.State.{Frame, State}
-use Rattle.trac_rules.proofs.Restored.{before_of_restored, frame_of-last, moved_back-gather, restored_of_before}
+use Rattle.trac_rules.proofs.Restored.{frame_of-last, moved_back-gather, restored_of_before}
 use Rattle.trac_prims.specs.declared.mark.Mark.{Mark}
 use Rattle.trac_prims.specs.Neutral.{AreMarks, Neutral, marked, neutral}
 use Rattle.trac_prims.proofs.Neutral.{has_frames}
 use Rattle.trac_step.specs.Layout.{Parts, IsSound, Shown, shown_by, state_of}
 use Rattle.trac_step.specs.Room.{HasRoom}
-use Rattle.trac_step.specs.Undoing.{CanShow, last_begun}
+use Rattle.trac_step.specs.Undoing.{CanShow, beginning_by, last_begun}
 use Rattle.trac_step.proofs.Limited.{sound_if_proper}
 use Rattle.trac_step.proofs.Rules.{gathers, marks-parts, text_bytes-parts}
 
@@ -34,8 +33,8 @@ module _ (r : Record) (m : Shown) (t : State) where
   -- where there is room for the state before, that is restored and can be shown
   pub can_show_before : IsSomeAnd (state_before r t) (λ s. HasRoom m s) → CanShow m (restored r t)
   can_show_before = by_before (CanShow m (restored r t)) (λ s e room.
-    let both : (restored r t ≡ Some s) × IsProper s = restored_of_before r s t e in
-    subst (CanShow m) (sym both.0) (room, both.1))
+      let both : (restored r t ≡ Some s) × IsProper s = restored_of_before r s t e in
+      subst (CanShow m) (sym both.0) (room, both.1))
 
   -- and what is restored is the state before
   pub before_is_restored : (s : State) → IsSomeAnd (state_before r t) (λ s. HasRoom m s) → restored r t ≡ Some s → state_before r t ≡ Some s
@@ -141,14 +140,13 @@ gathered_marked None text n s inner h = again n.frames (inner refl) h
 
 -- a begun function is gone, where it has one null argument
 record BeginsWith (o : Option Kind) (size : ℕ) (x : Option State) (s : State) (n : Neutral) : Type 0 where
-  kind : Kind
-  frame : o ≡ Some kind
+  begins : IsSome o
   null : size ≡ 0
-  state : x ≡ back_to s n (beginning_of kind)
+  state : x ≡ back_to s n (beginning_by o)
 
 begun_where : (b : Bool) (size : ℕ) (kind : Kind) (s : State) (n : Neutral) → (size == 0) ≡ b → IsSome (then_some b (put_before (beginning_of kind) (with_neutral s n))) →
     BeginsWith (Some kind) size (then_some b (put_before (beginning_of kind) (with_neutral s n))) s n
-begun_where true size kind s n e is = record { kind = kind; frame = refl; null = eqb-true size 0 e; state = refl }
+begun_where true size kind s n e is = record { begins = refl; null = eqb-true size 0 e; state = refl }
 begun_where false size kind s n e is = absurd (let unset : false ≡ true = is in cc)
 
 -- what the beginning of a function began is gone again
@@ -168,7 +166,6 @@ begun_marked None text n s inner h = absurd (more n.frames (inner refl) h)
 
 -- what is left without the last of the marks, which are given from the last one on, shows this state with these bytes put back
 record IsUnmarked (text : List ℕ) (ms : List Mark) (s : State) (bytes : List ℕ) (o : Option State) : Type 0 where
-  some : 0 < length ms
   ordered : AreMarks (length text) (drop 1 ms)
   state : o ≡ back_to s (neutral text (drop 1 ms)) bytes
 
@@ -177,7 +174,6 @@ unmarked : (text : List ℕ) (m : Mark) (ms : List Mark) (s : State) (bytes : Li
 unmarked text m ms s bytes o a null e =
     let at_end : m.place ≡ length text = omega (arith, null, a.0, length-drop m.place text) in
     record {
-      some = omega arith;
       ordered = subst (λ (k : ℕ). AreMarks k ms) at_end a.2;
       state = e ∙ ap (λ (front : List ℕ). back_to s (neutral front ms) bytes) (take_all m.place text (omega arith));
     }
@@ -190,16 +186,15 @@ comma_unmarked text (m ∷ ms) s a h =
     unmarked text m ms s (codes ",") _ a again.0 again.1
 
 record IsUnbegun (text : List ℕ) (ms : List Mark) (s : State) (o : Option State) : Type 0 where
-  kind : Kind
-  frame : last_begun ms ≡ Some kind
-  rest : IsUnmarked text ms s (beginning_of kind) o
+  begins : IsSome (last_begun ms)
+  rest : IsUnmarked text ms s (beginning_by (last_begun ms)) o
 
 begun_unmarked : (text : List ℕ) (ms : List Mark) (s : State) → AreMarks (length text) ms → IsSome (not_begun_in (neutral text ms).frames (with_neutral s (neutral text ms))) →
     IsUnbegun text ms s (not_begun_in (neutral text ms).frames (with_neutral s (neutral text ms)))
 begun_unmarked text [] s a h = absurd (let unset : false ≡ true = h in cc)
 begun_unmarked text (m ∷ ms) s a h =
     let began = begun_marked m.frame (drop m.place text) (neutral (take m.place text) ms) s (λ e. has_frames (take m.place text) ms m.place a.2 (a.1 e)) h in
-    record { kind = began.kind; frame = began.frame; rest = unmarked text m ms s (beginning_of began.kind) _ a began.null began.state }
+    record { begins = began.begins; rest = unmarked text m ms s (beginning_by m.frame) _ a began.null began.state }
 
 -- the marks without the last one, from the last one on
 reverse_front : {X : Type 0} (xs : List X) → reverse (take (length xs - 1) xs) ≡ drop 1 (reverse xs)
@@ -243,16 +238,13 @@ pub record IsUnprotected (inner : ℕ) (closed : Bool) (p : Parts) : Type 0 wher
   pub back : IsBack (Quoted inner closed) p (unprotected_parts inner closed p)
 
 pub record IsGatheredAgain (p : Parts) : Type 0 where
-  pub some : 0 < length p.marks
   pub room : length p.text + length p.active + 1 ≤ p.text_room
   pub back : IsBack Comma p (unmarked_parts (codes ",") p)
 
 pub record IsNotBegun (p : Parts) : Type 0 where
-  pub kind : Kind
-  pub frame : last_begun (reverse p.marks) ≡ Some kind
-  pub some : 0 < length p.marks
-  pub room : length p.text + length p.active + length (beginning_of kind) ≤ p.text_room
-  pub back : IsBack Begun p (unmarked_parts (beginning_of kind) p)
+  pub begins : IsSome (last_begun (reverse p.marks))
+  pub room : length p.text + length p.active + length (beginning_by (last_begun (reverse p.marks))) ≤ p.text_room
+  pub back : IsBack Begun p (unmarked_parts (beginning_by (last_begun (reverse p.marks))) p)
 
 -- no byte is lost or added
 moved_length : (n : ℕ) (p : Parts) → n ≤ length p.text → length (moved_parts n p).active + length (moved_parts n p).text ≡ length p.active + length p.text
@@ -312,17 +304,12 @@ module _ (p : Parts) (m : Shown) (sound : IsSound p) (view : shown_by p ≡ m) w
       let here : CanShow (shown_by p) (restored Comma (state_of p)) = can_here Comma can in
       let rest = comma_unmarked p.text (reverse p.marks) (state_of p) sound.ordered (shown_is_some _ _ here) in
       let back : IsBack Comma p (unmarked_parts (codes ",") p) = back_unmarked Comma (codes ",") p here rest in
-      record { some = omega (arith, rest.some, length-reverse p.marks); room = omega (arith, back.sound.text_room); back = back }
+      record { room = omega (arith, back.sound.text_room); back = back }
 
   pub takes_beginning_back : CanShow m (restored Begun m.state) → IsNotBegun p
   takes_beginning_back can =
       let here : CanShow (shown_by p) (restored Begun (state_of p)) = can_here Begun can in
       let gone = begun_unmarked p.text (reverse p.marks) (state_of p) sound.ordered (shown_is_some _ _ here) in
-      let back : IsBack Begun p (unmarked_parts (beginning_of gone.kind) p) = back_unmarked Begun (beginning_of gone.kind) p here gone.rest in
-      record {
-        kind = gone.kind;
-        frame = gone.frame;
-        some = omega (arith, gone.rest.some, length-reverse p.marks);
-        room = omega (arith, back.sound.text_room, length-append (beginning_of gone.kind) p.active);
-        back = back;
-      }
+      let bytes : List ℕ = beginning_by (last_begun (reverse p.marks)) in
+      let back : IsBack Begun p (unmarked_parts bytes p) = back_unmarked Begun bytes p here gone.rest in
+      record { begins = gone.begins; room = omega (arith, back.sound.text_room, length-append bytes p.active); back = back }

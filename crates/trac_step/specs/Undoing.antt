@@ -1,7 +1,8 @@
 -- Going back over a step of scanning.
-use Rattle.std.specs.Prelude.{ℕ, ◌-◌, ◌++◌, List, [], ◌∷◌, length, take, drop, Bool, Option, None, IsSomeAnd, codes}
+use Rattle.std.specs.Prelude.{ℕ, ◌-◌, ◌++◌, List, [], ◌∷◌, length, take, drop, Bool, Option, None, Some, IsSomeAnd, codes}
 use Rattle.trac_gap.specs.Ends.{Ends}
 use Rattle.trac_rules.specs.declared.kind.Kind.{Kind}
+use Rattle.trac_rules.specs.Performing.{beginning_of}
 use Rattle.trac_rules.specs.Proper.{IsProper}
 use Rattle.trac_rules.specs.Records.{ending_of}
 use Rattle.trac_rules.specs.State.{State}
@@ -29,3 +30,8 @@ without_protected inner closed e =
 abbrev pub last_begun : List Mark → Option Kind
 last_begun [] = None
 last_begun (m ∷ marks) = m.frame
+
+-- how a function of this kind begins; null where none is named
+abbrev pub beginning_by : Option Kind → List ℕ
+beginning_by None = []
+beginning_by (Some kind) = beginning_of kind

@@ -1,12 +1,12 @@
 //! The way back over the rules of scanning, on the lists alone: the texts, and the marks.
-ghost use Rattle.std.specs.Prelude.{◌≡◌, ◌+◌, ◌-◌, ◌<◌, ◌≤◌, ◌++◌, length, take, reverse};
+ghost use Rattle.std.specs.Prelude.{◌≡◌, ◌+◌, ◌-◌, ◌<◌, ◌≤◌, ◌++◌, length, take, reverse, IsSome};
 ghost use Rattle.trac_gap.specs.Ends.{item_count};
 ghost use Rattle.trac_rules.specs.Records.{ending_of};
-ghost use Rattle.trac_step.specs.Undoing.{last_begun, without_protected};
+ghost use Rattle.trac_step.specs.Undoing.{beginning_by, last_begun, without_protected};
 
 use std::alloc::Allocator;
 use trac_gap::TwoEnds;
-use trac_prims::Mark;
+use trac_prims::{Mark, beginning_of};
 use trac_rules::byte::{CLOSING, OPENING};
 use trac_rules::kind::Kind;
 
@@ -28,7 +28,7 @@ pub(crate) fn give_protected_back<A: Allocator + Copy, E: TwoEnds<u8, A>>(
     text.push_right(OPENING);
 }
 
-// Takes the last mark away, and puts the bytes that it was made of before the text on the right.
+// Takes the last mark away, and puts these bytes before the text on the right.
 pub(crate) fn pop_mark<A: Allocator + Copy, E: TwoEnds<u8, A>, M: TwoEnds<Mark, A>>(
     text: &mut E,
     marks: &mut M,
@@ -44,8 +44,24 @@ pub(crate) fn pop_mark<A: Allocator + Copy, E: TwoEnds<u8, A>, M: TwoEnds<Mark, 
 }
 
 // The kind of the function that the last mark begins; none where it ends an argument, and where there is no mark.
-pub(crate) fn kind_of_last(marks: &[Mark]) -> Option<Kind>
+fn kind_of_last(marks: &[Mark]) -> Option<Kind>
     ensures { result ≡ last_begun (reverse marks.now) }
 {
     marks.last()?.frame
+}
+
+// Takes the last mark away, which begins a function, and puts that beginning before the text on the right.
+pub(crate) fn pop_beginning<A: Allocator + Copy, E: TwoEnds<u8, A>, M: TwoEnds<Mark, A>>(
+    text: &mut E,
+    marks: &mut M,
+)
+    requires begins { IsSome (last_begun (reverse (M.ends marks.old).left)) }
+    requires room { item_count (E.ends text.old) + length (beginning_by (last_begun (reverse (M.ends marks.old).left))) ≤ (E.ends text.old).capacity }
+    ensures text { E.ends text.new ≡ record (E.ends text.old) { right = beginning_by (last_begun (reverse (M.ends marks.old).left)) ++ (E.ends text.old).right } }
+    ensures marks { M.ends marks.new ≡ record (M.ends marks.old) { left = take (length (M.ends marks.old).left - 1) (M.ends marks.old).left } }
+{
+    let Some(kind) = kind_of_last(marks.left()) else {
+        unreachable!()
+    };
+    pop_mark(text, marks, beginning_of(kind));
 }

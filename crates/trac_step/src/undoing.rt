@@ -4,10 +4,10 @@ ghost use Rattle.trac_rules.specs.Records.{Begun, Comma, Deleted, Quoted, moved_
 ghost use Rattle.trac_step.specs.Undoing.{CanShow};
 
 use crate::engine::Core;
-use crate::texts_back::{give_protected_back, kind_of_last, pop_mark};
+use crate::texts_back::{give_protected_back, pop_beginning, pop_mark};
 use std::alloc::Allocator;
 use trac_gap::TwoEnds;
-use trac_prims::{Mark, beginning_of};
+use trac_prims::Mark;
 
 impl<E: TwoEnds<u8, A>, M: TwoEnds<Mark, A>, A: Allocator + Copy> Core<E, M, A> {
     // The last n bytes of the current text go back before the active text.
@@ -52,9 +52,6 @@ impl<E: TwoEnds<u8, A>, M: TwoEnds<Mark, A>, A: Allocator + Copy> Core<E, M, A> 
         ensures state { restored Begun self.old.state ≡ Some self.new.state }
         ensures others { self.new ≡ record self.old { state = self.new.state } }
     {
-        let Some(kind) = kind_of_last(self.marks.left()) else {
-            unreachable!()
-        };
-        pop_mark(&mut self.text, &mut self.marks, beginning_of(kind));
+        pop_beginning(&mut self.text, &mut self.marks);
     }
 }
