@@ -123,7 +123,7 @@ GoesBack s r (Moves t) = restored r t ≡ Some s
 GoesBack s r (Calls call) = r ≡ Whole s
 
 -- a byte goes back from the current text
-first_goes_back : (s : State) → s.active ≡ get_or s.active 0 0 ∷ drop 1 s.active → GoesBack s Moved (Moves (gather_first s))
+pub first_goes_back : (s : State) → s.active ≡ get_or s.active 0 0 ∷ drop 1 s.active → restored Moved (gather_first s) ≡ Some s
 first_goes_back s e =
     let one : length (take 1 s.active) ≡ 1 = ap (λ (text : List ℕ). length (take 1 text)) e in
     ap (λ (n : ℕ). moved_back n (gather_first s)) (sym one)
@@ -180,7 +180,7 @@ carried_back e s t r (Moves u) back h = let same : u ≡ t = cc in subst (λ (v 
 carried_back e s t r (Calls call) back h = ap (λ (q : Record). restored q t) back
 
 -- where a proper state is restored, it is the one before
-before_of_restored : (r : Record) (s t : State) → IsProper s → restored r t ≡ Some s → state_before r t ≡ Some s
+pub before_of_restored : (r : Record) (s t : State) → IsProper s → restored r t ≡ Some s → state_before r t ≡ Some s
 unfolding state_before
 before_of_restored r s t proper back =
     ap (option_and_then (λ (u : State). then_some (is_proper u) u)) back ∙ ap (λ (b : Bool). then_some b s) ((proper_decided s).1 proper)
