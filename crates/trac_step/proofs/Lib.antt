@@ -12,3 +12,7 @@ pub mod Ended
 pub mod Pointers
 pub mod Planned
 pub mod MovedForms
+pub mod Recorded
+pub mod Undone
+pub mod Functions
+pub mod NeutralAgain
