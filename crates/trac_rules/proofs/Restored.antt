@@ -123,7 +123,7 @@ GoesBack s r (Moves t) = restored r t ≡ Some s
 GoesBack s r (Calls call) = r ≡ Whole s
 
 -- a byte goes back from the current text
-first_goes_back : (s : State) → s.active ≡ get_or s.active 0 0 ∷ drop 1 s.active → GoesBack s Moved (Moves (gather_first s))
+pub first_goes_back : (s : State) → s.active ≡ get_or s.active 0 0 ∷ drop 1 s.active → restored Moved (gather_first s) ≡ Some s
 first_goes_back s e =
     let one : length (take 1 s.active) ≡ 1 = ap (λ (text : List ℕ). length (take 1 text)) e in
     ap (λ (n : ℕ). moved_back n (gather_first s)) (sym one)

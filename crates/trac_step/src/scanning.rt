@@ -1,14 +1,16 @@
 //! The rules of scanning that perform no function, each on the machine's own parts.
-ghost use Rattle.std.specs.Prelude.{◌≡◌, ◌<◌, ◌≤◌, ◌+◌, get_or, is_some, length, drop, None, IfOk, IsOkUnless, OnErr, OnOk};
+ghost use Rattle.std.specs.Prelude.{◌≡◌, ◌<◌, ◌≤◌, ◌+◌, false, get_or, is_some, length, drop, None, IfOk, IsOkUnless, OnErr, OnOk};
 ghost use Rattle.trac_rules.specs.Matching.{match_of, protected};
 ghost use Rattle.trac_rules.specs.Scanning.{protect, deleted, comma_in, gather_first};
 ghost use Rattle.trac_rules.specs.Limits.{marks};
+ghost use Rattle.trac_rules.specs.PlainRuns.{BeginsPlain, is_plain, moved_on};
 ghost use Rattle.trac_rules.specs.Records.{comma_recorded};
 ghost use Rattle.trac_step.specs.Calling.{with_mark};
 ghost use Rattle.trac_step.specs.Record.{recorded_by};
 ghost use Rattle.trac_step.specs.Room.{IsNoLess};
 
 use crate::engine::Core;
+use crate::front::plain_front;
 use crate::record::Record;
 use crate::texts::{push_mark, take_first, take_protected};
 use std::alloc::Allocator;
@@ -78,5 +80,19 @@ impl<E: TwoEnds<u8, A>, M: TwoEnds<Mark, A>, A: Allocator + Copy> Core<E, M, A> 
         ensures { self.new ≡ record self.old { state = gather_first self.old.state } }
     {
         self.text.shift_left(1);
+    }
+
+    /// Moves the plain bytes with which the active text begins, counted up to `most`, to the current text, and answers how many these
+    /// are: as many steps of T-64's rules of scanning, each of which would answer the record `Moved`. It takes no memory (this
+    /// project's profile).
+    pub fn move_plain(&mut self, most: usize) -> usize
+        ensures moved { self.new ≡ record self.old { state = moved_on result self.old.state } }
+        ensures plain { BeginsPlain result self.old.state }
+        ensures most { result ≤ most }
+        ensures end { result < most → result < length self.old.state.active → is_plain (get_or self.old.state.active result 0) ≡ false }
+    {
+        let count = plain_front(self.text.right(), most);
+        self.text.shift_left(count);
+        count
     }
 }
