@@ -1,5 +1,6 @@
 //! The reply to a command.
 ghost use Rattle.std.specs.Prelude.{◌≡◌, ◌++◌, IfOk, OnOk, codes};
+ghost use Rattle.trac_debug.specs.Commands.{Commit};
 ghost use Rattle.trac_debug.specs.Replies.{Replies, reason, refusal_name, walk_line};
 ghost use Rattle.trac_debug.specs.Texts.{text_line};
 ghost use Rattle.trac_debug.specs.Views.{command_seen};
@@ -27,14 +28,22 @@ pub fn reply_to<A: Allocator + Copy>(
         Command::Until(name, count) => walk_reply(alloc, b"until", session.until(name, count)),
         Command::Return(name) => walk_reply(alloc, b"return", session.back_until(name)),
         Command::Print => state_lines(alloc, session),
-        Command::Commit => {
-            let mut reply = Vec::new(alloc);
-            text_line_into(b"commit", session.pending(), &mut reply)?;
-            session.commit();
-            Ok(reply)
-        }
+        Command::Commit => commit_reply(alloc, session),
         Command::Quit => Ok(Vec::new(alloc)),
     }
+}
+
+// Commits, and shows what was pending, as a line. Nothing is committed where memory is refused for the line.
+fn commit_reply<A: Allocator + Copy>(
+    alloc: A,
+    session: &mut Session<A>,
+) -> Result<Vec<u8, A>, AllocError>
+    ensures { IfOk result (λ reply. Replies Commit session.old reply.items session.new) }
+{
+    let mut reply = Vec::new(alloc);
+    text_line_into(b"commit", session.pending(), &mut reply)?;
+    session.commit();
+    Ok(reply)
 }
 
 // A word, how many steps a walk took, and why it took no more, as a line.

@@ -9,7 +9,7 @@ use Rattle.trac_rules.specs.declared.item.Item.{Item}
 use Rattle.trac_rules.specs.declared.item.Item.TheVariants.{Byte, Gap}
 use Rattle.trac_rules.specs.Form.{as_items}
 use Rattle.trac_rules.specs.Segmenting.{part, cut_out, segmented_from}
-use Rattle.trac_rules.proofs.Cutting.{part_found, part_without, cut_out_gap, cut_out_last, cut_out_null}
+use Rattle.trac_rules.proofs.Cutting.{part_found, part_without, cut_out_gap, cut_out_last}
 
 -- ---- a run
 
@@ -91,8 +91,3 @@ text_next texts i text items new all l e n so_far =
     ap (λ (xs : List Item). segmented_from (i + 1 + 1) (drop (i + 1) texts) xs) (n ∙ ap (λ (t : List ℕ). cut_out (i + 1) t items) e)
     ∙ ap (λ (ts : List (List ℕ)). segmented_from (i + 1) ts items) (sym (drop_more texts i [] l))
     ∙ so_far
-
--- where it is null nothing changes
-pub text_null : (texts : List (List ℕ)) (i : ℕ) (items all : List Item) → i < length texts → get_or texts i [] ≡ [] → segmented_from (i + 1) (drop i texts) items ≡ all →
-    segmented_from (i + 1 + 1) (drop (i + 1) texts) items ≡ all
-text_null texts i items all l e so_far = text_next texts i [] items items all l (sym e) (sym (cut_out_null (i + 1) items)) so_far

@@ -1,7 +1,8 @@
 //! Segmenting a form: texts are cut out of it, and what is cut leaves gaps.
 ghost use Rattle.std.specs.Prelude.{◌≡◌, ◌+◌, ◌++◌, ◌<◌, ◌≤◌, ◌∷◌, [], length, IfOk, IsOkUnless, OnOk};
-ghost use Rattle.trac_rules.specs.Form.{as_items, extent};
-ghost use Rattle.trac_rules.specs.Segmenting.{cut_out, part, segmented};
+ghost use Rattle.std.specs.List.{All};
+ghost use Rattle.trac_rules.specs.Form.{IsWide, all_items, as_items, at_start, extent};
+ghost use Rattle.trac_rules.specs.Segmenting.{cut_out, part, segmented, segmented_from};
 ghost use Rattle.trac_forms.specs.Layout.{IsSound};
 
 use crate::error::FormError;
@@ -25,31 +26,59 @@ impl<A: Allocator + Copy> Form<A> {
         ensures sound { IfOk result IsSound }
         ensures err { IsOkUnless result FormError.Memory }
     {
-        let alloc = self.alloc;
-        let mut items = Vec::from_slice(alloc, self.before())?;
+        let items = self.items_without(texts)?;
+        form_at_start(self.alloc, items.as_slice())
+    }
+
+    // All items, these texts cut out in turn.
+    fn items_without<T: Texts>(&self, texts: &T) -> Result<Vec<Item, A>, FormError>
+        requires { length (T.texts texts.now) ≤ MARK_LIMIT }
+        ensures cut { IfOk result (λ items. items.items ≡ segmented_from 1 (T.texts texts.now) (all_items self.now)) }
+        ensures within { IfOk result (λ items. extent items.items ≤ FORM_LIMIT) }
+        ensures wide { IfOk result (λ items. All IsWide items.items) }
+        ensures err { IsOkUnless result FormError.Memory }
+    {
+        let mut items = Vec::from_slice(self.alloc, self.before())?;
         items.extend_from_slice(self.after())?;
+        let mut number = 0;
         for i in 0..texts.count() {
-            let text = texts.get(i);
-            if text.is_empty() {
-                continue;
-            }
-            let number = number_of(i);
-            items = without(alloc, number, text, items.as_slice())?;
+            number += 1;
+            items = without_text(self.alloc, number, texts.get(i), items)?;
         }
-        let Some(bytes) = extent_within(items.as_slice(), FORM_LIMIT) else {
-            unreachable!()
-        };
-        let items = items_of(alloc, &[], items.as_slice(), bytes)?;
-        Ok(Form { alloc, items })
+        Ok(items)
     }
 }
 
-// The number of the text at this place.
-fn number_of(i: usize) -> u32
-    requires { i < MARK_LIMIT }
-    ensures { result ≡ i + 1 }
+// A form of these items, its pointer at the start.
+fn form_at_start<A: Allocator + Copy>(alloc: A, items: &[Item]) -> Result<Form<A>, FormError>
+    requires within { extent items.now ≤ FORM_LIMIT }
+    requires wide { All IsWide items.now }
+    ensures made { IfOk result (λ f. f ≡ at_start items.now) }
+    ensures sound { IfOk result IsSound }
+    ensures err { IsOkUnless result FormError.Memory }
 {
-    i as u32 + 1
+    let Some(bytes) = extent_within(items, FORM_LIMIT) else {
+        unreachable!()
+    };
+    let items = items_of(alloc, &[], items, bytes)?;
+    Ok(Form { alloc, items })
+}
+
+// The items with the text of this number cut out; a null text cuts nothing.
+fn without_text<A: Allocator + Copy>(
+    alloc: A,
+    number: u32,
+    text: &[u8],
+    items: Vec<Item, A>,
+) -> Result<Vec<Item, A>, FormError>
+    requires { extent items.items ≤ FORM_LIMIT }
+    ensures cut { IfOk result (λ out. out.items ≡ cut_out number text.now items.items) }
+    ensures err { IsOkUnless result FormError.Memory }
+{
+    if text.is_empty() {
+        return Ok(items);
+    }
+    without(alloc, number, text, items.as_slice())
 }
 
 // The items with the text of this number cut out of each run between gaps.

@@ -254,6 +254,21 @@ fn place_of<A: Allocator>(
     if text.is_empty() {
         return Ok(Some(Reached { items: 0, bytes: 0 }));
     }
+    first_place_of(alloc, text, items)
+}
+
+// The first place of a text that is not null among these items, if it occurs.
+fn first_place_of<A: Allocator>(
+    alloc: A,
+    text: &[u8],
+    items: &[Item],
+) -> Result<Option<Reached>, FormError>
+    requires { 0 < length text.now }
+    ensures place { IfOk result (λ r. option_map (λ at. at.items) r ≡ place_of_text text.now items.now) }
+    ensures bytes { IfOk result (λ r. IfSome r (λ at. at.bytes ≡ length (bytes_in (take at.items items.now)))) }
+    ensures within { IfOk result (λ r. IfSome r (λ at. at.items + length text.now ≤ length items.now)) }
+    ensures err { IsOkUnless result FormError.Memory }
+{
     let finder = Finder::new(text);
     // the run that is read so far, where it begins, and how many bytes stand before it
     let mut run = Vec::new(alloc);

@@ -286,9 +286,19 @@ fn copies_of<A: Allocator + Copy>(alloc: A, block: &Block<A>) -> Result<Vec<Name
         let Some((name, form)) = block.get(i) else {
             return Ok(copies);
         };
-        let name = Vec::from_slice(alloc, name)?;
-        let form = form.copy()?;
-        copies.push((name, form))?;
+        let copy = copy_of(alloc, name, form)?;
+        copies.push(copy)?;
     }
     Ok(copies)
+}
+
+// A form with its name, with memory of their own.
+fn copy_of<A: Allocator + Copy>(alloc: A, name: &[u8], form: &Form<A>) -> Result<Named<A>, Refusal>
+    ensures name { IfOk result (λ copy. copy.0.items ≡ name.now) }
+    ensures form { IfOk result (λ copy. copy.1 ≡ form.now) }
+    ensures err { IsOkUnless result Refusal.Memory }
+{
+    let name = Vec::from_slice(alloc, name)?;
+    let form = form.copy()?;
+    Ok((name, form))
 }

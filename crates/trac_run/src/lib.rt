@@ -6,4 +6,4 @@ pub mod running;
 pub mod writing;
 
 pub use ending::Ending;
-pub use running::{BUDGET_LIMIT, Options, run};
+pub use running::{BUDGET_LIMIT, DEFAULT_BUDGET, Options, budget_of, run};

@@ -20,6 +20,9 @@ pub const READ_SIZE: usize = 4096;
 /// The most steps that a run may be allowed (this project's profile).
 pub const BUDGET_LIMIT: u64 = 1_000_000_000_000;
 
+/// How many steps a run may take where nothing else is said (this project's profile).
+pub const DEFAULT_BUDGET: u64 = 1_000_000_000;
+
 /// The options of a run.
 #[derive(Clone, Copy, Debug, PartialEq, Eq)]
 pub struct Options {
@@ -27,6 +30,18 @@ pub struct Options {
     pub budget: u64,
     /// How many records its journal may hold: 1 to 1,048,576.
     pub journal: usize,
+}
+
+/// How many steps a run may take where so many are asked for: as many, within the range, or the default number where none is
+/// said (this project's profile).
+pub fn budget_of(asked: Option<u64>) -> u64
+    ensures some { 1 ≤ result }
+    ensures most { result ≤ BUDGET_LIMIT }
+{
+    match asked {
+        Some(budget) => budget.clamp(1, BUDGET_LIMIT),
+        None => DEFAULT_BUDGET,
+    }
 }
 
 /// Runs what the reader gives, and writes what it prints, until the budget is spent, the input has ended, or a limit,

@@ -83,6 +83,13 @@ impl<A: Allocator + Copy> Session<A> {
         }
     }
 
+    // How many steps back a search may take: all that there are, and one even where there is none, which is then refused.
+    fn steps_back(&self) -> u64
+        ensures { result ≡ max 1 (length self.now.earlier) }
+    {
+        self.len().max(1) as u64
+    }
+
     /// Goes forward by up to `n` steps, until one is refused: as `JournalFull`, `NeedInput`, `Ended`, `TooLong` or `Memory`,
     /// which the walk answers (this project's profile).
     pub fn forward(&mut self, n: u64) -> Walk
@@ -115,8 +122,7 @@ impl<A: Allocator + Copy> Session<A> {
     pub fn back_until(&mut self, name: &[u8]) -> Walk
         ensures { IsSearch Back (is_call_of name.now) (max 1 (length self.old.earlier)) self.old result.done result.why self.new }
     {
-        let records = self.len().max(1) as u64;
-        let walk = self.walk(Direction::Backward, Some(name), records);
+        let walk = self.walk(Direction::Backward, Some(name), self.steps_back());
         self.searched(name, walk)
     }
 }

@@ -6,10 +6,7 @@ use clap::error::ErrorKind;
 use clap::{Arg, ArgMatches, Command, Error, value_parser};
 use std::alloc::{AllocError, Global};
 use trac_rules::limit::JOURNAL_LIMIT;
-use trac_run::{BUDGET_LIMIT, Options};
-
-/// How many steps a run may take where nothing else is said (this project's profile).
-pub const DEFAULT_BUDGET: u64 = 1_000_000_000;
+use trac_run::{BUDGET_LIMIT, DEFAULT_BUDGET, Options, budget_of};
 
 /// How many records a run's journal may hold where nothing else is said (this project's profile).
 pub const DEFAULT_JOURNAL: usize = 64;
@@ -114,15 +111,12 @@ fn debug_line(alloc: Global, found: &ArgMatches<'_>) -> Result<Line, AllocError>
     Ok(Line::Debug(path, options))
 }
 
-// The budget that was asked for, or the default one. `clap` has judged its range; the bounds here only say so again.
+// The budget that was asked for, or the default one. `clap` has judged its range.
 fn budget_in(matches: &ArgMatches<'_>) -> u64
     ensures some { 1 ≤ result }
     ensures most { result ≤ BUDGET_LIMIT }
 {
-    match matches.get_one::<u64>("budget") {
-        Some(budget) => budget.clamp(1, BUDGET_LIMIT),
-        None => DEFAULT_BUDGET,
-    }
+    budget_of(matches.get_one::<u64>("budget"))
 }
 
 // How many records were asked for, or the default number. `clap` has judged its range; the bounds here only say so again.

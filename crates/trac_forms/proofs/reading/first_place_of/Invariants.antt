@@ -2,7 +2,7 @@
 use Rattle.std.proofs.Common.{◌≡◌, ℕ, ◌+◌, ◌++◌, ◌<◌, false, length, take, drop}
 use Rattle.trac_rules.specs.Form.{as_items}
 use Rattle.trac_rules.specs.Pieces.{begin_with, bytes_in}
-use Rattle.trac_forms.proofs.reading.place_of.Given as goal
+use Rattle.trac_forms.proofs.reading.first_place_of.Given as goal
 
 abbrev pub invariant-loop-item : goal.invariant-loop-item
 invariant-loop-item g l = record {
