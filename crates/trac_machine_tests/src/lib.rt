@@ -7,3 +7,5 @@
 #[cfg(test)]
 mod machines;
 pub mod shown;
+#[cfg(test)]
+mod walking;

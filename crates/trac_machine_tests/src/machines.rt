@@ -11,7 +11,9 @@ use trac_gap::{GapBuf, PlainEnds, TwoEnds};
 use trac_rules::refusal::Refusal;
 use trac_step::{Core, Machine, Mark, Record, Tape};
 
-type Memory<'a> = &'a Refusing<Global>;
+/// Memory of which a request may be refused.
+/// Memory of which a request may be refused.
+pub(crate) type Memory<'a> = &'a Refusing<Global>;
 
 /// The machine over plain vectors, with which the other one is compared.
 type PlainMachine<'a> = Core<PlainEnds<u8, Memory<'a>>, PlainEnds<Mark, Memory<'a>>, Memory<'a>>;
@@ -133,7 +135,8 @@ const RUNS: [(&[u8], &[u8]); 44] = [
 /// How many requests a call may make at most.
 const MOST_REQUESTS: u64 = 1_000;
 
-fn made<E: TwoEnds<u8, A>, M: TwoEnds<Mark, A>, A: Allocator + Copy>(
+// A machine in the state in which a processor begins.
+pub(crate) fn made<E: TwoEnds<u8, A>, M: TwoEnds<Mark, A>, A: Allocator + Copy>(
     alloc: A,
 ) -> Result<Core<E, M, A>, Refusal> {
     Core::new(alloc)
@@ -171,11 +174,12 @@ fn expect_text(rt: &impl Abort, text: &[u8], wanted: &[u8], input: &[u8]) {
     assert_eq!(rt; text, wanted, "from {input:?}");
 }
 
-fn step<E: TwoEnds<u8, A>, M: TwoEnds<Mark, A>, A: Allocator + Copy>(
+// The next step over this whole input.
+pub(crate) fn step<E: TwoEnds<u8, A>, M: TwoEnds<Mark, A>, A: Allocator + Copy>(
     rt: &impl Abort,
     machine: &mut Core<E, M, A>,
     input: &[u8],
-) -> Result<Record<Core<E, M, A>>, Refusal> {
+) -> Result<Record<Core<E, M, A>, A>, Refusal> {
     assert!(rt; machine.position() <= input.len());
     machine.step(Tape {
         bytes: input,
@@ -183,9 +187,10 @@ fn step<E: TwoEnds<u8, A>, M: TwoEnds<Mark, A>, A: Allocator + Copy>(
     })
 }
 
-// A step that is undone, or why it is refused.
+// A step that is undone while every request for memory is refused, or why it is refused.
 fn step_and_undo<E: TwoEnds<u8, A>, M: TwoEnds<Mark, A>, A: Allocator + Copy>(
     rt: &impl Abort,
+    memory: Memory<'_>,
     machine: &mut Core<E, M, A>,
     input: &[u8],
 ) -> Option<Refusal> {
@@ -196,7 +201,10 @@ fn step_and_undo<E: TwoEnds<u8, A>, M: TwoEnds<Mark, A>, A: Allocator + Copy>(
     };
     match machine.step(tape) {
         Ok(taken) => {
+            let requests = memory.requests();
+            memory.refuse_all();
             machine.undo(taken);
+            assert!(rt; memory.requests() == requests);
             None
         }
         Err(refusal) => Some(refusal),
@@ -229,7 +237,7 @@ fn try_step<E: TwoEnds<u8, A>, M: TwoEnds<Mark, A>, A: Allocator + Copy>(
     for made in 0..MOST_REQUESTS {
         let refusals = memory.refusals();
         memory.refuse_nth(made + 1);
-        let refused = step_and_undo(rt, machine, input);
+        let refused = step_and_undo(rt, memory, machine, input);
         memory.accept_all();
         expect_shown(rt, plain, machine, before, input)?;
         if memory.refusals() == refusals {
@@ -238,16 +246,6 @@ fn try_step<E: TwoEnds<u8, A>, M: TwoEnds<Mark, A>, A: Allocator + Copy>(
         assert!(rt; refused.is_none() || refused == Some(Refusal::Memory));
     }
     Ok((Some(Refusal::Memory), MOST_REQUESTS))
-}
-
-// How many requests a copy makes, as the record of a step keeps one.
-fn requests_of_copy<E: TwoEnds<u8, A>, M: TwoEnds<Mark, A>, A: Allocator + Copy>(
-    memory: Memory<'_>,
-    machine: &Core<E, M, A>,
-) -> Result<u64, Refusal> {
-    let before = memory.requests();
-    let _copied = machine.copy()?;
-    Ok(memory.requests().saturating_sub(before))
 }
 
 // How many requests the next step makes.
@@ -279,8 +277,8 @@ fn makes_mark<E: TwoEnds<u8, A>, M: TwoEnds<Mark, A>, A: Allocator + Copy>(
         || (active.starts_with(b",") && machine.depth() > 0)
 }
 
-// One step on, or why there is none. A step that only moves asks for nothing beside its record: where it makes a mark, on a
-// machine that has taken it before, and so has room for the mark.
+// One step on, or why there is none. A step that only moves asks for no memory: where it makes a mark, on a machine that has
+// taken it before, and so has room for the mark.
 fn advance<E: TwoEnds<u8, A>, M: TwoEnds<Mark, A>, A: Allocator + Copy>(
     rt: &impl Abort,
     plain: Global,
@@ -291,15 +289,13 @@ fn advance<E: TwoEnds<u8, A>, M: TwoEnds<Mark, A>, A: Allocator + Copy>(
 ) -> Result<Option<Refusal>, Fail> {
     let moves = only_moves(machine);
     let marks = makes_mark(machine);
-    let for_record = requests_of_copy(memory, machine)?;
     let (refused, first) = try_step(rt, plain, memory, machine, before, input)?;
     if refused.is_some() {
         return Ok(refused);
     }
-    assert!(rt; !moves || marks || first == for_record);
-    let for_record = requests_of_copy(memory, machine)?;
+    assert!(rt; !moves || marks || first == 0);
     let again = requests_of_step(rt, memory, machine, input)?;
-    assert!(rt; !moves || again == for_record);
+    assert!(rt; !moves || again == 0);
     Ok(None)
 }
 

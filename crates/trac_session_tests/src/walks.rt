@@ -25,6 +25,23 @@ const ELEVEN_STEPS_AND_BACK: &[Act] = &[
 // A stray `)` ends the idle program's `ps`: what is read behind it goes to the base text.
 const A_STRAY_CLOSING: &[Act] = &[Feed(b"a)b,c'"), Forward(14), Shows(b"bc^"), Pending(b"a")];
 
+// The idle step empties the base text, which comes back from its record.
+const THE_BASE_TEXT_COMES_BACK: &[Act] = &[
+    Feed(b"a)b,c'"),
+    ForwardRefused(99, 22, NeedInput),
+    Shows(b"#(ps,#(rs^))"),
+    Pending(b"a"),
+    Records(22),
+    Back(8),
+    Shows(b"bc^"),
+    Pending(b"a"),
+    Back(14),
+    Initial,
+    Forward(22),
+    Back(22),
+    Initial,
+];
+
 // A `(` without a match protects all the rest.
 const AN_UNMATCHED_OPENING: &[Act] = &[Feed(b"((a'"), Forward(9), Shows(b"#(ps,(a)^")];
 
@@ -121,6 +138,7 @@ fn forwards_and_backwards(rt: HostRuntime) -> Result<(), Fail> {
     for acts in [
         ELEVEN_STEPS_AND_BACK,
         A_STRAY_CLOSING,
+        THE_BASE_TEXT_COMES_BACK,
         AN_UNMATCHED_OPENING,
         TWO_FUNCTIONS_ARE_BEGUN,
         MORE_INPUT_IS_WAITED_FOR,
