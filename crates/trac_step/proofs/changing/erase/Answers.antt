@@ -1,0 +1,10 @@
+use Rattle.std.proofs.Common.{ap, ◌∙◌}
+use Rattle.std.specs.FinMap as finite
+use Rattle.trac_rules.specs.Handling.{keeping}
+use Rattle.trac_forms.specs.Stored.{Stored, storage_in}
+use Rattle.trac_step.proofs.changing.erase.Goals as goal
+
+pub returns-clause-storage : goal.returns-clause-storage
+returns-clause-storage g c =
+    ap storage_in c.take.ensures.gone
+    ∙ ap (λ (s : Stored). keeping (finite.remove s.forms c.args.name.now) (storage_in s)) c.take_block.ensures.erased
