@@ -2,7 +2,7 @@
 use crate::expect::Memory;
 use crate::stores::{Act, add};
 use std::alloc::Global;
-use trac_forms::{Block, FormError, Store};
+use trac_forms::{Block, Form, FormError, Store};
 
 /// Acts on the blocks of a store.
 pub(crate) const BLOCKS: &[Act] = &[
@@ -33,25 +33,21 @@ pub(crate) const BLOCKS: &[Act] = &[
     Act::Count(0),
 ];
 
-fn block_shown(
-    plain: Global,
-    out: &mut Vec<u8>,
-    block: &Block<Memory<'_>>,
-) -> Result<(), FormError> {
+fn add_form(out: &mut Vec<u8>, name: &[u8], form: &Form<Memory<'_>>) -> Result<(), FormError> {
+    add(out, name)?;
+    add(out, b"=")?;
+    form.show_into(out)?;
+    Ok(add(out, b";")?)
+}
+
+fn add_block(out: &mut Vec<u8>, block: &Block<Memory<'_>>) -> Result<(), FormError> {
     add(out, b"[")?;
     for i in 0..block.len() {
-        let Some((name, form)) = block.get(i) else {
-            break;
-        };
-        add(out, name)?;
-        add(out, b"=")?;
-        let mut text = Vec::new(plain);
-        form.show_into(&mut text)?;
-        add(out, text.as_slice())?;
-        add(out, b";")?;
+        if let Some((name, form)) = block.get(i) {
+            add_form(out, name, form)?;
+        }
     }
-    add(out, b"]")?;
-    Ok(())
+    Ok(add(out, b"]")?)
 }
 
 /// The blocks in order: `-` for an erased one, else its forms as they are printed, each behind its name and `=` and before `;`,
@@ -60,7 +56,7 @@ pub(crate) fn blocks_shown(plain: Global, store: &Store<Memory<'_>>) -> Result<V
     let mut out = Vec::new(plain);
     for i in 0..store.block_count() {
         match store.block(i) {
-            Some(block) => block_shown(plain, &mut out, block)?,
+            Some(block) => add_block(&mut out, block)?,
             None => add(&mut out, b"-")?,
         }
     }

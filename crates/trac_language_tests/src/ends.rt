@@ -160,21 +160,18 @@ fn play_row<E: TwoEnds<u8, A>, A: Allocator + Copy>(
     play_on(rt, &mut ends)
 }
 
-#[test]
-fn each_request_over_vectors(rt: HostRuntime) -> Result<(), Fail> {
-    let memory = Refusing::new(rt.alloc());
-    expect_each(&rt, &memory, 5, |_| {
-        play_row::<PlainEnds<u8, Memory<'_>>, Memory<'_>>(&rt, &memory)
-    })?;
-    Ok(())
+fn play_each<'a, E: TwoEnds<u8, Memory<'a>>>(
+    rt: &impl Abort,
+    memory: Memory<'a>,
+) -> Result<(), GapError> {
+    expect_each(rt, memory, 5, |_| play_row::<E, Memory<'a>>(rt, memory))
 }
 
 #[test]
-fn each_request_over_a_block(rt: HostRuntime) -> Result<(), Fail> {
+fn each_request(rt: HostRuntime) -> Result<(), Fail> {
     let memory = Refusing::new(rt.alloc());
-    expect_each(&rt, &memory, 5, |_| {
-        play_row::<GapBuf<u8, Memory<'_>>, Memory<'_>>(&rt, &memory)
-    })?;
+    play_each::<PlainEnds<u8, Memory<'_>>>(&rt, &memory)?;
+    play_each::<GapBuf<u8, Memory<'_>>>(&rt, &memory)?;
     Ok(())
 }
 
@@ -327,13 +324,24 @@ fn nearly_full_blocks(rt: HostRuntime) -> Result<(), Fail> {
     Ok(())
 }
 
+// The first two items on the left and the last on the right, and then one from the left to the right.
+fn put_three<T: Copy, E: TwoEnds<T, A>, A: Allocator + Copy>(
+    ends: &mut E,
+    first: T,
+    second: T,
+    last: T,
+) -> Result<(), GapError> {
+    push(ends, first, true)?;
+    push(ends, last, false)?;
+    put(ends, &[second], true)?;
+    shift_right(ends, 1);
+    Ok(())
+}
+
 #[test]
 fn wide_items(rt: HostRuntime) -> Result<(), Fail> {
     let mut wide: GapBuf<(u64, u8)> = GapBuf::new(rt.alloc());
-    push(&mut wide, (7, 1), true)?;
-    push(&mut wide, (8, 2), false)?;
-    put(&mut wide, &[(9, 3)], true)?;
-    shift_right(&mut wide, 1);
+    put_three(&mut wide, (7, 1), (9, 3), (8, 2))?;
     assert!(rt; wide.left() == [(7, 1)].as_slice());
     assert!(rt; wide.right() == [(9, 3), (8, 2)].as_slice());
     Ok(())
@@ -342,10 +350,9 @@ fn wide_items(rt: HostRuntime) -> Result<(), Fail> {
 #[test]
 fn items_without_a_size(rt: HostRuntime) -> Result<(), Fail> {
     let mut bare: GapBuf<(), Global> = GapBuf::new(rt.alloc());
-    push(&mut bare, (), true)?;
-    push(&mut bare, (), false)?;
+    put_three(&mut bare, (), (), ())?;
     shift_left(&mut bare, 1);
-    assert!(rt; bare.left().len() == 2);
+    assert!(rt; bare.left().len() == 2 && bare.right().len() == 1);
     Ok(())
 }
 

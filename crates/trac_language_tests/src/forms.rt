@@ -143,19 +143,19 @@ fn made<'a>(memory: Memory<'a>, text: &[u8]) -> Result<Form<Memory<'a>>, FormErr
     Ok(form)
 }
 
-// The pointer goes behind two bytes; where texts are cut out it goes to the start again.
-fn move_pointer(rt: &impl Abort, form: &mut Form<Memory<'_>>) {
-    assert!(rt; form.len() >= 2);
-    form.set_pointer(2);
+// The pointer goes to this place, and was at the one that this gives.
+fn set_pointer(rt: &impl Abort, form: &mut Form<Memory<'_>>, place: usize) -> usize {
+    assert!(rt; place <= form.len());
+    form.set_pointer(place)
 }
 
-// The texts are cut out in turn, and the pointer was elsewhere before.
+// The texts are cut out in turn. The pointer, which was behind two bytes, is at the start then.
 fn cut_all(
     rt: &impl Abort,
     form: &mut Form<Memory<'_>>,
     cuts: &[&[&[u8]]],
 ) -> Result<(), FormError> {
-    move_pointer(rt, form);
+    set_pointer(rt, form, 2);
     for texts in cuts.iter() {
         *form = cut(rt, form, texts)?;
     }
@@ -184,12 +184,6 @@ fn copied<'a>(form: &Form<Memory<'a>>) -> Result<Form<Memory<'a>>, FormError> {
         Err(FormError::Memory) => form.copy(),
         other => other,
     }
-}
-
-// The pointer goes to this place, and was at the one that this gives.
-fn set_pointer(rt: &impl Abort, form: &mut Form<Memory<'_>>, place: usize) -> usize {
-    assert!(rt; place <= form.len());
-    form.set_pointer(place)
 }
 
 // The pointer goes to another place, while a copy keeps the old one.

@@ -1,6 +1,6 @@
 //! Reading a form at its pointer: the value of each call and the place where the pointer goes. Each request for memory is
 //! refused in turn.
-use crate::expect::{Memory, expect_each};
+use crate::expect::{Memory, expect_act, expect_each};
 use crate::forms::divided_once;
 use std::process::Abort;
 use std::test::Fail;
@@ -103,24 +103,21 @@ fn gives<'a>(
 fn expect_row(
     rt: &impl Abort,
     memory: Memory<'_>,
-    place: usize,
-    act: Act,
-    given: Given,
+    at: usize,
+    (place, act, given): (usize, Act, Given),
 ) -> Result<(), FormError> {
     let form = placed(rt, memory, place)?;
     let piece = read_once(&form, act)?;
     let is_met = form.pointer() == place && gives(memory, &form, piece, given)?;
-    assert!(rt; is_met, "from {place}, where {given:?} is given");
+    expect_act(rt, is_met, at);
     Ok(())
 }
 
 #[test]
 fn each_request_of_reads(rt: HostRuntime) -> Result<(), Fail> {
     let memory = Refusing::new(rt.alloc());
-    for (place, act, given) in ROWS.iter() {
-        expect_each(&rt, &memory, 1, |_| {
-            expect_row(&rt, &memory, *place, *act, *given)
-        })?;
+    for (at, row) in ROWS.iter().enumerate() {
+        expect_each(&rt, &memory, 1, |_| expect_row(&rt, &memory, at, *row))?;
     }
     Ok(())
 }
