@@ -237,17 +237,15 @@ fn expect_argument(rt: &impl Abort, args: &Args<'_>, number: usize, wanted: &[u8
     expect_text(rt, args.get(number), wanted);
 }
 
+// The arguments of `adapples5pears3` by their numbers, and one behind the last.
+const ARGUMENTS: &[(usize, &[u8])] = &[(0, b"ad"), (1, b"apples5"), (2, b"pears3"), (3, b"")];
+
 #[test]
 fn arguments_lie_one_behind_another(rt: HostRuntime) {
     let marks = [behind(2), behind(9)];
     let args = Args::new(b"adapples5pears3", &marks, 0);
     assert!(rt; args.count() == 3);
-    for (number, wanted) in [
-        (0, b"ad".as_slice()),
-        (1, b"apples5".as_slice()),
-        (2, b"pears3".as_slice()),
-        (3, b"".as_slice()),
-    ] {
-        expect_argument(&rt, &args, number, wanted);
+    for (number, wanted) in ARGUMENTS.iter() {
+        expect_argument(&rt, &args, *number, wanted);
     }
 }

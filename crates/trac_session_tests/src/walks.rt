@@ -133,21 +133,23 @@ const FORMS_COME_AND_GO: &[Act] = &[
     Initial,
 ];
 
+const WALKS: &[&[Act]] = &[
+    ELEVEN_STEPS_AND_BACK,
+    A_STRAY_CLOSING,
+    THE_BASE_TEXT_COMES_BACK,
+    AN_UNMATCHED_OPENING,
+    TWO_FUNCTIONS_ARE_BEGUN,
+    MORE_INPUT_IS_WAITED_FOR,
+    A_TRACED_CALL_WAITS_FOR_A_BYTE,
+    A_TRACED_CALL_WAITS_FOR_A_TEXT,
+    NOTHING_BEHIND_THE_END,
+    A_COMMIT_KEEPS_WHAT_IS_UNREAD,
+    FORMS_COME_AND_GO,
+];
+
 #[test]
 fn forwards_and_backwards(rt: HostRuntime) -> Result<(), Fail> {
-    for acts in [
-        ELEVEN_STEPS_AND_BACK,
-        A_STRAY_CLOSING,
-        THE_BASE_TEXT_COMES_BACK,
-        AN_UNMATCHED_OPENING,
-        TWO_FUNCTIONS_ARE_BEGUN,
-        MORE_INPUT_IS_WAITED_FOR,
-        A_TRACED_CALL_WAITS_FOR_A_BYTE,
-        A_TRACED_CALL_WAITS_FOR_A_TEXT,
-        NOTHING_BEHIND_THE_END,
-        A_COMMIT_KEEPS_WHAT_IS_UNREAD,
-        FORMS_COME_AND_GO,
-    ] {
+    for acts in WALKS.iter() {
         play(&rt, rt.alloc(), JOURNAL_LIMIT, acts)?;
     }
     Ok(())
