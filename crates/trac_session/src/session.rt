@@ -1,6 +1,7 @@
 //! A session: a processor that goes forwards and backwards over an input that is fed to it.
 ghost use Rattle.std.specs.Prelude.{◌≡◌, ◌==◌, ◌≤◌, length, IfOk, IsOkUnless};
 ghost use Rattle.trac_rules.specs.declared.reply.Reply.TheVariants.{Done};
+ghost use Rattle.trac_rules.specs.Reading.{unread};
 ghost use Rattle.trac_rules.specs.Session.{new_session, Feed, End, Step, Back, Commit, answer, Answers, IsWalk, no_goal};
 ghost use Rattle.trac_session.specs.Replies.{reply_of};
 
@@ -117,6 +118,13 @@ impl<A: Allocator + Copy> Session<A> {
         ensures { result.now ≡ self.now.last.output }
     {
         self.machine.output()
+    }
+
+    /// What is fed and not read yet. It takes no memory (this project's profile).
+    pub fn unread(&self) -> &[u8]
+        ensures { result.now ≡ unread self.now.tape self.now.last }
+    {
+        self.tape.split_at(self.machine.position()).1
     }
 
     /// Makes the last state the first one: what is pending is released, so read it before, and what is read of the
