@@ -1,5 +1,5 @@
 //! A session: a processor that goes forwards and backwards over an input that is fed to it.
-ghost use Rattle.std.specs.Prelude.{◌≡◌, ◌==◌, ◌≤◌, length, IfOk, IsOkUnless};
+ghost use Rattle.std.specs.Prelude.{◌≡◌, ◌==◌, ◌≤◌, ◌-◌, drop, length, IfOk, IsOkUnless};
 ghost use Rattle.trac_rules.specs.declared.reply.Reply.TheVariants.{Done};
 ghost use Rattle.trac_rules.specs.Reading.{unread};
 ghost use Rattle.trac_rules.specs.Session.{new_session, Feed, End, Step, Back, Commit, answer, Answers, IsWalk, no_goal};
@@ -133,8 +133,7 @@ impl<A: Allocator + Copy> Session<A> {
         ensures { answer Commit self.old ≡ record { reply = Done; session = self.new } }
     {
         let read = self.machine.position();
-        self.tape.rotate_left(read);
-        self.tape.truncate(self.tape.len() - read);
+        drop_front(&mut self.tape, read);
         self.journal.clear();
         self.machine.settle();
     }
@@ -160,4 +159,17 @@ impl<A: Allocator + Copy> Session<A> {
     {
         &self.machine
     }
+}
+
+// Takes so many bytes off the front. Where there are none to take, the length of the text costs nothing.
+fn drop_front<A: Allocator>(text: &mut Vec<u8, A>, count: usize)
+    requires { count ≤ length text.old.items }
+    ensures items { text.new.items ≡ drop count text.old.items }
+    ensures len { length text.new.items ≡ length text.old.items - count }
+{
+    if count == 0 {
+        return;
+    }
+    text.rotate_left(count);
+    text.truncate(text.len() - count);
 }
