@@ -17,6 +17,7 @@ pub mod BlockCalls
 pub mod BlocksStay
 pub mod Refusals
 pub mod Replies
+pub mod Waiting
 pub mod GoingOn
 pub mod OctalTexts
 pub mod Restored

@@ -1,9 +1,10 @@
 -- The first place of a list that passes a test, where the list goes on.
-use Rattle.std.proofs.Common.{◌≡◌, ℕ, ◌<◌, ◌≤◌, Bool, true, false, ltb, List, ◌++◌, length, get_or, sym, ap, ◌∙◌, arith, ⊎_elim}
-use Rattle.std.specs.Prelude.{None, Some, position}
+use Rattle.std.proofs.Common.{◌≡◌, ℕ, ◌-◌, ◌<◌, ◌≤◌, Bool, true, false, ltb, List, ◌++◌, length, get_or, refl, sym, ap, ◌∙◌, arith, ⊎_elim}
+use Rattle.std.specs.Prelude.{Option, None, Some, position}
 use Rattle.std.specs.List.{position_or_len}
 use Rattle.std.proofs.lemmas.Bool.{cond-true, ltb-false, lt-ltb, cases_Bool, cases_lt, false≢true}
 use Rattle.std.proofs.lemmas.List.{length-append, get_or_append_left}
+use Rattle.std.proofs.Math.Seq.{get_or-append_right}
 use Rattle.std.proofs.lemmas.List.Sums.{position_or_len_is, fails_before_first}
 use Rattle.std.proofs.lemmas.List.Quantifiers.{position-Some}
 
@@ -41,3 +42,15 @@ position-append_None p xs ys k none h =
     (λ (l : length xs ≤ k). l)
     (cases_lt k (length xs)) in
     (behind, at.0)
+
+-- where there is none in either part, there is none
+pub position-append_neither : (p : ℕ → Bool) (xs ys : List ℕ) → position p xs ≡ None → position p ys ≡ None → position p (xs ++ ys) ≡ None
+position-append_neither p xs ys none_left none_right = go (position p (xs ++ ys)) refl
+  where
+    go : (at : Option ℕ) → position p (xs ++ ys) ≡ at → at ≡ None
+    go None e = refl
+    go (Some k) e =
+        let inside = position-append_None p xs ys k none_left e in
+        let there = position-Some p (xs ++ ys) k 0 e in
+        absurd (false≢true (sym (position_none p ys none_right (k - length xs) (omega (arith, inside.0, inside.1, length-append xs ys)))
+        ∙ ap p (sym (get_or-append_right xs ys k 0 inside.0)) ∙ there.1))

@@ -138,12 +138,12 @@ up_to_long front more None storage some inside =
     rest_long (length front) (front ++ more) storage some (omega (arith, length-append front more))
 
 -- a text without a meta character is not read up to one
-wants_none : (text : List ℕ) (at : Option ℕ) (ended : Bool) (storage : Storage) → read_up_to at text ended storage ≡ Err NeedInput → at ≡ None
+pub wants_none : (text : List ℕ) (at : Option ℕ) (ended : Bool) (storage : Storage) → read_up_to at text ended storage ≡ Err NeedInput → at ≡ None
 wants_none text (Some k) ended storage h = absurd (cc)
 wants_none text None ended storage h = refl
 
 -- a byte that is there is not waited for
-byte_there : (text : List ℕ) (ended : Bool) (storage : Storage) → 0 < length text → byte_read text ended storage ≡ Err NeedInput → ⊥
+pub byte_there : (text : List ℕ) (ended : Bool) (storage : Storage) → 0 < length text → byte_read text ended storage ≡ Err NeedInput → ⊥
 byte_there [] ended storage some h = omega arith
 byte_there (b ∷ rest) ended storage some h = cc
 

@@ -2,3 +2,4 @@ pub mod Known
 pub mod Turned
 pub mod Taken
 pub mod Ran
+pub mod Waited

@@ -4,7 +4,7 @@ use Rattle.std.specs.Io.KnownBytes.{Appends, Consumes, IsAtEnd}
 use Rattle.trac_rules.specs.declared.limit.TheConstants.{TEXT_LIMIT, TAPE_LIMIT}
 use Rattle.trac_rules.specs.declared.refusal.Refusal.{Refusal}
 use Rattle.trac_rules.specs.declared.refusal.Refusal.TheVariants as refusals
-use Rattle.trac_rules.specs.Session.{PlainSession, Feed, End, done, answer}
+use Rattle.trac_rules.specs.Session.{PlainSession, Feed, End, Step, done, refused, answer}
 use Rattle.trac_rules.specs.Running.{Output, BudgetSpent, InputEnded, LimitPassed}
 use Rattle.trac_rules.specs.GoingOn.{prepended, going_on_from}
 use Rattle.trac_run.specs.declared.ending.Ending.{Ending}
@@ -115,3 +115,7 @@ pub record TakesMore (in_old in_new : Option (List ℕ)) (p q : PlainSession) : 
   pub got : List ℕ
   pub took : Consumes in_old in_new got
   pub fed : FeedsOrEnds p got q in_new
+
+-- a step that waited for input still waits for it
+abbrev pub StillWaits : PlainSession → PlainSession → Type 0
+StillWaits p q = answer Step p ≡ refused refusals.NeedInput p → answer Step q ≡ refused refusals.NeedInput q

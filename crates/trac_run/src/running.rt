@@ -1,13 +1,14 @@
 //! A run: a program's input from a reader, its output to a writer.
-ghost use Rattle.std.specs.Prelude.{◌≡◌, ℕ, ◌+◌, ◌<◌, ◌≤◌, true, false, length, OnOk, IfErr};
+ghost use Rattle.std.specs.Prelude.{◌≡◌, ℕ, ◌+◌, ◌<◌, ◌≤◌, true, false, length, OnOk, IfOk, IfErr};
 ghost use Rattle.std.specs.Io.KnownBytes.{Appends, IsAtEnd};
-ghost use Rattle.trac_rules.specs.Session.{Step, Commit, done, refused, answer};
+ghost use Rattle.trac_rules.specs.Session.{PlainSession, Feed, Step, Commit, done, refused, answer};
 ghost use Rattle.trac_rules.specs.Running.{output_of};
 ghost use Rattle.trac_run.specs.Written.{WritesFront};
-ghost use Rattle.trac_run.specs.Runs.{Runs, ending_of_feed as ending_of, IsFresh, GoesOn, Finishes, TakesMore, TakesNone, turns_left};
+ghost use Rattle.trac_run.specs.Runs.{Runs, ending_of_feed as ending_of, IsFresh, GoesOn, Finishes, TakesMore, TakesNone, StillWaits, turns_left};
 
 use crate::ending::Ending;
 use crate::writing::{finish, flush, write_whole};
+use memchr::memchr;
 use std::alloc::Allocator;
 use std::io::{Read, Write};
 use trac_rules::limit::{JOURNAL_LIMIT, TEXT_LIMIT};
@@ -117,7 +118,8 @@ fn release<W: Write, A: Allocator + Copy>(
     Ok(())
 }
 
-// Writes and flushes what is pending, commits, and reads once.
+// Takes input for a step that waits for it, and does not try the step while it is sure to go on waiting: so each byte of a long line is
+// looked at once.
 fn take_input<R: Read, W: Write, A: Allocator + Copy>(
     session: &mut Session<A>,
     input: &mut R,
@@ -133,24 +135,50 @@ fn take_input<R: Read, W: Write, A: Allocator + Copy>(
     ensures fresh { OnOk result (IsFresh session.new) }
     ensures fewer { (n : ℕ) → session.old.last.position ≡ 0 → OnOk result (turns_left session.new n < turns_left session.old n) }
 {
+    let mut waits = take_piece(session, input, output)?;
+    while waits {
+        waits = take_piece(session, input, output)?;
+    }
+    Ok(())
+}
+
+// Writes and flushes what is pending, commits, and reads once. Answers whether the step is sure to go on waiting.
+fn take_piece<R: Read, W: Write, A: Allocator + Copy>(
+    session: &mut Session<A>,
+    input: &mut R,
+    output: &mut W,
+) -> Result<bool, Ending>
+    requires wanted { answer Step session.old ≡ refused Refusal.NeedInput session.old }
+    requires on_tape { session.old.last.position ≤ length session.old.tape.bytes }
+    requires some_records { 1 ≤ session.old.limit }
+    ensures ok { (n : ℕ) → OnOk result (GoesOn (R.remaining input.old) (R.remaining input.new) (W.contents output.old) (W.contents output.new)
+        session.old n session.new n) }
+    ensures err { (n : ℕ) → IfErr result (Finishes (R.remaining input.old) (R.remaining input.new) (W.contents output.old) (W.contents output.new)
+        session.old (n + 1)) }
+    ensures fresh { OnOk result (IsFresh session.new) }
+    ensures fewer { (n : ℕ) → session.old.last.position ≡ 0 → OnOk result (turns_left session.new n < turns_left session.old n) }
+    ensures waits { IfOk result (λ waits. waits ≡ true → answer Step session.new ≡ refused Refusal.NeedInput session.new) }
+{
     write_whole(output, session.pending())?;
     flush(output)?;
     session.commit();
     match read_more(session, input) {
-        Ok(()) => Ok(()),
+        Ok(waits) => Ok(waits),
         Err(Ending::Read) => Err(Ending::Read),
         Err(ending) => Err(finish(output, session.pending(), ending)),
     }
 }
 
-// Reads once, and feeds what the reader gives; nothing is the end of the input.
+// Reads once, and feeds what the reader gives; nothing is the end of the input. Answers whether a step that waits is sure to go on
+// waiting.
 fn read_more<R: Read, A: Allocator + Copy>(
     session: &mut Session<A>,
     input: &mut R,
-) -> Result<(), Ending>
+) -> Result<bool, Ending>
     requires { session.old.tape.ended ≡ false }
     ensures ok { OnOk result (TakesMore (R.remaining input.old) (R.remaining input.new) session.old session.new) }
     ensures err { IfErr result (TakesNone (R.remaining input.old) (R.remaining input.new) session.old session.new) }
+    ensures waits { IfOk result (λ waits. waits ≡ true → StillWaits session.old session.new) }
 {
     let mut bytes = [0; READ_SIZE];
     let Ok(count) = input.read(&mut bytes) else {
@@ -158,12 +186,21 @@ fn read_more<R: Read, A: Allocator + Copy>(
     };
     if count == 0 {
         session.end();
-        return Ok(());
+        return Ok(false);
     }
+    let waits = waits_behind(session, &bytes[..count]);
     match session.feed(&bytes[..count]) {
-        Ok(()) => Ok(()),
+        Ok(()) => Ok(waits),
         Err(refusal) => Err(ending_of_feed(refusal)),
     }
+}
+
+// Whether a step that waits is sure to go on waiting once these bytes are fed. Where a byte is unread already, it waits for the meta
+// character.
+fn waits_behind<A: Allocator + Copy>(session: &Session<A>, bytes: &[u8]) -> bool
+    ensures { (fed : PlainSession) → result ≡ true → answer (Feed bytes.now) session.now ≡ done fed → StillWaits session.now fed }
+{
+    !session.unread().is_empty() && memchr(session.machine().meta(), bytes).is_none()
 }
 
 // How a run ends whose feed is refused: the input is not closed before its end was seen, so else a limit would be passed.

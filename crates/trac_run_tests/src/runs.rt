@@ -78,10 +78,15 @@ fn expect_run(
     Ok(())
 }
 
+// The first line makes `+` the meta character, the second reads the byte behind it, the third has what was the meta character
+// before, and the last has no end but that of the input.
+const LINES: &[u8; 33] = b"#(cm,+)'#(ps,<##(rc)>)+'it's+tail";
+
 // One byte at a time and all at once write the same.
 const ROWS: &[(&[u8], &[u8])] = &[
     (b"", b""),
     (b"a)b,c'", b"a"),
+    (LINES, b"<'>it'stail"),
     (
         b"#(ds,AA,Cat)'#(ds,BB,(#(cl,AA)))'#(ps,(#(cl,BB)))'#(ps,##(cl,BB))'#(ps,#(cl,BB))'",
         b"#(cl,BB)#(cl,AA)Cat",
@@ -91,7 +96,7 @@ const ROWS: &[(&[u8], &[u8])] = &[
 #[test]
 fn pieces_of_any_size(rt: HostRuntime) -> Result<(), Fail> {
     for (input, output) in ROWS.iter() {
-        for most in [1, 2, 4096].iter() {
+        for most in [1, 2, 3, 7, 4096].iter() {
             let ending = Ending::Ended;
             expect_run(&rt, input, *most, Fault::None, DEFAULTS, output, ending)?;
         }
@@ -175,6 +180,27 @@ fn each_fault_before_output(rt: HostRuntime) -> Result<(), Fail> {
     Ok(())
 }
 
+// With three bytes a read the second line ends in the eighth, which has the byte behind it too, and the third in the tenth.
+const FAULTS_IN_LINES: [(Fault, &[u8], Ending); 9] = [
+    (Fault::Read(2), b"", Ending::Read),
+    (Fault::Read(8), b"", Ending::Read),
+    (Fault::Read(9), b"<'>", Ending::Read),
+    (Fault::Read(10), b"<'>", Ending::Read),
+    (Fault::Read(11), b"<'>it's", Ending::Read),
+    (Fault::Read(12), b"<'>it's", Ending::Read),
+    (Fault::Flush(2), b"", Ending::Write),
+    (Fault::Flush(12), b"<'>it's", Ending::Write),
+    (Fault::Read(13), b"<'>it'stail", Ending::Ended),
+];
+
+#[test]
+fn each_fault_within_a_line(rt: HostRuntime) -> Result<(), Fail> {
+    for (fault, output, ending) in FAULTS_IN_LINES {
+        expect_run(&rt, LINES, 3, fault, DEFAULTS, output, ending)?;
+    }
+    Ok(())
+}
+
 // A run where a request is refused writes a front of its output.
 fn expect_memory(
     rt: &(impl Abort + AllocGlobal),
@@ -234,4 +260,14 @@ fn input_without_end(rt: HostRuntime) {
     let ending = run(rt.alloc(), &mut reader, &mut writer, options);
     assert!(rt; ending == Ending::Budget);
     assert!(rt; writer.contents() == [b'A'; 91].as_slice());
+}
+
+// More than a tape may hold, and no meta character in it.
+#[test]
+fn a_line_without_end(rt: HostRuntime) {
+    let mut reader = RepeatingReader::new(b"a");
+    let mut writer = FaultyWriter::new(rt.alloc());
+    let ending = run(rt.alloc(), &mut reader, &mut writer, DEFAULTS);
+    assert!(rt; ending == Ending::Limit);
+    assert!(rt; writer.contents().is_empty());
 }

@@ -1,6 +1,7 @@
 //! A session: a processor that goes forwards and backwards over an input that is fed to it.
-ghost use Rattle.std.specs.Prelude.{◌≡◌, ◌==◌, ◌≤◌, length, IfOk, IsOkUnless};
+ghost use Rattle.std.specs.Prelude.{◌≡◌, ◌==◌, ◌≤◌, ◌-◌, drop, length, IfOk, IsOkUnless};
 ghost use Rattle.trac_rules.specs.declared.reply.Reply.TheVariants.{Done};
+ghost use Rattle.trac_rules.specs.Reading.{unread};
 ghost use Rattle.trac_rules.specs.Session.{new_session, Feed, End, Step, Back, Commit, answer, Answers, IsWalk, no_goal};
 ghost use Rattle.trac_session.specs.Replies.{reply_of};
 
@@ -119,14 +120,20 @@ impl<A: Allocator + Copy> Session<A> {
         self.machine.output()
     }
 
+    /// What is fed and not read yet. It takes no memory (this project's profile).
+    pub fn unread(&self) -> &[u8]
+        ensures { result.now ≡ unread self.now.tape self.now.last }
+    {
+        self.tape.split_at(self.machine.position()).1
+    }
+
     /// Makes the last state the first one: what is pending is released, so read it before, and what is read of the
     /// tape is dropped. It takes no memory and always succeeds (this project's profile).
     pub fn commit(&mut self)
         ensures { answer Commit self.old ≡ record { reply = Done; session = self.new } }
     {
         let read = self.machine.position();
-        self.tape.rotate_left(read);
-        self.tape.truncate(self.tape.len() - read);
+        drop_front(&mut self.tape, read);
         self.journal.clear();
         self.machine.settle();
     }
@@ -152,4 +159,17 @@ impl<A: Allocator + Copy> Session<A> {
     {
         &self.machine
     }
+}
+
+// Takes so many bytes off the front. Where there are none to take, the length of the text costs nothing.
+fn drop_front<A: Allocator>(text: &mut Vec<u8, A>, count: usize)
+    requires { count ≤ length text.old.items }
+    ensures items { text.new.items ≡ drop count text.old.items }
+    ensures len { length text.new.items ≡ length text.old.items - count }
+{
+    if count == 0 {
+        return;
+    }
+    text.rotate_left(count);
+    text.truncate(text.len() - count);
 }

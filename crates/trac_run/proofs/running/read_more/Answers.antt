@@ -8,4 +8,5 @@ returns-in-Err g c = record {
   err =
       takes_none _ _ _ _ c.read.new.buf c.in-Ok.count c.in-Err.refusal c.ending_of_feed.result c.requires (omega (arith, c.in-Ok.ensures.bound)) (omega (arith, c.read.auto.buf))
       c.ending_of_feed.ensures c.in-Ok.ensures.bytes.0 c.in-Err.ensures;
+  waits = tt;
 }
