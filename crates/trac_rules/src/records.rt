@@ -53,6 +53,7 @@ pub fn worked_records()
     ensures unmatched { recorded (record initial { active = codes "((a)"; base = codes "x" }) ≡ Quoted 3 false }
     ensures unmatched_back { restored (Quoted 3 false) (record initial { active = []; base = codes "x(a)" }) ≡ Some (record initial { active = codes "((a)"; base = codes "x" }) }
     ensures layout { recorded (record initial { active = TAB ∷ codes "a" }) ≡ Deleted TAB }
+    ensures layout_weight { weight (Deleted TAB) ≡ 1 }
     // An argument that is gathered again, and a neutral function that is no longer begun.
     ensures argument_back { restored Comma (record initial { active = codes "b"; frames = record { kind = Neutral; arguments = codes "x" ∷ codes "a" ∷ []; gathered = [] } ∷ [] }) ≡ Some (record initial { active = codes ",b"; frames = record { kind = Neutral; arguments = codes "x" ∷ []; gathered = codes "a" } ∷ [] }) }
     ensures beginning_back { restored Begun (record initial { active = codes "b"; frames = record { kind = Neutral; arguments = []; gathered = [] } ∷ [] }) ≡ Some (record initial { active = codes "##(b" }) }
@@ -73,6 +74,11 @@ pub fn worked_losses()
     ensures text { losses_of (session_after (Feed (codes "AB'") ∷ replicate 19 Step) (new_session 64)) ≡ 7 }
     ensures stray { losses_of (session_after (Feed (codes "a)b,c'") ∷ replicate 22 Step) (new_session 64)) ≡ 10 }
     ensures begun_functions { loss (state_after (Feed (codes ")x##(a,b#(c,d#(e'") ∷ replicate 21 Step) (new_session 64)) ≡ 9 }
+    // Scanning loses a byte of layout, and nothing where it begins a function, protects a text or passes a `#`.
+    ensures layout { loss (record initial { active = TAB ∷ codes "a" }) ≡ 1 }
+    ensures beginning { loss (record initial { active = codes "##(a" }) ≡ 0 }
+    ensures protecting { loss (record initial { active = codes "(a)b" }) ≡ 0 }
+    ensures sharp { loss (record initial { active = codes "#a" }) ≡ 0 }
     // A call loses its arguments and the commas between them, and a meta character that it sets.
     ensures reading { Costs (texts_of (codes "rs")) [] [] 2 }
     ensures printing { Costs (texts_of (codes "ps,")) [] [] 3 }
