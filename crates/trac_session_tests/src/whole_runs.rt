@@ -330,10 +330,8 @@ fn expect_short_run(
     let runs = memory.refuse_each(10_000, |_| {
         again(rt, rt.alloc(), memory, input, states.as_slice())
     })?;
-    assert!(rt;
-        runs > Some(states.len() as u64),
-        "{runs:?} runs from {input:?}"
-    );
+    // There was a request to refuse, and an end to them.
+    assert!(rt; runs > Some(1), "{runs:?} runs from {input:?}");
     Ok(())
 }
 
