@@ -15,7 +15,7 @@ recorded_by Begun = rules.Begun
 recorded_by (Quoted inner closed) = rules.Quoted inner closed
 recorded_by (Deleted b) = rules.Deleted b
 recorded_by (Idle base frames) = rules.Idle base.items (frames_in frames.items)
-recorded_by (Whole m) = rules.Whole m.state
+recorded_by (Whole b) = rules.Whole b.value.state
 
 -- the state before, from the record of a step and the state after it
 abbrev pub before : {A : Type 0} → Record Shown A → State → Option State

@@ -160,6 +160,15 @@ impl<E: TwoEnds<u8, A>, M: TwoEnds<Mark, A>, A: Allocator + Copy> Core<E, M, A> 
         self.position = effect.position;
     }
 
+    // A second machine that shows the same state, in a block of its own.
+    fn boxed_copy(&self) -> Result<Box<Self, A>, Refusal>
+        ensures same { IfOk result (λ b. b.value.state ≡ self.now.state) }
+        ensures err { IsOkUnless result Refusal.Memory }
+    {
+        let copy = self.copy()?;
+        Ok(Box::new(*self.output.allocator(), copy)?)
+    }
+
     // The next step, where it performs a function.
     #[tactic(auto, using(crate::proofs::Recorded::call_lacks_nothing))]
     pub(crate) fn call_step(&mut self, tape: Tape<'_>) -> Result<Record<Self, A>, Refusal>
@@ -175,7 +184,7 @@ impl<E: TwoEnds<u8, A>, M: TwoEnds<Mark, A>, A: Allocator + Copy> Core<E, M, A> 
         let (beginning, effect) = self.planned(tape)?;
         self.make_room(&effect)?;
         let block = block_for(*self.output.allocator(), &effect.change)?;
-        let before = self.copy()?;
+        let before = self.boxed_copy()?;
         self.finish_call(beginning, effect, block);
         Ok(Record::Whole(before))
     }

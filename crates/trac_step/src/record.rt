@@ -37,8 +37,8 @@ pub enum Record<M: Drop, A: Allocator + Copy = Global> {
         /// The begun functions, the innermost first: the kind of each, and all its arguments, of which the last was being gathered.
         frames: Vec<(Kind, Pieces<A>), A>,
     },
-    /// A function was performed: the machine as it was before.
-    Whole(M),
+    /// A function was performed: the machine as it was before, in memory of its own, which keeps the other records small.
+    Whole(Box<M, A>),
 }
 
 impl<E: TwoEnds<u8, A>, M: TwoEnds<Mark, A>, A: Allocator + Copy> Core<E, M, A> {
@@ -58,7 +58,7 @@ impl<E: TwoEnds<u8, A>, M: TwoEnds<Mark, A>, A: Allocator + Copy> Core<E, M, A> 
             Record::Quoted { inner, closed } => self.unprotect(inner, closed),
             Record::Deleted(byte) => self.undelete(byte),
             Record::Idle { base, frames } => self.unload(base.as_slice(), frames),
-            Record::Whole(earlier) => self.put_back(earlier),
+            Record::Whole(earlier) => self.put_back(Box::into_inner(earlier)),
         }
     }
 

@@ -63,8 +63,10 @@ returns-in-Idle-clause-state g c =
     (ap (λ x. recorded_by x) c.in-Idle.is ∙ ap (λ base. Idle base (frames_in c.in-Idle.frames.items)) (sym c.as_slice.ensures.value)) c.requires c.unload.new.self.state c.unload.ensures.state
 
 pub put_back-requires : goal.put_back-requires
-put_back-requires g c = (can_show (recorded_by c.args.taken) (Whole c.in-Whole.earlier.state) c.args.self.now c.args.self.now.state (ap (λ x. recorded_by x) c.in-Whole.is) c.requires).0
+put_back-requires g c = (can_show (recorded_by c.args.taken) (Whole c.into_inner.result.state) c.args.self.now c.args.self.now.state
+    (ap (λ x. recorded_by x) c.in-Whole.is ∙ ap (λ (m : Shown). Whole m.state) (sym c.into_inner.ensures)) c.requires).0
 
 pub returns-in-Whole-clause-state : goal.returns-in-Whole-clause-state
 returns-in-Whole-clause-state g c =
-    goes_back (recorded_by c.args.taken) (Whole c.in-Whole.earlier.state) c.args.self.now c.args.self.now.state (ap (λ x. recorded_by x) c.in-Whole.is) c.requires c.put_back.new.self.state (ap Some (sym c.put_back.ensures.state))
+    goes_back (recorded_by c.args.taken) (Whole c.into_inner.result.state) c.args.self.now c.args.self.now.state
+    (ap (λ x. recorded_by x) c.in-Whole.is ∙ ap (λ (m : Shown). Whole m.state) (sym c.into_inner.ensures)) c.requires c.put_back.new.self.state (ap Some (sym c.put_back.ensures.state))
