@@ -4,3 +4,4 @@ pub mod Room
 pub mod Changing
 pub mod Calling
 pub mod Record
+pub mod Loading
