@@ -12,3 +12,4 @@ pub mod Ended
 pub mod Pointers
 pub mod Planned
 pub mod MovedForms
+pub mod Functions

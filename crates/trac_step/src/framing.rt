@@ -32,7 +32,7 @@ fn argument_len<A: Allocator + Copy>(functions: &[Function<A>]) -> usize
     ensures { result ≡ min (function_bytes (functions_of functions.now)) (2 ^ 64 - 1) }
 {
     let mut total: usize = 0;
-    for (_kind, arguments) in functions {
+    for (_, arguments) in functions {
         total = total.saturating_add(total_len(arguments.as_slice()));
     }
     total
@@ -54,7 +54,7 @@ pub(crate) fn mark_count<A: Allocator + Copy>(functions: &[Function<A>]) -> usiz
     ensures { result ≡ min (argument_count (functions_of functions.now)) (2 ^ 64 - 1) }
 {
     let mut total: usize = 0;
-    for (_kind, arguments) in functions {
+    for (_, arguments) in functions {
         total = total.saturating_add(arguments.len());
     }
     total
