@@ -1,11 +1,13 @@
 -- Begun functions that are put into the neutral text, one argument after another.
-use Rattle.std.proofs.Common.{◌≡◌, ℕ, zero, suc, ◌+◌, ◌-◌, ◌^◌, ◌<◌, ◌≤◌, true, List, [], ◌∷◌, ◌++◌, length, take, drop, get_or, map, reverse, All, refl, sym, ap, ◌∙◌, subst, arith}
-use Rattle.std.specs.Prelude.{Option, Some, None, Vec, min}
+use Rattle.std.proofs.Common.{◌≡◌, ℕ, zero, suc, ◌+◌, ◌-◌, ◌^◌, ◌<◌, ◌≤◌, ◌&&◌, Bool, true, false, List, [], ◌∷◌, ◌++◌, length, take, drop, get_or, map, reverse, All, refl, sym, ap, ◌∙◌, subst, arith, ⊎_elim}
+use Rattle.std.specs.Prelude.{Option, Some, None, Vec, min, nat_le}
+use Rattle.std.proofs.lemmas.Bool.{cases_Bool, false_from_ne_true, le-leb, leb-true}
 use Rattle.std.proofs.Math.Seq.{drop-append_seam, drop-cons, get_or-append_seam, take-append_seam}
 use Rattle.std.proofs.lemmas.List.{append_assoc, append-nil, length-append, length-map, length-reverse, length-take-le, map-append, take-map, take_more, take_all, drop_all}
 use Rattle.std.proofs.lemmas.List.Elements.{All-head, All-tail}
 use Rattle.trac_gap.specs.Ends.{Ends, item_count}
 use Rattle.trac_rules.specs.declared.kind.Kind.{Kind}
+use Rattle.trac_rules.specs.declared.limit.TheConstants.{MARK_LIMIT, OUTPUT_LIMIT, TEXT_LIMIT}
 use Rattle.trac_rules.specs.Limits.{argument_bytes, marks, text_bytes, texts_fit, total_length}
 use Rattle.trac_rules.specs.State.{Frame}
 use Rattle.trac_prims.specs.declared.mark.Mark.{Mark}
@@ -356,3 +358,30 @@ module _ {A : Type 0} (parts : code.Parts A) where
   pub mark_count-exact : (count : ℕ) → EachGathers parts.frames.items → texts_fit (state_in parts) ≡ true →
       count ≡ min (argument_count (functions_of parts.frames.items)) (2 ^ 64 - 1) → count ≡ argument_count (functions_of parts.frames.items)
   mark_count-exact count each fits is = let kept = limits_kept (state_in parts) fits in omega (arith, kept.marked, marks_of_frames parts.frames.items each, is)
+
+-- a number that was counted up to a greatest one is within a lower limit where the number is
+within_min : (n most limit : ℕ) → limit < most → nat_le (min n most) limit ≡ nat_le n limit
+within_min n most limit h =
+    ⊎_elim
+    (λ (t : nat_le n limit ≡ true). le-leb (min n most) limit (let le : n ≤ limit = leb-true n limit t in omega (arith, le)) ∙ sym t)
+    (λ (t : nat_le n limit ≡ false).
+    false_from_ne_true (nat_le (min n most) limit) (λ e.
+    absurd (let le : min n most ≤ limit = leb-true (min n most) limit e in
+    let both : true ≡ false = sym (le-leb n limit (omega (arith, le, h))) ∙ t in cc)) ∙ sym t)
+    (cases_Bool (nat_le n limit))
+
+-- so texts, marks and output of parts are judged by what is counted
+pub texts_judged : {A : Type 0} (parts : code.Parts A) (text count : ℕ) → EachGathers parts.frames.items →
+    text ≡ min (length parts.active.items + length parts.base.items + function_bytes (functions_of parts.frames.items)) (2 ^ 64 - 1) →
+    count ≡ min (argument_count (functions_of parts.frames.items)) (2 ^ 64 - 1) →
+    (nat_le text TEXT_LIMIT && nat_le count MARK_LIMIT && nat_le (length parts.output.items) OUTPUT_LIMIT) ≡ texts_fit (state_in parts)
+unfolding texts_fit
+texts_judged parts text count each text_is count_is =
+    rw (
+      text_bytes-parts parts,
+      marks_of_frames parts.frames.items each,
+      text_is,
+      count_is,
+      within_min (length parts.active.items + length parts.base.items + function_bytes (functions_of parts.frames.items)) (2 ^ 64 - 1) TEXT_LIMIT (omega arith),
+      within_min (argument_count (functions_of parts.frames.items)) (2 ^ 64 - 1) MARK_LIMIT (omega arith),
+    ) refl

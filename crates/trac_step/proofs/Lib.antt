@@ -13,3 +13,4 @@ pub mod Pointers
 pub mod Planned
 pub mod MovedForms
 pub mod Functions
+pub mod Entries

@@ -10,7 +10,7 @@ use Rattle.trac_rules.specs.Blocks.{moved_out, with_all}
 use Rattle.trac_rules.specs.Form.{Form}
 use Rattle.trac_rules.specs.Limits.{texts_fit, total_length}
 use Rattle.trac_rules.specs.Outcomes.{limited}
-use Rattle.trac_rules.specs.Proper.{is_proper, is_proper_form}
+use Rattle.trac_rules.specs.Proper.{IsProperForm, is_proper}
 use Rattle.trac_rules.specs.State.{Block, Forms, Frame, Held, State, Storage}
 use Rattle.trac_gap.specs.Ends.{Ends}
 use Rattle.trac_prims.specs.declared.mark.Mark.{Mark}
@@ -97,16 +97,16 @@ EachGathers frames = All (λ frame. 1 ≤ length frame.1.items) frames
 
 -- ---- limits that are judged before memory is taken: all but the number of forms, and that of the forms of a block
 
--- whether forms and their names are within the limits
+-- whether the names of forms are within the limit; the forms themselves always are
 abbrev pub entries_fit : Held → Bool
-entries_fit held = list_all (λ entry. is_proper_form entry.0 entry.1) held
+entries_fit held = names_fit (names_in held)
 
--- whether the forms of a block and their names are
+-- whether those of the forms of a block are
 abbrev pub block_entries_fit : {A : Type 0} → Option (Vec (Vec ℕ A × Form) A) → Bool
 block_entries_fit None = true
 block_entries_fit (Some forms) = entries_fit (named_forms forms.items)
 
--- whether blocks are: their number, and the forms of each with their names
+-- whether blocks are within the limits: their number, and the names of the forms of each
 abbrev pub blocks_fit : {A : Type 0} → List (Option (Vec (Vec ℕ A × Form) A)) → Bool
 blocks_fit blocks = nat_le (length blocks) BLOCK_LIMIT && list_all block_entries_fit blocks
 
@@ -114,6 +114,15 @@ blocks_fit blocks = nat_le (length blocks) BLOCK_LIMIT && list_all block_entries
 abbrev pub lengths_fit : {A : Type 0} → code.Parts A → Bool
 lengths_fit parts =
     texts_fit (state_in parts) && rooms_fit parts && names_fit (texts_of parts.names.items) && entries_fit (named_forms parts.forms.items) && blocks_fit parts.blocks.items
+
+-- forms and their names are within the limits, and each gap is at least one byte wide
+abbrev pub AreProperEntries : Held → Type 0
+AreProperEntries held = All (λ entry. IsProperForm entry.0 entry.1) held
+
+-- so are those of a block
+abbrev pub IsProperList : {A : Type 0} → Option (Vec (Vec ℕ A × Form) A) → Type 0
+IsProperList None = Unit {0}
+IsProperList (Some forms) = AreProperEntries (named_forms forms.items)
 
 -- ---- and the numbers of forms
 

@@ -1,9 +1,11 @@
 //! Loading: a machine made from the parts of a state.
-ghost use Rattle.std.specs.Prelude.{◌≡◌, ◌≤◌, length, IfOk, IsOkUnless, vec_capacity};
+ghost use Rattle.std.specs.Prelude.{◌≡◌, ◌≤◌, ◌&&◌, length, nat_le, IfOk, IsOkUnless, IsTrue, vec_capacity};
+ghost use Rattle.std.specs.List.{All};
 ghost use Rattle.trac_rules.specs.Limits.{texts_fit};
 ghost use Rattle.trac_rules.specs.Outcomes.{MayAnswer};
+ghost use Rattle.trac_rules.specs.Proper.{IsProperForm};
 ghost use Rattle.trac_prims.specs.Effects.{named_forms, texts_of};
-ghost use Rattle.trac_step.specs.Loading.{EachGathers, HasAsked, blocks_fit, entries_fit, lengths_fit, loaded, names_fit, rooms_fit, state_in};
+ghost use Rattle.trac_step.specs.Loading.{AreProperEntries, EachGathers, HasAsked, IsProperList, block_entries_fit, blocks_fit, entries_fit, lengths_fit, loaded, names_fit, rooms_fit, state_in};
 ghost use Rattle.trac_step.specs.Room.{HasRoom};
 
 use crate::engine::Core;
@@ -13,7 +15,7 @@ use std::alloc::{Allocator, Global};
 use trac_forms::Form;
 use trac_gap::TwoEnds;
 use trac_prims::{Kind, Mark, Refusal};
-use trac_rules::limit::{BLOCK_LIMIT, FORM_LIMIT, MARK_LIMIT, NAME_LIMIT, OUTPUT_LIMIT, TEXT_LIMIT};
+use trac_rules::limit::{BLOCK_LIMIT, MARK_LIMIT, NAME_LIMIT, OUTPUT_LIMIT, TEXT_LIMIT};
 
 /// A form with its name.
 type Named<A> = (Vec<u8, A>, Form<A>);
@@ -51,23 +53,30 @@ pub struct Parts<A: Allocator + Copy = Global> {
     pub names: Vec<Vec<u8, A>, A>,
 }
 
-// Whether the rooms that are asked for are within the limits.
-fn rooms_within<A: Allocator + Copy>(parts: &Parts<A>) -> bool
-    ensures { result ≡ rooms_fit parts.now }
+// Whether so many bytes of texts, so many marks and so many bytes of output are within the limits.
+fn are_within(text: usize, marks: usize, output: usize) -> bool
+    ensures { result ≡ (nat_le text TEXT_LIMIT && nat_le marks MARK_LIMIT && nat_le output OUTPUT_LIMIT) }
 {
-    parts.text_room <= TEXT_LIMIT
-        && parts.mark_room <= MARK_LIMIT
-        && parts.output_room <= OUTPUT_LIMIT
+    text <= TEXT_LIMIT && marks <= MARK_LIMIT && output <= OUTPUT_LIMIT
 }
 
-// Whether texts, marks and output are.
+// Whether texts, marks and output of parts are.
 fn texts_within<A: Allocator + Copy>(parts: &Parts<A>) -> bool
     requires { EachGathers parts.now.frames.items }
     ensures { result ≡ texts_fit (state_in parts.now) }
 {
-    text_len(parts) <= TEXT_LIMIT
-        && mark_count(parts.frames.as_slice()) <= MARK_LIMIT
-        && parts.output.len() <= OUTPUT_LIMIT
+    are_within(
+        text_len(parts),
+        mark_count(parts.frames.as_slice()),
+        parts.output.len(),
+    )
+}
+
+// Whether the rooms are that they ask for.
+fn rooms_within<A: Allocator + Copy>(parts: &Parts<A>) -> bool
+    ensures { result ≡ rooms_fit parts.now }
+{
+    are_within(parts.text_room, parts.mark_room, parts.output_room)
 }
 
 // Whether names are.
@@ -82,29 +91,50 @@ fn names_within<A: Allocator + Copy>(names: &[Vec<u8, A>]) -> bool
     true
 }
 
-// Whether forms and their names are. A form by itself always is.
+// Whether the name of a form is. The form itself always is.
+fn entry_within<A: Allocator + Copy>(name: &[u8], form: &Form<A>) -> bool
+    ensures fits { result ≡ nat_le (length name.now) NAME_LIMIT }
+    ensures proper { IsTrue result → IsProperForm name.now form.now }
+{
+    // For the clause `proper`: what is true of the items of every form.
+    let _items = form.len();
+    name.len() <= NAME_LIMIT
+}
+
+// Whether the names of forms are.
 fn entries_within<A: Allocator + Copy>(forms: &[Named<A>]) -> bool
-    ensures { result ≡ entries_fit (named_forms forms.now) }
+    ensures fits { result ≡ entries_fit (named_forms forms.now) }
+    ensures proper { IsTrue result → AreProperEntries (named_forms forms.now) }
 {
     for (name, form) in forms {
-        if name.len() > NAME_LIMIT || form.len() > FORM_LIMIT {
+        if !entry_within(name.as_slice(), form) {
             return false;
         }
     }
     true
 }
 
-// Whether blocks are: their number, and the forms of each with their names.
+// Whether the names of the forms of a block are.
+fn block_within<A: Allocator + Copy>(block: &Option<Vec<Named<A>, A>>) -> bool
+    ensures fits { result ≡ block_entries_fit block.now }
+    ensures proper { IsTrue result → IsProperList block.now }
+{
+    match block {
+        Some(forms) => entries_within(forms.as_slice()),
+        None => true,
+    }
+}
+
+// Whether blocks are: their number, and the names of the forms of each.
 fn blocks_within<A: Allocator + Copy>(blocks: &[Option<Vec<Named<A>, A>>]) -> bool
-    ensures { result ≡ blocks_fit blocks.now }
+    ensures fits { result ≡ blocks_fit blocks.now }
+    ensures proper { IsTrue result → All IsProperList blocks.now }
 {
     if blocks.len() > BLOCK_LIMIT {
         return false;
     }
     for block in blocks {
-        if let Some(forms) = block
-            && !entries_within(forms.as_slice())
-        {
+        if !block_within(block) {
             return false;
         }
     }
@@ -115,13 +145,16 @@ fn blocks_within<A: Allocator + Copy>(blocks: &[Option<Vec<Named<A>, A>>]) -> bo
 // them replace others.
 fn lengths_within<A: Allocator + Copy>(parts: &Parts<A>) -> bool
     requires { EachGathers parts.now.frames.items }
-    ensures { result ≡ lengths_fit parts.now }
+    ensures fits { result ≡ lengths_fit parts.now }
+    ensures forms { IsTrue result → AreProperEntries (named_forms parts.now.forms.items) }
+    ensures blocks { IsTrue result → All IsProperList parts.now.blocks.items }
 {
-    texts_within(parts)
-        && rooms_within(parts)
-        && names_within(parts.names.as_slice())
-        && entries_within(parts.forms.as_slice())
-        && blocks_within(parts.blocks.as_slice())
+    let texts = texts_within(parts);
+    let rooms = rooms_within(parts);
+    let names = names_within(parts.names.as_slice());
+    let forms = entries_within(parts.forms.as_slice());
+    let blocks = blocks_within(parts.blocks.as_slice());
+    texts && rooms && names && forms && blocks
 }
 
 // The output of parts, with no less room than is asked for.

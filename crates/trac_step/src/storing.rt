@@ -58,7 +58,7 @@ fn names_of<A: Allocator + Copy>(
 {
     let mut names = Vec::with_capacity(alloc, forms.len())?;
     for (name, _form) in forms {
-        names.push_reserved(Vec::from_slice(alloc, name.as_slice())?);
+        names.push(Vec::from_slice(alloc, name.as_slice())?)?;
     }
     Ok(names)
 }
