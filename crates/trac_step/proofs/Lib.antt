@@ -12,5 +12,7 @@ pub mod Ended
 pub mod Pointers
 pub mod Planned
 pub mod MovedForms
-pub mod Functions
+pub mod BegunFunctions
 pub mod Entries
+pub mod Stored
+pub mod Loaded

@@ -8,7 +8,7 @@ ghost use Rattle.trac_rules.specs.State.{storage_of};
 ghost use Rattle.trac_forms.specs.Stored.{KnowsAll, storage_in};
 ghost use Rattle.trac_prims.specs.Effects.{named_forms, names_in, texts_of};
 ghost use Rattle.trac_step.specs.Changing.{KnowsNamed};
-ghost use Rattle.trac_step.specs.Loading.{block_few, block_of, counts_fit, forms_of, state_in};
+ghost use Rattle.trac_step.specs.Loading.{block_few, block_of, counts_fit, forms_of, held_of, state_in};
 ghost use Rattle.trac_step.specs.Room.{AreAmong};
 
 use crate::blocking::{know_each, move_into};
@@ -63,8 +63,20 @@ fn names_of<A: Allocator + Copy>(
     Ok(names)
 }
 
-// A block of copies of these forms, or none. Where a name stands again, its last form stands in the first one's place: so all forms
-// go into a store first, and leave it in the order of their names.
+// A block of copies of these forms. Where a name stands again, its last form stands in the first one's place: so all forms go into
+// a store first, and leave it in the order of their names.
+fn block_with<A: Allocator + Copy>(alloc: A, forms: &[Named<A>]) -> Result<Block<A>, FormError>
+    ensures held { IfOk result (λ block. block.held ≡ held_of (named_forms forms.now)) }
+    ensures err { IsOkUnless result FormError.Memory }
+{
+    let names = names_of(alloc, forms)?;
+    let mut block = Block::with_room(alloc, names.len())?;
+    let mut store = store_of(alloc, forms)?;
+    move_into(&mut store, names, &mut block);
+    Ok(block)
+}
+
+// The same, unless there are too many forms; an erased block is none.
 fn copied_block<A: Allocator + Copy>(
     alloc: A,
     forms: &Option<Vec<Named<A>, A>>,
@@ -74,10 +86,7 @@ fn copied_block<A: Allocator + Copy>(
     let Some(forms) = forms else {
         return Ok(None);
     };
-    let names = names_of(alloc, forms.as_slice())?;
-    let mut store = store_of(alloc, forms.as_slice())?;
-    let mut block = Block::with_room(alloc, names.len())?;
-    move_into(&mut store, names, &mut block);
+    let block = block_with(alloc, forms.as_slice())?;
     if block.len() > FORM_COUNT_LIMIT {
         return Err(Refusal::TooLong);
     }

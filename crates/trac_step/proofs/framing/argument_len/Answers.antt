@@ -3,7 +3,7 @@ use Rattle.std.proofs.Common.{ℕ, List, ap, arith}
 use Rattle.std.specs.Prelude.{Vec}
 use Rattle.trac_rules.specs.Limits.{total_length}
 use Rattle.trac_prims.specs.Effects.{texts_of}
-use Rattle.trac_step.proofs.Functions.{bytes_more}
+use Rattle.trac_step.proofs.BegunFunctions.{bytes_more}
 use Rattle.trac_step.proofs.framing.argument_len.Goals as goal
 
 pub loop-arguments-preserved : goal.loop-arguments-preserved

@@ -1,6 +1,6 @@
 -- Each function adds its arguments.
 use Rattle.std.proofs.Common.{arith}
-use Rattle.trac_step.proofs.Functions.{count_more}
+use Rattle.trac_step.proofs.BegunFunctions.{count_more}
 use Rattle.trac_step.proofs.framing.mark_count.Goals as goal
 
 pub loop-arguments-preserved : goal.loop-arguments-preserved

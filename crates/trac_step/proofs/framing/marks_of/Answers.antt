@@ -3,7 +3,7 @@ use Rattle.std.proofs.Common.{ℕ, List, ◌-◌, ◌^◌, ap, ◌∙◌, arith}
 use Rattle.std.specs.Prelude.{Vec, min}
 use Rattle.trac_rules.specs.declared.kind.Kind.{Kind}
 use Rattle.trac_step.specs.Loading.{argument_count, functions_of}
-use Rattle.trac_step.proofs.Functions.{mark_count-exact}
+use Rattle.trac_step.proofs.BegunFunctions.{mark_count-exact}
 use Rattle.trac_step.proofs.framing.marks_of.Goals as goal
 
 pub returns-clause-holds : goal.returns-clause-holds

@@ -1,5 +1,5 @@
 -- What has been put so far.
-use Rattle.trac_step.proofs.Functions.{HasPut}
+use Rattle.trac_step.proofs.BegunFunctions.{HasPut}
 use Rattle.trac_step.proofs.framing.put_function.Given as goal
 
 abbrev pub invariant-loop-argument : goal.invariant-loop-argument

@@ -5,7 +5,7 @@ use Rattle.trac_rules.specs.Limits.{total_length}
 use Rattle.trac_prims.specs.Effects.{texts_of}
 use Rattle.trac_prims.specs.Neutral.{neutral_of}
 use Rattle.trac_step.specs.Loading.{HasGrown, marked_in, with_function}
-use Rattle.trac_step.proofs.Functions.{begun_all, begun_next, room_of_next}
+use Rattle.trac_step.proofs.BegunFunctions.{begun_all, begun_next, room_of_next}
 use Rattle.trac_step.proofs.framing.put_functions.Goals as goal
 
 pub loop-kind-init : goal.loop-kind-init

@@ -1,5 +1,5 @@
 -- What has been begun so far.
-use Rattle.trac_step.proofs.Functions.{HasBegun}
+use Rattle.trac_step.proofs.BegunFunctions.{HasBegun}
 use Rattle.trac_step.proofs.framing.put_functions.Given as goal
 
 abbrev pub invariant-loop-kind : goal.invariant-loop-kind

@@ -2,7 +2,7 @@
 use Rattle.std.proofs.Common.{ℕ, List, length, ap, ◌∙◌, arith}
 use Rattle.std.proofs.lemmas.List.{length-append}
 use Rattle.trac_gap.specs.Ends.{Ends}
-use Rattle.trac_step.proofs.Functions.{text_len-exact}
+use Rattle.trac_step.proofs.BegunFunctions.{text_len-exact}
 use Rattle.trac_step.proofs.framing.text_of.Goals as goal
 
 pub returns-clause-holds : goal.returns-clause-holds

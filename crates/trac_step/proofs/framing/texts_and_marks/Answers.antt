@@ -5,7 +5,7 @@ use Rattle.trac_rules.specs.declared.kind.Kind.{Kind}
 use Rattle.trac_prims.specs.declared.mark.Mark.{Mark}
 use Rattle.trac_prims.specs.Neutral.{neutral_of}
 use Rattle.trac_step.specs.Loading.{functions_of, marked_in, with_functions}
-use Rattle.trac_step.proofs.Functions.{functions_of_base}
+use Rattle.trac_step.proofs.BegunFunctions.{functions_of_base}
 use Rattle.trac_step.proofs.framing.texts_and_marks.Goals as goal
 
 pub returns-clause-neutral : goal.returns-clause-neutral

@@ -1,6 +1,6 @@
 -- Each text adds its bytes.
 use Rattle.std.proofs.Common.{arith}
-use Rattle.trac_step.proofs.Functions.{total_more}
+use Rattle.trac_step.proofs.BegunFunctions.{total_more}
 use Rattle.trac_step.proofs.framing.total_len.Goals as goal
 
 pub loop-text-preserved : goal.loop-text-preserved

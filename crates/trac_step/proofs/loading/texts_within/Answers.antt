@@ -4,7 +4,7 @@ use Rattle.std.specs.Prelude.{Vec, min, nat_le, ◌&&◌}
 use Rattle.trac_rules.specs.declared.kind.Kind.{Kind}
 use Rattle.trac_rules.specs.declared.limit.TheConstants.{MARK_LIMIT, OUTPUT_LIMIT, TEXT_LIMIT}
 use Rattle.trac_step.specs.Loading.{argument_count, functions_of}
-use Rattle.trac_step.proofs.Functions.{texts_judged}
+use Rattle.trac_step.proofs.BegunFunctions.{texts_judged}
 use Rattle.trac_step.proofs.loading.texts_within.Goals as goal
 
 pub returns : goal.returns
