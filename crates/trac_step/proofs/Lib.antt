@@ -16,3 +16,4 @@ pub mod BegunFunctions
 pub mod Entries
 pub mod Stored
 pub mod Loaded
+pub mod LoadedMachines
