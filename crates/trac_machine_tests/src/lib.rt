@@ -5,5 +5,7 @@
 #![tactic(auto)]
 
 #[cfg(test)]
+mod loading;
+#[cfg(test)]
 mod machines;
 pub mod shown;

@@ -4,7 +4,7 @@ use Rattle.std.specs.Prelude.{Option, Some, None, Vec, min, nat_le}
 use Rattle.std.proofs.lemmas.Bool.{cases_Bool, false_from_ne_true, le-leb, leb-true}
 use Rattle.std.proofs.Math.Seq.{drop-append_seam, drop-cons, get_or-append_seam, take-append_seam}
 use Rattle.std.proofs.lemmas.List.{append_assoc, append-nil, length-append, length-map, length-reverse, length-take-le, map-append, take-map, take_more, take_all, drop_all}
-use Rattle.std.proofs.lemmas.List.Elements.{All-head, All-tail}
+use Rattle.std.proofs.lemmas.List.Elements.{All-head, All-push, All-tail}
 use Rattle.trac_gap.specs.Ends.{Ends, item_count}
 use Rattle.trac_rules.specs.declared.kind.Kind.{Kind}
 use Rattle.trac_rules.specs.declared.limit.TheConstants.{MARK_LIMIT, OUTPUT_LIMIT, TEXT_LIMIT}
@@ -385,3 +385,14 @@ texts_judged parts text count each text_is count_is =
       within_min (length parts.active.items + length parts.base.items + function_bytes (functions_of parts.frames.items)) (2 ^ 64 - 1) TEXT_LIMIT (omega arith),
       within_min (argument_count (functions_of parts.frames.items)) (2 ^ 64 - 1) MARK_LIMIT (omega arith),
     ) refl
+
+-- ---- each function has an argument
+
+-- one more has
+pub gathers_next : {A : Type 0} (frames read : List (Kind × Vec (Vec ℕ A) A)) (i : ℕ) (f : Kind × Vec (Vec ℕ A) A) → read ≡ frames → i < length read → f ≡ get_or read i f →
+    1 ≤ length f.1.items → EachGathers (take i frames) → EachGathers (take (i + 1) frames)
+gathers_next {A} frames read i f same within is here so_far =
+    subst (λ (fs : List (Kind × Vec (Vec ℕ A) A)). EachGathers (take (i + 1) fs)) same
+    (subst EachGathers (sym (take_more read i f within ∙ ap (λ (g : Kind × Vec (Vec ℕ A) A). take i read ++ g ∷ []) (sym is)))
+    (All-push (λ (g : Kind × Vec (Vec ℕ A) A). 1 ≤ length g.1.items) (take i read) f
+    (subst (λ (fs : List (Kind × Vec (Vec ℕ A) A)). EachGathers (take i fs)) (sym same) so_far) here))

@@ -53,6 +53,21 @@ pub struct Parts<A: Allocator + Copy = Global> {
     pub names: Vec<Vec<u8, A>, A>,
 }
 
+impl<A: Allocator + Copy> Parts<A> {
+    /// Whether each begun function has an argument, as loading asks (this project's profile). It takes no memory.
+    pub fn each_gathers(&self) -> bool
+        ensures yes { IsTrue result → EachGathers self.now.frames.items }
+        ensures no { EachGathers self.now.frames.items → IsTrue result }
+    {
+        for (_, arguments) in &self.frames {
+            if arguments.len() < 1 {
+                return false;
+            }
+        }
+        true
+    }
+}
+
 // Whether so many bytes of texts, so many marks and so many bytes of output are within the limits.
 fn are_within(text: usize, marks: usize, output: usize) -> bool
     ensures { result ≡ (nat_le text TEXT_LIMIT && nat_le marks MARK_LIMIT && nat_le output OUTPUT_LIMIT) }
