@@ -53,6 +53,13 @@ impl<A: Allocator + Copy> Store<A> {
         }
     }
 
+    /// The name of each form is known, of every store. It does nothing: it is called for what it says (this project's profile).
+    pub fn knows_its_forms(&self)
+        ensures { KnowsAll self.now.known self.now.forms }
+    {
+        let _ = &self.table;
+    }
+
     /// How many forms there are. It takes no memory (this project's profile).
     pub fn form_count(&self) -> usize
         ensures { result ≡ finite.len self.now.forms }

@@ -1,6 +1,7 @@
 -- Texts cut into arguments, and where each of them lies.
-use Rattle.std.proofs.Common.{◌≡◌, ℕ, zero, suc, ◌+◌, ◌-◌, ◌<◌, ◌≤◌, ◌≢◌, List, [], ◌∷◌, length, take, drop, get_or, refl, sym, ap, ◌∙◌, arith}
-use Rattle.std.proofs.lemmas.List.{take_rest}
+use Rattle.std.proofs.Common.{◌≡◌, ℕ, zero, suc, ◌+◌, ◌-◌, ◌<◌, ◌≤◌, ◌≢◌, List, [], ◌∷◌, ◌++◌, length, take, drop, get_or, refl, sym, ap, ◌∙◌, arith}
+use Rattle.std.proofs.lemmas.List.{append-nil, take-append-drop, take_rest, drop-drop}
+use Rattle.std.specs.List.{concat}
 use Rattle.trac_prims.specs.declared.mark.Mark.{Mark}
 use Rattle.trac_prims.specs.Cuts.{AreCuts, cut, start_of, end_of}
 
@@ -46,3 +47,19 @@ start_of-before from marks zero d apart h = absurd (apart refl)
 start_of-before from marks (suc i) d apart h =
     let same : suc i - 1 ≡ i = omega arith in
     start_of-mark from marks i d (omega arith) ∙ ap (λ k. (get_or marks k d).place) (sym same)
+
+-- ---- all of them
+
+-- the first place is within the text
+pub start_within : (from : ℕ) (marks : List Mark) (end : ℕ) → AreCuts from marks end → from ≤ end
+start_within from [] end cuts = cuts
+start_within from (m ∷ marks) end cuts = omega (arith, cuts.0, start_within m.place marks end cuts.1)
+
+-- joined again, they are the text behind it
+pub concat-cut : (from : ℕ) (marks : List Mark) (text : List ℕ) → AreCuts from marks (length text) → concat (cut from marks text) ≡ drop from text
+concat-cut from [] text cuts = append-nil (drop from text)
+concat-cut from (m ∷ marks) text cuts =
+    let on : from + (m.place - from) ≡ m.place = omega (arith, cuts.0) in
+    ap (λ (rest : List ℕ). take (m.place - from) (drop from text) ++ rest)
+    (concat-cut m.place marks text cuts.1 ∙ ap (λ (n : ℕ). drop n text) (sym on) ∙ sym (drop-drop (m.place - from) from text))
+    ∙ take-append-drop (m.place - from) (drop from text)

@@ -1,5 +1,6 @@
 //! The arguments of a function, borrowed from the neutral text.
-ghost use Rattle.std.specs.Prelude.{◌≡◌, ◌≤◌, ◌-◌, [], length, get_or, take, drop};
+ghost use Rattle.std.specs.Prelude.{◌≡◌, ◌≤◌, ◌+◌, ◌-◌, [], length, get_or, take, drop};
+ghost use Rattle.std.specs.List.{concat};
 ghost use Rattle.trac_prims.specs.Cuts.{AreCuts, cut, start_of, end_of};
 
 use crate::mark::Mark;
@@ -42,6 +43,13 @@ impl<'a> Args<'a> {
         self.marks.len() + 1
     }
 
+    /// How many commas stand between the arguments: one less than there are arguments.
+    pub fn comma_count(&self) -> usize
+        ensures { result + 1 ≡ length self.now }
+    {
+        self.marks.len()
+    }
+
     /// The argument of this number, from 0 on; null past the last, as T-64 has it.
     pub fn get(&self, i: usize) -> &'a [u8]
         ensures { result.now ≡ get_or self.now i [] }
@@ -52,6 +60,13 @@ impl<'a> Args<'a> {
         let start = start_at(self.from, self.marks, i);
         let end = end_at(self.text.len(), self.marks, i);
         part(self.text, start, end)
+    }
+
+    /// The bytes of all arguments, one behind another. Nothing is copied (this project's profile).
+    pub fn joined(&self) -> &'a [u8]
+        ensures { result.now ≡ concat self.now }
+    {
+        self.text.split_at(self.from).1
     }
 
     /// All arguments but the first n; none where there are no more than n. Nothing is copied (this project's profile).

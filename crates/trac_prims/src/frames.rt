@@ -90,8 +90,8 @@ impl<'a> NeutralText<'a> {
         })
     }
 
-    // The text before its innermost function, which this one is.
-    fn before(&self, innermost: &Innermost<'a>) -> NeutralText<'a>
+    /// The text before its innermost function, which this one has to be. Nothing is copied (this project's profile).
+    pub fn before(&self, innermost: &Innermost<'a>) -> NeutralText<'a>
         requires { IsInnermost self.now innermost.now.number innermost.now.place innermost.now.kind innermost.now.arguments }
         ensures { result ≡ cut_back innermost.now.number innermost.now.place self.now }
     {

@@ -28,3 +28,4 @@ pub use planning::plan;
 pub use tape::Tape;
 pub use trac_rules::kind::Kind;
 pub use trac_rules::refusal::Refusal;
+pub use tracing::beginning_of;

@@ -47,8 +47,8 @@ fn line_of<A: Allocator + Copy>(
     Ok(line)
 }
 
-// How a function of this kind begins.
-fn beginning_of(kind: Kind) -> &'static [u8]
+/// How a function of this kind begins, by T-64's rules of scanning.
+pub fn beginning_of(kind: Kind) -> &'static [u8]
     ensures { result.now ≡ beginning_of kind }
 {
     match kind {

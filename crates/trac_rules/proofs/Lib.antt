@@ -22,3 +22,4 @@ pub mod OctalTexts
 pub mod Restored
 pub mod Weighed
 pub mod Losses
+pub mod MovedOn

@@ -85,13 +85,13 @@ fits-append : (text more : List ℕ) → nat_le (length more) (length (text ++ m
 fits-append text more = le-leb (length more) (length (text ++ more)) (omega (arith, length-append text more))
 
 -- what was gathered goes back, also where a text was put before the active text since
-moved_back-gather : (frames : List Frame) (text more : List ℕ) (s : State) →
+pub moved_back-gather : (frames : List Frame) (text more : List ℕ) (s : State) →
     moved_back (length text) (put_before more (gather text (record s { frames = frames }))) ≡ Some (put_before text (put_before more (record s { frames = frames })))
 moved_back-gather [] text more s = rw (fits-append s.base text, last_of-append s.base text, all_before_last-append s.base text) refl
 moved_back-gather (f ∷ fs) text more s = rw (fits-append f.gathered text, last_of-append f.gathered text, all_before_last-append f.gathered text) refl
 
 -- a frame is that of its arguments, the gathered one last
-frame_of-last : (f : Frame) → frame_of f.kind (f.arguments ++ f.gathered ∷ []) ≡ Some f
+pub frame_of-last : (f : Frame) → frame_of f.kind (f.arguments ++ f.gathered ∷ []) ≡ Some f
 frame_of-last f = rw (reverse-append f.arguments (f.gathered ∷ []), reverse-reverse f.arguments) refl
 
 -- ---- what is protected
@@ -123,7 +123,7 @@ GoesBack s r (Moves t) = restored r t ≡ Some s
 GoesBack s r (Calls call) = r ≡ Whole s
 
 -- a byte goes back from the current text
-first_goes_back : (s : State) → s.active ≡ get_or s.active 0 0 ∷ drop 1 s.active → GoesBack s Moved (Moves (gather_first s))
+pub first_goes_back : (s : State) → s.active ≡ get_or s.active 0 0 ∷ drop 1 s.active → restored Moved (gather_first s) ≡ Some s
 first_goes_back s e =
     let one : length (take 1 s.active) ≡ 1 = ap (λ (text : List ℕ). length (take 1 text)) e in
     ap (λ (n : ℕ). moved_back n (gather_first s)) (sym one)
@@ -180,7 +180,7 @@ carried_back e s t r (Moves u) back h = let same : u ≡ t = cc in subst (λ (v 
 carried_back e s t r (Calls call) back h = ap (λ (q : Record). restored q t) back
 
 -- where a proper state is restored, it is the one before
-before_of_restored : (r : Record) (s t : State) → IsProper s → restored r t ≡ Some s → state_before r t ≡ Some s
+pub before_of_restored : (r : Record) (s t : State) → IsProper s → restored r t ≡ Some s → state_before r t ≡ Some s
 unfolding state_before
 before_of_restored r s t proper back =
     ap (option_and_then (λ (u : State). then_some (is_proper u) u)) back ∙ ap (λ (b : Bool). then_some b s) ((proper_decided s).1 proper)
@@ -192,15 +192,18 @@ step_goes_back e s t proper h =
     before_of_restored (recorded s) s t proper
     (carried_back e s t (recorded s) (scan s) (scan_goes_back s) (limited_Ok texts_fit (carried_out e (scan s)) t h).0)
 
--- a state before is proper
-pub before_proper : (r : Record) (s t : State) → state_before r t ≡ Some s → IsProper s
+-- a state before is restored, and proper
+pub restored_of_before : (r : Record) (s t : State) → state_before r t ≡ Some s → (restored r t ≡ Some s) × IsProper s
 unfolding state_before
-before_proper r s t h =
-    option_and_then_some (λ (u : State). then_some (is_proper u) u) (restored r t) s h (λ u back. by_test u (is_proper u) refl)
+restored_of_before r s t h =
+    option_and_then_some (λ (u : State). then_some (is_proper u) u) (restored r t) s h (λ u back. by_test u (is_proper u) refl back)
   where
-    by_test : (u : State) (b : Bool) → is_proper u ≡ b → then_some b u ≡ Some s → IsProper s
-    by_test u true is same = let one : u ≡ s = cc in subst IsProper one ((proper_decided u).0 is)
-    by_test u false is same = absurd (cc)
+    by_test : (u : State) (b : Bool) → is_proper u ≡ b → restored r t ≡ Some u → then_some b u ≡ Some s → (restored r t ≡ Some s) × IsProper s
+    by_test u true is back same = let one : u ≡ s = cc in subst (λ (v : State). (restored r t ≡ Some v) × IsProper v) one (back, (proper_decided u).0 is)
+    by_test u false is back same = absurd (cc)
+
+pub before_proper : (r : Record) (s t : State) → state_before r t ≡ Some s → IsProper s
+before_proper r s t h = (restored_of_before r s t h).1
 
 -- ---- steps of a session
 

@@ -24,6 +24,7 @@ pub mod Performing
 pub mod Stepping
 pub mod Records
 pub mod Weights
+pub mod PlainRuns
 pub mod Session
 pub mod Running
 pub mod GoingOn

@@ -10,6 +10,7 @@ pub mod laws;
 pub mod limit;
 pub mod numbers;
 pub mod octals;
+pub mod plain_runs;
 pub mod primitive;
 pub mod records;
 pub mod refusal;

@@ -13,7 +13,7 @@ use trac_rules::refusal::Refusal;
 use trac_step::{Machine, Record, Tape};
 
 /// What the journal keeps of a step.
-pub type Kept<A> = Record<Machine<A>>;
+pub type Kept<A> = Record<Machine<A>, A>;
 
 /// Takes a step and keeps its record at the end of the journal, or changes nothing.
 /// Refused as the step is, or with `Memory` where the journal cannot grow: the step is undone then (this project's profile).

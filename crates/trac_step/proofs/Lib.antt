@@ -12,6 +12,10 @@ pub mod Ended
 pub mod Pointers
 pub mod Planned
 pub mod MovedForms
+pub mod Recorded
+pub mod Undone
+pub mod Functions
+pub mod NeutralAgain
 pub mod BegunFunctions
 pub mod Entries
 pub mod Stored

@@ -1,6 +1,6 @@
 -- The outcome of a step, from what scanning asks for and what is performed.
 use Rattle.std.proofs.Common.{◌≡◌, refl, sym, ap, ◌∙◌, subst, true, false, Bool, ⊎_elim}
-use Rattle.std.specs.Prelude.{Result, Ok, Err}
+use Rattle.std.specs.Prelude.{Result, Ok, Err, IfErr, IsOkUnless, OnErr}
 use Rattle.trac_rules.specs.declared.refusal.Refusal.{Refusal}
 use Rattle.trac_rules.specs.declared.refusal.Refusal.TheVariants.{Memory, TooLong}
 use Rattle.trac_rules.specs.State.{Environment, State}
@@ -15,6 +15,11 @@ use Rattle.trac_step.proofs.Scans.{moves_of}
 -- memory, where it may be refused
 pub refuses_memory : {T : Type 0} (outcome : Result T Refusal) (e : Refusal) → e ≡ Memory → MayLackMemory outcome → MayRefuse outcome e
 refuses_memory outcome e is lacks = subst (MayRefuse outcome) (sym is) lacks
+
+-- a call that answers memory alone, where nothing has changed
+pub refused_for_memory : {R P : Type 0} (r : Result R Refusal) (Q : Refusal → Type 0) → OnErr r P → IsOkUnless r Memory → (P → Q Memory) → IfErr r Q
+refused_for_memory (Ok x) Q same is holds = tt
+refused_for_memory (Err e) Q same is holds = subst Q (sym is) (holds same)
 
 -- which it may where a step leads on
 pub taken_lacks : (outcome : Result State Refusal) (t : State) → outcome ≡ Ok t → MayLackMemory outcome

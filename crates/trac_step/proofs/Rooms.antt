@@ -19,6 +19,10 @@ no_less m = record { text = omega arith; marks = omega arith; output = omega ari
 pub no_less_same : (m n : Shown) → n ≡ m → IsNoLess m n
 no_less_same m n e = subst (λ x. IsNoLess x n) e (no_less n)
 
+-- another state with the same rooms and names
+pub no_less_state : (m : Shown) (s : State) → IsNoLess m (record m { state = s })
+no_less_state m s = record { text = omega arith; marks = omega arith; output = omega arith; names = λ name h. h }
+
 pub no_less_then : (m n k : Shown) → IsNoLess m n → IsNoLess n k → IsNoLess m k
 no_less_then m n k first second = record {
   text = omega (arith, first.text, second.text);

@@ -41,7 +41,7 @@ reverse_push xs x = reverse-append xs (x ∷ [])
 abbrev pub with_neutral : Parts → Neutral → State
 with_neutral p n = record (state_of p) { base = n.base; frames = n.frames }
 
-neutral-push : (text : List ℕ) (marks : List Mark) (o : Option Kind) → neutral text (reverse (marks ++ mark_at (length text) o ∷ [])) ≡ marked o [] (neutral text (reverse marks))
+pub neutral-push : (text : List ℕ) (marks : List Mark) (o : Option Kind) → neutral text (reverse (marks ++ mark_at (length text) o ∷ [])) ≡ marked o [] (neutral text (reverse marks))
 neutral-push text marks o = ap (neutral text) (reverse_push marks (mark_at (length text) o)) ∙ neutral-mark text o (reverse marks)
 
 pub begins : (p : Parts) (kind : Kind) → state_of (record p { marks = p.marks ++ mark_at (length p.text) (Some kind) ∷ [] }) ≡ begun kind (state_of p)

@@ -1,7 +1,9 @@
 -- How the machine keeps a state, and what its calls promise.
 pub mod Layout
-pub mod Room
 pub mod Changing
 pub mod Calling
+pub mod Room
+pub mod Pieces
 pub mod Record
 pub mod Loading
+pub mod Undoing

@@ -1,9 +1,12 @@
 -- The room of a machine.
-use Rattle.std.specs.Prelude.{ℕ, ◌≤◌, List, length, IsTrue}
+use Rattle.std.specs.Prelude.{◌≢◌, ℕ, ◌≤◌, List, length, IsTrue}
 use Rattle.std.specs.FinSet as set
 use Rattle.trac_forms.specs.Stored.{KnowsAll, Names}
+use Rattle.trac_rules.specs.declared.scan.Front.TheVariants as front
 use Rattle.trac_rules.specs.Limits.{marks, text_bytes}
+use Rattle.trac_rules.specs.Scanning.{front_of, scan}
 use Rattle.trac_rules.specs.State.{State}
+use Rattle.trac_step.specs.Calling.{IfMoves}
 use Rattle.trac_step.specs.Layout.{Shown}
 
 -- each name of the first set is in the second
@@ -23,3 +26,8 @@ pub record IsNoLess (old new : Shown) : Type 0 where
   pub marks : old.mark_room ≤ new.mark_room
   pub output : old.output_room ≤ new.output_room
   pub names : AreAmong old.known new.known
+
+-- the next step lacks room: where it is one of scanning, and not the one that empties all texts, the machine has no room for the state
+-- to which it leads. Of any other step this says nothing
+abbrev pub LacksRoomAhead : Shown → Type 0
+LacksRoomAhead m = front_of m.state.active ≢ front.Nothing → IfMoves (scan m.state) (λ t. HasRoom m t → ⊥)

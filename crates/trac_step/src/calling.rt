@@ -1,15 +1,16 @@
 //! The steps that perform a function.
-ghost use Rattle.std.specs.Prelude.{◌≡◌, ◌<◌, ◌≤◌, ◌+◌, ◌^◌, ◌++◌, [], length, take, drop, IfErr, IfOk, IsOkUnless, OnOk, Ok, Some, vec_capacity, vec_len};
+ghost use Rattle.std.specs.Prelude.{◌≡◌, ◌<◌, ◌≤◌, ◌+◌, ◌^◌, ◌++◌, [], length, take, drop, IfErr, IfOk, IsOkUnless, OnOk, Ok, vec_capacity, vec_len};
 ghost use Rattle.trac_gap.specs.Ends.{item_count};
 ghost use Rattle.trac_rules.specs.Outcomes.{MayAnswer, MayRefuse};
 ghost use Rattle.trac_rules.specs.Proper.{IsProper};
+ghost use Rattle.trac_rules.specs.Records.{recorded};
 ghost use Rattle.trac_rules.specs.Scanning.{front_of, scan};
 ghost use Rattle.trac_rules.specs.Stepping.{step};
 ghost use Rattle.trac_prims.specs.Tape.{environment_of};
 ghost use Rattle.trac_step.specs.Changing.{held_by};
 ghost use Rattle.trac_step.specs.Calling.{BeginsInnermost, HasRoomFor, state_after, with_value};
-ghost use Rattle.trac_step.specs.Record.{before};
-ghost use Rattle.trac_step.specs.Room.{HasRoom, IsNoLess};
+ghost use Rattle.trac_step.specs.Record.{recorded_by};
+ghost use Rattle.trac_step.specs.Room.{IsNoLess, LacksRoomAhead};
 
 use crate::blocking::block_for;
 use crate::changing::{change_forms, make_place};
@@ -160,13 +161,15 @@ impl<E: TwoEnds<u8, A>, M: TwoEnds<Mark, A>, A: Allocator + Copy> Core<E, M, A> 
     }
 
     // The next step, where it performs a function.
-    pub(crate) fn call_step(&mut self, tape: Tape<'_>) -> Result<Record<Self>, Refusal>
+    #[tactic(auto, using(crate::proofs::Recorded::call_lacks_nothing))]
+    pub(crate) fn call_step(&mut self, tape: Tape<'_>) -> Result<Record<Self, A>, Refusal>
         requires front { front_of self.old.state.active ≡ Front.Closing }
         requires inside { 0 < length self.old.state.frames }
         requires within { self.old.state.position ≤ length tape.bytes.now }
-        ensures taken { IfOk result (λ r. (before r self.new.state ≡ Some self.old.state) × (step (environment_of tape.entry) self.old.state ≡ Ok self.new.state)) }
-        ensures held { OnOk result (HasRoom self.new self.old.state) }
+        ensures taken { OnOk result (step (environment_of tape.entry) self.old.state ≡ Ok self.new.state) }
+        ensures recorded { IfOk result (λ r. recorded_by r ≡ recorded self.old.state) }
         ensures refused { IfErr result (λ e. (self.new.state ≡ self.old.state) × MayRefuse (step (environment_of tape.entry) self.old.state) e) }
+        ensures lacking { LacksRoomAhead self.old }
         ensures room { IsNoLess self.old self.new }
     {
         let (beginning, effect) = self.planned(tape)?;

@@ -1,5 +1,5 @@
 //! Lists with two ends, where a want of memory is the machine's refusal.
-ghost use Rattle.std.specs.Prelude.{◌≡◌, ◌+◌, ◌≤◌, [], length, IfOk, IsOkUnless, OnErr, OnOk};
+ghost use Rattle.std.specs.Prelude.{◌≡◌, ◌+◌, ◌<◌, ◌≤◌, [], length, IfOk, IsOkUnless, OnErr, OnOk};
 ghost use Rattle.trac_gap.specs.Ends.{item_count};
 
 use std::alloc::Allocator;
@@ -16,6 +16,9 @@ pub(crate) fn reserve<T: Copy, A: Allocator + Copy, E: TwoEnds<T, A>>(
     ensures grows { (E.ends list.old).capacity ≤ (E.ends list.new).capacity }
     ensures ok { OnOk result (item_count (E.ends list.new) + n ≤ (E.ends list.new).capacity) }
     ensures unchanged { OnErr result (E.ends list.new ≡ E.ends list.old) }
+
+    // Memory is refused only where there is no room.
+    ensures full { OnErr result ((E.ends list.old).capacity < item_count (E.ends list.old) + n) }
     ensures err { IsOkUnless result Refusal.Memory }
 {
     list.reserve(n).map_err(|_| Refusal::Memory)

@@ -1,5 +1,6 @@
 //! What the active text begins with.
-ghost use Rattle.std.specs.Prelude.{◌≡◌};
+ghost use Rattle.std.specs.Prelude.{◌≡◌, ◌<◌, ◌≤◌, false, get_or, length, true, ℕ};
+ghost use Rattle.trac_rules.specs.PlainRuns.{is_plain as is_plain_byte};
 ghost use Rattle.trac_rules.specs.Scanning.{front_of, sharp_before};
 
 use trac_rules::byte;
@@ -38,4 +39,31 @@ pub(crate) fn front_at(active: &[u8]) -> Front
     } else {
         Front::Plain
     }
+}
+
+// Whether a byte goes to the current text, whatever stands behind it.
+fn is_plain(b: u8) -> bool
+    ensures { result ≡ is_plain_byte b }
+{
+    b != byte::OPENING
+        && b != byte::CLOSING
+        && b != byte::COMMA
+        && b != byte::SHARP
+        && b != byte::CARRIAGE_RETURN
+        && b != byte::LINE_FEED
+        && b != byte::TAB
+}
+
+// With how many plain bytes a text begins, counted up to `most`.
+pub(crate) fn plain_front(text: &[u8], most: usize) -> usize
+    ensures most { result ≤ most }
+    ensures within { result ≤ length text.now }
+    ensures plain { (k : ℕ) → k < result → is_plain_byte (get_or text.now k 0) ≡ true }
+    ensures end { result < most → result < length text.now → is_plain_byte (get_or text.now result 0) ≡ false }
+{
+    let mut n = 0;
+    while n < most && n < text.len() && is_plain(text[n]) {
+        n += 1;
+    }
+    n
 }

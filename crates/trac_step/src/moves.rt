@@ -1,12 +1,13 @@
 //! The steps that perform no function.
-ghost use Rattle.std.specs.Prelude.{◌≡◌, IfOk, IfErr, IsOkUnless, OnErr, OnOk, Ok, Some, true};
+ghost use Rattle.std.specs.Prelude.{◌≡◌, IfOk, IfErr, IsOkUnless, OnErr, OnOk, Ok, true};
 ghost use Rattle.trac_rules.specs.Scanning.{front_of, scan, Moves};
 ghost use Rattle.trac_rules.specs.Limits.{texts_fit};
 ghost use Rattle.trac_rules.specs.Outcomes.{MayRefuse};
+ghost use Rattle.trac_rules.specs.Records.{recorded};
 ghost use Rattle.trac_rules.specs.Stepping.{step};
 ghost use Rattle.trac_step.specs.Calling.{IfMoves, IsMove, adds_mark};
-ghost use Rattle.trac_step.specs.Record.{before};
-ghost use Rattle.trac_step.specs.Room.{HasRoom, IsNoLess};
+ghost use Rattle.trac_step.specs.Record.{recorded_by};
+ghost use Rattle.trac_step.specs.Room.{IsNoLess, LacksRoomAhead};
 
 use crate::engine::Core;
 use crate::record::Record;
@@ -42,50 +43,57 @@ impl<E: TwoEnds<u8, A>, M: TwoEnds<Mark, A>, A: Allocator + Copy> Core<E, M, A> 
         !makes_mark(front, marks) || marks < MARK_LIMIT
     }
 
-    // Carries out the rule for this front, which asks for no call.
-    fn move_on(&mut self, front: Front) -> Result<(), Refusal>
+    // Carries out the rule for this front, which asks for no call, and answers what it destroys.
+    fn move_on(&mut self, front: Front) -> Result<Record<Self, A>, Refusal>
         requires front { front ≡ front_of self.old.state.active }
         requires moves { IsMove (scan self.old.state) }
         requires fits { IfMoves (scan self.old.state) (λ t. texts_fit t ≡ true) }
         ensures ok { OnOk result (scan self.old.state ≡ Moves self.new.state) }
+        ensures recorded { IfOk result (λ r. recorded_by r ≡ recorded self.old.state) }
         ensures room { IsNoLess self.old self.new }
         ensures unchanged { OnErr result (self.new ≡ self.old) }
+        ensures lacking { OnErr result (LacksRoomAhead self.old) }
         ensures err { IsOkUnless result Refusal.Memory }
     {
         match front {
-            Front::Nothing => self.reload(),
+            Front::Nothing => {
+                let (base, frames) = self.reload()?;
+                Ok(Record::Idle { base, frames })
+            }
             Front::Opening => {
-                self.protect();
-                Ok(())
+                let (inner, closed) = self.protect();
+                Ok(Record::Quoted { inner, closed })
             }
             Front::Comma => self.comma(),
-            Front::Layout | Front::Closing => {
-                self.delete(1);
-                Ok(())
+            Front::Layout | Front::Closing => Ok(Record::Deleted(self.delete_first())),
+            Front::ActiveCall => {
+                self.mark(2, Some(Kind::Active))?;
+                Ok(Record::Begun)
             }
-            Front::ActiveCall => self.mark(2, Some(Kind::Active)),
-            Front::NeutralCall => self.mark(3, Some(Kind::Neutral)),
+            Front::NeutralCall => {
+                self.mark(3, Some(Kind::Neutral))?;
+                Ok(Record::Begun)
+            }
             Front::Sharp | Front::Plain => {
                 self.gather_first();
-                Ok(())
+                Ok(Record::Moved)
             }
         }
     }
 
     // The next step, where it performs no function.
-    pub(crate) fn move_step(&mut self, front: Front) -> Result<Record<Self>, Refusal>
+    pub(crate) fn move_step(&mut self, front: Front) -> Result<Record<Self, A>, Refusal>
         requires front { front ≡ front_of self.old.state.active }
         requires moves { IsMove (scan self.old.state) }
-        ensures taken { IfOk result (λ r. (before r self.new.state ≡ Some self.old.state) × ((environment : _) → step environment self.old.state ≡ Ok self.new.state)) }
-        ensures held { OnOk result (HasRoom self.new self.old.state) }
+        ensures taken { OnOk result ((environment : _) → step environment self.old.state ≡ Ok self.new.state) }
+        ensures recorded { IfOk result (λ r. recorded_by r ≡ recorded self.old.state) }
         ensures refused { IfErr result (λ e. (self.new.state ≡ self.old.state) × ((environment : _) → MayRefuse (step environment self.old.state) e)) }
+        ensures lacking { IfErr result (λ e. e ≡ Refusal.Memory → LacksRoomAhead self.old) }
         ensures room { IsNoLess self.old self.new }
     {
         if !self.move_fits(front) {
             return Err(Refusal::TooLong);
         }
-        let before = self.copy()?;
-        self.move_on(front)?;
-        Ok(Record::Whole(before))
+        self.move_on(front)
     }
 }

@@ -1,4 +1,4 @@
-//! What a step leaves for the way back.
+//! What a step leaves for the way back, and going back.
 ghost use Rattle.std.specs.Prelude.{◌≡◌, IsSomeAnd, Some};
 ghost use Rattle.trac_step.specs.Record.{before};
 ghost use Rattle.trac_step.specs.Room.{HasRoom, IsNoLess};
@@ -6,28 +6,60 @@ ghost use Rattle.trac_step.specs.Room.{HasRoom, IsNoLess};
 use crate::calling::overwrite;
 use crate::ends::refill_both;
 use crate::engine::Core;
-use std::alloc::Allocator;
+use crate::pieces::Pieces;
+use std::alloc::{Allocator, Global};
 use trac_gap::TwoEnds;
-use trac_prims::Mark;
+use trac_prims::{Kind, Mark};
 
-/// What one step of a machine `M` keeps, so that the machine can go back over it.
+/// What one step of a machine `M` destroyed, by which the machine can go back over it. What a step of scanning only moved is not
+/// kept: a record says how much it was, counted from the end of the text to which it went (this project's profile).
 #[derive(Drop)]
-pub enum Record<M: Drop> {
-    /// The machine as it was before the step.
+pub enum Record<M: Drop, A: Allocator + Copy = Global> {
+    /// A byte went to the current text.
+    Moved,
+    /// An argument was finished, and a null one begun.
+    Comma,
+    /// A function was begun.
+    Begun,
+    /// A protected text went to the current text.
+    Quoted {
+        /// How many bytes it has.
+        inner: usize,
+        /// Whether a match of its `(` was deleted.
+        closed: bool,
+    },
+    /// This byte was deleted.
+    Deleted(u8),
+    /// All text was emptied, and the idle program loaded.
+    Idle {
+        /// The text outside all begun functions.
+        base: Vec<u8, A>,
+        /// The begun functions, the innermost first: the kind of each, and all its arguments, of which the last was being gathered.
+        frames: Vec<(Kind, Pieces<A>), A>,
+    },
+    /// A function was performed: the machine as it was before.
     Whole(M),
 }
 
 impl<E: TwoEnds<u8, A>, M: TwoEnds<Mark, A>, A: Allocator + Copy> Core<E, M, A> {
-    /// Goes back over a step: the machine shows the state before it again, all parts as they were, in its own room.
+    /// Goes back over a step: the machine shows the state before it again, all parts as they were, in its own room. All that was
+    /// lost comes from the record, so any machine that shows the state after the step can go back over it.
     /// It takes no memory and cannot fail, lessens no room and forgets no name (this project's profile). The machine has to have room for that state,
     /// as it has after the step.
-    pub fn undo(&mut self, taken: Record<Self>)
+    pub fn undo(&mut self, taken: Record<Self, A>)
         requires { IsSomeAnd (before taken self.old.state) (λ s. HasRoom self.old s) }
         ensures state { before taken self.old.state ≡ Some self.new.state }
         ensures room { IsNoLess self.old self.new }
     {
-        let Record::Whole(earlier) = taken;
-        self.put_back(earlier);
+        match taken {
+            Record::Moved => self.move_back(1),
+            Record::Comma => self.gather_again(),
+            Record::Begun => self.take_beginning_back(),
+            Record::Quoted { inner, closed } => self.unprotect(inner, closed),
+            Record::Deleted(byte) => self.undelete(byte),
+            Record::Idle { base, frames } => self.unload(base.as_slice(), frames),
+            Record::Whole(earlier) => self.put_back(earlier),
+        }
     }
 
     // Shows what an earlier machine shows, in this machine's room.

@@ -1,14 +1,18 @@
 //! The rules of scanning that perform no function, each on the machine's own parts.
-ghost use Rattle.std.specs.Prelude.{◌≡◌, ◌<◌, ◌≤◌, ◌+◌, [], ◌∷◌, length, drop, None, IsOkUnless, OnErr, OnOk};
-ghost use Rattle.trac_rules.specs.Bytes.{idle_program};
-ghost use Rattle.trac_rules.specs.Matching.{protected};
+ghost use Rattle.std.specs.Prelude.{◌≡◌, ◌<◌, ◌≤◌, ◌+◌, false, get_or, is_some, length, drop, None, IfOk, IsOkUnless, OnErr, OnOk};
+ghost use Rattle.trac_rules.specs.Matching.{match_of, protected};
 ghost use Rattle.trac_rules.specs.Scanning.{protect, deleted, comma_in, gather_first};
 ghost use Rattle.trac_rules.specs.Limits.{marks};
+ghost use Rattle.trac_rules.specs.PlainRuns.{BeginsPlain, is_plain, moved_on};
+ghost use Rattle.trac_rules.specs.Records.{comma_recorded};
 ghost use Rattle.trac_step.specs.Calling.{with_mark};
+ghost use Rattle.trac_step.specs.Record.{recorded_by};
 ghost use Rattle.trac_step.specs.Room.{IsNoLess};
 
 use crate::engine::Core;
-use crate::texts::{push_mark, restart, take_protected};
+use crate::front::plain_front;
+use crate::record::Record;
+use crate::texts::{push_mark, take_first, take_protected};
 use std::alloc::Allocator;
 use trac_gap::TwoEnds;
 use trac_prims::Mark;
@@ -17,48 +21,41 @@ use trac_rules::limit::MARK_LIMIT;
 use trac_rules::refusal::Refusal;
 
 impl<E: TwoEnds<u8, A>, M: TwoEnds<Mark, A>, A: Allocator + Copy> Core<E, M, A> {
-    // The active text is null: all other text goes, and the idle program is loaded.
-    pub(crate) fn reload(&mut self) -> Result<(), Refusal>
-        requires { self.old.state.active ≡ [] }
-        ensures ok { OnOk result (self.new.state ≡ record self.old.state { active = idle_program; base = []; frames = [] }) }
-        ensures room { IsNoLess self.old self.new }
-        ensures unchanged { OnErr result (self.new ≡ self.old) }
-        ensures err { IsOkUnless result Refusal.Memory }
-    {
-        restart(&mut self.text, &mut self.marks)?;
-        Ok(())
-    }
-
-    // A `(`: what it protects goes to the current text.
-    pub(crate) fn protect(&mut self)
+    // A `(`: what it protects goes to the current text. Answers how many bytes that is, and whether there was a match.
+    pub(crate) fn protect(&mut self) -> (usize, bool)
         requires { 0 < length self.old.state.active }
-        ensures { self.new ≡ record self.old { state = protect (protected (drop 1 self.old.state.active)) self.old.state } }
+        ensures shown { self.new ≡ record self.old { state = protect (protected (drop 1 self.old.state.active)) self.old.state } }
+        ensures inner { result.0 ≡ length (protected (drop 1 self.old.state.active)).inner }
+        ensures closed { result.1 ≡ is_some (match_of (drop 1 self.old.state.active)) }
     {
-        take_protected(&mut self.text);
+        take_protected(&mut self.text)
     }
 
-    // The first n bytes of the active text are deleted.
-    pub(crate) fn delete(&mut self, n: usize)
-        requires { n ≤ length self.old.state.active }
-        ensures { self.new ≡ record self.old { state = deleted n self.old.state } }
+    // The first byte of the active text is deleted, and answered.
+    pub(crate) fn delete_first(&mut self) -> u8
+        requires { 0 < length self.old.state.active }
+        ensures shown { self.new ≡ record self.old { state = deleted 1 self.old.state } }
+        ensures byte { result ≡ get_or self.old.state.active 0 0 }
     {
-        self.text.cut_right(n);
+        take_first(&mut self.text)
     }
 
     // A `,`: inside a function an argument is finished, and a null one begun.
-    pub(crate) fn comma(&mut self) -> Result<(), Refusal>
+    pub(crate) fn comma(&mut self) -> Result<Record<Self, A>, Refusal>
         requires front { 0 < length self.old.state.active }
         requires room { 0 < length self.old.state.frames → marks self.old.state.frames < MARK_LIMIT }
         ensures ok { OnOk result (self.new.state ≡ comma_in self.old.state.frames (deleted 1 self.old.state)) }
+        ensures recorded { IfOk result (λ r. recorded_by r ≡ comma_recorded self.old.state.frames self.old.state) }
         ensures room { IsNoLess self.old self.new }
         ensures unchanged { OnErr result (self.new ≡ self.old) }
+        ensures full { OnErr result ((0 < length self.old.state.frames) × (self.old.mark_room ≤ marks self.old.state.frames)) }
         ensures err { IsOkUnless result Refusal.Memory }
     {
         if self.marks.left().is_empty() {
-            self.delete(1);
-            return Ok(());
+            return Ok(Record::Deleted(self.delete_first()));
         }
-        self.mark(1, None)
+        self.mark(1, None)?;
+        Ok(Record::Comma)
     }
 
     // The first n bytes of the active text are deleted, and a function of this kind is begun, or, where none is named, a further
@@ -70,6 +67,7 @@ impl<E: TwoEnds<u8, A>, M: TwoEnds<Mark, A>, A: Allocator + Copy> Core<E, M, A> 
         ensures ok { OnOk result (self.new.state ≡ with_mark frame (deleted n self.old.state)) }
         ensures room { IsNoLess self.old self.new }
         ensures unchanged { OnErr result (self.new ≡ self.old) }
+        ensures full { OnErr result (self.old.mark_room ≤ marks self.old.state.frames) }
         ensures err { IsOkUnless result Refusal.Memory }
     {
         push_mark(&mut self.text, &mut self.marks, n, frame)?;
@@ -82,5 +80,19 @@ impl<E: TwoEnds<u8, A>, M: TwoEnds<Mark, A>, A: Allocator + Copy> Core<E, M, A> 
         ensures { self.new ≡ record self.old { state = gather_first self.old.state } }
     {
         self.text.shift_left(1);
+    }
+
+    /// Moves the plain bytes with which the active text begins, counted up to `most`, to the current text, and answers how many these
+    /// are: as many steps of T-64's rules of scanning, each of which would answer the record `Moved`. It takes no memory (this
+    /// project's profile).
+    pub fn move_plain(&mut self, most: usize) -> usize
+        ensures moved { self.new ≡ record self.old { state = moved_on result self.old.state } }
+        ensures plain { BeginsPlain result self.old.state }
+        ensures most { result ≤ most }
+        ensures end { result < most → result < length self.old.state.active → is_plain (get_or self.old.state.active result 0) ≡ false }
+    {
+        let count = plain_front(self.text.right(), most);
+        self.text.shift_left(count);
+        count
     }
 }

@@ -1,11 +1,13 @@
 //! One step of the machine.
-ghost use Rattle.std.specs.Prelude.{◌≡◌, ◌≤◌, length, IfOk, IfErr, OnOk, Ok, Some};
+ghost use Rattle.std.specs.Prelude.{◌≡◌, ◌≤◌, length, IfOk, IfErr, OnOk, None, Ok, Some};
 ghost use Rattle.trac_rules.specs.Outcomes.{MayRefuse};
 ghost use Rattle.trac_rules.specs.Proper.{IsProper};
-ghost use Rattle.trac_rules.specs.Stepping.{step};
+ghost use Rattle.trac_rules.specs.Records.{recorded};
+ghost use Rattle.trac_rules.specs.Stepping.{call_at, step};
+ghost use Rattle.trac_rules.specs.Weights.{loss, weight};
 ghost use Rattle.trac_prims.specs.Tape.{environment_of};
-ghost use Rattle.trac_step.specs.Record.{before};
-ghost use Rattle.trac_step.specs.Room.{HasRoom, IsNoLess};
+ghost use Rattle.trac_step.specs.Record.{before, recorded_by};
+ghost use Rattle.trac_step.specs.Room.{HasRoom, IsNoLess, LacksRoomAhead};
 
 use crate::engine::Core;
 use crate::front::front_at;
@@ -16,19 +18,47 @@ use trac_prims::{Mark, Refusal, Tape};
 use trac_rules::scan::Front;
 
 impl<E: TwoEnds<u8, A>, M: TwoEnds<Mark, A>, A: Allocator + Copy> Core<E, M, A> {
-    /// Takes the next step of T-64's rules over this tape, and gives what the way back needs. The state after it is a proper one:
-    /// a step is refused where its new state would pass any limit.
+    /// Takes the next step of T-64's rules over this tape, and gives what the way back needs: the record of what the step
+    /// destroyed, and of nothing else where it scanned. The state after it is a proper one: a step is refused where its new
+    /// state would pass any limit.
     ///
     /// Refused with `NeedInput` or `Ended` where a function reads input that is not there, with `TooLong` where the
     /// state after the step would pass a limit, and with `Memory` where the allocator refuses; after each the state is as it was.
+    /// A step of scanning is refused memory only where the machine has no room for the new state, but for the step that empties
+    /// all texts, which keeps them in its record (this project's profile).
     /// No step, refused ones among them, lessens the machine's room or forgets a name, and after an accepted one there is room
     /// for the state before it. The tape has to hold at least as many bytes as are read.
-    pub fn step(&mut self, tape: Tape<'_>) -> Result<Record<Self>, Refusal>
+    pub fn step(&mut self, tape: Tape<'_>) -> Result<Record<Self, A>, Refusal>
         requires { self.old.state.position ≤ length tape.bytes.now }
         ensures taken { IfOk result (λ r. (step (environment_of tape.entry) self.old.state ≡ Ok self.new.state) × (before r self.new.state ≡ Some self.old.state)) }
+        ensures recorded { IfOk result (λ r. recorded_by r ≡ recorded self.old.state) }
+        ensures weighs { IfOk result (λ r. call_at self.old.state ≡ None → weight (recorded_by r) ≤ loss self.old.state) }
         ensures proper { OnOk result (IsProper self.new.state) }
         ensures held { OnOk result (HasRoom self.new self.old.state) }
         ensures refused { IfErr result (λ e. (self.new.state ≡ self.old.state) × MayRefuse (step (environment_of tape.entry) self.old.state) e) }
+        ensures lacking { IfErr result (λ e. e ≡ Refusal.Memory → LacksRoomAhead self.old) }
+        ensures room { IsNoLess self.old self.new }
+    {
+        self.is_in_its_room();
+        self.next_step(tape)
+    }
+
+    // A machine shows a proper state, for which it has room. It does nothing: it is called for what it says.
+    fn is_in_its_room(&self)
+        ensures proper { IsProper self.now.state }
+        ensures room { HasRoom self.now self.now.state }
+    {
+        let _ = &self.output;
+        self.store.knows_its_forms();
+    }
+
+    // The next step, by whether it performs a function.
+    fn next_step(&mut self, tape: Tape<'_>) -> Result<Record<Self, A>, Refusal>
+        requires { self.old.state.position ≤ length tape.bytes.now }
+        ensures taken { OnOk result (step (environment_of tape.entry) self.old.state ≡ Ok self.new.state) }
+        ensures recorded { IfOk result (λ r. recorded_by r ≡ recorded self.old.state) }
+        ensures refused { IfErr result (λ e. (self.new.state ≡ self.old.state) × MayRefuse (step (environment_of tape.entry) self.old.state) e) }
+        ensures lacking { IfErr result (λ e. e ≡ Refusal.Memory → LacksRoomAhead self.old) }
         ensures room { IsNoLess self.old self.new }
     {
         let front = front_at(self.text.right());

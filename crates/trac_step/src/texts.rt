@@ -1,8 +1,8 @@
 //! The rules of scanning on the lists alone: the texts, and the marks.
-ghost use Rattle.std.specs.Prelude.{◌≡◌, ◌+◌, ◌<◌, ◌≤◌, [], ◌∷◌, ◌++◌, length, drop, IsOkUnless, OnErr, OnOk};
+ghost use Rattle.std.specs.Prelude.{◌≡◌, ◌+◌, ◌<◌, ◌≤◌, [], ◌∷◌, ◌++◌, get_or, is_some, length, drop, IsOkUnless, OnErr, OnOk};
 ghost use Rattle.trac_gap.specs.Ends.{item_count};
 ghost use Rattle.trac_rules.specs.Bytes.{idle_program};
-ghost use Rattle.trac_rules.specs.Matching.{protected};
+ghost use Rattle.trac_rules.specs.Matching.{match_of, protected};
 ghost use Rattle.trac_step.specs.Calling.{mark_at, with_protected};
 
 use crate::ends;
@@ -14,18 +14,33 @@ use trac_prims::Mark;
 use trac_rules::kind::Kind;
 use trac_rules::refusal::Refusal;
 
-// Takes a `(` away: what it protects goes to the left.
-pub(crate) fn take_protected<A: Allocator + Copy, E: TwoEnds<u8, A>>(text: &mut E)
+// Takes a `(` away: what it protects goes to the left. Answers how many bytes these are, and whether there was a match.
+pub(crate) fn take_protected<A: Allocator + Copy, E: TwoEnds<u8, A>>(text: &mut E) -> (usize, bool)
     requires { 0 < length (E.ends text.old).right }
-    ensures { E.ends text.new ≡ with_protected (protected (drop 1 (E.ends text.old).right)) (E.ends text.old) }
+    ensures taken { E.ends text.new ≡ with_protected (protected (drop 1 (E.ends text.old).right)) (E.ends text.old) }
+    ensures inner { result.0 ≡ length (protected (drop 1 (E.ends text.old).right)).inner }
+    ensures closed { result.1 ≡ is_some (match_of (drop 1 (E.ends text.old).right)) }
 {
     text.cut_right(1);
-    if let Some(place) = match_in(text.right()) {
-        text.shift_left(place);
-        text.cut_right(1);
-    } else {
-        text.shift_left(text.right().len());
-    }
+    let Some(place) = match_in(text.right()) else {
+        let inner = text.right().len();
+        text.shift_left(inner);
+        return (inner, false);
+    };
+    text.shift_left(place);
+    text.cut_right(1);
+    (place, true)
+}
+
+// Takes the first byte on the right away, and answers it.
+pub(crate) fn take_first<A: Allocator + Copy, E: TwoEnds<u8, A>>(text: &mut E) -> u8
+    requires { 0 < length (E.ends text.old).right }
+    ensures taken { E.ends text.new ≡ record (E.ends text.old) { right = drop 1 (E.ends text.old).right } }
+    ensures byte { result ≡ get_or (E.ends text.old).right 0 0 }
+{
+    let first = text.right()[0];
+    text.cut_right(1);
+    first
 }
 
 // Takes the first n bytes on the right away, and puts a mark behind all others, at the end of the text on the left.
@@ -41,9 +56,15 @@ pub(crate) fn push_mark<A: Allocator + Copy, E: TwoEnds<u8, A>, M: TwoEnds<Mark,
     ensures holds { OnOk result (length (M.ends marks.old).left + 1 ≤ (M.ends marks.new).capacity) }
     ensures room { (M.ends marks.old).capacity ≤ (M.ends marks.new).capacity }
     ensures unchanged_text { OnErr result (E.ends text.new ≡ E.ends text.old) }
-    ensures unchanged_marks { OnErr result (M.ends marks.new ≡ M.ends marks.old) }
+    ensures unchanged_marks { OnErr result ((M.ends marks.new).left ≡ (M.ends marks.old).left) }
+    ensures unchanged_room { OnErr result ((M.ends marks.new).capacity ≡ (M.ends marks.old).capacity) }
+
+    // Memory is refused only where there is no room.
+    ensures full { OnErr result ((M.ends marks.old).capacity ≤ length (M.ends marks.old).left) }
     ensures err { IsOkUnless result Refusal.Memory }
 {
+    // Marks stand on the left alone, so all of the room is theirs.
+    marks.cut_right(marks.right().len());
     ends::reserve(marks, 1)?;
     text.cut_right(n);
     marks.push_left(Mark {

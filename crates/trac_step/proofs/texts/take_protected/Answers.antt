@@ -5,16 +5,16 @@ use Rattle.trac_rules.specs.Matching.{match_of}
 use Rattle.trac_step.proofs.Changes.{taken_matched, taken_unmatched}
 use Rattle.trac_step.proofs.texts.take_protected.Goals as goal
 
-pub returns-in-Some : goal.returns-in-Some
-returns-in-Some g c =
+pub returns-clause-taken : goal.returns-clause-taken
+returns-clause-taken g c =
     let old = g.E.TwoEnds.ends c.args.text.now in
     let behind : c.right.result.now ≡ drop 1 old.right = c.right.ensures.right ∙ ap (λ (e : Ends ℕ). e.right) c.cut_right.ensures in
-    taken_matched old (g.E.TwoEnds.ends c.cut_right.new.self) (g.E.TwoEnds.ends c.shift_left.new.self) (g.E.TwoEnds.ends c.cut_right-in-Some.new.self) c.in-Some.place
-    c.cut_right.ensures c.shift_left.ensures c.cut_right-in-Some.ensures (ap match_of (sym behind) ∙ sym c.in-Some.ensures.place)
+    taken_matched old (g.E.TwoEnds.ends c.cut_right.new.self) (g.E.TwoEnds.ends c.shift_left-2.new.self) (g.E.TwoEnds.ends c.cut_right-2.new.self) c.in-Some.place
+    c.cut_right.ensures c.shift_left-2.ensures c.cut_right-2.ensures (ap match_of (sym behind) ∙ sym c.in-Some.ensures.place)
 
-pub returns-in_default : goal.returns-in_default
-returns-in_default g c =
+pub returns-in_default-clause-taken : goal.returns-in_default-clause-taken
+returns-in_default-clause-taken g c =
     let old = g.E.TwoEnds.ends c.args.text.now in
     let behind : c.right.result.now ≡ drop 1 old.right = c.right.ensures.right ∙ ap (λ (e : Ends ℕ). e.right) c.cut_right.ensures in
-    taken_unmatched old (g.E.TwoEnds.ends c.cut_right.new.self) (g.E.TwoEnds.ends c.shift_left-in_default.new.self) (length c.right-in_default.result.now)
-    c.cut_right.ensures (ap length c.right-in_default.ensures.right) c.shift_left-in_default.ensures (ap match_of (sym behind) ∙ sym c.in_default.ensures.place)
+    taken_unmatched old (g.E.TwoEnds.ends c.cut_right.new.self) (g.E.TwoEnds.ends c.shift_left.new.self) (length c.right-inner.result.now)
+    c.cut_right.ensures (ap length c.right-inner.ensures.right) c.shift_left.ensures (ap match_of (sym behind) ∙ sym c.in_default.ensures.place)

@@ -1,8 +1,12 @@
-use Rattle.std.proofs.Common.{Some, refl, ap, ◌∙◌}
-use Rattle.std.proofs.lemmas.Result.{err_from_is_err_and}
+use Rattle.std.proofs.Common.{◌≡◌, refl, ap}
+use Rattle.std.proofs.lemmas.Result.{on_ok_weaker}
+use Rattle.trac_rules.specs.declared.refusal.Refusal.TheVariants.{Memory}
+use Rattle.trac_rules.specs.Outcomes.{MayRefuse}
+use Rattle.trac_rules.specs.State.{Environment}
+use Rattle.trac_rules.specs.Stepping.{step}
 use Rattle.trac_step.specs.Layout.{Shown}
-use Rattle.trac_step.proofs.Outcomes.{move_beyond, move_lacks, move_taken, refuses_memory}
-use Rattle.trac_step.proofs.Rooms.{no_less, HasRoom-kept}
+use Rattle.trac_step.proofs.Outcomes.{move_beyond, move_lacks, move_taken, refused_for_memory, refuses_memory}
+use Rattle.trac_step.proofs.Rooms.{no_less}
 use Rattle.trac_step.proofs.engine.Core.move_step.Goals as goal
 
 pub returns-then-not-move_fits-clause-refused : goal.returns-then-not-move_fits-clause-refused
@@ -11,30 +15,18 @@ returns-then-not-move_fits-clause-refused g c = (refl, λ environment. move_beyo
 pub returns-then-not-move_fits-clause-room : goal.returns-then-not-move_fits-clause-room
 returns-then-not-move_fits-clause-room g c = no_less c.args.self.now
 
-pub returns-in_err-before-clause-refused : goal.returns-in_err-before-clause-refused
-returns-in_err-before-clause-refused g c =
-    let p = err_from_is_err_and c.from_residual.result c.from_residual.ensures.1 in
-    rw p.1 (refl, λ environment. refuses_memory _ p.0 (p.2 ∙ c.in_err-before.ensures.err) (move_lacks environment c.args.self.now.state c.requires.moves))
-
-pub returns-in_err-before-clause-room : goal.returns-in_err-before-clause-room
-returns-in_err-before-clause-room g c = no_less c.args.self.now
-
-pub returns-in_err-move_on-clause-refused : goal.returns-in_err-move_on-clause-refused
-returns-in_err-move_on-clause-refused g c =
-    let p = err_from_is_err_and c.from_residual-in_err-move_on.result c.from_residual-in_err-move_on.ensures.1 in
-    rw p.1 (ap (λ (m : Shown). m.state) c.in_err-move_on.ensures.unchanged, λ environment. refuses_memory _ p.0 (p.2 ∙ c.in_err-move_on.ensures.err) (move_lacks environment c.args.self.now.state c.requires.moves))
-
-pub returns-in_err-move_on-clause-room : goal.returns-in_err-move_on-clause-room
-returns-in_err-move_on-clause-room g c = c.move_on.ensures.room
-
 pub returns-clause-taken : goal.returns-clause-taken
-returns-clause-taken g c = (
-  ap Some c.in_ok-before.ensures.same,
-  λ environment. move_taken environment c.args.self.now.state c.move_on.new.self.state c.in_ok-move_on.ensures.ok c.if-not-move_fits.ensures,
-)
-
-pub returns-clause-held : goal.returns-clause-held
-returns-clause-held g c = HasRoom-kept c.args.self.now c.move_on.new.self c.args.self.now.state c.move_on.ensures.room c.in_ok-before.ensures.holds
+returns-clause-taken g c =
+    on_ok_weaker c.move_on.result
+    (λ moved. λ environment. move_taken environment c.args.self.now.state c.move_on.new.self.state moved c.if-not-move_fits.ensures)
+    c.move_on.ensures.ok
 
 pub returns-clause-room : goal.returns-clause-room
 returns-clause-room g c = c.move_on.ensures.room
+
+pub returns-clause-refused : goal.returns-clause-refused
+returns-clause-refused g c =
+    refused_for_memory c.move_on.result
+    (λ e. (c.move_on.new.self.state ≡ c.args.self.now.state) × ((environment : Environment) → MayRefuse (step environment c.args.self.now.state) e))
+    c.move_on.ensures.unchanged c.move_on.ensures.err
+    (λ same. (ap (λ (m : Shown). m.state) same, λ environment. refuses_memory _ Memory refl (move_lacks environment c.args.self.now.state c.requires.moves)))

@@ -1,36 +1,35 @@
-use Rattle.std.proofs.Common.{◌≡◌, ◌==◌, length, sym, ap, ◌∙◌, subst, true, false}
-use Rattle.std.proofs.lemmas.Result.{IfOk-weaker}
-use denote.Enum.Bare.{sameb}
-use Rattle.trac_rules.specs.contracts.scan.Front.{the_type}
-use Rattle.trac_rules.specs.declared.scan.Front.TheVariants.{Closing}
+use Rattle.std.proofs.Common.{◌≡◌, ◌≤◌, Some, Ok, sym, ap, ◌∙◌, subst}
+use Rattle.std.proofs.lemmas.Result.{IfOk-weaker, on_ok_weaker}
 use Rattle.trac_rules.specs.Proper.{IsProper}
-use Rattle.trac_rules.specs.Scanning.{front_of}
+use Rattle.trac_rules.specs.Records.{recorded, state_before}
+use Rattle.trac_rules.specs.Weights.{loss, weight}
 use Rattle.trac_rules.proofs.ProperStates.{step_proper}
-use Rattle.trac_prims.specs.Neutral.{Neutral}
+use Rattle.trac_rules.proofs.Restored.{step_goes_back}
+use Rattle.trac_rules.proofs.Weighed.{weight_within}
 use Rattle.trac_prims.specs.Tape.{environment_of}
-use Rattle.trac_step.specs.Layout.{parts_of, Shown}
-use Rattle.trac_step.proofs.Limited.{proper_of_sound}
-use Rattle.trac_step.proofs.Scans.{is_move, no_frames}
+use Rattle.trac_step.specs.Record.{before, recorded_by}
+use Rattle.trac_step.proofs.Recorded.{taken_and_before}
+use Rattle.trac_step.proofs.Rooms.{HasRoom-kept}
 use Rattle.trac_step.proofs.engine.Core.step.Goals as goal
-use Rattle.trac_step.proofs.engine.Core.step.Goals.{else-eq-via-then-eq+else-not-is_outside, else-eq-via-else-eq}
 
-pub returns-then-not-is_outside-clause-proper : goal.returns-then-not-is_outside-clause-proper
-returns-then-not-is_outside-clause-proper g c =
-    let p = parts_of (g.E.TwoEnds.ends c.self.inside.text) (g.M.TwoEnds.ends c.self.inside.marks) c.self.inside.store c.self.inside.meta c.self.inside.trace c.self.inside.position c.self.inside.output in
-    let proper = subst IsProper (ap (λ (m : Shown). m.state) c.self.view_is) (proper_of_sound p c.self.invariant) in
-    IfOk-weaker c.call_step.result _ (λ _. IsProper c.call_step.new.self.state) (λ r h. step_proper (environment_of c.args.tape) c.args.self.now.state c.call_step.new.self.state proper h.1) c.call_step.ensures.taken
+pub returns-clause-taken : goal.returns-clause-taken
+returns-clause-taken g c =
+    taken_and_before c.next_step.result (λ r. recorded_by r) (environment_of c.args.tape) c.args.self.now.state c.next_step.new.self.state
+    c.is_in_its_room.ensures.proper c.next_step.ensures.taken c.next_step.ensures.recorded
 
-pub move_step-requires-clause-moves : goal.move_step-requires-clause-moves
-move_step-requires-clause-moves g c =
-    is_move c.args.self.now.state c.front_at-front.result
-    (c.front_at-front.ensures ∙ ap front_of c.right.ensures.right ∙ ap (λ (m : Shown). front_of m.state.active) c.self.view_is)
-    (λ is. elim c.else-eq.branch [
-      | else-eq-via-then-eq+else-not-is_outside w ↦ no_frames c.args.self.now.state.frames w.is_outside.result (w.is_outside.ensures ∙ ap (λ (n : Neutral). length n.frames == 0) w.neutral.ensures) w.if-not-is_outside.false
-      | else-eq-via-else-eq w ↦ absurd (let unset : false ≡ true = sym w.if-eq.false ∙ c.eq.ensures ∙ ap (λ front. sameb the_type front Closing) is in cc)
-    ])
+pub returns-clause-weighs : goal.returns-clause-weighs
+returns-clause-weighs g c =
+    IfOk-weaker c.next_step.result (λ r. recorded_by r ≡ recorded c.args.self.now.state) _
+    (λ r is none. subst (λ x. weight x ≤ loss c.args.self.now.state) (sym is) (weight_within c.args.self.now.state none))
+    c.next_step.ensures.recorded
 
 pub returns-clause-proper : goal.returns-clause-proper
 returns-clause-proper g c =
-    let p = parts_of (g.E.TwoEnds.ends c.self.inside.text) (g.M.TwoEnds.ends c.self.inside.marks) c.self.inside.store c.self.inside.meta c.self.inside.trace c.self.inside.position c.self.inside.output in
-    let proper = subst IsProper (ap (λ (m : Shown). m.state) c.self.view_is) (proper_of_sound p c.self.invariant) in
-    IfOk-weaker c.move_step.result _ (λ _. IsProper c.move_step.new.self.state) (λ r h. step_proper (environment_of c.args.tape) c.args.self.now.state c.move_step.new.self.state proper (h.1 (environment_of c.args.tape))) c.move_step.ensures.taken
+    on_ok_weaker c.next_step.result (λ h. step_proper (environment_of c.args.tape) c.args.self.now.state c.next_step.new.self.state c.is_in_its_room.ensures.proper h)
+    c.next_step.ensures.taken
+
+pub returns-clause-held : goal.returns-clause-held
+returns-clause-held g c =
+    on_ok_weaker c.next_step.result
+    (λ h. HasRoom-kept c.args.self.now c.next_step.new.self c.args.self.now.state c.next_step.ensures.room c.is_in_its_room.ensures.room)
+    c.next_step.ensures.taken

@@ -1,0 +1,16 @@
+use Rattle.std.proofs.Common.{ap, subst, arith}
+use Rattle.trac_rules.specs.Proper.{IsProper}
+use Rattle.trac_step.specs.Layout.{parts_of, Shown}
+use Rattle.trac_step.proofs.Limited.{proper_of_sound}
+use Rattle.trac_step.proofs.Rooms.{HasRoom-parts}
+use Rattle.trac_step.proofs.engine.Core.is_in_its_room.Goals as goal
+
+pub returns-clause-proper : goal.returns-clause-proper
+returns-clause-proper g c =
+    let p = parts_of (g.E.TwoEnds.ends c.self.inside.text) (g.M.TwoEnds.ends c.self.inside.marks) c.self.inside.store c.self.inside.meta c.self.inside.trace c.self.inside.position c.self.inside.output in
+    subst IsProper (ap (λ (m : Shown). m.state) c.self.view_is) (proper_of_sound p c.self.invariant)
+
+pub returns-clause-room : goal.returns-clause-room
+returns-clause-room g c =
+    let p = parts_of (g.E.TwoEnds.ends c.self.inside.text) (g.M.TwoEnds.ends c.self.inside.marks) c.self.inside.store c.self.inside.meta c.self.inside.trace c.self.inside.position c.self.inside.output in
+    HasRoom-parts p c.args.self.now c.self.invariant c.self.view_is (omega (arith, c.self.inside.output.ok.0, c.self.inside.output.ok.1)) c.knows_its_forms.ensures

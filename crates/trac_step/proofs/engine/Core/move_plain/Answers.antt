@@ -1,0 +1,27 @@
+use Rattle.std.proofs.Common.{ℕ, take, drop, sym, ap, ◌∙◌, subst, arith}
+use Rattle.std.proofs.lemmas.List.{length-take, length-drop}
+use Rattle.trac_gap.specs.Ends.{Ends}
+use Rattle.trac_rules.specs.PlainRuns.{moved_on}
+use Rattle.trac_rules.specs.State.{State}
+use Rattle.trac_step.specs.Layout.{parts_of, IsSound, Shown, shown_by}
+use Rattle.trac_step.proofs.Changes.{sound_gather, gather_parts}
+use Rattle.trac_step.proofs.engine.Core.move_plain.Goals as goal
+
+pub invariant_of-self : goal.invariant_of-self
+invariant_of-self g c =
+    let n = c.plain_front-count.result in
+    let old = g.E.TwoEnds.ends c.self.inside.text in
+    let p = parts_of old (g.M.TwoEnds.ends c.self.inside.marks) c.self.inside.store c.self.inside.meta c.self.inside.trace c.self.inside.position c.self.inside.output in
+    let moved = λ (e : Ends ℕ). parts_of e (g.M.TwoEnds.ends c.self.inside.marks) c.self.inside.store c.self.inside.meta c.self.inside.trace c.self.inside.position c.self.inside.output in
+    subst (λ (e : Ends ℕ). IsSound (moved e)) (sym c.shift_left.ensures)
+    (sound_gather p (drop n old.right) (take n old.right) c.self.invariant (omega (arith, length-take n old.right, length-drop n old.right)))
+
+pub returns-clause-moved : goal.returns-clause-moved
+returns-clause-moved g c =
+    let n = c.plain_front-count.result in
+    let old = g.E.TwoEnds.ends c.self.inside.text in
+    let p = parts_of old (g.M.TwoEnds.ends c.self.inside.marks) c.self.inside.store c.self.inside.meta c.self.inside.trace c.self.inside.position c.self.inside.output in
+    let moved = λ (e : Ends ℕ). parts_of e (g.M.TwoEnds.ends c.self.inside.marks) c.self.inside.store c.self.inside.meta c.self.inside.trace c.self.inside.position c.self.inside.output in
+    ap (λ (e : Ends ℕ). shown_by (moved e)) c.shift_left.ensures
+    ∙ ap (λ (s : State). record (shown_by p) { state = s }) (gather_parts p (drop n old.right) (take n old.right) c.self.invariant)
+    ∙ ap (λ (m : Shown). record m { state = moved_on n m.state }) c.self.view_is

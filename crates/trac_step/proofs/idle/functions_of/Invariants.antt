@@ -1,0 +1,15 @@
+-- The functions so far, and those of what is left of the text, are all; there is a place for each that is left.
+use Rattle.std.proofs.Common.{◌≡◌, ◌++◌, ◌+◌, length}
+use Rattle.std.specs.Vec.{vec_capacity}
+use Rattle.trac_prims.specs.Neutral.{neutral_of}
+use Rattle.trac_step.specs.Pieces.{frames_in}
+use Rattle.trac_step.proofs.idle.functions_of.Given as goal
+
+abbrev pub invariant-loop-innermost : goal.invariant-loop-innermost
+invariant-loop-innermost g l = record {
+  all : frames_in l.functions.items ++ (neutral_of l.rest).frames ≡ (neutral_of l.fn.text).frames;
+  places : length l.functions.items + length (neutral_of l.rest).frames ≡ vec_capacity l.functions;
+}
+
+abbrev pub decreases-loop-innermost : goal.decreases-loop-innermost
+decreases-loop-innermost g l = length (neutral_of l.rest).frames

@@ -1,0 +1,57 @@
+//! The way back over the rules of scanning, each on the machine's own parts.
+ghost use Rattle.std.specs.Prelude.{◌≡◌, IsSome, Some};
+ghost use Rattle.trac_rules.specs.Records.{Begun, Comma, Deleted, Quoted, moved_back, restored};
+ghost use Rattle.trac_step.specs.Undoing.{CanShow};
+
+use crate::engine::Core;
+use crate::texts_back::{give_protected_back, pop_beginning, pop_mark};
+use std::alloc::Allocator;
+use trac_gap::TwoEnds;
+use trac_prims::Mark;
+
+impl<E: TwoEnds<u8, A>, M: TwoEnds<Mark, A>, A: Allocator + Copy> Core<E, M, A> {
+    // The last n bytes of the current text go back before the active text.
+    pub(crate) fn move_back(&mut self, n: usize)
+        requires { IsSome (moved_back n self.old.state) }
+        ensures state { moved_back n self.old.state ≡ Some self.new.state }
+        ensures others { self.new ≡ record self.old { state = self.new.state } }
+    {
+        self.text.shift_right(n);
+    }
+
+    // The byte that was deleted is back before the active text.
+    pub(crate) fn undelete(&mut self, byte: u8)
+        requires { CanShow self.old (restored (Deleted byte) self.old.state) }
+        ensures state { restored (Deleted byte) self.old.state ≡ Some self.new.state }
+        ensures others { self.new ≡ record self.old { state = self.new.state } }
+    {
+        self.text.push_right(byte);
+    }
+
+    // A text of this length is protected again by its `(`, and ended by its match where this was deleted.
+    pub(crate) fn unprotect(&mut self, inner: usize, closed: bool)
+        requires { CanShow self.old (restored (Quoted inner closed) self.old.state) }
+        ensures state { restored (Quoted inner closed) self.old.state ≡ Some self.new.state }
+        ensures others { self.new ≡ record self.old { state = self.new.state } }
+    {
+        give_protected_back(&mut self.text, inner, closed);
+    }
+
+    // The argument that was finished last is gathered again, and its `,` is back before the active text.
+    pub(crate) fn gather_again(&mut self)
+        requires { CanShow self.old (restored Comma self.old.state) }
+        ensures state { restored Comma self.old.state ≡ Some self.new.state }
+        ensures others { self.new ≡ record self.old { state = self.new.state } }
+    {
+        pop_mark(&mut self.text, &mut self.marks, b",");
+    }
+
+    // The innermost function is no longer begun, and its beginning is back before the active text.
+    pub(crate) fn take_beginning_back(&mut self)
+        requires { CanShow self.old (restored Begun self.old.state) }
+        ensures state { restored Begun self.old.state ≡ Some self.new.state }
+        ensures others { self.new ≡ record self.old { state = self.new.state } }
+    {
+        pop_beginning(&mut self.text, &mut self.marks);
+    }
+}
