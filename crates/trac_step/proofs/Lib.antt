@@ -16,3 +16,8 @@ pub mod Recorded
 pub mod Undone
 pub mod Functions
 pub mod NeutralAgain
+pub mod BegunFunctions
+pub mod Entries
+pub mod Stored
+pub mod Loaded
+pub mod LoadedMachines

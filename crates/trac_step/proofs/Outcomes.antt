@@ -1,5 +1,5 @@
 -- The outcome of a step, from what scanning asks for and what is performed.
-use Rattle.std.proofs.Common.{◌≡◌, refl, sym, ap, ◌∙◌, subst, true, false, Bool}
+use Rattle.std.proofs.Common.{◌≡◌, refl, sym, ap, ◌∙◌, subst, true, false, Bool, ⊎_elim}
 use Rattle.std.specs.Prelude.{Result, Ok, Err, IfErr, IsOkUnless, OnErr}
 use Rattle.trac_rules.specs.declared.refusal.Refusal.{Refusal}
 use Rattle.trac_rules.specs.declared.refusal.Refusal.TheVariants.{Memory, TooLong}
@@ -8,12 +8,12 @@ use Rattle.trac_rules.specs.Scanning.{Scanned, Moves, scan}
 use Rattle.trac_rules.specs.Limits.{texts_fit}
 use Rattle.trac_rules.specs.Outcomes.{limited, MayLackMemory, MayRefuse}
 use Rattle.trac_rules.specs.Stepping.{step, carried_out}
-use Rattle.trac_rules.proofs.Outcomes.{limited_beyond, limited_within}
+use Rattle.trac_rules.proofs.Outcomes.{limited_Err, limited_beyond, limited_within}
 use Rattle.trac_step.specs.Calling.{IfMoves, IsMove}
 use Rattle.trac_step.proofs.Scans.{moves_of}
 
 -- memory, where it may be refused
-pub refuses_memory : (outcome : Result State Refusal) (e : Refusal) → e ≡ Memory → MayLackMemory outcome → MayRefuse outcome e
+pub refuses_memory : {T : Type 0} (outcome : Result T Refusal) (e : Refusal) → e ≡ Memory → MayLackMemory outcome → MayRefuse outcome e
 refuses_memory outcome e is lacks = subst (MayRefuse outcome) (sym is) lacks
 
 -- a call that answers memory alone, where nothing has changed
@@ -29,13 +29,25 @@ pub step_as : (environment : Environment) (s : State) (scanned : Scanned) → sc
 unfolding step
 step_as environment s scanned e = ap (λ x. limited texts_fit (carried_out environment x)) e
 
--- a state is judged by its limits alone, and memory may be refused in either case
-lacks_limited : (t : State) → MayLackMemory (limited texts_fit (Ok t))
-lacks_limited t = lacks_by (texts_fit t) refl
+-- where something is judged by a test alone, memory may be refused in either case
+pub lacks_limited : {T : Type 0} (fits : T → Bool) (t : T) → MayLackMemory (limited fits (Ok t))
+lacks_limited fits t = lacks_by (fits t) refl
   where
-    lacks_by : (b : Bool) → b ≡ texts_fit t → MayLackMemory (limited texts_fit (Ok t))
-    lacks_by true e = subst MayLackMemory (sym (limited_within texts_fit t (sym e))) tt
-    lacks_by false e = subst MayLackMemory (sym (limited_beyond texts_fit t (sym e))) tt
+    lacks_by : (b : Bool) → b ≡ fits t → MayLackMemory (limited fits (Ok t))
+    lacks_by true e = subst MayLackMemory (sym (limited_within fits t (sym e))) tt
+    lacks_by false e = subst MayLackMemory (sym (limited_beyond fits t (sym e))) tt
+
+-- what is refused for a test is refused for another one that fails with it
+pub refuses_with : {T U : Type 0} (fits : T → Bool) (t : T) (fits_too : U → Bool) (u : U) (e : Refusal) → (fits t ≡ false → fits_too u ≡ false) →
+    MayRefuse (limited fits (Ok t)) e → MayRefuse (limited fits_too (Ok u)) e
+refuses_with fits t fits_too u Memory fails refused = lacks_limited fits_too u
+refuses_with fits t fits_too u TooLong fails refused = limited_beyond fits_too u (fails (beyond (fits t) refl))
+  where
+    beyond : (b : Bool) → b ≡ fits t → fits t ≡ false
+    beyond true e = absurd (let none : Ok t ≡ Err TooLong = sym (limited_within fits t (sym e)) ∙ refused in cc)
+    beyond false e = sym e
+refuses_with fits t fits_too u e fails refused =
+    ⊎_elim (λ (is : e ≡ TooLong). absurd (cc)) (λ (is : Ok t ≡ Err e). absurd (cc)) (limited_Err fits (Ok t) e refused)
 
 -- ---- scanning moves on
 
@@ -50,7 +62,7 @@ module _ (environment : Environment) (s : State) (moves : IsMove (scan s)) where
   move_beyond h = outcome_of_move ∙ limited_beyond texts_fit _ (sym (move_holds (λ t. false ≡ texts_fit t) h))
 
   pub move_lacks : MayLackMemory (step environment s)
-  move_lacks = subst MayLackMemory (sym outcome_of_move) (lacks_limited (moves_of (scan s) moves).0)
+  move_lacks = subst MayLackMemory (sym outcome_of_move) (lacks_limited texts_fit (moves_of (scan s) moves).0)
 
 pub move_taken : (environment : Environment) (s t : State) → scan s ≡ Moves t → IfMoves (scan s) (λ u. true ≡ texts_fit u) → step environment s ≡ Ok t
 move_taken environment s t scanned h =

@@ -5,4 +5,5 @@ pub mod Calling
 pub mod Room
 pub mod Pieces
 pub mod Record
+pub mod Loading
 pub mod Undoing

@@ -1,0 +1,74 @@
+-- What is made is put together, or something passes a limit.
+use Rattle.std.proofs.Common.{◌≡◌, true, refl, sym, ap, ◌∙◌, subst, arith}
+use Rattle.std.specs.Prelude.{Ok}
+use Rattle.std.proofs.lemmas.Result.{err_from_is_err_and}
+use Rattle.trac_rules.specs.Outcomes.{MayRefuse, limited}
+use Rattle.trac_rules.specs.State.{storage_of}
+use Rattle.trac_rules.proofs.Outcomes.{limited_beyond, limited_within}
+use Rattle.trac_step.specs.Layout.{IsSound, parts_of, shown_by}
+use Rattle.trac_step.specs.Loading.{counts_fit, lengths_fit, parts_fit, state_in}
+use Rattle.trac_step.proofs.Loaded.{all_fits, counts_fail, judged_apart, lengths_fail, proper_storage}
+use Rattle.trac_step.proofs.LoadedMachines.{shows_loaded, sound_loaded, store_made}
+use Rattle.trac_step.proofs.Outcomes.{lacks_limited, refuses_memory, refuses_with}
+use Rattle.trac_step.proofs.Rooms.{HasRoom-parts}
+use Rattle.trac_step.proofs.engine.Core.load.Goals as goal
+
+pub returns-then-not-lengths_within-clause-answer : goal.returns-then-not-lengths_within-clause-answer
+returns-then-not-lengths_within-clause-answer g c =
+    limited_beyond (λ _. parts_fit c.args.parts.now) (state_in c.args.parts.now) (lengths_fail c.args.parts.now (sym c.if-not-lengths_within.ensures.fits))
+
+pub returns-in_err-store-clause-answer : goal.returns-in_err-store-clause-answer
+returns-in_err-store-clause-answer g c =
+    let p = err_from_is_err_and c.from_residual.result c.from_residual.ensures.1 in
+    let parts = c.args.parts.now in
+    rw p.1
+    (refuses_with counts_fit (storage_of (state_in parts)) (λ _. parts_fit parts) (state_in parts) p.0 (counts_fail parts)
+    (subst (MayRefuse (limited counts_fit (Ok (storage_of (state_in parts))))) (sym p.2) c.in_err-store.ensures.answer))
+
+pub texts_and_marks-requires-clause-fits : goal.texts_and_marks-requires-clause-fits
+texts_and_marks-requires-clause-fits g c = (judged_apart c.args.parts.now (sym c.if-not-lengths_within.ensures.fits)).texts
+
+pub returns-in_err-text-clause-answer : goal.returns-in_err-text-clause-answer
+returns-in_err-text-clause-answer g c =
+    let p = err_from_is_err_and c.from_residual-in_err-text.result c.from_residual-in_err-text.ensures.1 in
+    rw p.1 (refuses_memory _ p.0 (p.2 ∙ c.in_err-text.ensures.err) (lacks_limited (λ _. parts_fit c.args.parts.now) (state_in c.args.parts.now)))
+
+pub returns-in_err-output-clause-answer : goal.returns-in_err-output-clause-answer
+returns-in_err-output-clause-answer g c =
+    let p = err_from_is_err_and c.from_residual-in_err-output.result c.from_residual-in_err-output.ensures.1 in
+    rw p.1 (refuses_memory _ p.0 (p.2 ∙ c.in_err-output.ensures.err) (lacks_limited (λ _. parts_fit c.args.parts.now) (state_in c.args.parts.now)))
+
+pub invariant_of-result : goal.invariant_of-result
+invariant_of-result g c =
+    let parts = c.args.parts.now in
+    let made = store_made parts c.in_ok-store.store c.in_ok-store.ensures.answer in
+    let within : lengths_fit parts ≡ true = sym c.if-not-lengths_within.ensures.fits in
+    let kept = c.if-not-lengths_within.ensures in
+    let texts = c.in_ok-text.ensures in
+    sound_loaded parts (g.E.TwoEnds.ends c.in_ok-text.text) (g.M.TwoEnds.ends c.in_ok-text.marks) c.in_ok-store.store c.in_ok-output.output
+    texts.neutral texts.active made.0 c.in_ok-output.ensures.items texts.ordered texts.holds texts.mark_holds (judged_apart parts within).texts
+    (proper_storage parts within (kept.forms refl) (kept.blocks refl) made.1)
+
+pub returns-clause-answer : goal.returns-clause-answer
+returns-clause-answer g c =
+    let parts = c.args.parts.now in
+    let made = store_made parts c.in_ok-store.store c.in_ok-store.ensures.answer in
+    let kept = c.if-not-lengths_within.ensures in
+    let texts = c.in_ok-text.ensures in
+    let shows = shows_loaded parts (g.E.TwoEnds.ends c.in_ok-text.text) (g.M.TwoEnds.ends c.in_ok-text.marks) c.in_ok-store.store c.in_ok-output.output
+    texts.neutral texts.active made.0 c.in_ok-output.ensures.items in
+    limited_within (λ _. parts_fit parts) (state_in parts) (all_fits parts (sym kept.fits) (kept.forms refl) (kept.blocks refl) made.1) ∙ ap Ok (sym shows)
+
+pub returns-clause-holds : goal.returns-clause-holds
+returns-clause-holds g c =
+    let parts = c.args.parts.now in
+    let p = parts_of (g.E.TwoEnds.ends c.in_ok-text.text) (g.M.TwoEnds.ends c.in_ok-text.marks) c.in_ok-store.store parts.meta parts.trace parts.position c.in_ok-output.output in
+    let made = store_made parts c.in_ok-store.store c.in_ok-store.ensures.answer in
+    let within : lengths_fit parts ≡ true = sym c.if-not-lengths_within.ensures.fits in
+    let kept = c.if-not-lengths_within.ensures in
+    let texts = c.in_ok-text.ensures in
+    let sound : IsSound p =
+    sound_loaded parts (g.E.TwoEnds.ends c.in_ok-text.text) (g.M.TwoEnds.ends c.in_ok-text.marks) c.in_ok-store.store c.in_ok-output.output
+    texts.neutral texts.active made.0 c.in_ok-output.ensures.items texts.ordered texts.holds texts.mark_holds (judged_apart parts within).texts
+    (proper_storage parts within (kept.forms refl) (kept.blocks refl) made.1) in
+    HasRoom-parts p (shown_by p) sound refl (omega (arith, c.in_ok-output.output.ok.0, c.in_ok-output.output.ok.1)) c.in_ok-store.ensures.names

@@ -1,0 +1,29 @@
+-- Both texts are in, and there is room for the arguments.
+use Rattle.std.proofs.Common.{ℕ, List, length, ap, ◌∙◌, arith}
+use Rattle.std.proofs.lemmas.List.{length-append}
+use Rattle.trac_gap.specs.Ends.{Ends}
+use Rattle.trac_step.proofs.BegunFunctions.{text_len-exact}
+use Rattle.trac_step.proofs.framing.text_of.Goals as goal
+
+pub returns-clause-holds : goal.returns-clause-holds
+returns-clause-holds g c =
+    let text = g.E.TwoEnds.ends c.reserve.new.list in
+    let right = g.E.TwoEnds.ends c.put_right.new.self in
+    omega (
+      arith,
+      text_len-exact c.args.parts.now c.text_len.result c.requires c.text_len.ensures,
+      c.max.ensures,
+      c.in_ok-reserve.ensures.ok,
+      ap length (c.reserve.ensures.left ∙ ap (λ (e : Ends ℕ). e.left) c.new-text.ensures),
+      ap length (c.reserve.ensures.right ∙ ap (λ (e : Ends ℕ). e.right) c.new-text.ensures),
+      ap (λ (e : Ends ℕ). length e.left) c.put_right.ensures,
+      ap (λ (e : Ends ℕ). length e.right) c.put_right.ensures,
+      ap (λ (e : Ends ℕ). e.capacity) c.put_right.ensures,
+      ap (λ (e : Ends ℕ). length e.left) c.put_left.ensures,
+      ap (λ (e : Ends ℕ). length e.right) c.put_left.ensures,
+      ap (λ (e : Ends ℕ). e.capacity) c.put_left.ensures,
+      length-append c.as_slice.result.now text.right,
+      length-append right.left c.as_slice-2.result.now,
+      ap length c.as_slice.ensures.value,
+      ap length c.as_slice-2.ensures.value,
+    )

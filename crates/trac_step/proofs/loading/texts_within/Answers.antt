@@ -1,0 +1,18 @@
+-- What is counted decides.
+use Rattle.std.proofs.Common.{◌≡◌, ℕ, List, ◌-◌, ◌^◌, length, ap, ◌∙◌, arith}
+use Rattle.std.specs.Prelude.{Vec, min, nat_le, ◌&&◌}
+use Rattle.trac_rules.specs.declared.kind.Kind.{Kind}
+use Rattle.trac_rules.specs.declared.limit.TheConstants.{MARK_LIMIT, OUTPUT_LIMIT, TEXT_LIMIT}
+use Rattle.trac_step.specs.Loading.{argument_count, functions_of}
+use Rattle.trac_step.proofs.BegunFunctions.{texts_judged}
+use Rattle.trac_step.proofs.loading.texts_within.Goals as goal
+
+pub returns : goal.returns
+returns g c =
+    let parts = c.args.parts.now in
+    let count = c.mark_count.ensures
+    ∙ ap (λ (fs : List (Kind × Vec (Vec ℕ g.row.A.Denot) g.row.A.Denot)). min (argument_count (functions_of fs)) (2 ^ 64 - 1)) c.as_slice.ensures.value in
+    let output : c.len.result ≡ length parts.output.items = omega (arith, c.len.ensures, parts.output.ok.0) in
+    c.are_within.ensures
+    ∙ ap (λ (n : ℕ). nat_le c.text_len.result TEXT_LIMIT && nat_le c.mark_count.result MARK_LIMIT && nat_le n OUTPUT_LIMIT) output
+    ∙ texts_judged parts c.text_len.result c.mark_count.result c.requires c.text_len.ensures count

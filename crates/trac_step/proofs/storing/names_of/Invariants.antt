@@ -1,0 +1,7 @@
+-- The names so far.
+use Rattle.std.proofs.Common.{◌≡◌, take}
+use Rattle.trac_prims.specs.Effects.{named_forms, names_in, texts_of}
+use Rattle.trac_step.proofs.storing.names_of.Given as goal
+
+abbrev pub invariant-loop-name : goal.invariant-loop-name
+invariant-loop-name g l = texts_of l.names.items ≡ names_in (named_forms (take l.name-index l.forms))
