@@ -5,7 +5,5 @@
 #![tactic(auto)]
 
 #[cfg(test)]
-mod loading;
-#[cfg(test)]
 mod machines;
 pub mod shown;
