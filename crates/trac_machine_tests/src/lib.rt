@@ -5,8 +5,6 @@
 #![tactic(auto)]
 
 #[cfg(test)]
-mod loading;
-#[cfg(test)]
 mod machines;
 pub mod shown;
 #[cfg(test)]

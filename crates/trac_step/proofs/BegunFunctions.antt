@@ -1,5 +1,5 @@
 -- Begun functions that are put into the neutral text, one argument after another.
-use Rattle.std.proofs.Common.{◌≡◌, ℕ, zero, suc, ◌+◌, ◌-◌, ◌^◌, ◌<◌, ◌≤◌, ◌&&◌, Bool, true, false, List, [], ◌∷◌, ◌++◌, length, take, drop, get_or, map, reverse, All, refl, sym, ap, ◌∙◌, subst, arith, ⊎_elim}
+use Rattle.std.proofs.Common.{◌≡◌, ℕ, zero, suc, ◌+◌, ◌-◌, ◌^◌, ◌<◌, ◌≤◌, ◌&&◌, true, false, List, [], ◌∷◌, ◌++◌, length, take, drop, get_or, map, refl, sym, ap, ◌∙◌, subst, arith, ⊎_elim}
 use Rattle.std.specs.Prelude.{Option, Some, None, Vec, min, nat_le}
 use Rattle.std.proofs.lemmas.Bool.{cases_Bool, false_from_ne_true, le-leb, leb-true}
 use Rattle.std.proofs.Math.Seq.{drop-append_seam, drop-cons, get_or-append_seam, take-append_seam}
@@ -12,7 +12,7 @@ use Rattle.trac_rules.specs.Limits.{argument_bytes, marks, text_bytes, texts_fit
 use Rattle.trac_rules.specs.State.{Frame}
 use Rattle.trac_prims.specs.declared.mark.Mark.{Mark}
 use Rattle.trac_prims.specs.Effects.{texts_of}
-use Rattle.trac_prims.specs.Neutral.{IsOrdered, MarkedText, Neutral, marked, neutral_of}
+use Rattle.trac_prims.specs.Neutral.{IsOrdered, Neutral, marked, neutral_of}
 use Rattle.trac_prims.proofs.Ending.{reverse_first}
 use Rattle.trac_prims.proofs.Neutral.{total_length-append}
 use Rattle.trac_step.specs.Calling.{mark_at}
@@ -178,8 +178,14 @@ module _ {A : Type 0} (kind : Kind) (arguments : List (Vec ℕ A)) (text : Ends 
       (item_count text_now + length argument.items ≤ text_now.capacity) × (item_count ms_now < ms_now.capacity)
   room_next i o text_now ms_now argument within is put text_room mark_room = (
     omega (
-      arith, put.grown.left, ap length put.grown.right, put.grown.capacity, text_room, total_more arguments i argument within is,
-      total_within (texts_of arguments) (i + 1), ap total_length (map-take (i + 1)),
+      arith,
+      put.grown.left,
+      ap length put.grown.right,
+      put.grown.capacity,
+      text_room,
+      total_more arguments i argument within is,
+      total_within (texts_of arguments) (i + 1),
+      ap total_length (map-take (i + 1)),
     ),
     omega (arith, put.marks_grown.left, ap length put.marks_grown.right, put.marks_grown.capacity, mark_room),
   )
@@ -194,8 +200,8 @@ module _ {A : Type 0} (kind : Kind) (arguments : List (Vec ℕ A)) (text : Ends 
       × HasGrown (total_length (texts_of arguments)) text text_now × HasGrown (length arguments) ms ms_now
   put_all i o text_now ms_now some past within put = (
     ap (λ (ts : List (Vec ℕ A)). with_arguments o (texts_of ts) (neutral_of (marked_in text_now ms_now))) (sym (drop_all i arguments past))
-    ∙ put.neutral
-    ∙ function_with kind (texts_of arguments) (neutral_of (marked_in text ms)) (omega (arith, length-map arguments (λ (t : Vec ℕ A). t.items), some)),
+        ∙ put.neutral
+        ∙ function_with kind (texts_of arguments) (neutral_of (marked_in text ms)) (omega (arith, length-map arguments (λ (t : Vec ℕ A). t.items), some)),
     put.ordered,
     subst (λ (ts : List (Vec ℕ A)). HasGrown (total_length (texts_of ts)) text text_now) (take_all i arguments past) put.grown,
     (let same : i ≡ length arguments = omega arith in subst (λ n. HasGrown n ms ms_now) same put.marks_grown),
@@ -267,12 +273,24 @@ module _ {A : Type 0} (functions : List (Kind × Vec (Vec ℕ A) A)) (text : End
       (item_count text_now + total_length (texts_of f.1.items) ≤ text_now.capacity) × (item_count ms_now + length f.1.items ≤ ms_now.capacity)
   room_of_next i text_now ms_now f within is begun text_room mark_room = (
     omega (
-      arith, begun.grown.left, ap length begun.grown.right, begun.grown.capacity, text_room, bytes_more functions i f within is,
-      bytes_within (functions_of functions) (i + 1), ap function_bytes (functions-take (i + 1)),
+      arith,
+      begun.grown.left,
+      ap length begun.grown.right,
+      begun.grown.capacity,
+      text_room,
+      bytes_more functions i f within is,
+      bytes_within (functions_of functions) (i + 1),
+      ap function_bytes (functions-take (i + 1)),
     ),
     omega (
-      arith, begun.marks_grown.left, ap length begun.marks_grown.right, begun.marks_grown.capacity, mark_room, count_more functions i f within is,
-      count_within (functions_of functions) (i + 1), ap argument_count (functions-take (i + 1)),
+      arith,
+      begun.marks_grown.left,
+      ap length begun.marks_grown.right,
+      begun.marks_grown.capacity,
+      mark_room,
+      count_more functions i f within is,
+      count_within (functions_of functions) (i + 1),
+      ap argument_count (functions-take (i + 1)),
     ),
   )
 
@@ -282,7 +300,7 @@ module _ {A : Type 0} (functions : List (Kind × Vec (Vec ℕ A) A)) (text : End
       × HasGrown (function_bytes (functions_of functions)) text text_now × HasGrown (argument_count (functions_of functions)) ms ms_now
   begun_all i text_now ms_now past begun = (
     ap (λ (fs : List (Kind × Vec (Vec ℕ A) A)). with_functions (functions_of fs) (neutral_of (marked_in text_now ms_now))) (sym (drop_all i functions past))
-    ∙ begun.neutral,
+        ∙ begun.neutral,
     begun.ordered,
     subst (λ (fs : List (Kind × Vec (Vec ℕ A) A)). HasGrown (function_bytes (functions_of fs)) text text_now) (take_all i functions past) begun.grown,
     subst (λ (fs : List (Kind × Vec (Vec ℕ A) A)). HasGrown (argument_count (functions_of fs)) ms ms_now) (take_all i functions past) begun.marks_grown,

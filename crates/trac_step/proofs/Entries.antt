@@ -1,7 +1,6 @@
 -- Lists of named forms, of blocks and of names, one after another.
-use Rattle.std.proofs.Common.{◌≡◌, ℕ, suc, ◌+◌, ◌<◌, ◌≤◌, ◌&&◌, Bool, true, false, List, [], ◌∷◌, ◌++◌, length, take, drop, get_or, map, All, refl, sym, ap, subst, ◌∙◌, arith, IsTrue}
-use Rattle.std.specs.Prelude.{Option, Some, None, Vec, nat_le}
-use Rattle.std.specs.FinSet as set
+use Rattle.std.proofs.Common.{◌≡◌, ℕ, suc, ◌+◌, ◌<◌, ◌≤◌, ◌&&◌, Bool, true, false, List, [], ◌∷◌, ◌++◌, length, take, drop, get_or, map, All, refl, sym, ap, subst, ◌∙◌, arith}
+use Rattle.std.specs.Prelude.{Vec, nat_le}
 use Rattle.std.specs.List.{list_all}
 use Rattle.std.proofs.Math.Seq.{drop-cons}
 use Rattle.std.proofs.lemmas.Bool.{false_from_ne_true, le-leb, leb-true}
@@ -12,7 +11,7 @@ use Rattle.trac_rules.specs.declared.limit.TheConstants.{FORM_LIMIT, NAME_LIMIT}
 use Rattle.trac_rules.specs.Form.{Form, IsWide, all_items, extent}
 use Rattle.trac_rules.specs.Proper.{IsProperForm}
 use Rattle.trac_rules.proofs.Cutting.{count_within_extent}
-use Rattle.trac_prims.specs.Effects.{named_forms, names_in, texts_of}
+use Rattle.trac_prims.specs.Effects.{named_forms, texts_of}
 use Rattle.trac_step.specs.Loading.{AreProperEntries, entries_fit, names_fit}
 
 -- ---- elements that are looked at one after another

@@ -1,6 +1,6 @@
 -- The state of parts is proper just where its limits are kept, those that are judged at once and those that a store tells.
-use Rattle.std.proofs.Common.{◌≡◌, ℕ, ◌+◌, ◌≤◌, ◌&&◌, Bool, true, false, cond, List, [], ◌∷◌, ◌++◌, length, map, All, refl, sym, ap, subst, ◌∙◌, inl, inr, ⊎_elim, is_some, IsTrue}
-use Rattle.std.specs.Prelude.{Option, Some, None, Ok, Err, Vec, bytes_eq, nat_le, ◌⊎◌}
+use Rattle.std.proofs.Common.{◌≡◌, ℕ, ◌≤◌, ◌&&◌, Bool, true, false, cond, List, [], ◌∷◌, ◌++◌, length, map, All, refl, sym, ap, subst, ◌∙◌, inl, inr, ⊎_elim, is_some, IsTrue}
+use Rattle.std.specs.Prelude.{Option, Some, None, Vec, bytes_eq, nat_le, ◌⊎◌}
 use Rattle.std.specs.Cmp.Lexicographic.{slice_cmp, nat_list_cmp_total}
 use Rattle.std.specs.FinMap as finite
 use Rattle.std.specs.FinSet as set
@@ -11,12 +11,12 @@ use Rattle.std.proofs.lemmas.List.{length-map}
 use Rattle.std.proofs.lemmas.List.Elements.{All-nil, All-cons, All-head, All-tail, All-weaker}
 use Rattle.std.proofs.lemmas.Map.Text.{is_eq-slice_cmp}
 use Rattle.std.proofs.lemmas.Slice.Eq.{bytes_eq-Decides}
-use Rattle.trac_rules.specs.declared.limit.TheConstants.{BLOCK_LIMIT, FORM_COUNT_LIMIT, FORM_LIMIT, NAME_LIMIT}
+use Rattle.trac_rules.specs.declared.limit.TheConstants.{BLOCK_LIMIT, FORM_LIMIT, NAME_LIMIT}
 use Rattle.trac_rules.specs.Blocks.{moved_out, with_all, with_name}
 use Rattle.trac_rules.specs.Form.{Form, all_items, extent}
 use Rattle.trac_rules.specs.Limits.{texts_fit}
-use Rattle.trac_rules.specs.Proper.{AreHeld, IsProper, IsProperBlock, IsProperForm, IsProperStorage, is_proper}
-use Rattle.trac_rules.specs.State.{Block, Forms, Held, storage_of}
+use Rattle.trac_rules.specs.Proper.{IsProper, IsProperBlock, IsProperForm, IsProperStorage, is_proper}
+use Rattle.trac_rules.specs.State.{Forms, Held, storage_of}
 use Rattle.trac_rules.proofs.NamedForms.{get-put}
 use Rattle.trac_rules.proofs.ProperBlocks.{All-append_right, EachProper, IsProperEntry, each_with_all, moved_out_among, moved_out_distinct}
 use Rattle.trac_rules.proofs.ProperDecided.{proper_decided}

@@ -1,11 +1,11 @@
 -- A machine that is put together of what was made of parts: it is sound, and shows their state.
-use Rattle.std.proofs.Common.{◌≡◌, ℕ, ◌≤◌, true, List, length, sym, ap, subst, arith}
+use Rattle.std.proofs.Common.{◌≡◌, ℕ, ◌≤◌, true, length, sym, subst, arith}
 use Rattle.std.specs.Prelude.{Ok, Vec}
 use Rattle.trac_gap.specs.Ends.{Ends, item_count}
 use Rattle.trac_rules.specs.Limits.{texts_fit}
 use Rattle.trac_rules.specs.Outcomes.{limited}
 use Rattle.trac_rules.specs.Proper.{IsProper, IsProperStorage}
-use Rattle.trac_rules.specs.State.{State, Storage, storage_of}
+use Rattle.trac_rules.specs.State.{Storage, storage_of}
 use Rattle.trac_rules.proofs.Outcomes.{limited_Ok}
 use Rattle.trac_forms.specs.Stored.{Stored, storage_in}
 use Rattle.trac_prims.specs.declared.mark.Mark.{Mark}

@@ -1,6 +1,6 @@
 -- Forms and blocks that are put into a store one after another.
-use Rattle.std.proofs.Common.{◌≡◌, ℕ, zero, suc, ◌+◌, ◌-◌, ◌<◌, ◌≤◌, ◌&&◌, Bool, true, false, List, [], ◌∷◌, ◌++◌, length, take, get_or, map, refl, sym, ap, subst, ◌∙◌, arith}
-use Rattle.std.specs.Prelude.{Option, Some, None, Ok, Vec, slice_set}
+use Rattle.std.proofs.Common.{◌≡◌, ℕ, ◌+◌, ◌-◌, ◌<◌, ◌≤◌, ◌&&◌, Bool, true, false, List, [], ◌∷◌, ◌++◌, length, take, get_or, map, refl, sym, ap, subst, ◌∙◌}
+use Rattle.std.specs.Prelude.{Option, None, Ok, Vec, slice_set}
 use Rattle.std.specs.List.{list_all}
 use Rattle.std.specs.FinMap as finite
 use Rattle.std.proofs.lemmas.Bool.{le-leb}
@@ -54,7 +54,7 @@ module _ {A : Type 0} (blocks : List (Option (Vec (Vec ℕ A × Form) A))) (i : 
       let same : block_of forms ≡ pushed = (let e = both.0 in cc) in (
         pushed_next first old new (map block_of (take i blocks)) (block_of forms) so_far
             (ap storage_in is ∙ ap (λ (b : Block). let t : Storage = record (storage_in old) { blocks = old.blocks ++ b ∷ [] } in t) (sym same))
-        ∙ ap (λ (bs : List Block). let t : Storage = record (storage_in first) { blocks = first.blocks ++ bs } in t) (sym (map_next block_of blocks i forms within is_at)),
+            ∙ ap (λ (bs : List Block). let t : Storage = record (storage_in first) { blocks = first.blocks ++ bs } in t) (sym (map_next block_of blocks i forms within is_at)),
         block_next (ap block_few same ∙ both.1) few,
       )
 

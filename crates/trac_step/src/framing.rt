@@ -125,10 +125,7 @@ fn put_functions<A: Allocator + Copy, E: TwoEnds<u8, A>, M: TwoEnds<Mark, A>>(
 
 // Lists with the active text on the right, the base text on the left, and room for all texts of parts, and for no less than is asked
 // for.
-fn text_of<A: Allocator + Copy, E: TwoEnds<u8, A>>(
-    alloc: A,
-    parts: &Parts<A>,
-) -> Result<E, Refusal>
+fn text_of<A: Allocator + Copy, E: TwoEnds<u8, A>>(alloc: A, parts: &Parts<A>) -> Result<E, Refusal>
     requires { texts_fit (state_in parts.now) ≡ true }
     ensures left { IfOk result (λ text. (E.ends text).left ≡ parts.now.base.items) }
     ensures right { IfOk result (λ text. (E.ends text).right ≡ parts.now.active.items) }
@@ -157,7 +154,10 @@ fn marks_of<A: Allocator + Copy, M: TwoEnds<Mark, A>>(
     ensures err { IsOkUnless result Refusal.Memory }
 {
     let mut marks = M::new(alloc);
-    ends::reserve(&mut marks, mark_count(parts.frames.as_slice()).max(parts.mark_room))?;
+    ends::reserve(
+        &mut marks,
+        mark_count(parts.frames.as_slice()).max(parts.mark_room),
+    )?;
     Ok(marks)
 }
 

@@ -149,10 +149,7 @@ fn know_names<A: Allocator + Copy>(
 }
 
 // A store of copies of the forms and blocks of parts, which knows the names of the forms and the further names.
-pub(crate) fn stored<A: Allocator + Copy>(
-    alloc: A,
-    parts: &Parts<A>,
-) -> Result<Store<A>, Refusal>
+pub(crate) fn stored<A: Allocator + Copy>(alloc: A, parts: &Parts<A>) -> Result<Store<A>, Refusal>
     ensures answer { MayAnswer (λ store. storage_in store) (limited counts_fit (Ok (storage_of (state_in parts.now)))) result }
     ensures names { IfOk result (λ store. KnowsAll store.known store.forms) }
     ensures further { IfOk result (λ store. All (λ name. IsTrue (set.contains store.known name)) (texts_of parts.now.names.items)) }

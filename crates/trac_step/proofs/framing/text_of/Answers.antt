@@ -1,5 +1,5 @@
 -- Both texts are in, and there is room for the arguments.
-use Rattle.std.proofs.Common.{ℕ, List, length, ap, ◌∙◌, arith}
+use Rattle.std.proofs.Common.{ℕ, length, ap, ◌∙◌, arith}
 use Rattle.std.proofs.lemmas.List.{length-append}
 use Rattle.trac_gap.specs.Ends.{Ends}
 use Rattle.trac_step.proofs.BegunFunctions.{text_len-exact}

@@ -1,5 +1,5 @@
 -- A name that is too long.
-use Rattle.std.proofs.Common.{sym, ◌∙◌, arith}
+use Rattle.std.proofs.Common.{sym, arith}
 use Rattle.trac_step.proofs.Entries.{name_fails}
 use Rattle.trac_step.proofs.loading.names_within.Goals as goal
 

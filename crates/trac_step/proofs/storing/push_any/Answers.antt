@@ -1,5 +1,5 @@
 -- A block that is pushed and taken away again leaves an erased one.
-use Rattle.std.proofs.Common.{◌≡◌, ℕ, List, ◌-◌, ◌∷◌, ◌++◌, [], ap, ◌∙◌, sym}
+use Rattle.std.proofs.Common.{ℕ, List, ◌-◌, ◌∷◌, ◌++◌, [], ap, ◌∙◌, sym}
 use Rattle.std.specs.Prelude.{Option, Some, None, option_map, slice_set}
 use Rattle.trac_rules.specs.State.{Block}
 use Rattle.trac_forms.specs.Stored.{Stored, Gathered}

@@ -1,5 +1,5 @@
 -- The store holds what the parts say, or there is too much of it.
-use Rattle.std.proofs.Common.{◌≡◌, List, All, map, IsTrue, sym, ap, ◌∙◌, subst, arith}
+use Rattle.std.proofs.Common.{List, All, map, IsTrue, sym, ap, ◌∙◌, subst}
 use Rattle.std.specs.Prelude.{ℕ, Ok, Vec}
 use Rattle.std.specs.FinSet as set
 use Rattle.std.specs.List.{list_all}
