@@ -9,8 +9,11 @@ overflow_add-self g c = omega (arith, moved_within c.self.inside.entries.items c
 
 pub invariant_of-self : goal.invariant_of-self
 invariant_of-self g c =
-    omega (arith, c.self.invariant,
-        length_of_more (unrolled c.self.inside.entries.items c.self.inside.moved) _ Moved (one_more_moved c.self.inside.entries.items c.self.inside.moved))
+    omega (
+      arith,
+      c.self.invariant,
+      length_of_more (unrolled c.self.inside.entries.items c.self.inside.moved) _ Moved (one_more_moved c.self.inside.entries.items c.self.inside.moved),
+    )
 
 pub returns : goal.returns
 returns g c = rw (← c.self.view_is) (one_more_moved c.self.inside.entries.items c.self.inside.moved)
