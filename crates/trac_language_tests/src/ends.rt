@@ -2,13 +2,12 @@
 //! is refused in turn.
 ghost use Rattle.std.specs.Prelude.{◌<◌};
 
+use crate::expect::{Memory, expect_each, expect_text};
 use std::alloc::{AllocError, Allocator, Global};
 use std::process::Abort;
 use std::test::Fail;
 use trac_faults::Refusing;
 use trac_gap::{GapBuf, GapError, PlainEnds, TwoEnds};
-
-type Memory<'a> = &'a Refusing<Global>;
 
 // One call. Room is made before an item is put in; no more is taken than is there.
 #[derive(Clone, Copy)]
@@ -27,9 +26,9 @@ enum Act {
     Copy,
 }
 
-fn put<E: TwoEnds<u8, A>, A: Allocator + Copy>(
+fn put<T: Copy, E: TwoEnds<T, A>, A: Allocator + Copy>(
     ends: &mut E,
-    items: &[u8],
+    items: &[T],
     on_the_left: bool,
 ) -> Result<(), GapError> {
     ends.reserve(items.len())?;
@@ -41,9 +40,9 @@ fn put<E: TwoEnds<u8, A>, A: Allocator + Copy>(
     Ok(())
 }
 
-fn push<E: TwoEnds<u8, A>, A: Allocator + Copy>(
+fn push<T: Copy, E: TwoEnds<T, A>, A: Allocator + Copy>(
     ends: &mut E,
-    item: u8,
+    item: T,
     on_the_left: bool,
 ) -> Result<(), GapError> {
     ends.reserve(1)?;
@@ -55,11 +54,11 @@ fn push<E: TwoEnds<u8, A>, A: Allocator + Copy>(
     Ok(())
 }
 
-fn shift_left<E: TwoEnds<u8, A>, A: Allocator + Copy>(ends: &mut E, count: usize) {
+fn shift_left<T: Copy, E: TwoEnds<T, A>, A: Allocator + Copy>(ends: &mut E, count: usize) {
     ends.shift_left(count.min(ends.right().len()));
 }
 
-fn shift_right<E: TwoEnds<u8, A>, A: Allocator + Copy>(ends: &mut E, count: usize) {
+fn shift_right<T: Copy, E: TwoEnds<T, A>, A: Allocator + Copy>(ends: &mut E, count: usize) {
     ends.shift_right(count.min(ends.left().len()));
 }
 
@@ -92,8 +91,8 @@ fn expect_lists<E: TwoEnds<u8, A>, A: Allocator + Copy>(
     left: &[u8],
     right: &[u8],
 ) {
-    assert_eq!(rt; ends.left(), left);
-    assert_eq!(rt; ends.right(), right);
+    expect_text(rt, ends.left(), left);
+    expect_text(rt, ends.right(), right);
 }
 
 // A call, the item that it takes out, and both lists after it.
@@ -135,43 +134,44 @@ fn carry_out_once<E: TwoEnds<u8, A>, A: Allocator + Copy>(
         return taken;
     }
     expect_lists(rt, ends, left, right);
-    assert_eq!(rt; ends.room(), room);
+    assert!(rt; ends.room() == room);
     carry_out(ends, act)
+}
+
+fn play_on<E: TwoEnds<u8, A>, A: Allocator + Copy>(
+    rt: &impl Abort,
+    ends: &mut E,
+) -> Result<(), GapError> {
+    let mut earlier = (b"".as_slice(), b"".as_slice());
+    for (act, item, left, right) in ROW.iter() {
+        let taken = carry_out_once(rt, ends, *act, earlier)?;
+        assert!(rt; taken == *item);
+        expect_lists(rt, ends, left, right);
+        earlier = (*left, *right);
+    }
+    Ok(())
 }
 
 fn play_row<E: TwoEnds<u8, A>, A: Allocator + Copy>(
     rt: &impl Abort,
     alloc: A,
-) -> Result<E, GapError> {
+) -> Result<(), GapError> {
     let mut ends = E::new(alloc);
-    let mut earlier = (b"".as_slice(), b"".as_slice());
-    for (act, item, left, right) in ROW.iter() {
-        assert_eq!(rt; carry_out_once(rt, &mut ends, *act, earlier)?, *item);
-        expect_lists(rt, &ends, left, right);
-        earlier = (*left, *right);
-    }
-    Ok(ends)
+    play_on(rt, &mut ends)
+}
+
+fn play_each<'a, E: TwoEnds<u8, Memory<'a>>>(
+    rt: &impl Abort,
+    memory: Memory<'a>,
+) -> Result<(), GapError> {
+    expect_each(rt, memory, 5, |_| play_row::<E, Memory<'_>>(rt, memory))
 }
 
 #[test]
-fn each_request_over_vectors(rt: HostRuntime) -> Result<(), Fail> {
+fn each_request(rt: HostRuntime) -> Result<(), Fail> {
     let memory = Refusing::new(rt.alloc());
-    let runs = memory.refuse_each(1_000, |_| -> Result<(), GapError> {
-        let _ends: PlainEnds<u8, Memory<'_>> = play_row(&rt, &memory)?;
-        Ok(())
-    })?;
-    assert!(rt; runs > Some(5), "{runs:?} runs");
-    Ok(())
-}
-
-#[test]
-fn each_request_over_a_block(rt: HostRuntime) -> Result<(), Fail> {
-    let memory = Refusing::new(rt.alloc());
-    let runs = memory.refuse_each(1_000, |_| -> Result<(), GapError> {
-        let _ends: GapBuf<u8, Memory<'_>> = play_row(&rt, &memory)?;
-        Ok(())
-    })?;
-    assert!(rt; runs > Some(5), "{runs:?} runs");
+    play_each::<PlainEnds<u8, Memory<'_>>>(&rt, &memory)?;
+    play_each::<GapBuf<u8, Memory<'_>>>(&rt, &memory)?;
     Ok(())
 }
 
@@ -211,17 +211,28 @@ fn drawn_act(index: usize) -> Act {
     }
 }
 
+// One call on both, which hold the same then; and how long the longer list is.
+fn carry_out_on_both(
+    rt: &impl Abort,
+    plain: &mut PlainEnds<u8>,
+    gap: &mut GapBuf<u8>,
+    act: Act,
+) -> Result<usize, GapError> {
+    let item = carry_out(plain, act)?;
+    let other = carry_out(gap, act)?;
+    assert!(rt; other == item);
+    expect_lists(rt, gap, plain.left(), plain.right());
+    Ok(gap.left().len().max(gap.right().len()))
+}
+
 #[test]
 fn a_long_sequence(rt: HostRuntime) -> Result<(), Fail> {
     let mut plain: PlainEnds<u8> = PlainEnds::new(rt.alloc());
     let mut gap: GapBuf<u8> = GapBuf::new(rt.alloc());
     let mut most = 0;
     for index in 0..4000 {
-        let act = drawn_act(index);
-        let item = carry_out(&mut plain, act)?;
-        assert_eq!(rt; carry_out(&mut gap, act)?, item);
-        expect_lists(&rt, &gap, plain.left(), plain.right());
-        most = gap.left().len().max(gap.right().len()).max(most);
+        let longer = carry_out_on_both(&rt, &mut plain, &mut gap, drawn_act(index))?;
+        most = longer.max(most);
     }
     assert!(rt; most > 64, "the lists stay too short");
     Ok(())
@@ -253,7 +264,7 @@ fn nearly_full<E: TwoEnds<u8, A>, A: Allocator + Copy>(
     assert!(rt; ends.room() >= places);
     fill(&mut ends, lefts, true);
     fill(&mut ends, places.saturating_mul(2), false);
-    assert_eq!(rt; ends.room(), 1);
+    assert!(rt; ends.room() == 1);
     Ok(ends)
 }
 
@@ -264,80 +275,104 @@ fn copied<E: TwoEnds<u8, A>, A: Allocator + Copy>(ends: &E) -> Result<E, GapErro
 // So many of the items that were last on the left are now first on the right.
 fn expect_moved(rt: &impl Abort, left: &[u8], right: &[u8], before: &[u8], moved: usize) {
     let (front, back) = before.split_at(before.len().saturating_sub(moved));
-    assert_eq!(rt; left, front);
-    assert_eq!(rt; back.len(), moved);
-    assert!(rt; right.starts_with(back));
+    expect_text(rt, left, front);
+    assert!(rt; back.len() == moved && right.starts_with(back));
 }
 
 // Behind so many items the right is as before.
 fn expect_end(rt: &impl Abort, right: &[u8], before: &[u8], moved: usize) {
     let (_, rest) = right.split_at(moved.min(right.len()));
-    assert_eq!(rt; rest, before);
+    expect_text(rt, rest, before);
 }
 
-// So many items go from the left to the right and back, over a gap that on `GapBuf` is one place.
+// So many items go from the left to the right and back.
+fn there_and_back<E: TwoEnds<u8, A>, A: Allocator + Copy>(
+    rt: &impl Abort,
+    ends: &mut E,
+    before: &E,
+    moved: usize,
+) {
+    shift_right(ends, moved);
+    expect_moved(rt, ends.left(), ends.right(), before.left(), moved);
+    expect_end(rt, ends.right(), before.right(), moved);
+    shift_left(ends, moved);
+    expect_lists(rt, ends, before.left(), before.right());
+}
+
+// That is done over a gap that on `GapBuf` is one place.
 fn over_one_place<E: TwoEnds<u8, A>, A: Allocator + Copy>(
     rt: &impl Abort,
     alloc: A,
-    places: usize,
-    lefts: usize,
-    moved: usize,
-) -> Result<E, GapError> {
+    (places, lefts, moved): (usize, usize, usize),
+) -> Result<(), GapError> {
     let mut ends: E = nearly_full(rt, alloc, places, lefts)?;
     let before = copied(&ends)?;
     assert!(rt; before.room() >= 1);
-    shift_right(&mut ends, moved);
-    expect_moved(rt, ends.left(), ends.right(), before.left(), moved);
-    expect_end(rt, ends.right(), before.right(), moved);
-    shift_left(&mut ends, moved);
-    expect_lists(rt, &ends, before.left(), before.right());
-    Ok(ends)
+    there_and_back(rt, &mut ends, &before, moved);
+    Ok(())
 }
+
+// How many places there are, how many items stand on the left, and how many of them are moved.
+const NEARLY_FULL: &[(usize, usize, usize)] = &[(16, 8, 7), (5_000, 4_999, 4_999)];
 
 #[test]
 fn nearly_full_blocks(rt: HostRuntime) -> Result<(), Fail> {
-    for (places, lefts, moved) in [(16, 8, 7), (5_000, 4_999, 4_999)] {
-        let _plain: PlainEnds<u8> = over_one_place(&rt, rt.alloc(), places, lefts, moved)?;
-        let _gap: GapBuf<u8> = over_one_place(&rt, rt.alloc(), places, lefts, moved)?;
+    for row in NEARLY_FULL.iter() {
+        over_one_place::<PlainEnds<u8>, Global>(&rt, rt.alloc(), *row)?;
+        over_one_place::<GapBuf<u8>, Global>(&rt, rt.alloc(), *row)?;
     }
     Ok(())
 }
 
-#[test]
-fn other_items(rt: HostRuntime) -> Result<(), Fail> {
-    let mut wide: GapBuf<(u64, u8)> = GapBuf::new(rt.alloc());
-    wide.reserve(3)?;
-    wide.push_left((7, 1));
-    wide.push_right((8, 2));
-    wide.put_left(&[(9, 3)]);
-    wide.shift_right(1);
-    assert_eq!(rt; wide.left(), [(7, 1)].as_slice());
-    assert_eq!(rt; wide.right(), [(9, 3), (8, 2)].as_slice());
-    let mut bare: GapBuf<(), Global> = GapBuf::new(rt.alloc());
-    bare.reserve(2)?;
-    bare.push_left(());
-    bare.push_right(());
-    bare.shift_left(1);
-    assert_eq!(rt; bare.left().len(), 2);
+// An item on either side, one more on the left, and then one from the left to the right.
+fn put_three<T: Copy, E: TwoEnds<T, A>, A: Allocator + Copy>(
+    ends: &mut E,
+    (first, last): (T, T),
+    between: &[T],
+) -> Result<(), GapError> {
+    push(ends, first, true)?;
+    push(ends, last, false)?;
+    put(ends, between, true)?;
+    shift_right(ends, 1);
     Ok(())
+}
+
+#[test]
+fn wide_items(rt: HostRuntime) -> Result<(), Fail> {
+    let mut wide: GapBuf<(u64, u8)> = GapBuf::new(rt.alloc());
+    put_three(&mut wide, ((7, 1), (8, 2)), &[(9, 3)])?;
+    assert!(rt; wide.left() == [(7, 1)].as_slice());
+    assert!(rt; wide.right() == [(9, 3), (8, 2)].as_slice());
+    Ok(())
+}
+
+#[test]
+fn items_without_a_size(rt: HostRuntime) -> Result<(), Fail> {
+    let mut bare: GapBuf<(), Global> = GapBuf::new(rt.alloc());
+    put_three(&mut bare, ((), ()), &[()])?;
+    shift_left(&mut bare, 1);
+    assert!(rt; bare.left().len() == 2 && bare.right().len() == 1);
+    Ok(())
+}
+
+fn is_refused(gap: &mut GapBuf<u64>, places: usize) -> bool {
+    gap.reserve(places) == Err(GapError::Memory)
 }
 
 #[test]
 fn no_room_for_so_many(rt: HostRuntime) -> Result<(), Fail> {
     let mut gap: GapBuf<u64> = GapBuf::new(rt.alloc());
-    gap.reserve(1)?;
-    gap.push_left(5);
+    push(&mut gap, 5, true)?;
     let room = gap.room();
-    assert_eq!(rt; gap.reserve(usize::MAX), Err(GapError::Memory));
-    assert_eq!(rt; gap.reserve(usize::MAX / 8), Err(GapError::Memory));
-    assert_eq!(rt; gap.left(), [5].as_slice());
-    assert_eq!(rt; gap.room(), room);
+    assert!(rt; is_refused(&mut gap, usize::MAX));
+    assert!(rt; is_refused(&mut gap, usize::MAX / 8));
+    assert!(rt; gap.left() == [5].as_slice() && gap.room() == room);
     Ok(())
 }
 
 #[test]
 fn names_the_refusal(rt: HostRuntime) -> Result<(), Fail> {
     let text = format!(in rt.alloc(); "{}", GapError::from(AllocError))?;
-    assert_eq!(rt; text.as_str(), "out of memory");
+    assert!(rt; text.as_str() == "out of memory");
     Ok(())
 }

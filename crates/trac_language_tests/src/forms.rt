@@ -1,14 +1,23 @@
 //! Forms: what is cut out of them, what a call of them gives, and how they are printed. Each request for memory is refused
 //! in turn.
+use crate::expect::{Memory, expect_each, expect_text};
 use crate::samples::divided;
-use std::alloc::{Allocator, Global};
+use std::alloc::Allocator;
 use std::process::Abort;
 use std::test::Fail;
 use trac_faults::Refusing;
 use trac_forms::{Form, FormError, Item, Texts};
 use trac_rules::limit::MARK_LIMIT;
 
-type Memory<'a> = &'a Refusing<Global>;
+// What is printed of a form, which may be refused once.
+fn printed<A: Allocator + Copy>(alloc: A, form: &Form<A>) -> Result<Vec<u8, A>, FormError> {
+    let mut out = Vec::new(alloc);
+    if form.show_into(&mut out).is_err() {
+        out.clear();
+        form.show_into(&mut out)?;
+    }
+    Ok(out)
+}
 
 /// The form is printed so, and says the length of this before. What is printed may be refused once.
 pub(crate) fn expect_shown<A: Allocator + Copy>(
@@ -17,14 +26,24 @@ pub(crate) fn expect_shown<A: Allocator + Copy>(
     form: &Form<A>,
     text: &[u8],
 ) -> Result<(), FormError> {
-    assert_eq!(rt; form.show_len(), Some(text.len()));
-    let mut out = Vec::new(alloc);
-    if form.show_into(&mut out).is_err() {
-        out.clear();
-        form.show_into(&mut out)?;
-    }
-    assert_eq!(rt; out.as_slice(), text);
+    let out = printed(alloc, form)?;
+    expect_text(rt, out.as_slice(), text);
+    assert!(rt; form.show_len() == Some(text.len()));
     Ok(())
+}
+
+// What a call of the form with these texts gives, which may be refused once.
+fn called<A: Allocator + Copy, T: Texts>(
+    alloc: A,
+    form: &Form<A>,
+    texts: &T,
+) -> Result<Vec<u8, A>, FormError> {
+    let mut out = Vec::new(alloc);
+    if form.call_into(texts, &mut out).is_err() {
+        out.clear();
+        form.call_into(texts, &mut out)?;
+    }
+    Ok(out)
 }
 
 // A call of the form with these texts gives this value, and says its length before. The value may be refused once.
@@ -35,13 +54,9 @@ fn expect_called<A: Allocator + Copy, T: Texts>(
     texts: &T,
     value: &[u8],
 ) -> Result<(), FormError> {
-    assert_eq!(rt; form.call_len(texts), Some(value.len()));
-    let mut out = Vec::new(alloc);
-    if form.call_into(texts, &mut out).is_err() {
-        out.clear();
-        form.call_into(texts, &mut out)?;
-    }
-    assert_eq!(rt; out.as_slice(), value);
+    let out = called(alloc, form, texts)?;
+    expect_text(rt, out.as_slice(), value);
+    assert!(rt; form.call_len(texts) == Some(value.len()));
     Ok(())
 }
 
@@ -128,18 +143,28 @@ fn made<'a>(memory: Memory<'a>, text: &[u8]) -> Result<Form<Memory<'a>>, FormErr
     Ok(form)
 }
 
-// The pointer goes behind two bytes; where texts are cut out it goes to the start again.
-fn move_pointer(rt: &impl Abort, form: &mut Form<Memory<'_>>) {
-    assert!(rt; form.len() >= 2);
-    form.set_pointer(2);
+// The pointer goes to this place, and was at the one that this gives.
+fn set_pointer(rt: &impl Abort, form: &mut Form<Memory<'_>>, place: usize) -> usize {
+    assert!(rt; place <= form.len());
+    form.set_pointer(place)
+}
+
+// The texts are cut out in turn. The pointer, which was behind two bytes, is at the start then.
+fn cut_all(
+    rt: &impl Abort,
+    form: &mut Form<Memory<'_>>,
+    cuts: &[&[&[u8]]],
+) -> Result<(), FormError> {
+    set_pointer(rt, form, 2);
+    for texts in cuts.iter() {
+        *form = cut(rt, form, texts)?;
+    }
+    Ok(())
 }
 
 fn expect_case(rt: &impl Abort, memory: Memory<'_>, case: &Case) -> Result<(), FormError> {
     let mut form = made(memory, case.text)?;
-    move_pointer(rt, &mut form);
-    for texts in case.cuts.iter() {
-        form = cut(rt, &form, texts)?;
-    }
+    cut_all(rt, &mut form, case.cuts)?;
     expect_shown(rt, memory, &form, case.shown)?;
     expect_called(rt, memory, &form, &case.fillings, case.value)
 }
@@ -148,8 +173,7 @@ fn expect_case(rt: &impl Abort, memory: Memory<'_>, case: &Case) -> Result<(), F
 fn each_request(rt: HostRuntime) -> Result<(), Fail> {
     let memory = Refusing::new(rt.alloc());
     for case in CASES.iter() {
-        let runs = memory.refuse_each(1_000, |_| expect_case(&rt, &memory, case))?;
-        assert!(rt; runs > Some(3), "{runs:?} runs");
+        expect_each(&rt, &memory, 3, |_| expect_case(&rt, &memory, case))?;
     }
     Ok(())
 }
@@ -162,12 +186,6 @@ fn copied<'a>(form: &Form<Memory<'a>>) -> Result<Form<Memory<'a>>, FormError> {
     }
 }
 
-// The pointer goes to this place, and was at the one that this gives.
-fn set_pointer(rt: &impl Abort, form: &mut Form<Memory<'_>>, place: usize) -> usize {
-    assert!(rt; place <= form.len());
-    form.set_pointer(place)
-}
-
 // The pointer goes to another place, while a copy keeps the old one.
 fn point(
     rt: &impl Abort,
@@ -176,9 +194,8 @@ fn point(
     old: usize,
 ) -> Result<(), FormError> {
     let copy = copied(form)?;
-    assert_eq!(rt; set_pointer(rt, form, place), old);
-    assert_eq!(rt; form.pointer(), place);
-    assert_eq!(rt; copy.pointer(), old);
+    assert!(rt; set_pointer(rt, form, place) == old);
+    assert!(rt; form.pointer() == place && copy.pointer() == old);
     Ok(())
 }
 
@@ -191,26 +208,35 @@ const POINTERS: &[(usize, usize, &[u8], &[u8])] = &[
 
 const TWO_TEXTS: &[&[u8]] = &[b"X", b"Y"];
 
-fn pointed(rt: &impl Abort, memory: Memory<'_>) -> Result<(), FormError> {
-    let mut form = divided_once(memory)?;
+fn point_each<'a>(
+    rt: &impl Abort,
+    memory: Memory<'a>,
+    form: &mut Form<Memory<'a>>,
+) -> Result<(), FormError> {
     for (old, place, shown, value) in POINTERS.iter() {
-        point(rt, &mut form, *place, *old)?;
-        expect_shown(rt, memory, &form, shown)?;
-        expect_called(rt, memory, &form, &TWO_TEXTS, value)?;
+        point(rt, form, *place, *old)?;
+        expect_shown(rt, memory, form, shown)?;
+        expect_called(rt, memory, form, &TWO_TEXTS, value)?;
     }
     Ok(())
+}
+
+fn pointed(rt: &impl Abort, memory: Memory<'_>) -> Result<(), FormError> {
+    let mut form = divided_once(memory)?;
+    point_each(rt, memory, &mut form)
 }
 
 #[test]
 fn items_of_a_form(rt: HostRuntime) -> Result<(), Fail> {
     let form = divided(rt.alloc())?;
-    assert_eq!(rt; form.len(), 5);
-    assert_eq!(rt; form.item(2), Some(Item::Byte(b'b')));
-    assert_eq!(rt; form.item(5), None);
+    assert!(rt; form.len() == 5);
+    assert!(rt; form.item(2) == Some(Item::Byte(b'b')));
+    assert!(rt; form.item(5).is_none());
     Ok(())
 }
 
-fn divided_once(memory: Memory<'_>) -> Result<Form<Memory<'_>>, FormError> {
+/// The form `a<^><1>bc<2>`, where one request may be refused.
+pub(crate) fn divided_once(memory: Memory<'_>) -> Result<Form<Memory<'_>>, FormError> {
     match divided(memory) {
         Err(FormError::Memory) => divided(memory),
         other => other,
@@ -220,16 +246,16 @@ fn divided_once(memory: Memory<'_>) -> Result<Form<Memory<'_>>, FormError> {
 #[test]
 fn each_request_at_pointers(rt: HostRuntime) -> Result<(), Fail> {
     let memory = Refusing::new(rt.alloc());
-    let runs = memory.refuse_each(1_000, |_| pointed(&rt, &memory))?;
-    assert!(rt; runs > Some(3), "{runs:?} runs");
+    expect_each(&rt, &memory, 3, |_| pointed(&rt, &memory))?;
     Ok(())
 }
 
 // A vector of texts that has one too few: the second is null.
 #[test]
 fn texts_in_a_vector(rt: HostRuntime) -> Result<(), Fail> {
+    let form = divided(rt.alloc())?;
     let mut texts: Vec<&[u8]> = Vec::new(rt.alloc());
     texts.push(b"X")?;
-    expect_called(&rt, rt.alloc(), &divided(rt.alloc())?, &texts, b"Xbc")?;
+    expect_called(&rt, rt.alloc(), &form, &texts, b"Xbc")?;
     Ok(())
 }

@@ -11,6 +11,8 @@ mod blocks;
 #[cfg(test)]
 mod ends;
 #[cfg(test)]
+mod expect;
+#[cfg(test)]
 mod forms;
 #[cfg(test)]
 mod numbers;

@@ -1,5 +1,5 @@
 //! Numbers at the ends of texts: what is read, calculated, compared and printed.
-use std::alloc::Global;
+use crate::expect::{Memory, expect_each, expect_text};
 use std::process::Abort;
 use std::test::Fail;
 use trac_faults::Refusing;
@@ -53,9 +53,9 @@ fn number_of(text: &[u8]) -> Option<i64> {
 #[test]
 fn reads_tails(rt: HostRuntime) {
     for (text, prefix, numeral, number) in TAILS.iter() {
-        assert_eq!(rt; prefix_of(text), *prefix);
-        assert_eq!(rt; numeral_of(text), *numeral);
-        assert_eq!(rt; number_of(text), *number, "at {text:?}");
+        expect_text(&rt, prefix_of(text), prefix);
+        expect_text(&rt, numeral_of(text), numeral);
+        assert!(rt; number_of(text) == *number, "at {text:?}");
     }
 }
 
@@ -96,7 +96,7 @@ fn calculated(sign: u8, x: i64, y: i64) -> Option<i64> {
 #[test]
 fn calculates(rt: HostRuntime) {
     for (sign, x, y, wanted) in RESULTS.iter() {
-        assert_eq!(rt; calculated(*sign, *x, *y), *wanted, "at {x} and {y}");
+        assert!(rt; calculated(*sign, *x, *y) == *wanted, "at {x} and {y}");
     }
 }
 
@@ -133,7 +133,7 @@ fn is_greater(a: &[u8], b: &[u8]) -> bool {
 #[test]
 fn compares(rt: HostRuntime) {
     for (a, b, wanted) in COMPARISONS.iter() {
-        assert_eq!(rt; is_greater(a, b), *wanted, "at {a:?} and {b:?}");
+        assert!(rt; is_greater(a, b) == *wanted, "at {a:?} and {b:?}");
     }
 }
 
@@ -161,53 +161,41 @@ fn result_of(sign: u8, a: &[u8], b: &[u8]) -> Option<i64> {
     calculated(sign, number_of(a)?, number_of(b)?)
 }
 
-fn print(out: &mut Vec<u8, &Refusing<Global>>, number: i64) -> Result<(), NumError> {
+fn print(out: &mut Vec<u8, Memory<'_>>, number: i64) -> Result<(), NumError> {
     print_into(number, out)
 }
 
-// Printing may be refused once: what was there is still there then, and the next try is accepted.
-fn print_once(
-    rt: &impl Abort,
-    out: &mut Vec<u8, &Refusing<Global>>,
-    before: &[u8],
-    number: i64,
-) -> Result<(), NumError> {
-    if print(out, number).is_err() {
-        assert_eq!(rt; out.as_slice(), before, "at {number}");
-        print(out, number)?;
-    }
-    Ok(())
-}
-
-// A number is printed behind what was there before.
+// A number is printed behind what is there, which may be refused once: what was there is still there then, and the next try
+// is accepted.
 fn expect_printed(
     rt: &impl Abort,
-    memory: &Refusing<Global>,
-    before: &[u8],
+    out: &mut Vec<u8, Memory<'_>>,
     number: i64,
+    before: &[u8],
     wanted: &[u8],
-) -> Result<(), Fail> {
-    let mut out = Vec::from_slice(memory, before)?;
-    print_once(rt, &mut out, before, number)?;
-    assert_eq!(rt; out.as_slice(), wanted, "at {number}");
+) -> Result<(), NumError> {
+    if print(out, number).is_err() {
+        expect_text(rt, out.as_slice(), before);
+        print(out, number)?;
+    }
+    expect_text(rt, out.as_slice(), wanted);
     Ok(())
 }
 
-// A result is printed behind the prefix of the first text.
 fn expect_result(
     rt: &impl Abort,
-    memory: &Refusing<Global>,
+    memory: Memory<'_>,
     number: Option<i64>,
     prefix: &[u8],
     wanted: &[u8],
 ) -> Result<(), Fail> {
-    match number {
-        Some(number) => expect_printed(rt, memory, prefix, number, wanted),
-        None => {
-            assert_eq!(rt; wanted, b"Z".as_slice());
-            Ok(())
-        }
-    }
+    let Some(number) = number else {
+        expect_text(rt, b"Z", wanted);
+        return Ok(());
+    };
+    let mut out = Vec::from_slice(memory, prefix)?;
+    expect_printed(rt, &mut out, number, prefix, wanted)?;
+    Ok(())
 }
 
 #[test]
@@ -221,17 +209,16 @@ fn calculates_behind_prefixes(rt: HostRuntime) -> Result<(), Fail> {
 }
 
 // A number is printed behind what is there: each of these behind those before it.
-const PRINTED: [(i64, &[u8], &[u8]); 3] = [
+const PRINTED: &[(i64, &[u8], &[u8])] = &[
     (LEAST, b"", b"-9223372036854775808"),
     (0, b"-9223372036854775808", b"-92233720368547758080"),
     (-17, b"-92233720368547758080", b"-92233720368547758080-17"),
 ];
 
-fn printed_one_by_one(rt: &impl Abort, memory: &Refusing<Global>) -> Result<(), Fail> {
+fn printed_one_by_one(rt: &impl Abort, memory: Memory<'_>) -> Result<(), NumError> {
     let mut out = Vec::new(memory);
-    for (number, before, wanted) in PRINTED {
-        print_once(rt, &mut out, before, number)?;
-        assert_eq!(rt; out.as_slice(), wanted, "at {number}");
+    for (number, before, wanted) in PRINTED.iter() {
+        expect_printed(rt, &mut out, *number, before, wanted)?;
     }
     Ok(())
 }
@@ -239,8 +226,7 @@ fn printed_one_by_one(rt: &impl Abort, memory: &Refusing<Global>) -> Result<(), 
 #[test]
 fn each_request_of_printing(rt: HostRuntime) -> Result<(), Fail> {
     let memory = Refusing::new(rt.alloc());
-    let runs = memory.refuse_each(100, |_| printed_one_by_one(&rt, &memory))?;
-    assert!(rt; runs > Some(2), "{runs:?} runs");
-    assert_eq!(rt; NumError::Memory as u8, 1);
+    expect_each(&rt, &memory, 2, |_| printed_one_by_one(&rt, &memory))?;
+    assert!(rt; NumError::Memory as u8 == 1);
     Ok(())
 }

@@ -1,13 +1,11 @@
 //! Reading a form at its pointer: the value of each call and the place where the pointer goes. Each request for memory is
 //! refused in turn.
-use crate::samples::divided;
-use std::alloc::Global;
+use crate::expect::{Memory, expect_act, expect_each};
+use crate::forms::divided_once;
 use std::process::Abort;
 use std::test::Fail;
 use trac_faults::Refusing;
 use trac_forms::{Form, FormError, Piece};
-
-type Memory<'a> = &'a Refusing<Global>;
 
 // One call.
 #[derive(Clone, Copy)]
@@ -68,41 +66,58 @@ fn value_of<'a>(
     Ok(out)
 }
 
+// The form with its pointer at this place.
+fn placed<'a>(
+    rt: &impl Abort,
+    memory: Memory<'a>,
+    place: usize,
+) -> Result<Form<Memory<'a>>, FormError> {
+    let mut form = divided_once(memory)?;
+    assert!(rt; place <= form.len());
+    form.set_pointer(place);
+    Ok(form)
+}
+
+// What is read, where one request may be refused.
+fn read_once(form: &Form<Memory<'_>>, act: Act) -> Result<Option<Piece>, FormError> {
+    let Ok(piece) = read(form, act) else {
+        return read(form, act);
+    };
+    Ok(piece)
+}
+
+// Whether this is given: the value and the new place, or none.
+fn gives<'a>(
+    memory: Memory<'a>,
+    form: &Form<Memory<'a>>,
+    piece: Option<Piece>,
+    given: Given,
+) -> Result<bool, FormError> {
+    let (Some(piece), Some((value, pointer))) = (piece, given) else {
+        return Ok(piece.is_none() && given.is_none());
+    };
+    let out = value_of(memory, form, &piece)?;
+    Ok(piece.pointer == pointer && piece.len == value.len() && out.as_slice() == value)
+}
+
 fn expect_row(
     rt: &impl Abort,
     memory: Memory<'_>,
-    place: usize,
-    act: Act,
-    given: Given,
+    at: usize,
+    (place, act, given): (usize, Act, Given),
 ) -> Result<(), FormError> {
-    let mut form = match divided(memory) {
-        Err(_) => divided(memory)?,
-        Ok(form) => form,
-    };
-    assert!(rt; place <= form.len());
-    form.set_pointer(place);
-    let piece = match read(&form, act) {
-        Err(_) => read(&form, act)?,
-        Ok(piece) => piece,
-    };
-    assert_eq!(rt; form.pointer(), place);
-    assert_eq!(rt;
-        piece.map(|piece| piece.pointer),
-        given.map(|given| given.1)
-    );
-    if let (Some(piece), Some((value, _))) = (piece, given) {
-        assert_eq!(rt; piece.len, value.len());
-        assert_eq!(rt; value_of(memory, &form, &piece)?.as_slice(), value);
-    }
+    let form = placed(rt, memory, place)?;
+    let piece = read_once(&form, act)?;
+    let is_met = form.pointer() == place && gives(memory, &form, piece, given)?;
+    expect_act(rt, is_met, at);
     Ok(())
 }
 
 #[test]
 fn each_request_of_reads(rt: HostRuntime) -> Result<(), Fail> {
     let memory = Refusing::new(rt.alloc());
-    for (place, act, given) in ROWS.iter() {
-        let runs = memory.refuse_each(1_000, |_| expect_row(&rt, &memory, *place, *act, *given))?;
-        assert!(rt; runs > Some(1), "{runs:?} runs");
+    for (at, row) in ROWS.iter().enumerate() {
+        expect_each(&rt, &memory, 1, |_| expect_row(&rt, &memory, at, *row))?;
     }
     Ok(())
 }

@@ -41,11 +41,15 @@ pub fn divided<A: Allocator + Copy>(alloc: A) -> Result<Form<A>, FormError> {
     Form::of(alloc, &[Item::Byte(b'a')], &AFTER)
 }
 
+fn put_forms<A: Allocator + Copy>(alloc: A, store: &mut Store<A>) -> Result<(), FormError> {
+    define(alloc, store, b"R", b"abcabc")?;
+    define(alloc, store, b"B", b"banana")?;
+    put_form(store, b"F", divided(alloc)?)
+}
+
 /// A store with the forms `B`: `<^>banana`, `F`: `a<^><1>bc<2>`, and `R`: `<^>abcabc`.
 pub fn with_forms<A: Allocator + Copy>(alloc: A) -> Result<Store<A>, FormError> {
     let mut store = Store::new(alloc);
-    define(alloc, &mut store, b"R", b"abcabc")?;
-    define(alloc, &mut store, b"B", b"banana")?;
-    put_form(&mut store, b"F", divided(alloc)?)?;
+    put_forms(alloc, &mut store)?;
     Ok(store)
 }
