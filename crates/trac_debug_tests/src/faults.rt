@@ -1,5 +1,5 @@
 //! Sessions in which reads, writes, flushes and requests for memory fail in turn.
-use crate::session::{DEFAULTS, session};
+use crate::session::{DEFAULTS, expect_written, session};
 use std::alloc::{AllocError, Global};
 use std::process::Abort;
 use std::test::Fail;
@@ -23,7 +23,7 @@ enum Fault {
 // behind the eighth, which finds the end.
 const COMMANDS: &[u8; 7] = b"s 3\nb 1";
 
-const FAULTS: [(Fault, &[u8], Ending); 16] = [
+const FAULTS: &[(Fault, &[u8], Ending)] = &[
     (Fault::None, b"forward 3\nback 1\n", Ending::Ended),
     (Fault::Read(1), b"", Ending::Read),
     (Fault::Read(4), b"", Ending::Read),
@@ -42,54 +42,75 @@ const FAULTS: [(Fault, &[u8], Ending); 16] = [
     (Fault::Flush(3), b"forward 3\nback 1\n", Ending::Ended),
 ];
 
-fn expect_fault(rt: &(impl Abort + AllocGlobal), fault: Fault, output: &[u8], ending: Ending) {
+fn reader_of(fault: Fault) -> FaultyReader<'static> {
     let reader = FaultyReader::new(COMMANDS).at_most(1);
-    let mut reader = match fault {
+    match fault {
         Fault::Read(nth) => reader.failing_at(nth),
         Fault::ReadAtEnd => reader.failing_at_end(),
         _ => reader,
-    };
-    let writer = FaultyWriter::new(rt.alloc());
-    let mut writer = match fault {
+    }
+}
+
+fn writer_of(alloc: Global, fault: Fault) -> FaultyWriter {
+    let writer = FaultyWriter::new(alloc);
+    match fault {
         Fault::Write(nth) => writer.failing_at(nth),
         Fault::TakeNone(nth) => writer.taking_none_at(nth),
         Fault::Flush(nth) => writer.failing_flush_at(nth),
         _ => writer,
-    };
+    }
+}
+
+fn expect_fault(rt: &(impl Abort + AllocGlobal), fault: Fault, output: &[u8], ending: Ending) {
+    let mut reader = reader_of(fault);
+    let mut writer = writer_of(rt.alloc(), fault);
     let met = session(rt, rt.alloc(), b"AB'", &mut reader, &mut writer, DEFAULTS);
-    assert_eq!(rt; met, ending);
-    assert_eq!(rt; writer.contents(), output);
+    assert!(rt; met == ending, "{ending:?} behind {output:?}");
+    expect_written(rt, writer.contents(), output);
 }
 
 #[test]
 fn each_fault(rt: HostRuntime) {
-    for (fault, output, ending) in FAULTS {
-        expect_fault(&rt, fault, output, ending);
+    for (fault, output, ending) in FAULTS.iter() {
+        expect_fault(&rt, *fault, output, *ending);
     }
+}
+
+// "s 1", "forward 1", a null line, "b 1", "back 1", and the end.
+const CALLS: &[Call] = &[
+    Call::Read(4),
+    Call::Write(10),
+    Call::Flush,
+    Call::Read(1),
+    Call::Read(4),
+    Call::Write(7),
+    Call::Flush,
+    Call::Read(0),
+];
+
+// The calls of a session over readers and writers that note them.
+fn noted(rt: &(impl Abort + AllocGlobal)) -> Option<Vec<Call>> {
+    let log = CallLog::new(rt.alloc());
+    let mut reader = Logged::new(FaultyReader::new(b"s 1\n\nb 1\n").by_lines(), &log);
+    let mut writer = Logged::new(FaultyWriter::new(rt.alloc()), &log);
+    let ending = session(rt, rt.alloc(), b"AB'", &mut reader, &mut writer, DEFAULTS);
+    assert!(rt; ending == Ending::Ended);
+    log.take_calls()
 }
 
 // Each reply is flushed before more is read.
 #[test]
-fn replies_are_flushed_before_more_is_read(rt: HostRuntime) -> Result<(), Fail> {
-    let log = CallLog::new(rt.alloc());
-    let mut reader = Logged::new(FaultyReader::new(b"s 1\n\nb 1\n").by_lines(), &log);
-    let mut writer = Logged::new(FaultyWriter::new(rt.alloc()), &log);
-    let ending = session(&rt, rt.alloc(), b"AB'", &mut reader, &mut writer, DEFAULTS);
-    assert_eq!(rt; ending, Ending::Ended);
-    let calls = log.take_calls().ok_or("there is a log")?;
-    // "s 1", "forward 1", a null line, "b 1", "back 1", and the end
-    let wanted = [
-        Call::Read(4),
-        Call::Write(10),
-        Call::Flush,
-        Call::Read(1),
-        Call::Read(4),
-        Call::Write(7),
-        Call::Flush,
-        Call::Read(0),
-    ];
-    assert_eq!(rt; calls.as_slice(), wanted.as_slice());
-    Ok(())
+fn replies_are_flushed_before_more_is_read(rt: HostRuntime) {
+    let Some(calls) = noted(&rt) else {
+        panic!(rt; "there was memory")
+    };
+    assert!(rt; calls.as_slice() == CALLS);
+}
+
+// Whether whole replies are written, and the last line of a state where its first one is.
+fn is_whole(written: &[u8]) -> bool {
+    (written.is_empty() || written.last() == Some(&b'\n'))
+        && contains(written, b"active [") == contains(written, b"journal ")
 }
 
 // Where a request is refused, whole replies stand before the end; a walk for which memory was refused is replied to.
@@ -102,19 +123,13 @@ fn expect_memory(
     let mut writer = FaultyWriter::new(rt.alloc());
     let ending = session(rt, memory, b"AB'", &mut reader, &mut writer, DEFAULTS);
     let written = writer.contents();
-    if memory.refusals() == refusals {
-        assert_eq!(rt; ending, Ending::Ended);
+    let is_answered = if memory.refusals() == refusals {
+        ending == Ending::Ended
     } else {
-        assert!(rt;
-            ending == Ending::Memory || contains(written, b" Memory\n"),
-            "{ending:?}"
-        );
-    }
-    assert!(rt; written.is_empty() || written.last() == Some(&b'\n'));
-    assert_eq!(rt;
-        contains(written, b"active ["),
-        contains(written, b"journal ")
-    );
+        ending == Ending::Memory || contains(written, b" Memory\n")
+    };
+    assert!(rt; is_answered, "{ending:?}");
+    assert!(rt; is_whole(written));
     Ok(())
 }
 

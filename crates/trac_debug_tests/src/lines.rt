@@ -1,9 +1,11 @@
 //! Single lines: what each of them is replied to, or that it is not understood.
 use crate::session::expect_session;
+use std::alloc::{AllocError, Global};
+use std::process::Abort;
 use std::test::Fail;
 use trac_run::Ending;
 
-const REPLIES: [(&[u8], &[u8]); 16] = [
+const REPLIES: &[(&[u8], &[u8])] = &[
     (b"s 0", b"forward 0\n"),
     (b"s 007", b"forward 7\n"),
     (b"s 000000007", b"forward 7\n"),
@@ -24,13 +26,13 @@ const REPLIES: [(&[u8], &[u8]); 16] = [
 
 #[test]
 fn replies(rt: HostRuntime) -> Result<(), Fail> {
-    for (line, reply) in REPLIES {
+    for (line, reply) in REPLIES.iter() {
         expect_session(&rt, b"AB'", line, 4096, reply, Ending::Ended)?;
     }
     Ok(())
 }
 
-const NOT_UNDERSTOOD: [&[u8]; 22] = [
+const NOT_UNDERSTOOD: &[&[u8]] = &[
     b"s 1234567890",
     b"s 0000000007",
     b"s  1",
@@ -57,62 +59,46 @@ const NOT_UNDERSTOOD: [&[u8]; 22] = [
 
 #[test]
 fn not_understood(rt: HostRuntime) -> Result<(), Fail> {
-    for line in NOT_UNDERSTOOD {
-        expect_session(
-            &rt,
-            b"AB'",
-            line,
-            4096,
-            b"",
-            Ending::NotUnderstood { line: 1 },
-        )?;
+    let first = Ending::NotUnderstood { line: 1 };
+    for line in NOT_UNDERSTOOD.iter() {
+        expect_session(&rt, b"AB'", line, 4096, b"", first)?;
     }
-    let behind_null_lines = Ending::NotUnderstood { line: 4 };
-    expect_session(
-        &rt,
-        b"AB'",
-        b"\n\r\ns 1\r\nx\n",
-        4096,
-        b"forward 1\n",
-        behind_null_lines,
-    )?;
+    let fourth = Ending::NotUnderstood { line: 4 };
+    let lines = b"\n\r\ns 1\r\nx\n";
+    expect_session(&rt, b"AB'", lines, 4096, b"forward 1\n", fourth)?;
     Ok(())
 }
+
+// `r`, a name of so many letters, and the end of the line.
+fn return_line(alloc: Global, letters: usize, end: &[u8]) -> Result<Vec<u8>, AllocError> {
+    let mut line = Vec::from_slice(alloc, b"r ")?;
+    line.resize(letters.saturating_add(2), b'a')?;
+    line.extend_from_slice(end)?;
+    Ok(line)
+}
+
+fn expect_return(
+    rt: &(impl Abort + AllocGlobal),
+    letters: usize,
+    end: &[u8],
+    most: usize,
+    output: &[u8],
+    ending: Ending,
+) -> Result<(), AllocError> {
+    let line = return_line(rt.alloc(), letters, end)?;
+    expect_session(rt, b"AB'", line.as_slice(), most, output, ending)
+}
+
+const ENDS: &[&[u8]] = &[b"", b"\n", b"\r", b"\r\n"];
 
 // The longest line, with each of its ends, and one that is a byte longer.
 #[test]
 fn long_lines(rt: HostRuntime) -> Result<(), Fail> {
-    let alloc = rt.alloc();
-    for end in [
-        b"".as_slice(),
-        b"\n".as_slice(),
-        b"\r".as_slice(),
-        b"\r\n".as_slice(),
-    ] {
-        for most in [1000, 4096] {
-            let mut line = Vec::from_slice(alloc, b"r ")?;
-            let name = vec![in alloc; b'a'; 4094]?;
-            line.extend_from_slice(name.as_slice())?;
-            line.extend_from_slice(end)?;
-            expect_session(
-                &rt,
-                b"AB'",
-                line.as_slice(),
-                most,
-                b"return 0 AtStart\n",
-                Ending::Ended,
-            )?;
-            let mut longer = Vec::from_slice(alloc, b"r a")?;
-            longer.extend_from_slice(name.as_slice())?;
-            longer.extend_from_slice(end)?;
-            expect_session(
-                &rt,
-                b"AB'",
-                longer.as_slice(),
-                most,
-                b"",
-                Ending::NotUnderstood { line: 1 },
-            )?;
+    let longer = Ending::NotUnderstood { line: 1 };
+    for end in ENDS.iter() {
+        for most in [1000, 4096].iter() {
+            expect_return(&rt, 4094, end, *most, b"return 0 AtStart\n", Ending::Ended)?;
+            expect_return(&rt, 4095, end, *most, b"", longer)?;
         }
     }
     Ok(())

@@ -26,6 +26,11 @@ pub fn session<R: Read, W: Write, A: Allocator + Copy>(
     debug(alloc, tape, commands, output, options)
 }
 
+/// This is written.
+pub fn expect_written(rt: &impl Abort, written: &[u8], wanted: &[u8]) {
+    assert_eq!(rt; written, wanted);
+}
+
 /// A session with these commands, at most so many bytes a read, writes this and ends so.
 pub fn expect_session(
     rt: &(impl Abort + AllocGlobal),
@@ -38,7 +43,7 @@ pub fn expect_session(
     let mut reader = FaultyReader::new(commands).at_most(most);
     let mut writer = FaultyWriter::new(rt.alloc());
     let met = session(rt, rt.alloc(), tape, &mut reader, &mut writer, DEFAULTS);
-    assert_eq!(rt; met, ending, "{most} bytes a read");
-    assert_eq!(rt; writer.contents(), output, "{most} bytes a read");
+    assert!(rt; met == ending, "{most} bytes a read");
+    expect_written(rt, writer.contents(), output);
     Ok(())
 }

@@ -1,5 +1,5 @@
 //! Whole sessions.
-use crate::session::{DEFAULTS, expect_session, session};
+use crate::session::{DEFAULTS, expect_session, expect_written, session};
 use std::alloc::{AllocError, Global};
 use std::io::Read;
 use std::process::Abort;
@@ -8,7 +8,7 @@ use trac_faults::{FaultyReader, FaultyWriter};
 use trac_run::{Ending, Options};
 
 // A tape, commands, what is written, and the ending.
-const SESSIONS: [(&[u8], &[u8], &[u8], Ending); 5] = [
+const SESSIONS: &[(&[u8], &[u8], &[u8], Ending)] = &[
     (
         b"AB'",
         b"s 11\nb 1\np\nu rs 100\nc\nq\n",
@@ -43,9 +43,9 @@ const SESSIONS: [(&[u8], &[u8], &[u8], Ending); 5] = [
 
 #[test]
 fn sessions_in_pieces(rt: HostRuntime) -> Result<(), Fail> {
-    for (tape, commands, output, ending) in SESSIONS {
-        for most in [1, 2, 7, 4096] {
-            expect_session(&rt, tape, commands, most, output, ending)?;
+    for (tape, commands, output, ending) in SESSIONS.iter() {
+        for most in [1, 2, 7, 4096].iter() {
+            expect_session(&rt, tape, commands, *most, output, *ending)?;
         }
     }
     Ok(())
@@ -63,16 +63,16 @@ fn expect_cut(
     let mut reader = FaultyReader::new(first).chain(FaultyReader::new(rest));
     let mut writer = FaultyWriter::new(rt.alloc());
     let met = session(rt, rt.alloc(), tape, &mut reader, &mut writer, DEFAULTS);
-    assert_eq!(rt; met, ending, "behind {first:?}");
-    assert_eq!(rt; writer.contents(), output, "behind {first:?}");
+    assert!(rt; met == ending, "behind {first:?}");
+    expect_written(rt, writer.contents(), output);
 }
 
 #[test]
 fn a_cut_at_every_place(rt: HostRuntime) {
-    for (tape, commands, output, ending) in SESSIONS {
+    for (tape, commands, output, ending) in SESSIONS.iter() {
         for at in 0..commands.len() + 1 {
             let (first, rest) = commands.split_at(at);
-            expect_cut(&rt, tape, first, rest, output, ending);
+            expect_cut(&rt, tape, first, rest, output, *ending);
         }
     }
 }
@@ -87,11 +87,9 @@ fn a_full_journal(rt: HostRuntime) {
         journal: 4,
     };
     let ending = session(&rt, rt.alloc(), b"AB'", &mut reader, &mut writer, options);
-    assert_eq!(rt; ending, Ending::Ended);
-    assert_eq!(rt;
-        writer.contents(),
-        b"forward 4 JournalFull\ncommit []\nforward 1\nback 1 AtStart\n".as_slice()
-    );
+    assert!(rt; ending == Ending::Ended);
+    let output = b"forward 4 JournalFull\ncommit []\nforward 1\nback 1 AtStart\n";
+    expect_written(&rt, writer.contents(), output);
 }
 
 // A million lines and more, all null: the one behind the last is one too many, whatever it holds.
@@ -107,23 +105,23 @@ fn expect_lines(
     let mut reader = FaultyReader::new(commands.as_slice());
     let mut writer = FaultyWriter::new(alloc);
     let met = session(rt, alloc, b"AB'", &mut reader, &mut writer, DEFAULTS);
-    assert_eq!(rt; met, ending, "{count} lines");
+    assert!(rt; met == ending, "{count} lines");
     Ok(())
 }
 
+// A number of null lines, what stands behind them, and the ending.
+const MANY_LINES: &[(usize, &[u8], Ending)] = &[
+    (1_048_576, b"", Ending::Ended),
+    (1_048_575, b"x", Ending::NotUnderstood { line: 1_048_576 }),
+    (1_048_576, b"q", Ending::Budget),
+    (1_048_576, b"\n", Ending::Budget),
+];
+
 #[test]
 fn the_most_lines(rt: HostRuntime) -> Result<(), Fail> {
-    let alloc = rt.alloc();
-    expect_lines(&rt, alloc, 1_048_576, b"", Ending::Ended)?;
-    expect_lines(
-        &rt,
-        alloc,
-        1_048_575,
-        b"x",
-        Ending::NotUnderstood { line: 1_048_576 },
-    )?;
-    expect_lines(&rt, alloc, 1_048_576, b"q", Ending::Budget)?;
-    expect_lines(&rt, alloc, 1_048_576, b"\n", Ending::Budget)?;
+    for (count, last, ending) in MANY_LINES.iter() {
+        expect_lines(&rt, rt.alloc(), *count, last, *ending)?;
+    }
     Ok(())
 }
 

@@ -9,7 +9,7 @@ use trac_run::Ending;
 // Seven bytes: read one by one, the eighth read finds the end.
 const PROGRAM: &[u8; 7] = b"#(ps,A)";
 
-const FAULTS: [(u64, Result<usize, Ending>); 10] = [
+const FAULTS: &[(u64, Result<usize, Ending>)] = &[
     (1, Err(Ending::Read)),
     (2, Err(Ending::Read)),
     (3, Err(Ending::Read)),
@@ -31,30 +31,34 @@ fn length_read<A: Allocator + Copy>(
     Ok(tape.len())
 }
 
+// The read of this number fails, unless the end is met before it.
+fn expect_fault(rt: &impl Abort, alloc: Global, nth: u64, wanted: Result<usize, Ending>) {
+    let mut reader = FaultyReader::new(PROGRAM).at_most(1).failing_at(nth);
+    let met = length_read(alloc, &mut reader);
+    assert!(rt; met == wanted, "read {nth} fails");
+    assert!(rt; reader.reads() == nth.min(8), "read {nth} fails");
+}
+
 #[test]
 fn each_read_fails(rt: HostRuntime) {
-    for (nth, wanted) in FAULTS {
-        let mut reader = FaultyReader::new(PROGRAM).at_most(1).failing_at(nth);
-        let met = length_read(rt.alloc(), &mut reader);
-        assert_eq!(rt; met, wanted, "read {nth} fails");
-        assert_eq!(rt; reader.reads(), nth.min(8), "read {nth} fails");
+    for (nth, wanted) in FAULTS.iter() {
+        expect_fault(&rt, rt.alloc(), *nth, *wanted);
     }
     let mut reader = FaultyReader::new(PROGRAM).failing_at_end();
     let met = length_read(rt.alloc(), &mut reader);
-    assert_eq!(rt; met, Err(Ending::Read));
+    assert!(rt; met == Err(Ending::Read));
 }
 
 // The bytes themselves, in pieces of any size.
 #[test]
-fn all_bytes(rt: HostRuntime) -> Result<(), Fail> {
-    for most in [1, 2, 7, 4096] {
-        let mut reader = FaultyReader::new(PROGRAM).at_most(most);
+fn all_bytes(rt: HostRuntime) {
+    for most in [1, 2, 7, 4096].iter() {
+        let mut reader = FaultyReader::new(PROGRAM).at_most(*most);
         let Ok(tape) = read_tape(rt.alloc(), &mut reader) else {
             panic!(rt; "it is read");
         };
-        assert_eq!(rt; tape.as_slice(), PROGRAM.as_slice());
+        assert!(rt; tape.as_slice() == PROGRAM.as_slice());
     }
-    Ok(())
 }
 
 // Of a program that is too long one byte is read behind the most that a tape may have, and no more.
@@ -68,18 +72,18 @@ fn expect_left(
 ) {
     let mut reader = FaultyReader::new(bytes).at_most(most);
     let met = length_read(alloc, &mut reader);
-    assert_eq!(rt; met, wanted, "{most} bytes a read");
-    assert_eq!(rt; reader.rest().len(), left, "{most} bytes a read");
+    let is_met = met == wanted && reader.rest().len() == left;
+    assert!(rt; is_met, "{most} bytes a read");
 }
 
 #[test]
 fn too_many_bytes(rt: HostRuntime) -> Result<(), Fail> {
     let bytes = vec![in rt.alloc(); b'x'; 33_554_440]?;
     let (longest, _) = bytes.as_slice().split_at(33_554_432);
-    for most in [4095, 4096] {
+    for most in [4095, 4096].iter() {
         let beyond = Err(Ending::Limit);
-        expect_left(&rt, rt.alloc(), bytes.as_slice(), most, beyond, 7);
-        expect_left(&rt, rt.alloc(), longest, most, Ok(33_554_432), 0);
+        expect_left(&rt, rt.alloc(), bytes.as_slice(), *most, beyond, 7);
+        expect_left(&rt, rt.alloc(), longest, *most, Ok(33_554_432), 0);
     }
     Ok(())
 }
@@ -88,11 +92,12 @@ fn expect_memory(rt: &impl Abort, memory: &Refusing<Global>) -> Result<(), Alloc
     let refusals = memory.refusals();
     let mut reader = FaultyReader::new(PROGRAM).at_most(1);
     let met = length_read(memory, &mut reader);
-    if memory.refusals() == refusals {
-        assert_eq!(rt; met, Ok(7));
+    let wanted = if memory.refusals() == refusals {
+        Ok(7)
     } else {
-        assert_eq!(rt; met, Err(Ending::Memory));
-    }
+        Err(Ending::Memory)
+    };
+    assert!(rt; met == wanted);
     Ok(())
 }
 
