@@ -79,7 +79,7 @@ fn expect_run(
 }
 
 // One byte at a time and all at once write the same.
-const ROWS: [(&[u8], &[u8]); 3] = [
+const ROWS: &[(&[u8], &[u8])] = &[
     (b"", b""),
     (b"a)b,c'", b"a"),
     (
@@ -90,17 +90,10 @@ const ROWS: [(&[u8], &[u8]); 3] = [
 
 #[test]
 fn pieces_of_any_size(rt: HostRuntime) -> Result<(), Fail> {
-    for (input, output) in ROWS {
-        for most in [1, 2, 4096] {
-            expect_run(
-                &rt,
-                input,
-                most,
-                Fault::None,
-                DEFAULTS,
-                output,
-                Ending::Ended,
-            )?;
+    for (input, output) in ROWS.iter() {
+        for most in [1, 2, 4096].iter() {
+            let ending = Ending::Ended;
+            expect_run(&rt, input, *most, Fault::None, DEFAULTS, output, ending)?;
         }
     }
     Ok(())
@@ -111,7 +104,7 @@ const LOOP: &[u8] = b"#(ds,L,(#(ps,x)#(cl,L)))'#(cl,L)'";
 
 // An input, a number of steps, what is printed within them, and how the run ends. `AB'` takes 19 steps, and one more try finds
 // the end.
-const BUDGETS: [(&[u8], u64, &[u8], Ending); 9] = [
+const BUDGETS: &[(&[u8], u64, &[u8], Ending)] = &[
     (b"AB'", 1, b"", Ending::Budget),
     (b"AB'", 10, b"", Ending::Budget),
     (b"AB'", 11, b"AB", Ending::Budget),
@@ -125,10 +118,13 @@ const BUDGETS: [(&[u8], u64, &[u8], Ending); 9] = [
 
 #[test]
 fn the_budget_is_kept(rt: HostRuntime) -> Result<(), Fail> {
-    for (input, budget, output, ending) in BUDGETS {
-        for journal in [1, 5, 64] {
-            let options = Options { budget, journal };
-            expect_run(&rt, input, 4096, Fault::None, options, output, ending)?;
+    for (input, budget, output, ending) in BUDGETS.iter() {
+        for journal in [1, 5, 64].iter() {
+            let options = Options {
+                budget: *budget,
+                journal: *journal,
+            };
+            expect_run(&rt, input, 4096, Fault::None, options, output, *ending)?;
         }
     }
     Ok(())
@@ -138,7 +134,7 @@ fn the_budget_is_kept(rt: HostRuntime) -> Result<(), Fail> {
 // end. Output is written and flushed before each read, and before the end.
 const INPUT: &[u8; 10] = b"#(ps,A)'B'";
 
-const FAULTS: [(Fault, &[u8], Ending); 20] = [
+const FAULTS: &[(Fault, &[u8], Ending)] = &[
     (Fault::Read(1), b"", Ending::Read),
     (Fault::Read(8), b"", Ending::Read),
     (Fault::Read(9), b"A", Ending::Read),
@@ -163,20 +159,18 @@ const FAULTS: [(Fault, &[u8], Ending); 20] = [
 
 #[test]
 fn each_fault(rt: HostRuntime) -> Result<(), Fail> {
-    for (fault, output, ending) in FAULTS {
-        expect_run(&rt, INPUT, 1, fault, DEFAULTS, output, ending)?;
+    for (fault, output, ending) in FAULTS.iter() {
+        expect_run(&rt, INPUT, 1, *fault, DEFAULTS, output, *ending)?;
     }
+    Ok(())
+}
+
+#[test]
+fn each_fault_before_output(rt: HostRuntime) -> Result<(), Fail> {
     for nth in 1..=8 {
         expect_run(&rt, INPUT, 1, Fault::Read(nth), DEFAULTS, b"", Ending::Read)?;
-        expect_run(
-            &rt,
-            INPUT,
-            1,
-            Fault::Flush(nth),
-            DEFAULTS,
-            b"",
-            Ending::Write,
-        )?;
+        let flush = Fault::Flush(nth);
+        expect_run(&rt, INPUT, 1, flush, DEFAULTS, b"", Ending::Write)?;
     }
     Ok(())
 }
@@ -188,12 +182,12 @@ fn expect_memory(
 ) -> Result<(), AllocError> {
     let refusals = memory.refusals();
     let (ending, written) = run_over(rt, memory, INPUT, 4096, Fault::None, DEFAULTS)?;
-    if memory.refusals() == refusals {
-        assert!(rt; ending == Ending::Ended && written.as_slice() == b"AB".as_slice());
+    let is_met = if memory.refusals() == refusals {
+        ending == Ending::Ended && written.as_slice() == b"AB".as_slice()
     } else {
-        assert!(rt; ending == Ending::Memory);
-        assert!(rt; b"AB".starts_with(written.as_slice()));
-    }
+        ending == Ending::Memory && b"AB".starts_with(written.as_slice())
+    };
+    assert!(rt; is_met, "{ending:?} behind {written:?}");
     Ok(())
 }
 
@@ -205,26 +199,26 @@ fn each_request(rt: HostRuntime) -> Result<(), Fail> {
     Ok(())
 }
 
+// Puts a letter so many times behind what is there.
+fn add_letters(input: &mut Vec<u8>, letter: u8, count: usize) -> Result<(), AllocError> {
+    Ok(input.resize(input.len().saturating_add(count), letter)?)
+}
+
 // A call that would give 4,096 times 4,097 bytes.
+fn long_call(alloc: Global) -> Result<Vec<u8>, AllocError> {
+    let mut input = Vec::from_slice(alloc, b"#(ds,F,(")?;
+    add_letters(&mut input, b'x', 4_096)?;
+    input.extend_from_slice(b"))#(ss,F,x)#(cl,F,(")?;
+    add_letters(&mut input, b'y', 4_097)?;
+    input.extend_from_slice(b"))'")?;
+    Ok(input)
+}
+
 #[test]
 fn a_value_that_is_too_long(rt: HostRuntime) -> Result<(), Fail> {
-    let alloc = rt.alloc();
-    let gaps = vec![in alloc; b'x'; 4_096]?;
-    let filling = vec![in alloc; b'y'; 4_097]?;
-    let mut input = Vec::from_slice(alloc, b"#(ds,F,(")?;
-    input.extend_from_slice(gaps.as_slice())?;
-    input.extend_from_slice(b"))#(ss,F,x)#(cl,F,(")?;
-    input.extend_from_slice(filling.as_slice())?;
-    input.extend_from_slice(b"))'")?;
-    expect_run(
-        &rt,
-        input.as_slice(),
-        4096,
-        Fault::None,
-        DEFAULTS,
-        b"",
-        Ending::Limit,
-    )?;
+    let call = long_call(rt.alloc())?;
+    let (input, ending) = (call.as_slice(), Ending::Limit);
+    expect_run(&rt, input, 4096, Fault::None, DEFAULTS, b"", ending)?;
     Ok(())
 }
 

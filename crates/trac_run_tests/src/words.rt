@@ -46,7 +46,7 @@ fn is_bad(line: &Line) -> bool {
 }
 
 // Words, and the options of the run that they ask for.
-const RUNS: [(&[&str], Options); 3] = [
+const RUNS: &[(&[&str], Options)] = &[
     (
         &["trac", "run"],
         Options {
@@ -72,18 +72,18 @@ const RUNS: [(&[&str], Options); 3] = [
 
 #[test]
 fn runs(rt: HostRuntime) -> Result<(), Fail> {
-    for (words, options) in RUNS {
+    for (words, options) in RUNS.iter() {
         let line = line_of(rt.alloc(), words)?;
-        expect_run(&rt, &line, options);
+        expect_run(&rt, &line, *options);
     }
     Ok(())
 }
 
-const DEBUGGER: [&str; 5] = ["trac", "debug", "F", "--journal", "9"];
+const DEBUGGER: &[&str] = &["trac", "debug", "F", "--journal", "9"];
 
 #[test]
 fn debuggers(rt: HostRuntime) -> Result<(), Fail> {
-    let line = line_of(rt.alloc(), &DEBUGGER)?;
+    let line = line_of(rt.alloc(), DEBUGGER)?;
     let options = Options {
         budget: 1_000_000_000,
         journal: 9,
@@ -92,7 +92,7 @@ fn debuggers(rt: HostRuntime) -> Result<(), Fail> {
     Ok(())
 }
 
-const HELPS: [&[&str]; 4] = [
+const HELPS: &[&[&str]] = &[
     &["trac", "--help"],
     &["trac", "-h"],
     &["trac", "run", "--help"],
@@ -101,7 +101,7 @@ const HELPS: [&[&str]; 4] = [
 
 #[test]
 fn helps(rt: HostRuntime) -> Result<(), Fail> {
-    for words in HELPS {
+    for words in HELPS.iter() {
         let line = line_of(rt.alloc(), words)?;
         assert!(rt; shows_help(&line), "help is shown");
     }
@@ -110,7 +110,7 @@ fn helps(rt: HostRuntime) -> Result<(), Fail> {
     Ok(())
 }
 
-const BAD_LINES: [&[&str]; 14] = [
+const BAD_LINES: &[&[&str]] = &[
     &["trac"],
     &["trac", "walk"],
     &["trac", "help"],
@@ -129,7 +129,7 @@ const BAD_LINES: [&[&str]; 14] = [
 
 #[test]
 fn bad_lines(rt: HostRuntime) -> Result<(), Fail> {
-    for words in BAD_LINES {
+    for words in BAD_LINES.iter() {
         let line = line_of(rt.alloc(), words)?;
         assert!(rt; is_bad(&line), "it is not understood");
     }
