@@ -7,7 +7,7 @@ use trac_faults::Refusing;
 use trac_rules::refusal::Refusal;
 use trac_session::{Command, Reply, Session};
 
-const COMMANDS: [Command<'static>; 11] = [
+const COMMANDS: &[Command<'static>] = &[
     Command::Feed(b"AB'"),
     Command::Step,
     Command::Step,
@@ -21,7 +21,7 @@ const COMMANDS: [Command<'static>; 11] = [
     Command::Back,
 ];
 
-const REPLIES: [Reply; 11] = [
+const REPLIES: &[Reply] = &[
     Reply::Done,
     Reply::Done,
     Reply::Done,
@@ -62,12 +62,12 @@ fn perform_list(
     replies: &mut Vec<Reply>,
 ) -> Result<bool, Refusal> {
     let refusals = memory.refusals();
-    let Err(refusal) = perform(session, &COMMANDS, replies) else {
+    let Err(refusal) = perform(session, COMMANDS, replies) else {
         return Ok(memory.refusals() > refusals);
     };
     assert!(rt; refusal == Refusal::Memory);
     assert!(rt; shows(session, b"#(ps,#(rs))"));
-    perform(session, &COMMANDS, replies)?;
+    perform(session, COMMANDS, replies)?;
     Ok(false)
 }
 
@@ -82,7 +82,7 @@ fn expect_replies(
     let is_refused = perform_list(rt, memory, session, &mut replies)?;
     perform(session, &[], &mut replies)?;
     assert!(rt; replies.len() == COMMANDS.len());
-    assert!(rt; is_refused || replies.as_slice() == REPLIES.as_slice());
+    assert!(rt; is_refused || replies.as_slice() == REPLIES);
     assert!(rt; is_refused || shows(session, b",#(rs))"));
     Ok(())
 }

@@ -5,13 +5,10 @@ use std::alloc::{AllocError, Global};
 use std::process::Abort;
 use std::test::Fail;
 use trac_faults::Refusing;
-use trac_machine_tests::shown::state_shown;
+use trac_machine_tests::shown::{PROGRAMS, state_shown};
 use trac_rules::limit::JOURNAL_LIMIT;
 use trac_rules::refusal::Refusal;
 use trac_session::{Session, Walk};
-
-// A whole input, what it prints, and after how many steps it ends: 0 where no count is stated.
-type Run = (&'static [u8], &'static [u8], u64);
 
 // The input of a program that reads a form by segments, single bytes, counts and up to a text, sets the meta character, reads
 // one byte, turns the trace on and off, and halts before it prints what it has gathered.
@@ -19,7 +16,7 @@ const EACH_READING: &[u8] =
     b"#(ds,F,axbcy)#(ss,F,x,y)#(cs,F)#(cc,F)#(cn,F,-1)#(in,F,c)#(cm,;)'#(rc)xy#(tn)#(tf)z#(hl);w;";
 
 // Three print `AB`: in one part, in two, and by calls on a form. The last one puts three forms aside and brings them back.
-const SHORT_RUNS: [(&[u8], &[u8]); 5] = [
+const SHORT_RUNS: &[(&[u8], &[u8])] = &[
     (b"AB'", b"AB"),
     (b"#(ps,A)'B'", b"AB"),
     (
@@ -31,79 +28,6 @@ const SHORT_RUNS: [(&[u8], &[u8]); 5] = [
         b"#(ds,A,1)#(ds,B,2)#(ds,a,3)#(sb,G,A,B,a)#(fb,G)#(eb,G)#(cl,A)#(cl,B)#(cl,a)'",
         b"123",
     ),
-];
-
-const RUNS: [Run; 25] = [
-    (b"", b"", 7),
-    (b"AB'", b"AB", 19),
-    (b"a(b", b"", 18),
-    (b"((a'", b"", 0),
-    (b"a)b,c'", b"a", 22),
-    (b"a#b##c'", b"a#b##c", 0),
-    (b"\t#(PS,A)#(Ps,(#(ps,B)))'", b"A#(ps,B)", 0),
-    (b"##(dv,1,0,(#(ad,2,2)))'#(bs,3,12)'", b"420", 0),
-    (
-        b"#(ds,Factorial,(#(eq,X,1,1,(#(ml,X,#(cl,Factorial,#(su,X,1)))))))'#(ss,Factorial,X)'#(cl,Factorial,5)'",
-        b"120",
-        0,
-    ),
-    (
-        b"#(ds,A,1)'#(ds,B,2)'#(sb,G,A,C,B,A)'#(ln,;)'#(cl,G)'#(ds,A,9)#(fb,G)#(cl,A)#(cl,B)'#(eb,G)#(ln,;)'",
-        b";G012;A;B",
-        0,
-    ),
-    (
-        b"#(ds,G,x)#(sb,G,G)#(pf,G)#(fb,G)#(pf,G)#(eb,G)#(cl,G)'",
-        b"<^>0<^>xx",
-        0,
-    ),
-    (
-        b"#(sb,E)#(sb,F)#(cl,E);#(cl,F)'#(eb,E)#(sb,E)#(cl,E)'",
-        b"0;12",
-        0,
-    ),
-    // A pointer that moves in a copy stays where it is in the block.
-    (
-        b"#(ds,A,axb)#(ss,A,x)#(cc,A)#(ds,B,2)#(ds,a,3)#(sb,G,A,B,a)#(fb,G)#(cc,A)#(fb,G)#(pf,A)'",
-        b"a<^><1>bab",
-        0,
-    ),
-    (
-        b"#(ds,F,yxb)'#(ss,F,y)'#(pf,F)'#(ss,F,x)'#(pf,F)'",
-        b"<^><1>xb<^><1><1>b",
-        0,
-    ),
-    (b"#(ds,a,1)'#(dd,a)'#(ds,a,2)'#(cl,a)'", b"2", 0),
-    (
-        b"#(ds,F,AxB)'#(ss,F,x)'#(cs,F,none)'#(cs,F,none)'##(cs,F,(#(ad,1,2)))'#(cr,F)#(cl,F,-)'",
-        b"AB3A-B",
-        0,
-    ),
-    (
-        b"#(ds,F,abcde)'#(cn,F,3,Z);'#(cn,F,-2,Z);'#(cn,F,0,Z);'#(cn,F,9,Z);'#(cn,F,1,Z);'#(cr,F)#(cn,F,-1,Z)'",
-        b"abc;bc;;bcde;Z;Z",
-        0,
-    ),
-    (
-        b"#(ds,G,axbxc)#(ss,G,x)#(in,G,bc,no);#(in,G,c,no);#(cs,G,end)'",
-        b"no;ab;end",
-        0,
-    ),
-    (
-        b"#(tn)'#(ps,a)'#(tf)'",
-        b"#(ps*)\n#(rs)\n#(ps*a)\na#(ps*)\n#(rs)\n#(tf)\n",
-        0,
-    ),
-    (b"#(rc)'x'", b"x", 0),
-    (b"#(cm,;)'A;B;", b"AB", 0),
-    (b"#(ps,a)#(hl)#(ps,b)'c'", b"a", 0),
-    (b"#(#(#(#(#(#(#(#(#(#(#(#(#(#(#(#('", b"", 0),
-    (
-        b"#(ds,AA,Cat)'#(ds,BB,(#(cl,AA)))'#(ps,(#(cl,BB)))'#(ps,##(cl,BB))'#(ps,#(cl,BB))'",
-        b"#(cl,BB)#(cl,AA)Cat",
-        0,
-    ),
-    (EACH_READING, b"abbb#(tf)\n", 0),
 ];
 
 // What the session shows of its last state.
@@ -225,26 +149,11 @@ fn steps_over(states: &[Vec<u8>]) -> u64 {
     states.len().saturating_sub(1) as u64
 }
 
-fn expect_run(
-    rt: &impl Abort,
-    plain: Global,
-    memory: Memory<'_>,
-    (input, output, steps): Run,
-) -> Result<(), Fail> {
-    let states = states_of(rt, plain, memory, input, output)?;
-    let taken = steps_over(states.as_slice());
-    assert!(rt;
-        steps == 0 || taken == steps,
-        "{taken} steps from {input:?}"
-    );
-    Ok(())
-}
-
 #[test]
 fn each_state_on_the_way_back(rt: HostRuntime) -> Result<(), Fail> {
     let memory = Refusing::new(rt.alloc());
-    for run in RUNS {
-        expect_run(&rt, rt.alloc(), &memory, run)?;
+    for (input, output) in PROGRAMS.iter() {
+        states_of(&rt, rt.alloc(), &memory, input, output)?;
     }
     Ok(())
 }
@@ -340,7 +249,7 @@ fn expect_short_run(
 #[test]
 fn each_request(rt: HostRuntime) -> Result<(), Fail> {
     let memory = Refusing::new(rt.alloc());
-    for (input, output) in SHORT_RUNS {
+    for (input, output) in SHORT_RUNS.iter() {
         expect_short_run(&rt, &memory, input, output)?;
     }
     Ok(())
