@@ -124,11 +124,14 @@ fn is_read_to_its_end(rt: HostRuntime) -> Result<(), Fail> {
     Ok(())
 }
 
+// How many bytes each call gives, and the first of them.
+const REPEATED: &[(usize, u8)] = &[(4, b'a'), (2, b'e'), (4, b'a'), (2, b'e')];
+
 #[test]
 fn repeats_its_bytes(rt: HostRuntime) {
     let mut reader = RepeatingReader::new(b"abcdef");
-    for given in [(4, b'a'), (2, b'e'), (4, b'a'), (2, b'e')] {
-        assert!(rt; read_once(&mut reader) == Ok(given));
+    for given in REPEATED.iter() {
+        assert!(rt; read_once(&mut reader) == Ok(*given));
     }
     assert!(rt; read_once(&mut RepeatingReader::new(b"")) == Ok((0, 0)));
 }

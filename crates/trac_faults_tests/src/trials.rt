@@ -54,28 +54,37 @@ fn number_at(map: &Numbered<'_>, n: u8) -> Option<u8> {
     }
 }
 
-fn insert_each<'a>(
+// A number is put in, which may be refused once: nothing has changed then, and the next try is accepted.
+fn insert_once<'a>(
     rt: &impl Abort,
     memory: Memory<'a>,
     map: &mut Numbered<'a>,
+    n: u8,
 ) -> Result<(), AllocError> {
+    if insert_number(map, memory, n).is_err() {
+        let is_as_before = map.len() == n as usize && number_at(map, n).is_none();
+        assert!(rt; is_as_before);
+        insert_number(map, memory, n)?;
+    }
+    Ok(())
+}
+
+fn holds_each(map: &Numbered<'_>) -> bool {
     for n in 0..40u8 {
-        if insert_number(map, memory, n).is_err() {
-            assert!(rt; map.len() == n as usize, "as before");
-            assert!(rt; number_at(map, n).is_none(), "as before");
-            insert_number(map, memory, n)?;
+        if number_at(map, n) != Some(n) {
+            return false;
         }
     }
-    for n in 0..40u8 {
-        assert!(rt; number_at(map, n) == Some(n));
-    }
-    assert!(rt; map.len() == 40);
-    Ok(())
+    map.len() == 40
 }
 
 fn insert_all(rt: &impl Abort, memory: Memory<'_>) -> Result<(), AllocError> {
     let mut map = IndexMap::new(memory);
-    insert_each(rt, memory, &mut map)
+    for n in 0..40u8 {
+        insert_once(rt, memory, &mut map, n)?;
+    }
+    assert!(rt; holds_each(&map));
+    Ok(())
 }
 
 #[test]
@@ -90,18 +99,27 @@ fn each_request_of_a_vector(rt: HostRuntime) -> Result<(), Fail> {
     Ok(())
 }
 
-// In the last two rows the runs do not suffice: each of them met a refusal.
+// How many runs are made at most, and whether they suffice. Where they do not, each of them met a refusal.
+const MOST_RUNS: &[(u64, bool)] = &[(1_000, true), (3, false), (0, false)];
+
+fn is_met(runs: Option<u64>, refusals: u64, most_runs: u64, is_enough: bool) -> bool {
+    if is_enough {
+        runs > Some(40)
+    } else {
+        runs.is_none() && refusals == most_runs
+    }
+}
+
 #[test]
 fn each_request_of_a_map(rt: HostRuntime) -> Result<(), Fail> {
     let memory = Refusing::new(rt.alloc());
-    for (most_runs, is_enough) in [(1_000, true), (3, false), (0, false)] {
-        let refusals = memory.refusals();
-        let runs = memory.refuse_each(most_runs, |_| insert_all(&rt, &memory))?;
-        assert!(rt; (runs > Some(40)) == is_enough, "{runs:?} runs");
-        let met = memory.refusals().saturating_sub(refusals);
+    for (most_runs, is_enough) in MOST_RUNS.iter() {
+        let before = memory.refusals();
+        let runs = memory.refuse_each(*most_runs, |_| insert_all(&rt, &memory))?;
+        let refusals = memory.refusals().saturating_sub(before);
         assert!(rt;
-            is_enough || runs.is_none() && met == most_runs,
-            "{met} refusals"
+            is_met(runs, refusals, *most_runs, *is_enough),
+            "{runs:?} runs"
         );
     }
     Ok(())
