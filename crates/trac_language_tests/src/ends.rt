@@ -164,7 +164,7 @@ fn play_each<'a, E: TwoEnds<u8, Memory<'a>>>(
     rt: &impl Abort,
     memory: Memory<'a>,
 ) -> Result<(), GapError> {
-    expect_each(rt, memory, 5, |_| play_row::<E, Memory<'a>>(rt, memory))
+    expect_each(rt, memory, 5, |_| play_row::<E, Memory<'_>>(rt, memory))
 }
 
 #[test]
@@ -324,16 +324,15 @@ fn nearly_full_blocks(rt: HostRuntime) -> Result<(), Fail> {
     Ok(())
 }
 
-// The first two items on the left and the last on the right, and then one from the left to the right.
+// An item on either side, one more on the left, and then one from the left to the right.
 fn put_three<T: Copy, E: TwoEnds<T, A>, A: Allocator + Copy>(
     ends: &mut E,
-    first: T,
-    second: T,
-    last: T,
+    (first, last): (T, T),
+    between: &[T],
 ) -> Result<(), GapError> {
     push(ends, first, true)?;
     push(ends, last, false)?;
-    put(ends, &[second], true)?;
+    put(ends, between, true)?;
     shift_right(ends, 1);
     Ok(())
 }
@@ -341,7 +340,7 @@ fn put_three<T: Copy, E: TwoEnds<T, A>, A: Allocator + Copy>(
 #[test]
 fn wide_items(rt: HostRuntime) -> Result<(), Fail> {
     let mut wide: GapBuf<(u64, u8)> = GapBuf::new(rt.alloc());
-    put_three(&mut wide, (7, 1), (9, 3), (8, 2))?;
+    put_three(&mut wide, ((7, 1), (8, 2)), &[(9, 3)])?;
     assert!(rt; wide.left() == [(7, 1)].as_slice());
     assert!(rt; wide.right() == [(9, 3), (8, 2)].as_slice());
     Ok(())
@@ -350,7 +349,7 @@ fn wide_items(rt: HostRuntime) -> Result<(), Fail> {
 #[test]
 fn items_without_a_size(rt: HostRuntime) -> Result<(), Fail> {
     let mut bare: GapBuf<(), Global> = GapBuf::new(rt.alloc());
-    put_three(&mut bare, (), (), ())?;
+    put_three(&mut bare, ((), ()), &[()])?;
     shift_left(&mut bare, 1);
     assert!(rt; bare.left().len() == 2 && bare.right().len() == 1);
     Ok(())

@@ -181,7 +181,7 @@ fn each_fault_before_output(rt: HostRuntime) -> Result<(), Fail> {
 }
 
 // With three bytes a read the second line ends in the eighth, which has the byte behind it too, and the third in the tenth.
-const FAULTS_IN_LINES: [(Fault, &[u8], Ending); 9] = [
+const FAULTS_IN_LINES: &[(Fault, &[u8], Ending)] = &[
     (Fault::Read(2), b"", Ending::Read),
     (Fault::Read(8), b"", Ending::Read),
     (Fault::Read(9), b"<'>", Ending::Read),
@@ -195,8 +195,8 @@ const FAULTS_IN_LINES: [(Fault, &[u8], Ending); 9] = [
 
 #[test]
 fn each_fault_within_a_line(rt: HostRuntime) -> Result<(), Fail> {
-    for (fault, output, ending) in FAULTS_IN_LINES {
-        expect_run(&rt, LINES, 3, fault, DEFAULTS, output, ending)?;
+    for (fault, output, ending) in FAULTS_IN_LINES.iter() {
+        expect_run(&rt, LINES, 3, *fault, DEFAULTS, output, *ending)?;
     }
     Ok(())
 }

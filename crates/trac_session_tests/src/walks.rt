@@ -133,6 +133,30 @@ const FORMS_COME_AND_GO: &[Act] = &[
     Initial,
 ];
 
+// Whole runs: the steps until the input ends, and what they print.
+const NO_INPUT: &[Act] = &[End, ForwardRefused(100, 7, Ended), Pending(b"")];
+
+const ONE_TEXT: &[Act] = &[
+    Feed(b"AB'"),
+    End,
+    ForwardRefused(100, 19, Ended),
+    Pending(b"AB"),
+];
+
+const AN_UNMATCHED_OPENING_TO_THE_END: &[Act] = &[
+    Feed(b"a(b"),
+    End,
+    ForwardRefused(100, 18, Ended),
+    Pending(b""),
+];
+
+const A_STRAY_CLOSING_TO_THE_END: &[Act] = &[
+    Feed(b"a)b,c'"),
+    End,
+    ForwardRefused(100, 22, Ended),
+    Pending(b"a"),
+];
+
 const WALKS: &[&[Act]] = &[
     ELEVEN_STEPS_AND_BACK,
     A_STRAY_CLOSING,
@@ -145,6 +169,10 @@ const WALKS: &[&[Act]] = &[
     NOTHING_BEHIND_THE_END,
     A_COMMIT_KEEPS_WHAT_IS_UNREAD,
     FORMS_COME_AND_GO,
+    NO_INPUT,
+    ONE_TEXT,
+    AN_UNMATCHED_OPENING_TO_THE_END,
+    A_STRAY_CLOSING_TO_THE_END,
 ];
 
 #[test]

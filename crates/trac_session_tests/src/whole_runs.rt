@@ -30,14 +30,6 @@ const SHORT_RUNS: &[(&[u8], &[u8])] = &[
     ),
 ];
 
-// A whole input, what it prints, and after how many steps it ends.
-const COUNTED: &[(&[u8], &[u8], u64)] = &[
-    (b"", b"", 7),
-    (b"AB'", b"AB", 19),
-    (b"a(b", b"", 18),
-    (b"a)b,c'", b"a", 22),
-];
-
 // What the session shows of its last state.
 fn shown(plain: Global, session: &Session<Memory<'_>>) -> Result<Vec<u8>, AllocError> {
     state_shown(plain, session.machine())
@@ -162,16 +154,6 @@ fn each_state_on_the_way_back(rt: HostRuntime) -> Result<(), Fail> {
     let memory = Refusing::new(rt.alloc());
     for (input, output) in PROGRAMS.iter() {
         states_of(&rt, rt.alloc(), &memory, input, output)?;
-    }
-    Ok(())
-}
-
-#[test]
-fn ends_after_so_many_steps(rt: HostRuntime) -> Result<(), Fail> {
-    let memory = Refusing::new(rt.alloc());
-    for (input, output, steps) in COUNTED.iter() {
-        let states = states_of(&rt, rt.alloc(), &memory, input, output)?;
-        assert!(rt; steps_over(states.as_slice()) == *steps, "from {input:?}");
     }
     Ok(())
 }
