@@ -261,13 +261,3 @@ fn input_without_end(rt: HostRuntime) {
     assert!(rt; ending == Ending::Budget);
     assert!(rt; writer.contents() == [b'A'; 91].as_slice());
 }
-
-// More than a tape may hold, and no meta character in it.
-#[test]
-fn a_line_without_end(rt: HostRuntime) {
-    let mut reader = RepeatingReader::new(b"a");
-    let mut writer = FaultyWriter::new(rt.alloc());
-    let ending = run(rt.alloc(), &mut reader, &mut writer, DEFAULTS);
-    assert!(rt; ending == Ending::Limit);
-    assert!(rt; writer.contents().is_empty());
-}
