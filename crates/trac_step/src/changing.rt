@@ -37,10 +37,7 @@ pub(crate) fn make_place<A: Allocator + Copy>(
 }
 
 // Makes places for one more block, and for its address under a name.
-fn make_place_aside<A: Allocator + Copy>(
-    store: &mut Store<A>,
-    name: &[u8],
-) -> Result<(), Refusal>
+fn make_place_aside<A: Allocator + Copy>(store: &mut Store<A>, name: &[u8]) -> Result<(), Refusal>
     ensures known { OnOk result (IsTrue (set.contains store.new.known name.now)) }
     ensures spare { OnOk result (1 ≤ store.new.spare) }
     ensures kept { storage_in store.new ≡ storage_in store.old }

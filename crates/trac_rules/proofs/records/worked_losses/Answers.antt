@@ -27,6 +27,18 @@ pub returns-clause-begun_functions : goal.returns-clause-begun_functions
 unfolding match_of scan texts_fit performed step answer
 returns-clause-begun_functions c = refl
 
+pub returns-clause-layout : goal.returns-clause-layout
+returns-clause-layout c = refl
+
+pub returns-clause-beginning : goal.returns-clause-beginning
+returns-clause-beginning c = refl
+
+pub returns-clause-protecting : goal.returns-clause-protecting
+returns-clause-protecting c = refl
+
+pub returns-clause-sharp : goal.returns-clause-sharp
+returns-clause-sharp c = refl
+
 pub returns-clause-reading : goal.returns-clause-reading
 returns-clause-reading c = refl
 

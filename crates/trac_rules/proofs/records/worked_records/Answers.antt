@@ -86,6 +86,9 @@ pub returns-clause-layout : goal.returns-clause-layout
 unfolding match_of
 returns-clause-layout c = refl
 
+pub returns-clause-layout_weight : goal.returns-clause-layout_weight
+returns-clause-layout_weight c = refl
+
 pub returns-clause-argument_back : goal.returns-clause-argument_back
 returns-clause-argument_back c = refl
 
