@@ -1,3 +1,4 @@
+pub mod Counted
 pub mod Journaled
 pub mod Walked
 pub mod Performed

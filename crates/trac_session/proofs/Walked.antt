@@ -1,12 +1,12 @@
 -- Walks, step by step.
-use Rattle.std.proofs.Common.{◌≡◌, ℕ, suc, ◌+◌, ◌<◌, ◌≤◌, Bool, true, false, refl, sym, ap, subst, ◌∙◌, arith, inl, inr, ⊎_elim}
+use Rattle.std.proofs.Common.{◌≡◌, ℕ, suc, ◌+◌, ◌<◌, ◌≤◌, true, false, refl, sym, ap, subst, ◌∙◌, arith, inl, inr, ⊎_elim}
 use Rattle.std.proofs.lemmas.Bool.{cases_lt}
 use Rattle.std.specs.Prelude.{None, Some, option_and_then}
 use Rattle.trac_rules.specs.declared.refusal.Refusal.{Refusal}
 use Rattle.trac_rules.specs.declared.refusal.Refusal.TheVariants.{Memory, TooLong, NeedInput, Ended, JournalFull, AtStart, Closed, NotMet}
 use Rattle.trac_rules.specs.declared.reply.Reply.{Reply}
 use Rattle.trac_rules.specs.declared.reply.Reply.TheVariants.{Done, Refused}
-use Rattle.trac_rules.specs.Session.{PlainSession, Command, Step, Back, Goal, HasEnded, done, refused, answer, accepted_by, Answers, repeated, IsWalk}
+use Rattle.trac_rules.specs.Session.{PlainSession, Command, Step, Back, Goal, done, refused, answer, accepted_by, Answers, repeated, IsWalk}
 use Rattle.trac_rules.proofs.Replies.{Step_refused, Back_refused}
 use Rattle.trac_session.specs.declared.walking.Direction.{Direction}
 use Rattle.trac_session.specs.declared.walking.Direction.TheVariants as towards

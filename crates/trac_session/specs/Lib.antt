@@ -2,6 +2,7 @@
 pub mod Replies
 pub mod Commands
 pub mod Journal
+pub mod Counted
 pub mod Goals
 pub mod Directions
 -- How proofs store these values.

@@ -1,39 +1,139 @@
-//! Steps of a machine that are kept in a journal.
-ghost use Rattle.std.specs.Prelude.{◌≡◌, ◌≤◌, length, Ok, IfErr, OnOk};
-ghost use Rattle.trac_rules.specs.Outcomes.{MayRefuse};
-ghost use Rattle.trac_rules.specs.Session.{over};
-ghost use Rattle.trac_rules.specs.Stepping.{step};
-ghost use Rattle.trac_step.specs.Record.{before};
-ghost use Rattle.trac_step.specs.Room.{HasRoom, IsNoLess};
-ghost use Rattle.trac_prims.specs.Tape.{tape_of};
-ghost use Rattle.trac_session.specs.Journal.{Remembers};
+//! The journal of a session: what its steps destroyed.
+ghost use Rattle.std.specs.Prelude.{◌≡◌, ◌<◌, ◌++◌, ◌∷◌, [], length, IfErr, OnErr, OnOk, IsOk, MatchOption};
+ghost use Rattle.trac_rules.specs.declared.limit.TheConstants.{JOURNAL_LIMIT};
+ghost use Rattle.trac_step.specs.declared.record.Record.TheVariants.{Moved};
 
 use std::alloc::Allocator;
-use trac_rules::refusal::Refusal;
-use trac_step::{Machine, Record, Tape};
+use std::marker::Model;
+use trac_step::{Machine, Record};
 
 /// What the journal keeps of a step.
-pub type Kept<A> = Record<Machine<A>, A>;
+pub(crate) type Kept<A> = Record<Machine<A>, A>;
 
-/// Takes a step and keeps its record at the end of the journal, or changes nothing.
-/// Refused as the step is, or with `Memory` where the journal cannot grow: the step is undone then (this project's profile).
-pub fn step_kept<A: Allocator + Copy>(
-    machine: &mut Machine<A>,
-    journal: &mut Vec<Kept<A>, A>,
-    tape: Tape,
-) -> Result<(), Refusal>
-    requires { machine.old.state.position ≤ length tape.bytes.now }
-    ensures taken { OnOk result (step (over (tape_of tape.entry)) machine.old.state ≡ Ok machine.new.state) }
-    ensures kept { OnOk result (Remembers before journal.old.items journal.new.items machine.old.state machine.new.state) }
-    ensures refused { IfErr result (MayRefuse (step (over (tape_of tape.entry)) machine.old.state)) }
-    ensures back { OnOk result (HasRoom machine.new machine.old.state) }
-    ensures no_less { IsNoLess machine.old machine.new }
-    ensures same { IfErr result (λ _. machine.new.state ≡ machine.old.state × journal.new.items ≡ journal.old.items) }
-{
-    let record = machine.step(tape)?;
-    let Err(failed) = journal.push(record) else {
-        return Ok(());
-    };
-    machine.undo(failed.value);
-    Err(Refusal::Memory)
+/// What the steps of a session destroyed, a record for each, seen as the list of these, the oldest first. Bytes that were moved one
+/// after another are kept as their number: so a step over a plain byte takes no memory (this project's profile).
+#[derive(Drop)]
+pub(crate) struct Journal<A: Allocator + Copy> {
+    // all records that are not of a moved byte
+    entries: Vec<Entry<A>, A>,
+    // how many bytes were moved since the last of them, a step each
+    moved: usize,
+    // how many records there are in all
+    len: usize,
+}
+
+// A record, and how many bytes were moved between the entry before and its step, a step each.
+#[derive(Drop)]
+struct Entry<A: Allocator + Copy> {
+    moved: usize,
+    kept: Kept<A>,
+}
+
+impl<A: Allocator + Copy> Model for Journal<A> {
+    ghost use Rattle.std.specs.Prelude.{◌≡◌, List, length};
+    ghost use Rattle.std.specs.Coded.{codes};
+    ghost use Rattle.trac_step.specs.Layout.{Shown, shown_code};
+    ghost use Rattle.trac_step.specs.declared.record.Record.{Record};
+
+    ghost Value = { List (Record Shown A) };
+
+    ghost coded = { Prim.hlevel (codes, shown_code) };
+
+    ghost use Rattle.trac_session.specs.Counted.{unrolled};
+
+    ghost view = { λ j. unrolled j.entries.items j.moved };
+
+    ghost invariant = { λ j. j.len ≡ length (unrolled j.entries.items j.moved) };
+}
+
+impl<A: Allocator + Copy> Journal<A> {
+    /// A journal without a record, which takes no memory.
+    pub(crate) fn new(alloc: A) -> Self
+        ensures { result ≡ [] }
+    {
+        Journal {
+            entries: Vec::new(alloc),
+            moved: 0,
+            len: 0,
+        }
+    }
+
+    /// How many records there are.
+    pub(crate) fn len(&self) -> usize
+        ensures { result ≡ length self.now }
+    {
+        self.len
+    }
+
+    /// Keeps one record more, the newest. That of a moved byte takes no memory and is never refused.
+    /// Where there is no memory for any other, the journal stays as it was, and the record is given back.
+    pub(crate) fn push(&mut self, newest: Kept<A>) -> Result<(), Kept<A>>
+        requires { length self.old < JOURNAL_LIMIT }
+        ensures kept { OnOk result (self.new ≡ self.old ++ newest ∷ []) }
+        ensures same { OnErr result (self.new ≡ self.old) }
+        ensures given_back { IfErr result (λ r. r ≡ newest) }
+        ensures moved { newest ≡ Moved → IsOk result }
+    {
+        match newest {
+            Record::Moved => {
+                self.count_moved();
+                Ok(())
+            }
+            other => self.push_entry(other),
+        }
+    }
+
+    // Counts one moved byte more.
+    fn count_moved(&mut self)
+        requires { length self.old < JOURNAL_LIMIT }
+        ensures { self.new ≡ self.old ++ Moved ∷ [] }
+    {
+        self.moved += 1;
+        self.len += 1;
+    }
+
+    // Keeps one record more in an entry of its own, behind the bytes that were moved before its step.
+    fn push_entry(&mut self, newest: Kept<A>) -> Result<(), Kept<A>>
+        requires { length self.old < JOURNAL_LIMIT }
+        ensures kept { OnOk result (self.new ≡ self.old ++ newest ∷ []) }
+        ensures same { OnErr result (self.new ≡ self.old) }
+        ensures given_back { IfErr result (λ r. r ≡ newest) }
+    {
+        let entry = Entry {
+            moved: self.moved,
+            kept: newest,
+        };
+        let Err(failed) = self.entries.push(entry) else {
+            self.moved = 0;
+            self.len += 1;
+            return Ok(());
+        };
+        Err(failed.value.kept)
+    }
+
+    /// Takes out the newest record, where there is one. It takes no memory.
+    pub(crate) fn pop(&mut self) -> Option<Kept<A>>
+        ensures { MatchOption result ((self.old ≡ []) × (self.new ≡ [])) (λ r. self.old ≡ self.new ++ r ∷ []) }
+    {
+        if self.moved > 0 {
+            self.moved -= 1;
+            self.len -= 1;
+            return Some(Record::Moved);
+        }
+        let Some(entry) = self.entries.pop() else {
+            return None;
+        };
+        self.moved = entry.moved;
+        self.len -= 1;
+        Some(entry.kept)
+    }
+
+    /// Forgets all records, and keeps the room for them.
+    pub(crate) fn clear(&mut self)
+        ensures { self.new ≡ [] }
+    {
+        self.entries.clear();
+        self.moved = 0;
+        self.len = 0;
+    }
 }

@@ -3,6 +3,7 @@
 
 mod commands;
 mod journal;
+mod keeping;
 pub mod session;
 mod walk;
 mod walking;

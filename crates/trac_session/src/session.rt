@@ -4,7 +4,8 @@ ghost use Rattle.trac_rules.specs.declared.reply.Reply.TheVariants.{Done};
 ghost use Rattle.trac_rules.specs.Session.{new_session, Feed, End, Step, Back, Commit, answer, Answers, IsWalk, no_goal};
 ghost use Rattle.trac_session.specs.Replies.{reply_of};
 
-use crate::journal::{Kept, step_kept};
+use crate::journal::Journal;
+use crate::keeping::step_kept;
 use crate::walk::Walk;
 use std::alloc::{Allocator, Global};
 use std::marker::Model;
@@ -19,8 +20,7 @@ pub struct Session<A: Allocator + Copy = Global> {
     pub(crate) tape: Vec<u8, A>,
     ended: bool,
     machine: Machine<A>,
-    // the oldest record first
-    journal: Vec<Kept<A>, A>,
+    journal: Journal<A>,
     limit: usize,
 }
 
@@ -34,9 +34,9 @@ impl<A: Allocator + Copy> Model for Session<A> {
 
     ghost coded = { session_code };
 
-    ghost view = { λ s. plain_of before s.limit s.tape.items s.ended s.journal.items s.machine.state };
+    ghost view = { λ s. plain_of before s.limit s.tape.items s.ended s.journal s.machine.state };
 
-    ghost invariant = { λ s. IsSound before s.limit s.tape.items s.journal.items s.machine };
+    ghost invariant = { λ s. IsSound before s.limit s.tape.items s.journal s.machine };
 }
 
 impl<A: Allocator + Copy> Session<A> {
@@ -53,7 +53,7 @@ impl<A: Allocator + Copy> Session<A> {
             tape: Vec::new(alloc),
             ended: false,
             machine: Machine::new(alloc)?,
-            journal: Vec::new(alloc),
+            journal: Journal::new(alloc),
             limit,
         })
     }

@@ -4,24 +4,24 @@ use Rattle.trac_session.proofs.Journaled.{Feed_closed_of_fields, Feed_long_of_fi
 use Rattle.trac_session.proofs.session.Session.feed.Goals as goal
 
 pub returns-then-self : goal.returns-then-self
-returns-then-self g c = Feed_closed_of_fields before _ _ _ c.self.inside.journal.items _ _ _ c.self.view_is c.if-self.true
+returns-then-self g c = Feed_closed_of_fields before _ _ _ c.self.inside.journal _ _ _ c.self.view_is c.if-self.true
 
 pub returns-then-bytes-len : goal.returns-then-bytes-len
 returns-then-bytes-len g c =
     let count : c.len.result ≡ length c.self.inside.tape.items = c.len.ensures ∙ c.self.inside.tape.ok.0 in
-    Feed_long_of_fields before _ _ _ c.self.inside.journal.items _ _ _ c.self.view_is c.if-self.false (omega (arith, c.self.invariant.tape_limit))
+    Feed_long_of_fields before _ _ _ c.self.inside.journal _ _ _ c.self.view_is c.if-self.false (omega (arith, c.self.invariant.tape_limit))
 
 pub returns-in_default : goal.returns-in_default
 returns-in_default g c =
     let count : c.len.result ≡ length c.self.inside.tape.items = c.len.ensures ∙ c.self.inside.tape.ok.0 in
-    Feed_memory_of_fields before _ _ _ _ c.self.inside.journal.items _ _ _ c.self.view_is c.if-self.false (omega (arith, c.self.invariant.tape_limit)) c.in_default.ensures.items
+    Feed_memory_of_fields before _ _ _ _ c.self.inside.journal _ _ _ c.self.view_is c.if-self.false (omega (arith, c.self.invariant.tape_limit)) c.in_default.ensures.items
 
 pub returns : goal.returns
 returns g c =
     let count : c.len.result ≡ length c.self.inside.tape.items = c.len.ensures ∙ c.self.inside.tape.ok.0 in
-    Feed_room_of_fields before _ _ _ _ c.self.inside.journal.items _ _ _ c.self.view_is c.if-self.false (omega (arith, c.self.invariant.tape_limit)) c.in-Ok.ensures.items
+    Feed_room_of_fields before _ _ _ _ c.self.inside.journal _ _ _ c.self.view_is c.if-self.false (omega (arith, c.self.invariant.tape_limit)) c.in-Ok.ensures.items
 
 pub invariant_of-self-2 : goal.invariant_of-self-2
 invariant_of-self-2 g c =
     let count : c.len.result ≡ length c.self.inside.tape.items = c.len.ensures ∙ c.self.inside.tape.ok.0 in
-    IsSound-feed before _ _ _ c.args.bytes.now c.self.inside.journal.items _ c.in-Ok.ensures.items (omega (arith, c.self.invariant.tape_limit)) c.self.invariant
+    IsSound-feed before _ _ _ c.args.bytes.now c.self.inside.journal _ c.in-Ok.ensures.items (omega (arith, c.self.invariant.tape_limit)) c.self.invariant

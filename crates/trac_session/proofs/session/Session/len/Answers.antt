@@ -4,4 +4,4 @@ use Rattle.trac_session.proofs.Journaled.{length-earlier}
 use Rattle.trac_session.proofs.session.Session.len.Goals as goal
 
 pub returns : goal.returns
-returns g c = c.len.ensures ∙ c.self.inside.journal.ok.0 ∙ sym (length-earlier before _ _ _ _ c.self.inside.journal.items _ _ c.self.view_is c.self.invariant.records)
+returns g c = c.len.ensures ∙ sym (length-earlier before _ _ _ _ c.self.inside.journal _ _ c.self.view_is c.self.invariant.records)

@@ -26,8 +26,8 @@ plain_at_first before limit bytes journal last none first at i = plain_of before
 
 pub invariant_of-result : goal.invariant_of-result
 invariant_of-result g c =
-    sound_at_first before c.args.limit c.new.result.items c.new-3.result.items c.in_ok-new.field-0 c.requires.some c.requires.most c.new.ensures.items c.new-3.ensures.items c.in_ok-new.ensures.made
+    sound_at_first before c.args.limit c.new.result.items c.new-3.result c.in_ok-new.field-0 c.requires.some c.requires.most c.new.ensures.items c.new-3.ensures c.in_ok-new.ensures.made
 
 pub returns-clause-made : goal.returns-clause-made
 returns-clause-made g c =
-    plain_at_first before c.args.limit c.new.result.items c.new-3.result.items c.in_ok-new.field-0.state c.new.ensures.items c.new-3.ensures.items c.in_ok-new.ensures.made
+    plain_at_first before c.args.limit c.new.result.items c.new-3.result c.in_ok-new.field-0.state c.new.ensures.items c.new-3.ensures c.in_ok-new.ensures.made

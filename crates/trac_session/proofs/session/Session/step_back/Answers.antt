@@ -1,6 +1,5 @@
-use Rattle.std.proofs.Common.{◌≡◌, ◌∙◌, [], length, subst, sym}
+use Rattle.std.proofs.Common.{◌≡◌, length, subst, sym}
 use Rattle.std.specs.Prelude.{Option, Some, IsSomeAnd}
-use Rattle.std.proofs.lemmas.List.{nil_from_length}
 use Rattle.trac_rules.specs.State.{State}
 use Rattle.trac_step.specs.Record.{before}
 use Rattle.trac_step.specs.Room.{HasRoom}
@@ -13,21 +12,18 @@ some_held x s P e h = subst (λ (y : Option State). IsSomeAnd y P) (sym e) h
 
 pub returns-in_default : goal.returns-in_default
 returns-in_default g c =
-    let none = c.in_default.ensures.cases in
-    let empty : c.self.inside.journal.items ≡ [] = nil_from_length c.self.inside.journal.items (sym c.self.inside.journal.ok.0 ∙ none.0) in
-    let still : c.pop.new.self.items ≡ [] = nil_from_length c.pop.new.self.items (sym c.pop.new.self.ok.0 ∙ none.1) in
-    Back_start_of_fields before _ _ _ c.self.inside.journal.items c.pop.new.self.items _ _ c.self.view_is empty still
+    Back_start_of_fields before _ _ _ c.self.inside.journal c.pop.new.self _ _ c.self.view_is c.in_default.ensures.0 c.in_default.ensures.1
 
 pub invariant_of-self-2 : goal.invariant_of-self-2
 invariant_of-self-2 g c =
-    IsSound-back before _ _ c.self.inside.journal.items c.pop.new.self.items c.in-Some.record _ _ c.in-Some.ensures.items c.undo.ensures.state c.undo.ensures.room c.self.invariant
+    IsSound-back before _ _ c.self.inside.journal c.pop.new.self c.in-Some.record _ _ c.in-Some.ensures c.undo.ensures.state c.undo.ensures.room c.self.invariant
 
 pub returns : goal.returns
 returns g c =
-    Back_of_fields before _ _ _ c.self.inside.journal.items c.pop.new.self.items c.in-Some.record _ _ _ c.self.view_is c.in-Some.ensures.items c.undo.ensures.state
+    Back_of_fields before _ _ _ c.self.inside.journal c.pop.new.self c.in-Some.record _ _ _ c.self.view_is c.in-Some.ensures c.undo.ensures.state
 
 pub undo-requires : goal.undo-requires
 undo-requires g c =
     let m = c.self.inside.machine in
-    let says = newest_says before (IsWithinReach m (length c.self.inside.tape.items)) c.self.inside.journal.items c.pop.new.self.items c.in-Some.record m.state c.in-Some.ensures.items c.self.invariant.records in
+    let says = newest_says before (IsWithinReach m (length c.self.inside.tape.items)) c.self.inside.journal c.pop.new.self c.in-Some.record m.state c.in-Some.ensures c.self.invariant.records in
     some_held (before c.in-Some.record m.state) says.0 (HasRoom m) says.1 says.2.room

@@ -2,7 +2,7 @@ use Rattle.std.proofs.Common.{sym, ◌∙◌}
 use Rattle.std.specs.Prelude.{option_copied}
 use Rattle.trac_session.specs.Directions.{command_towards}
 use Rattle.trac_session.specs.Goals.{goal_of}
-use Rattle.trac_session.proofs.Walked.{goes_on_first, goes_on_more, refused_same, stopped_walk, met_walk, whole_walk}
+use Rattle.trac_session.proofs.Walked.{goes_on_first, goes_on_more, refused_same, stopped_walk}
 use Rattle.trac_session.proofs.session.Session.walk.Goals as goal
 
 pub loop-done-init : goal.loop-done-init

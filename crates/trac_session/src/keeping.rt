@@ -1,0 +1,39 @@
+//! Steps of a machine that are kept in a journal.
+ghost use Rattle.std.specs.Prelude.{◌≡◌, ◌<◌, ◌≤◌, length, Ok, IfErr, OnOk};
+ghost use Rattle.trac_rules.specs.declared.limit.TheConstants.{JOURNAL_LIMIT};
+ghost use Rattle.trac_rules.specs.Outcomes.{MayRefuse};
+ghost use Rattle.trac_rules.specs.Session.{over};
+ghost use Rattle.trac_rules.specs.Stepping.{step};
+ghost use Rattle.trac_step.specs.Record.{before};
+ghost use Rattle.trac_step.specs.Room.{HasRoom, IsNoLess};
+ghost use Rattle.trac_prims.specs.Tape.{tape_of};
+ghost use Rattle.trac_session.specs.Journal.{Remembers};
+
+use crate::journal::Journal;
+use std::alloc::Allocator;
+use trac_rules::refusal::Refusal;
+use trac_step::{Machine, Tape};
+
+/// Takes a step and keeps its record in the journal, or changes nothing.
+/// Refused as the step is, or with `Memory` where the journal cannot grow: the step is undone then (this project's profile).
+pub(crate) fn step_kept<A: Allocator + Copy>(
+    machine: &mut Machine<A>,
+    journal: &mut Journal<A>,
+    tape: Tape,
+) -> Result<(), Refusal>
+    requires position { machine.old.state.position ≤ length tape.bytes.now }
+    requires not_full { length journal.old < JOURNAL_LIMIT }
+    ensures taken { OnOk result (step (over (tape_of tape.entry)) machine.old.state ≡ Ok machine.new.state) }
+    ensures kept { OnOk result (Remembers before journal.old journal.new machine.old.state machine.new.state) }
+    ensures refused { IfErr result (MayRefuse (step (over (tape_of tape.entry)) machine.old.state)) }
+    ensures back { OnOk result (HasRoom machine.new machine.old.state) }
+    ensures no_less { IsNoLess machine.old machine.new }
+    ensures same { IfErr result (λ _. machine.new.state ≡ machine.old.state × journal.new ≡ journal.old) }
+{
+    let record = machine.step(tape)?;
+    let Err(record) = journal.push(record) else {
+        return Ok(());
+    };
+    machine.undo(record);
+    Err(Refusal::Memory)
+}
