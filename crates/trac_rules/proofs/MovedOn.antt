@@ -57,11 +57,11 @@ gathers_next (f ∷ fs) k s =
     ap (λ (more : List ℕ). f.gathered ++ more) (sym (take_next k s.active)) ∙ sym (append_assoc f.gathered (take k s.active) (take 1 (drop k s.active))) in
     λ i. record s { active = rest i; frames = record f { gathered = text i } ∷ fs }
 
-moved_on-suc : (k : ℕ) (s : State) → moved_on (suc k) s ≡ gather_first (moved_on k s)
+pub moved_on-suc : (k : ℕ) (s : State) → moved_on (suc k) s ≡ gather_first (moved_on k s)
 moved_on-suc k s = gathers_next s.frames k s
 
 -- the active text then
-active-gathered : (frames : List Frame) (text : List ℕ) (s : State) → (gathered_in frames text s).active ≡ s.active
+pub active-gathered : (frames : List Frame) (text : List ℕ) (s : State) → (gathered_in frames text s).active ≡ s.active
 active-gathered [] text s = refl
 active-gathered (f ∷ fs) text s = refl
 

@@ -13,12 +13,12 @@ invariant_of-self g c =
     let some : 0 < c.self.inside.moved = omega arith in
     omega (arith, c.self.invariant,
         length_of_more (unrolled c.self.inside.entries.items (c.self.inside.moved - 1)) (unrolled c.self.inside.entries.items c.self.inside.moved) Moved
-            (moved_taken c.self.inside.entries.items c.self.inside.moved some))
+            (moved_taken c.self.inside.entries.items c.self.inside.moved 1 (omega (arith, some))))
 
 pub returns-then-self-gt0 : goal.returns-then-self-gt0
 returns-then-self-gt0 g c =
     let some : 0 < c.self.inside.moved = omega arith in
-    sym c.self.view_is ∙ moved_taken c.self.inside.entries.items c.self.inside.moved some
+    sym c.self.view_is ∙ moved_taken c.self.inside.entries.items c.self.inside.moved 1 (omega (arith, some))
 
 pub returns-in_default : goal.returns-in_default
 returns-in_default g c =
