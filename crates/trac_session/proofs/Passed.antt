@@ -76,15 +76,16 @@ earlier_of-passed {A} old new s t n proper within kept moved =
     ∙ earlier_of-moved n (reverse old) s proper within
 
 -- plain bytes that are moved at once are as many steps
-pub Step_passed : {A : Type 0} → (Holds : State → Type 0) (limit : ℕ) (bytes : List ℕ) (ended : Bool) (old new : List (Record Shown A)) (s t : State) (n : ℕ) (p : PlainSession) →
-    plain_of before limit bytes ended old s ≡ p → AreRecords before Holds (reverse old) s → IsProper s → BeginsPlain n s → length old + n ≤ limit →
-    new ≡ old ++ all_moved n → t ≡ moved_on n s → repeated Step n p ≡ Some (plain_of before limit bytes ended new t)
-Step_passed Holds limit bytes ended old new s t n p view all proper plain fits kept moved =
-    let q : PlainSession = plain_of before limit bytes ended old s in
+pub Step_passed : {A : Type 0} → (Holds : State → Type 0) (limit : ℕ) (bytes : List ℕ) (ended : Bool) (old new : List (Record Shown A)) (m k : Shown) (n : ℕ) (p : PlainSession) →
+    plain_of before limit bytes ended old m.state ≡ p → AreRecords before Holds (reverse old) m.state → IsProper m.state → BeginsPlain n m.state → length old + n ≤ limit →
+    new ≡ old ++ all_moved n → k ≡ record m { state = moved_on n m.state } → repeated Step n p ≡ Some (plain_of before limit bytes ended new k.state)
+Step_passed Holds limit bytes ended old new m k n p view all proper plain fits kept moved =
+    let q : PlainSession = plain_of before limit bytes ended old m.state in
+    let there : k.state ≡ moved_on n m.state = ap (λ (u : Shown). u.state) moved in
     ap (repeated Step n) (sym view)
-    ∙ plain_bytes_there n q proper plain (omega (arith, fits, length-earlier before Holds limit bytes ended old s q refl all))
-    ∙ ap (λ (earlier : List State). Some (record q { earlier = earlier; last = moved_on n s })) (sym (earlier_of-passed old new s t n proper plain.within kept moved))
-    ∙ ap (λ (u : State). Some (record q { earlier = earlier_of before (reverse new) t; last = u })) (sym moved)
+    ∙ plain_bytes_there n q proper plain (omega (arith, fits, length-earlier before Holds limit bytes ended old m.state q refl all))
+    ∙ ap (λ (earlier : List State). Some (record q { earlier = earlier; last = moved_on n m.state })) (sym (earlier_of-passed old new m.state k.state n proper plain.within kept there))
+    ∙ ap (λ (u : State). Some (record q { earlier = earlier_of before (reverse new) k.state; last = u })) (sym there)
 
 -- the fields stay sound
 pub IsSound-passed : {A : Type 0} → (limit : ℕ) (bytes : List ℕ) (old new : List (Record Shown A)) (m k : Shown) (n : ℕ) → IsProper m.state → n ≤ length m.state.active →

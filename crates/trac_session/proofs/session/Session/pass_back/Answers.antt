@@ -1,4 +1,4 @@
-use Rattle.std.proofs.Common.{length, subst, sym}
+use Rattle.std.proofs.Common.{length, refl, subst, sym}
 use Rattle.std.specs.Prelude.{Option, IsSome}
 use Rattle.trac_rules.specs.State.{State}
 use Rattle.trac_session.specs.Journal.{IsWithinReach}
@@ -10,7 +10,7 @@ move_back-requires g c =
     let m = c.self.inside.machine in
     let says = moved_back_says (IsWithinReach m (length c.self.inside.tape.items)) c.self.inside.journal c.pop_moved-count.new.self m.state c.pop_moved-count.result
         c.pop_moved-count.ensures.taken c.self.invariant.records in
-    subst (λ (before : Option State). IsSome before) (sym says.1) tt
+    subst (λ (before : Option State). IsSome before) (sym says.1) refl
 
 pub invariant_of-self : goal.invariant_of-self
 invariant_of-self g c =

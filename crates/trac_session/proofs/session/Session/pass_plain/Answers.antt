@@ -1,5 +1,4 @@
-use Rattle.std.proofs.Common.{◌≡◌, ◌+◌, ◌≤◌, length, ap, arith}
-use Rattle.trac_step.specs.Layout.{Shown}
+use Rattle.std.proofs.Common.{◌≡◌, ◌+◌, ◌≤◌, length, arith}
 use Rattle.trac_session.specs.Journal.{IsWithinReach}
 use Rattle.trac_session.proofs.Passed.{IsSound-passed, Step_passed}
 use Rattle.trac_session.proofs.session.Session.pass_plain.Goals as goal
@@ -16,6 +15,5 @@ returns-clause-passed g c =
     let count : c.len.result ≡ length c.self.inside.journal = c.len.ensures in
     let fits : length c.self.inside.journal + c.move_plain-count.result ≤ c.self.inside.limit = omega (arith, c.self.invariant.within_limit) in
     let m = c.self.inside.machine in
-    Step_passed (IsWithinReach m (length c.self.inside.tape.items)) _ _ _ c.self.inside.journal c.push_moved.new.self m.state _ c.move_plain-count.result _
-    c.self.view_is c.self.invariant.records c.move_plain-count.ensures.proper c.move_plain-count.ensures.plain fits c.push_moved.ensures
-    (ap (λ (u : Shown). u.state) c.move_plain-count.ensures.moved)
+    Step_passed (IsWithinReach m (length c.self.inside.tape.items)) _ _ _ c.self.inside.journal c.push_moved.new.self m c.move_plain-count.new.self c.move_plain-count.result _
+    c.self.view_is c.self.invariant.records c.move_plain-count.ensures.proper c.move_plain-count.ensures.plain fits c.push_moved.ensures c.move_plain-count.ensures.moved
