@@ -330,10 +330,8 @@ fn expect_short_run(
     let runs = memory.refuse_each(10_000, |_| {
         again(rt, rt.alloc(), memory, input, states.as_slice())
     })?;
-    assert!(rt;
-        runs > Some(states.len() as u64),
-        "{runs:?} runs from {input:?}"
-    );
+    // A moved byte takes no memory, so there may be fewer requests than steps.
+    assert!(rt; runs > Some(10), "{runs:?} runs from {input:?}");
     Ok(())
 }
 
