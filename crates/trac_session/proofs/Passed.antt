@@ -1,21 +1,21 @@
 -- Runs of plain bytes, passed at once there and back.
 use Rattle.std.proofs.Common.{◌≡◌, ℕ, zero, suc, ◌+◌, ◌-◌, ◌<◌, ◌≤◌, Bool, true, false, List, [], ◌∷◌, ◌++◌, length, take, drop, reverse, refl, sym, ap, subst, ◌∙◌, arith}
-use Rattle.std.specs.Prelude.{Option, Some, nat_le}
+use Rattle.std.specs.Prelude.{Some, nat_le}
 use Rattle.std.specs.Bool.{then_some}
 use Rattle.std.proofs.lemmas.Bool.{leb-true}
-use Rattle.std.proofs.lemmas.List.{append-nil, append_assoc, drop_at, length-append, length-drop, length-reverse, length-take, replicate_more, take-append-drop, take_at}
+use Rattle.std.proofs.lemmas.List.{append-nil, append_assoc, drop_at, length-append, length-drop, length-take, replicate_more, take-append-drop, take_at}
 use Rattle.trac_rules.specs.PlainRuns.{BeginsPlain, moved_on, on_the_way}
 use Rattle.trac_rules.specs.Proper.{IsProper}
 use Rattle.trac_rules.specs.Records as rules
 use Rattle.trac_rules.specs.Records.{all_before_last, last_of, moved_back, moved_back_in, put_before}
 use Rattle.trac_rules.specs.Scanning.{deleted, gather_first}
-use Rattle.trac_rules.specs.Session.{PlainSession, Back, Step, accepted_by, answer, repeated}
+use Rattle.trac_rules.specs.Session.{PlainSession, Back, Step, accepted_by, repeated}
 use Rattle.trac_rules.specs.State.{Frame, State}
 use Rattle.trac_rules.proofs.MovedOn.{active-gathered, moved_byte_back, moved_on-suc, moved_on-zero, plain_bytes_there}
 use Rattle.trac_rules.proofs.Replies.{answer_Back_from}
 use Rattle.trac_rules.proofs.Restored.{moved_back-gather, restored_of_before}
 use Rattle.trac_rules.proofs.Scans.{gathered_in_shows}
-use Rattle.trac_step.proofs.Rooms.{HasRoom-kept, no_less_same, no_less_state}
+use Rattle.trac_step.proofs.Rooms.{HasRoom-kept, no_less_state}
 use Rattle.trac_step.proofs.Rules.{reverse_push}
 use Rattle.trac_step.specs.Layout.{Shown}
 use Rattle.trac_step.specs.Record.{before}
@@ -23,7 +23,7 @@ use Rattle.trac_step.specs.Room.{HasRoom, IsNoLess}
 use Rattle.trac_step.specs.declared.record.Record.{Record}
 use Rattle.trac_step.specs.declared.record.Record.TheVariants.{Moved}
 use Rattle.trac_session.specs.Counted.{all_moved}
-use Rattle.trac_session.specs.Journal.{led_on, earlier_of, AreRecords, plain_of, IsWithinReach, IsSound}
+use Rattle.trac_session.specs.Journal.{earlier_of, AreRecords, plain_of, IsWithinReach, IsSound}
 use Rattle.trac_session.proofs.Counted.{length_of_moved}
 use Rattle.trac_session.proofs.Journaled.{led_on-Some, length-earlier, AreRecords-weaker, IsWithinReach-more}
 use Rattle.trac_session.proofs.Walked.{repeated-from}

@@ -1,4 +1,4 @@
-use Rattle.std.proofs.Common.{◌+◌, ◌≤◌, refl, arith}
+use Rattle.std.proofs.Common.{◌+◌, refl, arith}
 use Rattle.trac_rules.specs.Session.{no_goal}
 use Rattle.trac_session.specs.Directions.{command_towards}
 use Rattle.trac_session.proofs.Walked.{goes_on_far, goes_on_more, refused_same, stopped_walk}
