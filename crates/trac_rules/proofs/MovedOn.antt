@@ -39,7 +39,7 @@ moved_none : (frames : List Frame) (s : State) → gathered_in frames [] (record
 moved_none [] s = ap (λ (text : List ℕ). record s { base = text; frames = [] }) (append-nil s.base)
 moved_none (f ∷ fs) s = ap (λ (text : List ℕ). record s { frames = record f { gathered = text } ∷ fs }) (append-nil f.gathered)
 
-moved_on-zero : (s : State) → moved_on 0 s ≡ s
+pub moved_on-zero : (s : State) → moved_on 0 s ≡ s
 moved_on-zero s = moved_none s.frames s
 
 -- and one more than k
@@ -57,11 +57,11 @@ gathers_next (f ∷ fs) k s =
     ap (λ (more : List ℕ). f.gathered ++ more) (sym (take_next k s.active)) ∙ sym (append_assoc f.gathered (take k s.active) (take 1 (drop k s.active))) in
     λ i. record s { active = rest i; frames = record f { gathered = text i } ∷ fs }
 
-moved_on-suc : (k : ℕ) (s : State) → moved_on (suc k) s ≡ gather_first (moved_on k s)
+pub moved_on-suc : (k : ℕ) (s : State) → moved_on (suc k) s ≡ gather_first (moved_on k s)
 moved_on-suc k s = gathers_next s.frames k s
 
 -- the active text then
-active-gathered : (frames : List Frame) (text : List ℕ) (s : State) → (gathered_in frames text s).active ≡ s.active
+pub active-gathered : (frames : List Frame) (text : List ℕ) (s : State) → (gathered_in frames text s).active ≡ s.active
 active-gathered [] text s = refl
 active-gathered (f ∷ fs) text s = refl
 
@@ -95,7 +95,7 @@ first_proper s proper = record {
   storage = subst IsProperStorage (sym (gathered_in_shows storage_of (λ t active base frames. refl) s.frames (take 1 s.active) (deleted 1 s))) proper.storage;
 }
 
-moved_proper : (n : ℕ) (s : State) → IsProper s → IsProper (moved_on n s)
+pub moved_proper : (n : ℕ) (s : State) → IsProper s → IsProper (moved_on n s)
 moved_proper zero s proper = subst IsProper (sym (moved_on-zero s)) proper
 moved_proper (suc n) s proper = subst IsProper (sym (moved_on-suc n s)) (first_proper (moved_on n s) (moved_proper n s proper))
 
@@ -156,13 +156,17 @@ plain_bytes_there (suc n) p proper plain fits =
 
 -- ---- and back
 
-pub moved_bytes_back : (n : ℕ) (s : State) → IsProper s → n ≤ length s.active → led_back (replicate n Moved) (moved_on n s) ≡ Some s
-moved_bytes_back zero s proper within = ap Some (moved_on-zero s)
-moved_bytes_back (suc n) s proper within =
+-- the record of a moved byte leads back over the last of these bytes
+pub moved_byte_back : (n : ℕ) (s : State) → IsProper s → n + 1 ≤ length s.active → state_before Moved (moved_on (suc n) s) ≡ Some (moved_on n s)
+moved_byte_back n s proper within =
     let u : State = moved_on n s in
     let begins : u.active ≡ get_or s.active n 0 ∷ drop (n + 1) s.active = moved_on-active n s (omega arith) in
     let shape : u.active ≡ get_or u.active 0 0 ∷ drop 1 u.active =
     begins ∙ sym (ap (λ (text : List ℕ). get_or text 0 0 ∷ drop 1 text) begins) in
-    ap (led_back (replicate (suc n) Moved)) (moved_on-suc n s)
-    ∙ ap (option_and_then (led_back (replicate n Moved))) (before_of_restored Moved u (gather_first u) (moved_proper n s proper) (first_goes_back u shape))
+    ap (state_before Moved) (moved_on-suc n s) ∙ before_of_restored Moved u (gather_first u) (moved_proper n s proper) (first_goes_back u shape)
+
+pub moved_bytes_back : (n : ℕ) (s : State) → IsProper s → n ≤ length s.active → led_back (replicate n Moved) (moved_on n s) ≡ Some s
+moved_bytes_back zero s proper within = ap Some (moved_on-zero s)
+moved_bytes_back (suc n) s proper within =
+    ap (option_and_then (led_back (replicate n Moved))) (moved_byte_back n s proper (omega arith))
     ∙ moved_bytes_back n s proper (omega arith)

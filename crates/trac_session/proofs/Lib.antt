@@ -1,4 +1,5 @@
 pub mod Counted
 pub mod Journaled
 pub mod Walked
+pub mod Passed
 pub mod Performed

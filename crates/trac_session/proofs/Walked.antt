@@ -1,12 +1,12 @@
 -- Walks, step by step.
-use Rattle.std.proofs.Common.{◌≡◌, ℕ, suc, ◌+◌, ◌<◌, ◌≤◌, true, false, refl, sym, ap, subst, ◌∙◌, arith, inl, inr, ⊎_elim}
+use Rattle.std.proofs.Common.{◌≡◌, ℕ, zero, suc, ◌+◌, ◌<◌, ◌≤◌, true, false, refl, sym, ap, subst, ◌∙◌, arith, inl, inr, ⊎_elim}
 use Rattle.std.proofs.lemmas.Bool.{cases_lt}
 use Rattle.std.specs.Prelude.{None, Some, option_and_then}
 use Rattle.trac_rules.specs.declared.refusal.Refusal.{Refusal}
 use Rattle.trac_rules.specs.declared.refusal.Refusal.TheVariants.{Memory, TooLong, NeedInput, Ended, JournalFull, AtStart, Closed, NotMet}
 use Rattle.trac_rules.specs.declared.reply.Reply.{Reply}
 use Rattle.trac_rules.specs.declared.reply.Reply.TheVariants.{Done, Refused}
-use Rattle.trac_rules.specs.Session.{PlainSession, Command, Step, Back, Goal, done, refused, answer, accepted_by, Answers, repeated, IsWalk}
+use Rattle.trac_rules.specs.Session.{PlainSession, Command, Step, Back, Goal, done, refused, answer, accepted_by, Answers, no_goal, repeated, IsWalk}
 use Rattle.trac_rules.proofs.Replies.{Step_refused, Back_refused}
 use Rattle.trac_session.specs.declared.walking.Direction.{Direction}
 use Rattle.trac_session.specs.declared.walking.Direction.TheVariants as towards
@@ -21,6 +21,14 @@ repeated-more command n p q t walked h =
     ap (λ k. repeated command k p) next
     ∙ ap (option_and_then (λ u. accepted_by (answer command u))) walked
     ∙ ap accepted_by h
+
+-- so many commands, and then so many more
+pub repeated-from : (command : Command) (m k : ℕ) (p q : PlainSession) → repeated command m p ≡ Some q → repeated command (m + k) p ≡ repeated command k q
+repeated-from command m zero p q walked = let none : m + 0 ≡ m = omega arith in ap (λ j. repeated command j p) none ∙ walked
+repeated-from command m (suc k) p q walked =
+    let next : m + suc k ≡ suc (m + k) = omega arith in
+    ap (λ j. repeated command j p) next
+    ∙ ap (option_and_then (λ u. accepted_by (answer command u))) (repeated-from command m k p q walked)
 
 -- a refused step leaves the session as it was
 pub Step_refused_same : (p q : PlainSession) (refusal : Refusal) → Answers Step p (Refused refusal) q → q ≡ p
@@ -92,6 +100,13 @@ goes_on_more command goal old p q n on h not_met =
           (λ (l : n + 1 ≤ k). ap (λ (s : PlainSession). goal s.last) (same_after command k (n + 1) old r q (omega arith) there more) ∙ not_met)
           (cases_lt k (n + 1));
     }
+
+-- after so many accepted steps more, without a goal
+pub goes_on_far : (command : Command) (old p q : PlainSession) (n k : ℕ) → GoesOn command no_goal old n p → repeated command k p ≡ Some q → GoesOn command no_goal old (n + k) q
+goes_on_far command old p q n k on more = record {
+  walked = repeated-from command n k old p on.walked ∙ more;
+  unmet = λ j r some few there. refl;
+}
 
 -- a refusal ends it
 pub stopped_walk : (command : Command) (goal : Goal) (n k : ℕ) (old p q : PlainSession) (refusal : Refusal) → GoesOn command goal old k p → k < n → q ≡ p →

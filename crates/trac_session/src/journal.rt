@@ -1,7 +1,8 @@
 //! The journal of a session: what its steps destroyed.
-ghost use Rattle.std.specs.Prelude.{◌≡◌, ◌<◌, ◌++◌, ◌∷◌, [], length, IfErr, OnErr, OnOk, IsOk, MatchOption};
+ghost use Rattle.std.specs.Prelude.{◌≡◌, ◌<◌, ◌≤◌, ◌+◌, ◌++◌, ◌∷◌, [], length, IfErr, OnErr, OnOk, IsOk, MatchOption};
 ghost use Rattle.trac_rules.specs.declared.limit.TheConstants.{JOURNAL_LIMIT};
 ghost use Rattle.trac_step.specs.declared.record.Record.TheVariants.{Moved};
+ghost use Rattle.trac_session.specs.Counted.{all_moved};
 
 use std::alloc::Allocator;
 use std::marker::Model;
@@ -76,20 +77,20 @@ impl<A: Allocator + Copy> Journal<A> {
     {
         match newest {
             Record::Moved => {
-                self.count_moved();
+                self.push_moved(1);
                 Ok(())
             }
             other => self.push_entry(other),
         }
     }
 
-    // Counts one moved byte more.
-    fn count_moved(&mut self)
-        requires { length self.old < JOURNAL_LIMIT }
-        ensures { self.new ≡ self.old ++ Moved ∷ [] }
+    /// Keeps so many records more, each of a moved byte. It takes no memory.
+    pub(crate) fn push_moved(&mut self, n: usize)
+        requires { length self.old + n ≤ JOURNAL_LIMIT }
+        ensures { self.new ≡ self.old ++ all_moved n }
     {
-        self.moved += 1;
-        self.len += 1;
+        self.moved += n;
+        self.len += n;
     }
 
     // Keeps one record more in an entry of its own, behind the bytes that were moved before its step.
@@ -126,6 +127,17 @@ impl<A: Allocator + Copy> Journal<A> {
         self.moved = entry.moved;
         self.len -= 1;
         Some(entry.kept)
+    }
+
+    /// Takes out the records of the bytes that were moved last, up to `most` of them, and answers how many these are. It takes no memory.
+    pub(crate) fn pop_moved(&mut self, most: usize) -> usize
+        ensures taken { self.old ≡ self.new ++ all_moved result }
+        ensures most { result ≤ most }
+    {
+        let count = self.moved.min(most);
+        self.moved -= count;
+        self.len -= count;
+        count
     }
 
     /// Forgets all records, and keeps the room for them.

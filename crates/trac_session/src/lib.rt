@@ -4,6 +4,7 @@
 mod commands;
 mod journal;
 mod keeping;
+mod passing;
 pub mod session;
 mod walk;
 mod walking;

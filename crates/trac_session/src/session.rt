@@ -20,9 +20,9 @@ use trac_step::{Machine, Tape};
 pub struct Session<A: Allocator + Copy = Global> {
     pub(crate) tape: Vec<u8, A>,
     ended: bool,
-    machine: Machine<A>,
-    journal: Journal<A>,
-    limit: usize,
+    pub(crate) machine: Machine<A>,
+    pub(crate) journal: Journal<A>,
+    pub(crate) limit: usize,
 }
 
 impl<A: Allocator + Copy> Model for Session<A> {

@@ -1,6 +1,6 @@
 //! Walks over several steps.
-ghost use Rattle.std.specs.Prelude.{◌≡◌, ◌&&◌, length, max, nat_lt, option_copied};
-ghost use Rattle.trac_rules.specs.Session.{Step, Back, Answers, IsWalk, no_goal};
+ghost use Rattle.std.specs.Prelude.{◌≡◌, ◌≤◌, ◌&&◌, Some, length, max, nat_lt, option_copied};
+ghost use Rattle.trac_rules.specs.Session.{Step, Back, Answers, IsWalk, no_goal, repeated};
 ghost use Rattle.trac_session.specs.Directions.{command_towards};
 ghost use Rattle.trac_session.specs.Goals.{IsSearch, goal_of, is_call_of, outcome};
 ghost use Rattle.trac_session.specs.Replies.{reply_of};
@@ -69,6 +69,36 @@ impl<A: Allocator + Copy> Session<A> {
         Walk { done: n, why: None }
     }
 
+    // Goes this way over bytes that a step each moves, at most so many, all at once. Answers how many steps these are.
+    fn pass(&mut self, direction: Direction, most: u64) -> u64
+        ensures passed { repeated (command_towards direction) result self.old ≡ Some self.new }
+        ensures most { result ≤ most }
+    {
+        match direction {
+            Direction::Forward => self.pass_plain(most),
+            Direction::Backward => self.pass_back(most),
+        }
+    }
+
+    // Goes this way by up to `n` steps, until one is refused, which the walk answers. It looks for no name, so bytes that a step each
+    // moves are passed at once.
+    fn go_far(&mut self, direction: Direction, n: u64) -> Walk
+        ensures { IsWalk (command_towards direction) no_goal n self.old result.done result.why self.new }
+    {
+        let mut done = 0;
+        while done < n {
+            if let Err(refusal) = self.go(direction) {
+                return Walk {
+                    done,
+                    why: Some(refusal),
+                };
+            }
+            done += 1;
+            done += self.pass(direction, n - done);
+        }
+        Walk { done, why: None }
+    }
+
     // The same walk, which answers `NotMet` where no refusal ended it and its goal is not met.
     fn searched(&self, name: &[u8], walk: Walk) -> Walk
         ensures done { result.done ≡ walk.done }
@@ -95,7 +125,7 @@ impl<A: Allocator + Copy> Session<A> {
     pub fn forward(&mut self, n: u64) -> Walk
         ensures { IsWalk Step no_goal n self.old result.done result.why self.new }
     {
-        self.walk(Direction::Forward, None, n)
+        self.go_far(Direction::Forward, n)
     }
 
     /// Goes back over up to `n` steps, until there is no record left, which the walk answers as `AtStart`. It takes no memory
@@ -103,7 +133,7 @@ impl<A: Allocator + Copy> Session<A> {
     pub fn back(&mut self, n: u64) -> Walk
         ensures { IsWalk Back no_goal n self.old result.done result.why self.new }
     {
-        self.walk(Direction::Backward, None, n)
+        self.go_far(Direction::Backward, n)
     }
 
     /// Goes forward by up to `n` steps, until the next step would perform a function of this name, which is compared byte for byte. That

@@ -183,6 +183,53 @@ fn forwards_and_backwards(rt: HostRuntime) -> Result<(), Fail> {
     Ok(())
 }
 
+// Ten plain bytes behind eight steps, over which walks of each length go: to the end of the run, to within it, and past it.
+const A_RUN_OF_PLAIN_BYTES: &[Act] = &[
+    Feed(b"ABCDEFGHIJ'"),
+    Forward(12),
+    Shows(b"#(ps,ABCD^EFGHIJ)"),
+    Records(12),
+    Forward(6),
+    Shows(b"#(ps,ABCDEFGHIJ^)"),
+    Forward(1),
+    Pending(b"ABCDEFGHIJ"),
+    Back(8),
+    Shows(b"#(ps,ABC^DEFGHIJ)"),
+    Pending(b""),
+    Records(11),
+    Forward(2),
+    Shows(b"#(ps,ABCDE^FGHIJ)"),
+    Back(13),
+    Initial,
+    Forward(19),
+    BackToStart(20, 19),
+    Initial,
+];
+
+// The journal is full within the run.
+const A_RUN_FILLS_THE_JOURNAL: &[Act] = &[
+    Feed(b"ABCDEFGHIJ'"),
+    ForwardRefused(19, 12, JournalFull),
+    Shows(b"#(ps,ABCD^EFGHIJ)"),
+    Back(3),
+    Shows(b"#(ps,A^BCDEFGHIJ)"),
+    ForwardRefused(19, 3, JournalFull),
+    Commit,
+    Records(0),
+    Forward(7),
+    Pending(b"ABCDEFGHIJ"),
+    Back(5),
+    Shows(b"#(ps,ABCDEF^GHIJ)"),
+    BackToStart(3, 2),
+    Shows(b"#(ps,ABCD^EFGHIJ)"),
+];
+
+#[test]
+fn runs_of_plain_bytes(rt: HostRuntime) -> Result<(), Fail> {
+    play(&rt, rt.alloc(), JOURNAL_LIMIT, A_RUN_OF_PLAIN_BYTES)?;
+    play(&rt, rt.alloc(), 12, A_RUN_FILLS_THE_JOURNAL)
+}
+
 const A_FULL_JOURNAL: &[Act] = &[
     Feed(b"AB'"),
     ForwardRefused(5, 4, JournalFull),

@@ -1,12 +1,15 @@
 -- The room of a machine, which holds its own state.
-use Rattle.std.proofs.Common.{◌≡◌, ℕ, ◌≤◌, List, length, ap, ◌∙◌, subst, arith}
+use Rattle.std.proofs.Common.{◌≡◌, ℕ, ◌+◌, ◌≤◌, List, [], ◌∷◌, length, take, drop, sym, ap, ◌∙◌, subst, arith}
+use Rattle.std.proofs.lemmas.List.{length-append, take-append-drop}
 use Rattle.std.proofs.lemmas.Bool.{or_right}
 use Rattle.std.specs.Cmp.Lexicographic.{slice_cmp, nat_list_cmp_total}
 use Rattle.std.specs.FinSet as set
 use Rattle.std.specs.Ordering.{nat_cmp, eq_by_cmp}
 use Rattle.trac_forms.specs.Stored.{KnowsAll, Names}
 use Rattle.trac_rules.specs.Limits.{marks}
-use Rattle.trac_rules.specs.State.{State}
+use Rattle.trac_rules.specs.PlainRuns.{moved_on}
+use Rattle.trac_rules.specs.Scanning.{gathered_in}
+use Rattle.trac_rules.specs.State.{Frame, State}
 use Rattle.trac_step.specs.Layout.{Parts, IsSound, Shown, shown_by}
 use Rattle.trac_step.specs.Room.{AreAmong, HasRoom, IsNoLess}
 use Rattle.trac_step.proofs.Rules.{text_bytes-parts, marks-parts}
@@ -39,6 +42,17 @@ HasRoom-kept m n s more room = record {
   output = omega (arith, more.output, room.output);
   names = λ name h. more.names name (room.names name h);
 }
+
+-- where the active text begins with so many bytes, what holds a state holds it with these bytes at the end of the current text
+pub HasRoom-moved_on : (m : Shown) (s : State) (n : ℕ) → n ≤ length s.active → HasRoom m s → HasRoom m (moved_on n s)
+HasRoom-moved_on m s n within room = by_frames s.frames room
+  where
+    kept : length (take n s.active) + length (drop n s.active) ≡ length s.active
+    kept = sym (length-append (take n s.active) (drop n s.active)) ∙ ap (λ (text : List ℕ). length text) (take-append-drop n s.active)
+
+    by_frames : (fs : List Frame) → HasRoom m (record s { frames = fs }) → HasRoom m (gathered_in fs (take n s.active) (record s { active = drop n s.active; frames = fs }))
+    by_frames [] r = record { text = omega (arith, r.text, kept, length-append s.base (take n s.active)); marks = r.marks; output = r.output; names = r.names }
+    by_frames (f ∷ fs) r = record { text = omega (arith, r.text, kept, length-append f.gathered (take n s.active)); marks = r.marks; output = r.output; names = r.names }
 
 -- ---- the room of parts
 

@@ -1,13 +1,14 @@
 //! The rules of scanning that perform no function, each on the machine's own parts.
-ghost use Rattle.std.specs.Prelude.{◌≡◌, ◌<◌, ◌≤◌, ◌+◌, false, get_or, is_some, length, drop, None, IfOk, IsOkUnless, OnErr, OnOk};
+ghost use Rattle.std.specs.Prelude.{◌≡◌, ◌<◌, ◌≤◌, ◌+◌, false, get_or, is_some, length, drop, None, IfOk, IsOkUnless, OnErr, OnOk, ℕ};
 ghost use Rattle.trac_rules.specs.Matching.{match_of, protected};
 ghost use Rattle.trac_rules.specs.Scanning.{protect, deleted, comma_in, gather_first};
 ghost use Rattle.trac_rules.specs.Limits.{marks};
 ghost use Rattle.trac_rules.specs.PlainRuns.{BeginsPlain, is_plain, moved_on};
+ghost use Rattle.trac_rules.specs.Proper.{IsProper};
 ghost use Rattle.trac_rules.specs.Records.{comma_recorded};
 ghost use Rattle.trac_step.specs.Calling.{with_mark};
 ghost use Rattle.trac_step.specs.Record.{recorded_by};
-ghost use Rattle.trac_step.specs.Room.{IsNoLess};
+ghost use Rattle.trac_step.specs.Room.{HasRoom, IsNoLess};
 
 use crate::engine::Core;
 use crate::front::plain_front;
@@ -83,14 +84,17 @@ impl<E: TwoEnds<u8, A>, M: TwoEnds<Mark, A>, A: Allocator + Copy> Core<E, M, A> 
     }
 
     /// Moves the plain bytes with which the active text begins, counted up to `most`, to the current text, and answers how many these
-    /// are: as many steps of T-64's rules of scanning, each of which would answer the record `Moved`. It takes no memory (this
-    /// project's profile).
+    /// are: as many steps of T-64's rules of scanning, each of which would answer the record `Moved`. It takes no memory, and the
+    /// machine has room for each state on the way (this project's profile).
     pub fn move_plain(&mut self, most: usize) -> usize
         ensures moved { self.new ≡ record self.old { state = moved_on result self.old.state } }
         ensures plain { BeginsPlain result self.old.state }
         ensures most { result ≤ most }
+        ensures proper { IsProper self.old.state }
+        ensures held { (k : ℕ) → k ≤ result → HasRoom self.old (moved_on k self.old.state) }
         ensures end { result < most → result < length self.old.state.active → is_plain (get_or self.old.state.active result 0) ≡ false }
     {
+        self.is_in_its_room();
         let count = plain_front(self.text.right(), most);
         self.text.shift_left(count);
         count

@@ -44,7 +44,7 @@ impl<E: TwoEnds<u8, A>, M: TwoEnds<Mark, A>, A: Allocator + Copy> Core<E, M, A> 
     }
 
     // A machine shows a proper state, for which it has room. It does nothing: it is called for what it says.
-    fn is_in_its_room(&self)
+    pub(crate) fn is_in_its_room(&self)
         ensures proper { IsProper self.now.state }
         ensures room { HasRoom self.now self.now.state }
     {

@@ -1,0 +1,251 @@
+-- Runs of plain bytes, passed at once there and back.
+use Rattle.std.proofs.Common.{◌≡◌, ℕ, zero, suc, ◌+◌, ◌-◌, ◌<◌, ◌≤◌, Bool, true, false, List, [], ◌∷◌, ◌++◌, length, take, drop, reverse, refl, sym, ap, subst, ◌∙◌, arith}
+use Rattle.std.specs.Prelude.{Some, nat_le}
+use Rattle.std.specs.Bool.{then_some}
+use Rattle.std.proofs.lemmas.Bool.{leb-true}
+use Rattle.std.proofs.lemmas.List.{append-nil, append_assoc, drop_at, length-append, length-drop, length-take, replicate_more, take-append-drop, take_at}
+use Rattle.trac_rules.specs.PlainRuns.{BeginsPlain, moved_on, on_the_way}
+use Rattle.trac_rules.specs.Proper.{IsProper}
+use Rattle.trac_rules.specs.Records as rules
+use Rattle.trac_rules.specs.Records.{all_before_last, last_of, moved_back, moved_back_in, put_before}
+use Rattle.trac_rules.specs.Scanning.{deleted, gather_first}
+use Rattle.trac_rules.specs.Session.{PlainSession, Back, Step, accepted_by, repeated}
+use Rattle.trac_rules.specs.State.{Frame, State}
+use Rattle.trac_rules.proofs.MovedOn.{active-gathered, moved_byte_back, moved_on-suc, moved_on-zero, plain_bytes_there}
+use Rattle.trac_rules.proofs.Replies.{answer_Back_from}
+use Rattle.trac_rules.proofs.Restored.{moved_back-gather, restored_of_before}
+use Rattle.trac_rules.proofs.Scans.{gathered_in_shows}
+use Rattle.trac_step.proofs.Rooms.{HasRoom-kept, no_less_state}
+use Rattle.trac_step.proofs.Rules.{reverse_push}
+use Rattle.trac_step.specs.Layout.{Shown}
+use Rattle.trac_step.specs.Record.{before}
+use Rattle.trac_step.specs.Room.{HasRoom, IsNoLess}
+use Rattle.trac_step.specs.declared.record.Record.{Record}
+use Rattle.trac_step.specs.declared.record.Record.TheVariants.{Moved}
+use Rattle.trac_session.specs.Counted.{all_moved}
+use Rattle.trac_session.specs.Journal.{earlier_of, AreRecords, plain_of, IsWithinReach, IsSound}
+use Rattle.trac_session.proofs.Counted.{length_of_moved}
+use Rattle.trac_session.proofs.Journaled.{led_on-Some, length-earlier, AreRecords-weaker, IsWithinReach-more}
+use Rattle.trac_session.proofs.Walked.{repeated-from}
+
+-- ---- records of moved bytes
+
+-- turned round, they are first
+pub moved_first : {A : Type 0} → (n : ℕ) (journal : List (Record Shown A)) → reverse (journal ++ all_moved n) ≡ all_moved n ++ reverse journal
+moved_first zero journal = ap reverse (append-nil journal)
+moved_first (suc n) journal =
+    let next : suc n ≡ n + 1 = omega arith in
+    ap (λ k. reverse (journal ++ all_moved k)) next
+    ∙ ap (λ moved. reverse (journal ++ moved)) (sym (replicate_more n Moved))
+    ∙ ap reverse (sym (append_assoc journal (all_moved n) (Moved ∷ [])))
+    ∙ reverse_push (journal ++ all_moved n) Moved
+    ∙ ap (λ records. Moved ∷ records) (moved_first n journal)
+
+-- they say the states on the way
+earlier_of-moved : {A : Type 0} → (n : ℕ) (rest : List (Record Shown A)) (s : State) → IsProper s → n ≤ length s.active →
+    earlier_of before (all_moved n ++ rest) (moved_on n s) ≡ on_the_way n s ++ earlier_of before rest s
+earlier_of-moved zero rest s proper within = ap (λ (t : State). earlier_of before rest t) (moved_on-zero s)
+earlier_of-moved {A} (suc n) rest s proper within =
+    led_on-Some (before {A = A} Moved (moved_on (suc n) s)) (moved_on n s) (λ u. earlier_of before (all_moved n ++ rest) u) (moved_byte_back n s proper (omega arith))
+    ∙ ap (λ (states : List State). moved_on n s ∷ states) (earlier_of-moved n rest s proper (omega arith))
+
+-- of which something holds
+AreRecords-moved : {A : Type 0} → (Holds : State → Type 0) (n : ℕ) (rest : List (Record Shown A)) (s : State) → IsProper s → n ≤ length s.active →
+    ((k : ℕ) → k < n → Holds (moved_on k s)) → AreRecords before Holds rest s → AreRecords before Holds (all_moved n ++ rest) (moved_on n s)
+AreRecords-moved Holds zero rest s proper within holds all = subst (λ (t : State). AreRecords before Holds rest t) (sym (moved_on-zero s)) all
+AreRecords-moved Holds (suc n) rest s proper within holds all = (
+  moved_on n s,
+  moved_byte_back n s proper (omega arith),
+  holds n (omega arith),
+  AreRecords-moved Holds n rest s proper (omega arith) (λ k less. holds k (omega arith)) all,
+)
+
+-- ---- there
+
+-- the position stays
+moved_on-position : (n : ℕ) (s : State) → (moved_on n s).position ≡ s.position
+moved_on-position n s = gathered_in_shows (λ (u : State). u.position) (λ u active base frames. refl) s.frames (take n s.active) (deleted n s)
+
+-- a journal with records of moved bytes says the states on the way before those that it said
+earlier_of-passed : {A : Type 0} → (old new : List (Record Shown A)) (s t : State) (n : ℕ) → IsProper s → n ≤ length s.active → new ≡ old ++ all_moved n → t ≡ moved_on n s →
+    earlier_of before (reverse new) t ≡ on_the_way n s ++ earlier_of before (reverse old) s
+earlier_of-passed {A} old new s t n proper within kept moved =
+    ap (λ (records : List (Record Shown A)). earlier_of before (reverse records) t) kept
+    ∙ ap (λ (records : List (Record Shown A)). earlier_of before records t) (moved_first n old)
+    ∙ ap (λ (u : State). earlier_of before (all_moved n ++ reverse old) u) moved
+    ∙ earlier_of-moved n (reverse old) s proper within
+
+-- plain bytes that are moved at once are as many steps
+pub Step_passed : {A : Type 0} → (Holds : State → Type 0) (limit : ℕ) (bytes : List ℕ) (ended : Bool) (old new : List (Record Shown A)) (m k : Shown) (n : ℕ) (p : PlainSession) →
+    plain_of before limit bytes ended old m.state ≡ p → AreRecords before Holds (reverse old) m.state → IsProper m.state → BeginsPlain n m.state → length old + n ≤ limit →
+    new ≡ old ++ all_moved n → k ≡ record m { state = moved_on n m.state } → repeated Step n p ≡ Some (plain_of before limit bytes ended new k.state)
+Step_passed Holds limit bytes ended old new m k n p view all proper plain fits kept moved =
+    let q : PlainSession = plain_of before limit bytes ended old m.state in
+    let there : k.state ≡ moved_on n m.state = ap (λ (u : Shown). u.state) moved in
+    ap (repeated Step n) (sym view)
+    ∙ plain_bytes_there n q proper plain (omega (arith, fits, length-earlier before Holds limit bytes ended old m.state q refl all))
+    ∙ ap (λ (earlier : List State). Some (record q { earlier = earlier; last = moved_on n m.state })) (sym (earlier_of-passed old new m.state k.state n proper plain.within kept there))
+    ∙ ap (λ (u : State). Some (record q { earlier = earlier_of before (reverse new) k.state; last = u })) (sym there)
+
+-- the fields stay sound
+pub IsSound-passed : {A : Type 0} → (limit : ℕ) (bytes : List ℕ) (old new : List (Record Shown A)) (m k : Shown) (n : ℕ) → IsProper m.state → n ≤ length m.state.active →
+    length old + n ≤ limit → new ≡ old ++ all_moved n → k ≡ record m { state = moved_on n m.state } → ((j : ℕ) → j ≤ n → HasRoom m (moved_on j m.state)) →
+    IsSound before limit bytes old m → IsSound before limit bytes new k
+IsSound-passed {A} limit bytes old new m k n proper within fits kept moved held sound =
+    let more : IsNoLess m k = subst (λ (u : Shown). IsNoLess m u) (sym moved) (no_less_state m (moved_on n m.state)) in
+    let there : k.state ≡ moved_on n m.state = ap (λ (u : Shown). u.state) moved in
+    let Reach : State → Type 0 = IsWithinReach k (length bytes) in
+    let reach : (j : ℕ) → j < n → Reach (moved_on j m.state) = λ j less. record {
+      on_tape = omega (arith, sound.on_tape, moved_on-position j m.state);
+      room = HasRoom-kept m k (moved_on j m.state) more (held j (omega arith));
+    } in
+    record {
+      some_records = sound.some_records;
+      not_too_many = sound.not_too_many;
+      within_limit = omega (arith, fits, length_of_moved old new n kept);
+      tape_limit = sound.tape_limit;
+      on_tape = omega (arith, sound.on_tape, ap (λ (u : State). u.position) there, moved_on-position n m.state);
+      records =
+          subst (λ (records : List (Record Shown A)). AreRecords before Reach records k.state) (sym (ap reverse kept ∙ moved_first n old))
+          (subst (λ (u : State). AreRecords before Reach (all_moved n ++ reverse old) u) (sym there)
+          (AreRecords-moved Reach n (reverse old) m.state proper within reach
+          (AreRecords-weaker before (IsWithinReach m (length bytes)) Reach (reverse old) m.state
+          (IsWithinReach-more m k (length bytes) (length bytes) more (omega arith)) sound.records)));
+    }
+
+-- ---- and back
+
+-- so many bytes that have moved on go back
+moved_on-back : (n : ℕ) (s : State) → n ≤ length s.active → moved_back n (moved_on n s) ≡ Some s
+moved_on-back n s within =
+    let all : length (take n s.active) ≡ n = omega (arith, length-take n s.active) in
+    ap (λ k. moved_back k (moved_on n s)) (sym all)
+    ∙ moved_back-gather s.frames (take n s.active) [] (deleted n s)
+    ∙ ap (λ (text : List ℕ). Some (record s { active = text })) (take-append-drop n s.active)
+
+-- the last n bytes of a text are so many
+length-last_of : (n : ℕ) (text : List ℕ) → n ≤ length text → length (last_of n text) ≡ n
+length-last_of n text within = omega (arith, length-drop (length text - n) text)
+
+-- a state from which so many bytes went back is where they have moved on to
+abbrev IsThere : ℕ → State → State → Type 0
+IsThere n s t = (t ≡ moved_on n s) × (n ≤ length s.active)
+
+moved_there : (n : ℕ) (s t : State) → moved_back n t ≡ Some s → IsThere n s t
+moved_there n s t back = by_frames t.frames back
+  where
+    base_there : n ≤ length t.base → IsThere n (put_before (last_of n t.base) (record t { base = all_before_last n t.base; frames = [] })) (record t { frames = [] })
+    base_there within =
+        let count : length (last_of n t.base) ≡ n = length-last_of n t.base within in
+        let taken : take n (last_of n t.base ++ t.active) ≡ last_of n t.base = take_at (last_of n t.base) t.active n count in
+        let left : drop n (last_of n t.base ++ t.active) ≡ t.active = drop_at (last_of n t.base) t.active n count in
+        let whole : all_before_last n t.base ++ take n (last_of n t.base ++ t.active) ≡ t.base =
+        ap (λ (text : List ℕ). all_before_last n t.base ++ text) taken ∙ take-append-drop (length t.base - n) t.base in
+        (sym (λ i. record t { active = left i; base = whole i; frames = [] }), omega (arith, count, length-append (last_of n t.base) t.active))
+
+    gathered_there : (f : Frame) (fs : List Frame) → n ≤ length f.gathered →
+        IsThere n (put_before (last_of n f.gathered) (record t { frames = record f { gathered = all_before_last n f.gathered } ∷ fs })) (record t { frames = f ∷ fs })
+    gathered_there f fs within =
+        let count : length (last_of n f.gathered) ≡ n = length-last_of n f.gathered within in
+        let taken : take n (last_of n f.gathered ++ t.active) ≡ last_of n f.gathered = take_at (last_of n f.gathered) t.active n count in
+        let left : drop n (last_of n f.gathered ++ t.active) ≡ t.active = drop_at (last_of n f.gathered) t.active n count in
+        let whole : all_before_last n f.gathered ++ take n (last_of n f.gathered ++ t.active) ≡ f.gathered =
+        ap (λ (text : List ℕ). all_before_last n f.gathered ++ text) taken ∙ take-append-drop (length f.gathered - n) f.gathered in
+        (sym (λ i. record t { active = left i; frames = record f { gathered = whole i } ∷ fs }), omega (arith, count, length-append (last_of n f.gathered) t.active))
+
+    by_test : (b : Bool) (u v : State) → then_some b u ≡ Some s → (b ≡ true → IsThere n u v) → IsThere n s v
+    by_test true u v h there = let same : u ≡ s = cc in subst (λ (x : State). IsThere n x v) same (there refl)
+    by_test false u v h there = absurd (cc)
+
+    by_frames : (frames : List Frame) → moved_back_in frames n (record t { frames = frames }) ≡ Some s → IsThere n s (record t { frames = frames })
+    by_frames [] h = by_test (nat_le n (length t.base)) _ _ h (λ few. base_there (leb-true n (length t.base) few))
+    by_frames (f ∷ fs) h = by_test (nat_le n (length f.gathered)) _ _ h (λ few. gathered_there f fs (leb-true n (length f.gathered) few))
+
+-- one byte more
+moved_there-more : (n : ℕ) (r s t : State) → IsThere 1 s t → IsThere n r s → IsThere (suc n) r t
+moved_there-more n r s t last others = (
+  last.0 ∙ ap gather_first others.0 ∙ sym (moved_on-suc n r),
+  omega (arith, last.1, others.1, ap (λ (u : State). length u.active) others.0, ap (λ (text : List ℕ). length text) (active-gathered r.frames (take n r.active) (deleted n r)), length-drop n r.active),
+)
+
+-- records of moved bytes lead back to a state, as so many steps back do, and the other records go on from it
+pub record GoesBack {A : Type 0} (Holds : State → Type 0) (n : ℕ) (rest : List (Record Shown A)) (t : State) (p : PlainSession) : Type 0 where
+  pub first : State
+  pub there : IsThere n first t
+  pub records : AreRecords before Holds rest first
+  pub walked : repeated Back n p ≡ Some (record p { earlier = earlier_of before rest first; last = first })
+
+goes_back : {A : Type 0} → (Holds : State → Type 0) (n : ℕ) (rest : List (Record Shown A)) (t : State) (p : PlainSession) → AreRecords before Holds (all_moved n ++ rest) t →
+    p.earlier ≡ earlier_of before (all_moved n ++ rest) t → p.last ≡ t → GoesBack Holds n rest t p
+goes_back Holds zero rest t p all earlier last = record {
+  first = t;
+  there = (sym (moved_on-zero t), omega arith);
+  records = all;
+  walked = λ i. Some (record p { earlier = earlier i; last = last i });
+}
+goes_back {A} Holds (suc n) rest t p all earlier last =
+    let s : State = all.0 in
+    let some : p.earlier ≡ s ∷ earlier_of before (all_moved n ++ rest) s =
+    earlier ∙ led_on-Some (before {A = A} Moved t) s (λ u. earlier_of before (all_moved n ++ rest) u) all.1 in
+    let q : PlainSession = record p { earlier = earlier_of before (all_moved n ++ rest) s; last = s } in
+    let back : repeated Back 1 p ≡ Some q = ap accepted_by (answer_Back_from p s (earlier_of before (all_moved n ++ rest) s) some) in
+    let next : suc n ≡ 1 + n = omega arith in
+    let others : GoesBack Holds n rest s q = goes_back Holds n rest s q all.3 refl refl in
+    record {
+      first = others.first;
+      there = moved_there-more n others.first s t (moved_there 1 s t (restored_of_before rules.Moved s t all.1).0) others.there;
+      records = others.records;
+      walked = ap (λ k. repeated Back k p) next ∙ repeated-from Back 1 n p q back ∙ others.walked;
+    }
+
+-- the same of fields
+went_back : {A : Type 0} → (Holds : State → Type 0) (limit : ℕ) (bytes : List ℕ) (ended : Bool) (old new : List (Record Shown A)) (t : State) (n : ℕ) → old ≡ new ++ all_moved n →
+    AreRecords before Holds (reverse old) t → GoesBack Holds n (reverse new) t (plain_of before limit bytes ended old t)
+went_back {A} Holds limit bytes ended old new t n kept all =
+    let turned : reverse old ≡ all_moved n ++ reverse new = ap reverse kept ∙ moved_first n new in
+    goes_back Holds n (reverse new) t (plain_of before limit bytes ended old t)
+    (subst (λ (records : List (Record Shown A)). AreRecords before Holds records t) turned all)
+    (ap (λ (records : List (Record Shown A)). earlier_of before records t) turned) refl
+
+-- the bytes can go back
+pub moved_back_says : {A : Type 0} → (Holds : State → Type 0) (old new : List (Record Shown A)) (t : State) (n : ℕ) → old ≡ new ++ all_moved n → AreRecords before Holds (reverse old) t →
+    (s : State) × (moved_back n t ≡ Some s) × (s.position ≡ t.position) × AreRecords before Holds (reverse new) s
+moved_back_says Holds old new t n kept all =
+    let went = went_back Holds 0 [] false old new t n kept all in
+    (
+      went.first,
+      ap (moved_back n) went.there.0 ∙ moved_on-back n went.first went.there.1,
+      sym (ap (λ (u : State). u.position) went.there.0 ∙ moved_on-position n went.first),
+      went.records,
+    )
+
+-- that is as many steps back
+pub Back_passed : {A : Type 0} → (Holds : State → Type 0) (limit : ℕ) (bytes : List ℕ) (ended : Bool) (old new : List (Record Shown A)) (t s : State) (n : ℕ) (p : PlainSession) →
+    plain_of before limit bytes ended old t ≡ p → AreRecords before Holds (reverse old) t → old ≡ new ++ all_moved n → moved_back n t ≡ Some s →
+    repeated Back n p ≡ Some (plain_of before limit bytes ended new s)
+Back_passed Holds limit bytes ended old new t s n p view all kept back =
+    let went = went_back Holds limit bytes ended old new t n kept all in
+    let here : moved_back n t ≡ Some went.first = ap (moved_back n) went.there.0 ∙ moved_on-back n went.first went.there.1 in
+    let same : went.first ≡ s = cc in
+    ap (repeated Back n) (sym view) ∙ went.walked ∙ ap (λ (u : State). Some (plain_of before limit bytes ended new u)) same
+
+-- the fields stay sound
+pub IsSound-passed-back : {A : Type 0} → (limit : ℕ) (bytes : List ℕ) (old new : List (Record Shown A)) (m k : Shown) (n : ℕ) → old ≡ new ++ all_moved n →
+    moved_back n m.state ≡ Some k.state → k ≡ record m { state = k.state } → IsSound before limit bytes old m → IsSound before limit bytes new k
+IsSound-passed-back {A} limit bytes old new m k n kept back others sound =
+    let Reach : State → Type 0 = IsWithinReach m (length bytes) in
+    let says = moved_back_says Reach old new m.state n kept sound.records in
+    let said : moved_back n m.state ≡ Some says.0 = says.1 in
+    let same : says.0 ≡ k.state = cc in
+    let more : IsNoLess m k = subst (λ (u : Shown). IsNoLess m u) (sym others) (no_less_state m k.state) in
+    record {
+      some_records = sound.some_records;
+      not_too_many = sound.not_too_many;
+      within_limit = omega (arith, sound.within_limit, length_of_moved new old n kept);
+      tape_limit = sound.tape_limit;
+      on_tape = omega (arith, sound.on_tape, says.2, ap (λ (u : State). u.position) same);
+      records =
+          AreRecords-weaker before Reach (IsWithinReach k (length bytes)) (reverse new) k.state
+          (IsWithinReach-more m k (length bytes) (length bytes) more (omega arith))
+          (subst (λ (u : State). AreRecords before Reach (reverse new) u) same says.3);
+    }

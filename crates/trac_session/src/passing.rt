@@ -1,0 +1,32 @@
+//! Runs of plain bytes, which a session passes at once.
+ghost use Rattle.std.specs.Prelude.{◌≡◌, ◌≤◌, Some};
+ghost use Rattle.trac_rules.specs.Session.{Step, Back, repeated};
+
+use crate::session::Session;
+use std::alloc::Allocator;
+
+impl<A: Allocator + Copy> Session<A> {
+    /// Goes forward over plain bytes at the front of the active text, up to `most` of them and as many as the journal has room for.
+    /// Answers how many these are: as many steps. It takes no memory (this project's profile).
+    pub(crate) fn pass_plain(&mut self, most: u64) -> u64
+        ensures passed { repeated Step result self.old ≡ Some self.new }
+        ensures most { result ≤ most }
+    {
+        let room = self.limit - self.journal.len();
+        let count = self.machine.move_plain(most.min(room as u64) as usize);
+        self.journal.push_moved(count);
+        count as u64
+    }
+
+    /// Goes back over steps that moved a byte each, up to `most` of them, until one that did something else. Answers how many these are.
+    /// It takes no memory (this project's profile).
+    pub(crate) fn pass_back(&mut self, most: u64) -> u64
+        ensures passed { repeated Back result self.old ≡ Some self.new }
+        ensures most { result ≤ most }
+    {
+        let records = self.journal.len();
+        let count = self.journal.pop_moved(most.min(records as u64) as usize);
+        self.machine.move_back(count);
+        count as u64
+    }
+}
