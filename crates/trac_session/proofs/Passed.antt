@@ -211,8 +211,7 @@ went_back {A} Holds limit bytes ended old new t n kept all =
 pub moved_back_says : {A : Type 0} → (Holds : State → Type 0) (old new : List (Record Shown A)) (t : State) (n : ℕ) → old ≡ new ++ all_moved n → AreRecords before Holds (reverse old) t →
     (s : State) × (moved_back n t ≡ Some s) × (s.position ≡ t.position) × AreRecords before Holds (reverse new) s
 moved_back_says Holds old new t n kept all =
-    let went = went_back Holds 0 [] false old new t n kept all in
-    (
+    let went = went_back Holds 0 [] false old new t n kept all in (
       went.first,
       ap (moved_back n) went.there.0 ∙ moved_on-back n went.first went.there.1,
       sym (ap (λ (u : State). u.position) went.there.0 ∙ moved_on-position n went.first),

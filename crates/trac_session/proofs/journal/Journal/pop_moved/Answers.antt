@@ -9,9 +9,12 @@ overflow_sub-self-2 g c = omega (arith, c.self.invariant, moved_within c.self.in
 pub invariant_of-self : goal.invariant_of-self
 invariant_of-self g c =
     let few : c.min-count.result ≤ c.self.inside.moved = omega arith in
-    omega (arith, c.self.invariant,
-        length_of_moved (unrolled c.self.inside.entries.items (c.self.inside.moved - c.min-count.result)) (unrolled c.self.inside.entries.items c.self.inside.moved) c.min-count.result
-            (moved_taken c.self.inside.entries.items c.self.inside.moved c.min-count.result few))
+    omega (
+      arith,
+      c.self.invariant,
+      length_of_moved (unrolled c.self.inside.entries.items (c.self.inside.moved - c.min-count.result)) (unrolled c.self.inside.entries.items c.self.inside.moved) c.min-count.result
+          (moved_taken c.self.inside.entries.items c.self.inside.moved c.min-count.result few),
+    )
 
 pub returns-clause-taken : goal.returns-clause-taken
 returns-clause-taken g c =

@@ -8,8 +8,11 @@ overflow_add-self g c = omega (arith, moved_within c.self.inside.entries.items c
 
 pub invariant_of-self : goal.invariant_of-self
 invariant_of-self g c =
-    omega (arith, c.self.invariant,
-        length_of_moved (unrolled c.self.inside.entries.items c.self.inside.moved) _ c.args.n (more_moved c.self.inside.entries.items c.self.inside.moved c.args.n))
+    omega (
+      arith,
+      c.self.invariant,
+      length_of_moved (unrolled c.self.inside.entries.items c.self.inside.moved) _ c.args.n (more_moved c.self.inside.entries.items c.self.inside.moved c.args.n),
+    )
 
 pub returns : goal.returns
 returns g c = rw (← c.self.view_is) (more_moved c.self.inside.entries.items c.self.inside.moved c.args.n)

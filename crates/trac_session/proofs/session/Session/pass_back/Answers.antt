@@ -9,7 +9,7 @@ pub move_back-requires : goal.move_back-requires
 move_back-requires g c =
     let m = c.self.inside.machine in
     let says = moved_back_says (IsWithinReach m (length c.self.inside.tape.items)) c.self.inside.journal c.pop_moved-count.new.self m.state c.pop_moved-count.result
-        c.pop_moved-count.ensures.taken c.self.invariant.records in
+    c.pop_moved-count.ensures.taken c.self.invariant.records in
     subst (λ (before : Option State). IsSome before) (sym says.1) refl
 
 pub invariant_of-self : goal.invariant_of-self
