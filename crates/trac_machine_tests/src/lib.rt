@@ -5,6 +5,8 @@
 #![tactic(auto)]
 
 #[cfg(test)]
+mod loading;
+#[cfg(test)]
 mod machines;
 pub mod shown;
 #[cfg(test)]
