@@ -1,11 +1,9 @@
 #!/usr/bin/env python3
 """Times the machine over one block (`GapBuf`) against the same core over two vectors (`PlainEnds`), and prints a table.
 
-The program is built under target/bench_machine, by `rt run`, which proves it and what it stands on. There `trac_step` has
-one method more than in the repository, `advance` (bench/machine/bare): a step that copies nothing for the way back, since
-else the copy of the machine that each record keeps is all that is timed. All crates are copied there, with what earlier checks
-kept of them (1.6 GB). Each figure is the median of all rounds of all runs; both
-representations are timed in turn, in one run.
+The program is built under target/bench_machine, by `rt run`, which proves it and what it stands on. All crates are copied
+there, with what earlier checks kept of them (2 GB). Each step keeps its record, which is let go: that of a call is still a copy
+of the machine. Each figure is the median of all rounds of all runs; both representations are timed in turn, in one run.
 
     python3 bench/machine/run.py [RUNS]
 """
@@ -24,11 +22,10 @@ BELOW = ["trac_rules", "trac_num", "trac_forms", "trac_gap", "trac_prims"]
 ROWS = [
     ("plain_short", 64 * 256, "scan a byte of plain text, of 256"),
     ("plain_middle", 65536, "scan a byte of plain text, of 64 KiB"),
-    ("plain_recorded", 16 * 256, "the same of 256, with the record of each step"),
     ("protected", 1, "a protected text of 1 MiB, in one step"),
     ("crossing_narrow", 1, "its way across a gap of one place, once the match is found"),
     ("crossing_wide", 1, "the same across a gap of 1 MiB"),
-    ("calls", 16 * 64, "a call of `eq`, in ten steps"),
+    ("calls", 16 * 64, "a call of `eq`, in ten steps, with the copy of the machine that its record keeps"),
 ]
 
 
@@ -39,17 +36,6 @@ def place(source, target):
             shutil.copytree(source / part, target / part, dirs_exist_ok=True)
             for file in (target / part).rglob("*.txt"):
                 file.rename(file.with_suffix(""))
-
-
-def bare_route(source):
-    """The module with `advance` becomes a part of the crate, and what it calls can be called from it."""
-    root = source / "lib.rt"
-    root.write_text(root.read_text().replace("mod calling;", "mod bare;\nmod calling;", 1))
-    for file in (source / "calling.rt", source / "moves.rt"):
-        text = file.read_text()
-        for name in ("planned", "make_room", "finish_call", "move_fits", "move_on"):
-            text = text.replace(f"    fn {name}(", f"    pub(crate) fn {name}(")
-        file.write_text(text)
 
 
 def build():
@@ -66,9 +52,7 @@ def build():
         for part in ("src", "specs", "proofs"):
             shutil.rmtree(crates / name / part, ignore_errors=True)
         place(ROOT / "crates" / name, crates / name)
-    place(HERE / "bare", crates / "trac_step")
     place(HERE / "machine_bench", crates / "machine_bench")
-    bare_route(crates / "trac_step" / "src")
     program = crates / "machine_bench" / "out" / "machine_bench"
     built = subprocess.run(["rt", "run"], cwd=crates / "machine_bench", capture_output=True, text=True)
     said = built.stdout + built.stderr

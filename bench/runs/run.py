@@ -43,6 +43,7 @@ ROWS = [
     ("100 KB of plain text", words(100_000) + b"'", []),
     ("200 KB of plain text", words(200_000) + b"'", []),
     ("1 MB of plain text", words(1_000_000) + b"'", []),
+    ("16 MB of plain text", words(16_000_000) + b"'", []),
     ("1 MB of plain text, a `'` behind each 99 bytes", (words(99) + b"'") * 10_000, []),
     ("1 MB of text in parentheses", protected(1_000_000) + b"'", []),
     ("4 MB of text in parentheses", protected(4_000_000) + b"'", []),

@@ -12,7 +12,6 @@ use trac_rules::refusal::Refusal;
 use trac_step::{Core, Machine, Mark, Record, Tape};
 
 /// Memory of which a request may be refused.
-/// Memory of which a request may be refused.
 pub(crate) type Memory<'a> = &'a Refusing<Global>;
 
 /// The machine over plain vectors, with which the other one is compared.

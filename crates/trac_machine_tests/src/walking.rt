@@ -2,6 +2,7 @@
 ghost use Rattle.std.specs.Prelude.{◌≡◌};
 ghost use Rattle.trac_step.specs.Room.{IsNoLess};
 
+use crate::loading::{load, nothing};
 use crate::machines::{Memory, made, step};
 use crate::shown::state_shown;
 use std::alloc::{AllocError, Allocator, Global};
@@ -46,6 +47,9 @@ const SCANNED: &[(&[u8], u64)] = &[
 
 /// `AB` is printed in eleven steps. These only move, on a machine that has had a mark.
 const STEPS_THAT_MOVE: &[u64] = &[2, 3, 6, 7, 9, 10];
+
+/// These scan: all but the calls of `rs` and `ps`.
+const STEPS_THAT_SCAN: &[u64] = &[1, 2, 3, 4, 5, 6, 7, 9, 10];
 
 /// More steps than any walk here takes.
 const MOST_STEPS: u64 = 100;
@@ -204,6 +208,37 @@ fn eleven_steps_without_memory(rt: HostRuntime) -> Result<(), Fail> {
     expect_walk::<GapBuf<u8, Memory<'_>>, GapBuf<Mark, Memory<'_>>, Memory<'_>>(
         &rt, &walk, &memory, 0, 11, 11,
     )
+}
+
+// A machine in the state in which a processor begins, with the room that eleven steps over `AB'` need, and no more.
+fn loaded_at_start<'a>(
+    rt: &impl Abort,
+    memory: Memory<'a>,
+) -> Result<Machine<Memory<'a>>, Refusal> {
+    let mut parts = nothing(memory);
+    parts.active = Vec::from_slice(memory, b"#(ps,#(rs))")?;
+    parts.meta = b'\'';
+    parts.trace = false;
+    parts.position = 0;
+    parts.text_room = 11;
+    parts.mark_room = 3;
+    parts.output_room = 2;
+    load(rt, memory, &parts)
+}
+
+#[test]
+fn eleven_steps_in_the_room_that_was_asked_for(rt: HostRuntime) -> Result<(), Fail> {
+    let memory = Refusing::new(rt.alloc());
+    let walk = Walk {
+        plain: rt.alloc(),
+        memory: &memory,
+        input: b"AB'",
+        scarce: STEPS_THAT_SCAN,
+    };
+    let mut machine = loaded_at_start(&rt, &memory)?;
+    let done = there_and_back(&rt, &walk, &mut machine, 0, 11)?;
+    assert!(rt; done == 11);
+    Ok(())
 }
 
 // Whether a begun function is kept so.

@@ -189,7 +189,7 @@ impl<E: TwoEnds<u8, A>, M: TwoEnds<Mark, A>, A: Allocator + Copy> Core<E, M, A> 
     /// (this project's profile). Each begun function has to have an argument, the one that is being gathered.
     ///
     /// Refused with `TooLong` where the state, a room or a name passes a limit (this project's profile), and with `Memory` where the
-    /// allocator refuses.
+    /// allocator refuses, which may come first where there are too many forms: they are counted in their store.
     pub fn load(alloc: A, parts: &Parts<A>) -> Result<Self, Refusal>
         requires { EachGathers parts.now.frames.items }
         ensures answer { MayAnswer (λ m. m.state) (loaded parts.now) result }

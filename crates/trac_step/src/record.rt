@@ -44,8 +44,9 @@ pub enum Record<M: Drop, A: Allocator + Copy = Global> {
 impl<E: TwoEnds<u8, A>, M: TwoEnds<Mark, A>, A: Allocator + Copy> Core<E, M, A> {
     /// Goes back over a step: the machine shows the state before it again, all parts as they were, in its own room. All that was
     /// lost comes from the record, so any machine that shows the state after the step can go back over it.
-    /// It takes no memory and cannot fail, lessens no room and forgets no name (this project's profile). The machine has to have room for that state,
-    /// as it has after the step.
+    /// It takes no memory and cannot fail, lessens no room and forgets no name (this project's profile). The record has to say a state
+    /// before the one that the machine shows, and the machine has to have room for it and to know the names of its forms, as it does
+    /// after the step.
     pub fn undo(&mut self, taken: Record<Self, A>)
         requires { IsSomeAnd (before taken self.old.state) (λ s. HasRoom self.old s) }
         ensures state { before taken self.old.state ≡ Some self.new.state }

@@ -22,8 +22,8 @@ impl<E: TwoEnds<u8, A>, M: TwoEnds<Mark, A>, A: Allocator + Copy> Core<E, M, A> 
     /// destroyed, and of nothing else where it scanned. The state after it is a proper one: a step is refused where its new
     /// state would pass any limit.
     ///
-    /// Refused with `NeedInput` or `Ended` where a function reads input that is not there, with `TooLong` where the
-    /// state after the step would pass a limit, and with `Memory` where the allocator refuses; after each the state is as it was.
+    /// Refused with `NeedInput` where a function reads input that is not there yet, with `Ended` where it will never be there or `hl`
+    /// is performed, with `TooLong` where the state after the step would pass a limit, and with `Memory` where the allocator refuses; after each the state is as it was.
     /// A step of scanning is refused memory only where the machine has no room for the new state, but for the step that empties
     /// all texts, which keeps them in its record (this project's profile).
     /// No step, refused ones among them, lessens the machine's room or forgets a name, and after an accepted one there is room

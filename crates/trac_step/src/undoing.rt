@@ -10,8 +10,8 @@ use trac_gap::TwoEnds;
 use trac_prims::Mark;
 
 impl<E: TwoEnds<u8, A>, M: TwoEnds<Mark, A>, A: Allocator + Copy> Core<E, M, A> {
-    /// Moves the last n bytes of the current text back before the active text, as going back over as many records `Moved` does. It takes
-    /// no memory (this project's profile).
+    /// Moves the last n bytes of the current text back before the active text, as going back over as many records `Moved` does. The
+    /// current text has to hold so many. It takes no memory (this project's profile).
     pub fn move_back(&mut self, n: usize)
         requires { IsSome (moved_back n self.old.state) }
         ensures state { moved_back n self.old.state ≡ Some self.new.state }
