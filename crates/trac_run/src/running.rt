@@ -1,5 +1,5 @@
 //! A run: a program's input from a reader, its output to a writer.
-ghost use Rattle.std.specs.Prelude.{◌≡◌, ℕ, ◌+◌, ◌<◌, ◌≤◌, true, false, length, OnOk, IfOk, IfErr};
+ghost use Rattle.std.specs.Prelude.{◌≡◌, ℕ, ◌+◌, ◌<◌, ◌≤◌, true, false, length, MatchOption, OnOk, IfOk, IfErr};
 ghost use Rattle.std.specs.Io.KnownBytes.{Appends, IsAtEnd};
 ghost use Rattle.trac_rules.specs.Session.{PlainSession, Feed, Step, Commit, done, refused, answer};
 ghost use Rattle.trac_rules.specs.Running.{output_of};
@@ -38,6 +38,7 @@ pub struct Options {
 pub fn budget_of(asked: Option<u64>) -> u64
     ensures some { 1 ≤ result }
     ensures most { result ≤ BUDGET_LIMIT }
+    ensures asked { MatchOption asked (result ≡ DEFAULT_BUDGET) (λ budget. 1 ≤ budget → budget ≤ BUDGET_LIMIT → result ≡ budget) }
 {
     match asked {
         Some(budget) => budget.clamp(1, BUDGET_LIMIT),
