@@ -6,6 +6,7 @@ pub mod State
 pub mod Matching
 pub mod Segmenting
 pub mod Filling
+pub mod Cuts
 pub mod Showing
 pub mod Listing
 pub mod Pieces
