@@ -23,6 +23,7 @@ pub mod Blocks
 pub mod Outcomes
 pub mod Performing
 pub mod Stepping
+pub mod Undone
 pub mod Records
 pub mod Weights
 pub mod PlainRuns

@@ -3,7 +3,7 @@ ghost use Rattle.std.specs.Prelude.{◌≡◌, ◌≤◌, ◌++◌, ◌∷◌, [
 ghost use Rattle.trac_rules.specs.Form.{defined, pointed_at};
 ghost use Rattle.trac_rules.specs.Limits.{marks, text_bytes};
 ghost use Rattle.trac_rules.specs.Proper.{IsProper};
-ghost use Rattle.trac_rules.specs.Records.{Begun, Comma, Deleted, Idle, IsOfScanning, Moved, Quoted, Record, led_back, recorded, restored, state_before};
+ghost use Rattle.trac_rules.specs.Records.{Begun, CallRecord, Comma, Deleted, Idle, IsOfScanning, Moved, Quoted, Record, call_record_of, led_back, recorded, rest_before, rest_of, restored, state_before, texts_before, texts_in};
 ghost use Rattle.trac_rules.specs.RecordRows.{Costs, losses_of, most_in, records_of};
 ghost use Rattle.trac_rules.specs.Rows.{replies_to, session_after, state_after, texts_of};
 ghost use Rattle.trac_rules.specs.Session.{Feed, PlainSession, Step, new_session, repeated};
@@ -26,6 +26,16 @@ pub fn records_lead_back()
     ensures all_steps { (n : ℕ) (old new : PlainSession) → IsProper old.last → repeated Step n old ≡ Some new → led_back (take n (map recorded new.earlier)) new.last ≡ Some old.last }
     ensures elsewhere { (r : Record) (t : State) (position : ℕ) (output : List ℕ) → IsOfScanning r →
         restored r (record t { position = position; output = output }) ≡ option_map (λ (s : State). record s { position = position; output = output }) (restored r t) }
+{}
+
+/// The record of a call keeps what the call destroyed, and with that the state after it gives back the state before. Each of the
+/// three parts of the state is got back by itself, from its part of the state after and nothing else: texts and begun functions;
+/// forms and blocks; all the rest.
+pub fn records_of_calls_lead_back()
+    ensures texts { (environment : Environment) (s t : State) (call : CallRecord) → step environment s ≡ Ok t → call_record_of environment s ≡ Some call →
+        texts_before call (texts_in t) ≡ Some (texts_in s) }
+    ensures rest { (environment : Environment) (s t : State) (call : CallRecord) → step environment s ≡ Ok t → call_record_of environment s ≡ Some call →
+        rest_before call (rest_of t) ≡ Some (rest_of s) }
 {}
 
 /// The record of a step of scanning weighs no more than the step may lose.
