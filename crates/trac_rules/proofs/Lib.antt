@@ -21,6 +21,7 @@ pub mod Waiting
 pub mod GoingOn
 pub mod OctalTexts
 pub mod Restored
+pub mod FormsBack
 pub mod CallsBack
 pub mod Weighed
 pub mod Losses
