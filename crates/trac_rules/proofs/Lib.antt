@@ -2,6 +2,7 @@ pub mod Balanced
 pub mod Calculated
 pub mod Numerals
 pub mod Cutting
+pub mod Cuts
 pub mod Outcomes
 pub mod Scans
 pub mod Changed
