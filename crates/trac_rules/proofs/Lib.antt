@@ -23,6 +23,7 @@ pub mod GoingOn
 pub mod OctalTexts
 pub mod Restored
 pub mod FormsBack
+pub mod StorageBack
 pub mod CallsBack
 pub mod Weighed
 pub mod Losses

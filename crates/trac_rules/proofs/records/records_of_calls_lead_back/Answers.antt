@@ -1,6 +1,6 @@
 -- The laws are those of `CallsBack`.
 use Rattle.trac_rules.proofs.CallsBack.{rest_goes_back_over, texts_go_back}
-use Rattle.trac_rules.proofs.FormsBack.{all_put_back, copies_taken_back, moved_back_in, swapped}
+use Rattle.trac_rules.proofs.StorageBack.{effect_undone}
 use Rattle.trac_rules.proofs.records.records_of_calls_lead_back.Goals as goal
 
 pub returns-clause-texts : goal.returns-clause-texts
