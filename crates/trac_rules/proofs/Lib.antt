@@ -25,6 +25,8 @@ pub mod Restored
 pub mod FormsBack
 pub mod StorageBack
 pub mod CallsBack
+pub mod FurtherOn
 pub mod Weighed
+pub mod CallsWeighed
 pub mod Losses
 pub mod MovedOn

@@ -1,12 +1,11 @@
 -- Forms and blocks before a call are got back from what the call destroyed and those after it.
-use Rattle.std.proofs.Common.{◌≡◌, ℕ, zero, suc, ◌+◌, ◌-◌, ◌<◌, Bool, true, false, List, [], ◌∷◌, ◌++◌, length, take, drop, refl, sym, ap, ◌∙◌, arith, ⊎_elim}
-use Rattle.std.specs.Prelude.{Option, None, Some, Result, Ok, Err, ◌&&◌, ◌==◌, not, nat_le, nat_lt, if◌then◌else◌, is_some, option_map, option_and_then, position, slice_set, decimal}
+use Rattle.std.proofs.Common.{◌≡◌, ℕ, zero, suc, ◌-◌, ◌<◌, Bool, true, false, List, [], ◌∷◌, ◌++◌, length, take, drop, refl, sym, ap, subst, ◌∙◌, arith}
+use Rattle.std.specs.Prelude.{Option, None, Some, Result, Ok, Err, ◌==◌, not, nat_le, nat_lt, if◌then◌else◌, is_some, option_map, option_and_then, position, slice_set, decimal}
 use Rattle.std.specs.Bool.{then_some}
 use Rattle.std.specs.FinMap as finite
 use Rattle.std.specs.Str.{bytes_eq}
 use Rattle.std.proofs.lemmas.Bool.{and_from, and_parts, le-leb, lt-ltb}
 use Rattle.std.proofs.lemmas.List.{drop_at, get_or_at, length-append, length-set, take-append-drop, take_at}
-use Rattle.trac_rules.specs.declared.item.CutGap.{CutGap}
 use Rattle.trac_rules.specs.declared.item.Item.{Item}
 use Rattle.trac_rules.specs.declared.limit.TheConstants.{FORM_COUNT_LIMIT}
 use Rattle.trac_rules.specs.declared.primitive.BlockAction.{BlockAction}
@@ -19,9 +18,9 @@ use Rattle.trac_rules.specs.declared.primitive.Primitive.{Primitive}
 use Rattle.trac_rules.specs.declared.primitive.Primitive.TheVariants.{PrintString, ReadString, ReadByte, Halt, SetMeta, SetTrace, Compute, Handle, HandleBlock, Unknown}
 use Rattle.trac_rules.specs.declared.refusal.Refusal.{Refusal}
 use Rattle.trac_rules.specs.declared.refusal.Refusal.TheVariants.{TooLong}
-use Rattle.trac_rules.specs.Blocks.{block_at, block_fits, block_handled, erased, fetched, fetching, forms_in, is_address, moved_out, named_block_number, number_addressed, on_block, put_aside, storing, with_all}
+use Rattle.trac_rules.specs.Blocks.{block_at, block_fits, block_handled, erased, fetched, fetching, forms_in, is_address, moved_out, number_addressed, on_block, put_aside, storing, with_all}
 use Rattle.trac_rules.specs.Computing.{computed, result_of}
-use Rattle.trac_rules.specs.Cuts.{cut_of, joined}
+use Rattle.trac_rules.specs.Cuts.{cut_of}
 use Rattle.trac_rules.specs.Effect.{Effect, argument, gives, gives_or_forces, leaves, prints}
 use Rattle.trac_rules.specs.Filling.{called}
 use Rattle.trac_rules.specs.Form.{Form, all_items, defined, pointed_at}
@@ -34,7 +33,8 @@ use Rattle.trac_rules.specs.Reading.{byte_read, read_up_to, rest_read, unread}
 use Rattle.trac_rules.specs.Segmenting.{segmented}
 use Rattle.trac_rules.specs.Showing.{shown}
 use Rattle.trac_rules.specs.State.{Block, Environment, Forms, Held, State, Storage, storage_of}
-use Rattle.trac_rules.specs.Undone.{Undone, Nothing, Point, Join, Swap, Restore, MoveOut, Unbring, Unerase, block_handling_lost, block_lost, bytes_lost, handling_lost, is_erased, joined_back, last_block, moved_out_again, names_in, pointed_back, pointer_back, pointer_lost, replaced_lost, storage_before, swapped_back, unbrought, undone_by, unerased}
+use Rattle.trac_rules.specs.Undone.{Undone, Nothing, Point, Join, Swap, MoveOut, block_handling_lost, block_lost, bytes_lost, handling_lost, joined_back, last_block, moved_out_again, names_in, pointed_back, pointer_back, pointer_lost, replaced_lost, storage_before, swapped_back, undone_by, unerased}
+use Rattle.trac_rules.specs.Weights.{meta_weight}
 use Rattle.trac_rules.proofs.Balanced.{first_place_passes}
 use Rattle.trac_rules.proofs.Cuts.{cut_joined}
 use Rattle.trac_rules.proofs.FormsBack.{DifferAt, all_put_back, copies_taken_back, moved_back_in, put_differs, swapped, taken_differs}
@@ -312,7 +312,32 @@ effect_undone (Handle action) environment arguments s sets_none = handled_back a
 effect_undone (HandleBlock action) environment arguments s sets_none = block_handled_back arguments (storage_of s) action
 effect_undone Unknown environment arguments s sets_none = (refl, refl)
 
--- and `cm` leaves forms and blocks
-pub meta_undone : (text : List ℕ) (storage : Storage) → (meta_set text storage).storage ≡ storage
-meta_undone [] storage = refl
-meta_undone (b ∷ text) storage = refl
+-- what a primitive keeps of the meta character: one where it is set
+abbrev pub meta_kept : Primitive → List (List ℕ) → ℕ
+meta_kept SetMeta arguments = length (take 1 (argument 1 arguments))
+meta_kept primitive arguments = 0
+
+-- what a call's effect leaves is undone, and the old meta character is kept where one is set
+pub record IsKept (primitive : Primitive) (arguments : List (List ℕ)) (storage : Storage) (e : Effect) : Type 0 where
+  pub storage_back : storage_before arguments (undone_by primitive arguments storage) e.storage ≡ Some storage
+  pub meta : meta_weight e.meta ≡ meta_kept primitive arguments
+
+meta_is_kept : (text : List ℕ) (arguments : List (List ℕ)) (storage : Storage) → argument 1 arguments ≡ text → IsKept SetMeta arguments storage (meta_set text storage)
+meta_is_kept [] arguments storage is = record { storage_back = refl; meta = ap (λ (t : List ℕ). length (take 1 t)) (sym is) }
+meta_is_kept (b ∷ text) arguments storage is = record { storage_back = refl; meta = ap (λ (t : List ℕ). length (take 1 t)) (sym is) }
+
+-- of each primitive but `cm`
+kept_of_undone : (primitive : Primitive) (arguments : List (List ℕ)) (storage : Storage) (outcome : Result Effect Refusal) (e : Effect) → meta_kept primitive arguments ≡ 0 →
+    IsUndone arguments (undone_by primitive arguments storage) storage outcome → outcome ≡ Ok e → IsKept primitive arguments storage e
+kept_of_undone primitive arguments storage (Ok f) e none is same =
+    let one : f ≡ e = cc in
+    subst (IsKept primitive arguments storage) one (record { storage_back = is.0; meta = ap meta_weight is.1 ∙ sym none })
+kept_of_undone primitive arguments storage (Err refusal) e none is same = absurd (cc)
+
+pub effect_kept : (primitive : Primitive) (environment : Environment) (arguments : List (List ℕ)) (s : State) (e : Effect) → effect_of primitive environment arguments s ≡ Ok e →
+    IsKept primitive arguments (storage_of s) e
+effect_kept SetMeta environment arguments s e same =
+    let one : meta_set (argument 1 arguments) (storage_of s) ≡ e = cc in
+    subst (IsKept SetMeta arguments (storage_of s)) one (meta_is_kept (argument 1 arguments) arguments (storage_of s) refl)
+effect_kept primitive environment arguments s e same =
+    kept_of_undone primitive arguments (storage_of s) (effect_of primitive environment arguments s) e refl (effect_undone primitive environment arguments s tt) same
