@@ -1,8 +1,8 @@
 -- Plain bytes move on one after another, and back.
 use Rattle.std.proofs.Common.{◌≡◌, ℕ, zero, suc, ◌+◌, ◌<◌, ◌≤◌, Bool, true, false, not, ◌&&◌, List, [], ◌∷◌, ◌++◌, length, take, drop, get_or, replicate, refl, sym, ap, subst, ◌∙◌, arith}
-use Rattle.std.specs.Prelude.{Option, Some, Result, Ok, Err, nat_le, nat_lt, if◌then◌else◌, option_and_then, ◌==◌}
+use Rattle.std.specs.Prelude.{Some, Result, Ok, nat_le, nat_lt, if◌then◌else◌, option_and_then, ◌==◌}
 use Rattle.std.proofs.lemmas.Bool.{lt-ltb}
-use Rattle.std.proofs.lemmas.List.{append-nil, append_assoc, drop_more, length-append, length-drop, take-append-drop}
+use Rattle.std.proofs.lemmas.List.{append-nil, append_assoc, drop_more, length-append, take-append-drop}
 use Rattle.trac_rules.specs.declared.byte.TheConstants.{OPENING, CLOSING, COMMA, SHARP}
 use Rattle.trac_rules.specs.declared.limit.TheConstants.{TEXT_LIMIT, MARK_LIMIT, OUTPUT_LIMIT}
 use Rattle.trac_rules.specs.declared.refusal.Refusal.{Refusal}

@@ -18,7 +18,7 @@ use Rattle.trac_rules.specs.Limits.{texts_fit}
 use Rattle.trac_rules.specs.Matching.{closes_at, match_of, protected, protected_up_to}
 use Rattle.trac_rules.specs.Performing.{beginning_of}
 use Rattle.trac_rules.specs.Proper.{IsProper, is_proper}
-use Rattle.trac_rules.specs.Records.{Record, Moved, Comma, Begun, Quoted, Deleted, Idle, Whole, IsOfScanning, all_before_last, closing_recorded, comma_recorded, ending_of, frame_of, gathered_again_in, is_idle, last_of, led_back, moved_back, moved_back_in, not_begun_in, put_before, recorded, recorded_at, restored, state_before}
+use Rattle.trac_rules.specs.Records.{Record, Moved, Comma, Begun, Quoted, Deleted, Idle, Called, Whole, IsOfScanning, all_before_last, closing_recorded, comma_recorded, ending_of, frame_of, gathered_again_in, is_idle, last_of, led_back, moved_back, moved_back_in, not_begun_in, put_before, recorded, recorded_at, restored, state_before}
 use Rattle.trac_rules.specs.Scanning.{Scanned, Moves, Calls, closing_in, comma_in, deleted, front_of, gather, gather_first, is_layout, scan, scan_at, sharp_before}
 use Rattle.trac_rules.specs.Session.{PlainSession, Step, accepted_by, answer, over, refused, repeated, stepped_to}
 use Rattle.trac_rules.specs.State.{Environment, Frame, State}
@@ -31,10 +31,11 @@ use Rattle.trac_rules.proofs.ProperStates.{step_proper}
 -- ---- what the active text begins with
 
 -- a text begins as its front says
-abbrev BeginsSo : Front → List ℕ → Type 0
+abbrev pub BeginsSo : Front → List ℕ → Type 0
 BeginsSo front.Nothing text = text ≡ []
 BeginsSo front.Opening text = text ≡ codes "(" ++ drop 1 text
 BeginsSo front.Comma text = text ≡ codes "," ++ drop 1 text
+BeginsSo front.Closing text = text ≡ codes ")" ++ drop 1 text
 BeginsSo front.ActiveCall text = text ≡ beginning_of Active ++ drop 2 text
 BeginsSo front.NeutralCall text = text ≡ beginning_of Neutral ++ drop 3 text
 BeginsSo front text = text ≡ get_or text 0 0 ∷ drop 1 text
@@ -52,12 +53,14 @@ sharp_begins rest b sharp =
     by_tests false true first second = let e : rest ≡ codes "#(" ++ drop 2 rest = second refl in λ i. sharp i ∷ e i
     by_tests false false first second = refl
 
-begins_so : (text : List ℕ) → BeginsSo (front_of text) text
+pub begins_so : (text : List ℕ) → BeginsSo (front_of text) text
 begins_so [] = refl
 begins_so (b ∷ rest) =
-    by_tests (b == OPENING) (b == CLOSING) (b == COMMA) (b == SHARP) (is_layout b) (eqb-true b OPENING) (eqb-true b COMMA) (eqb-true b SHARP)
+    by_tests (b == OPENING) (b == CLOSING) (b == COMMA) (b == SHARP) (is_layout b)
+    (eqb-true b OPENING) (eqb-true b CLOSING) (eqb-true b COMMA) (eqb-true b SHARP)
   where
-    by_tests : (opening closing comma sharp layout : Bool) → (opening ≡ true → b ≡ OPENING) → (comma ≡ true → b ≡ COMMA) → (sharp ≡ true → b ≡ SHARP) →
+    by_tests : (opening closing comma sharp layout : Bool) → (opening ≡ true → b ≡ OPENING) → (closing ≡ true → b ≡ CLOSING) →
+        (comma ≡ true → b ≡ COMMA) → (sharp ≡ true → b ≡ SHARP) →
         BeginsSo (
         if opening then front.Opening else
         if closing then front.Closing else
@@ -66,22 +69,22 @@ begins_so (b ∷ rest) =
         if layout then front.Layout else
         front.Plain
         ) (b ∷ rest)
-    by_tests true c m s l is_opening is_comma is_sharp = ap (λ x. x ∷ rest) (is_opening refl)
-    by_tests false true m s l is_opening is_comma is_sharp = refl
-    by_tests false false true s l is_opening is_comma is_sharp = ap (λ x. x ∷ rest) (is_comma refl)
-    by_tests false false false true l is_opening is_comma is_sharp = sharp_begins rest b (is_sharp refl)
-    by_tests false false false false true is_opening is_comma is_sharp = refl
-    by_tests false false false false false is_opening is_comma is_sharp = refl
+    by_tests true c m s l is_opening is_closing is_comma is_sharp = ap (λ x. x ∷ rest) (is_opening refl)
+    by_tests false true m s l is_opening is_closing is_comma is_sharp = ap (λ x. x ∷ rest) (is_closing refl)
+    by_tests false false true s l is_opening is_closing is_comma is_sharp = ap (λ x. x ∷ rest) (is_comma refl)
+    by_tests false false false true l is_opening is_closing is_comma is_sharp = sharp_begins rest b (is_sharp refl)
+    by_tests false false false false true is_opening is_closing is_comma is_sharp = refl
+    by_tests false false false false false is_opening is_closing is_comma is_sharp = refl
 
 -- ---- the end of a text
 
 last_of-append : (text more : List ℕ) → last_of (length more) (text ++ more) ≡ more
 last_of-append text more = drop_at text more (length (text ++ more) - length more) (omega (arith, length-append text more))
 
-all_before_last-append : (text more : List ℕ) → all_before_last (length more) (text ++ more) ≡ text
+pub all_before_last-append : (text more : List ℕ) → all_before_last (length more) (text ++ more) ≡ text
 all_before_last-append text more = take_at text more (length (text ++ more) - length more) (omega (arith, length-append text more))
 
-fits-append : (text more : List ℕ) → nat_le (length more) (length (text ++ more)) ≡ true
+pub fits-append : (text more : List ℕ) → nat_le (length more) (length (text ++ more)) ≡ true
 fits-append text more = le-leb (length more) (length (text ++ more)) (omega (arith, length-append text more))
 
 -- what was gathered goes back, also where a text was put before the active text since
@@ -151,9 +154,12 @@ comma_goes_back (f ∷ fs) s e =
     ∙ ap (λ (text : List ℕ). Some (record s { active = text; frames = f ∷ fs })) (sym e)
 
 -- and so does a `)` outside any function
-closing_goes_back : (frames : List Frame) (s : State) → s.active ≡ get_or s.active 0 0 ∷ drop 1 s.active →
+closing_goes_back : (frames : List Frame) (s : State) → s.active ≡ codes ")" ++ drop 1 s.active →
     GoesBack (record s { frames = frames }) (closing_recorded frames (record s { frames = frames })) (closing_in frames (deleted 1 (record s { frames = frames })))
-closing_goes_back [] s e = ap (λ (text : List ℕ). Some (record s { active = text; frames = [] })) (sym e)
+closing_goes_back [] s e =
+    let first : get_or s.active 0 0 ≡ CLOSING = ap (λ (text : List ℕ). get_or text 0 0) e in
+    let whole : get_or s.active 0 0 ∷ drop 1 s.active ≡ s.active = ap (λ (b : ℕ). b ∷ drop 1 s.active) first ∙ sym e in
+    ap (λ (text : List ℕ). Some (record s { active = text; frames = [] })) whole
 closing_goes_back (f ∷ fs) s e = refl
 
 -- each rule
@@ -178,6 +184,12 @@ scan_goes_back s = goes_back_at (front_of s.active) s (begins_so s.active)
 carried_back : (e : Environment) (s t : State) (r : Record) (x : Scanned) → GoesBack s r x → carried_out e x ≡ Ok t → restored r t ≡ Some s
 carried_back e s t r (Moves u) back h = let same : u ≡ t = cc in subst (λ (v : State). restored r v ≡ Some s) same back
 carried_back e s t r (Calls call) back h = ap (λ (q : Record). restored q t) back
+
+-- a step of scanning is led back by its record
+pub moved_goes_back : (e : Environment) (s t u : State) → scan s ≡ Moves u → step e s ≡ Ok t → restored (recorded s) t ≡ Some s
+unfolding step
+moved_goes_back e s t u scanned h =
+    carried_back e s t (recorded s) (scan s) (scan_goes_back s) (limited_Ok texts_fit (carried_out e (scan s)) t h).0
 
 -- where a proper state is restored, it is the one before
 pub before_of_restored : (r : Record) (s t : State) → IsProper s → restored r t ≡ Some s → state_before r t ≡ Some s
@@ -258,7 +270,7 @@ all_go_back n old new proper h count =
 -- ---- records name no place of tape or output
 
 -- a state at another place of a tape, and with another output
-abbrev elsewhere : ℕ → List ℕ → State → State
+abbrev pub elsewhere : ℕ → List ℕ → State → State
 elsewhere position output s = record s { position = position; output = output }
 
 then_some-map : (f : State → State) (b : Bool) (s : State) → then_some b (f s) ≡ option_map f (then_some b s)
@@ -308,4 +320,5 @@ restored-elsewhere (Quoted inner closed) t p o of =
 restored-elsewhere (Deleted b) t p o of = refl
 restored-elsewhere (Idle base frames) t p o of =
     then_some-map (elsewhere p o) (is_idle t) (record t { active = []; base = base; frames = frames })
+restored-elsewhere (Called call) t p o of = absurd of
 restored-elsewhere (Whole s) t p o of = absurd of

@@ -1,6 +1,6 @@
 -- What a record weighs, by what it keeps, and what a step may cost the journal, by the state before it: bytes of texts and names, items of
--- forms, and one for each comma, frame and form. Lengths and flags are not weighed.
-use Rattle.std.specs.Prelude.{ℕ, ◌+◌, ◌-◌, List, [], ◌∷◌, ◌++◌, length, map, take, drop}
+-- forms, places of gaps, and one for each comma, frame and name. Lengths, flags, old pointers and numbers of blocks are not weighed.
+use Rattle.std.specs.Prelude.{ℕ, ◌+◌, ◌-◌, List, [], ◌∷◌, ◌++◌, length, map, take, drop, Option, None, Some}
 use Rattle.std.specs.FinMap as finite
 use Rattle.std.specs.Option.{option_map_or}
 use Rattle.trac_rules.specs.declared.item.Item.{Item}
@@ -19,10 +19,11 @@ use Rattle.trac_rules.specs.Form.{Form, all_items}
 use Rattle.trac_rules.specs.Handling.{named_form, without}
 use Rattle.trac_rules.specs.Limits.{argument_bytes, marks, total_length}
 use Rattle.trac_rules.specs.Performing.{primitive_of}
-use Rattle.trac_rules.specs.Records.{Record, Moved, Comma, Begun, Quoted, Deleted, Idle, Whole}
+use Rattle.trac_rules.specs.Records.{CallRecord, Record, Moved, Comma, Begun, Quoted, Deleted, Idle, Called, Whole}
 use Rattle.trac_rules.specs.Scanning.{front_of}
 use Rattle.trac_rules.specs.Segmenting.{segmented}
 use Rattle.trac_rules.specs.State.{Block, Forms, Frame, Held, State, Storage, storage_of}
+use Rattle.trac_rules.specs.Undone.{Undone, Nothing, Point, Join, Swap, Restore, MoveOut, Unbring, Unerase}
 
 -- ---- what is kept
 
@@ -47,6 +48,31 @@ state_weight s =
     length s.active + length s.base + frames_weight s.frames + length s.output + 1
     + held_weight (finite.entries s.forms) + blocks_weight s.blocks
 
+-- a form without its name, where there is one: its items
+abbrev pub form_weight : Option Form → ℕ
+form_weight found = option_map_or (λ form. length (all_items form)) found 0
+
+-- what a call destroyed of forms and blocks
+abbrev pub undone_weight : Undone → ℕ
+undone_weight Nothing = 0
+undone_weight (Point place) = 0
+undone_weight (Join cut place) = length cut
+undone_weight (Swap old) = form_weight old
+undone_weight (Restore held) = held_weight held
+undone_weight (MoveOut old) = form_weight old
+undone_weight (Unbring number replaced) = held_weight replaced
+undone_weight (Unerase number held address) = held_weight held + length (all_items address)
+
+-- a meta character, where one is kept
+abbrev pub meta_weight : Option ℕ → ℕ
+meta_weight None = 0
+meta_weight (Some byte) = 1
+
+-- what a call destroyed: its arguments with one for each comma between them, one for a meta character, and what is kept of forms and blocks
+abbrev pub call_weight : CallRecord → ℕ
+call_weight call =
+    total_length call.arguments + (length call.arguments - 1) + meta_weight call.meta + undone_weight call.undone
+
 -- what a record weighs
 abbrev pub weight : Record → ℕ
 weight Moved = 0
@@ -55,6 +81,7 @@ weight Begun = 0
 weight (Quoted inner closed) = 0
 weight (Deleted b) = 1
 weight (Idle base frames) = length base + frames_weight frames
+weight (Called call) = call_weight call
 weight (Whole s) = state_weight s
 
 -- ---- what a call may lose beside its arguments
