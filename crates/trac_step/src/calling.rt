@@ -187,7 +187,11 @@ impl<E: TwoEnds<u8, A>, M: TwoEnds<Mark, A>, A: Allocator + Copy> Core<E, M, A> 
     }
 
     // Performs the call that is planned, and answers its record. It is refused memory alone, and then the state stays.
-    fn carry_out(&mut self, beginning: Beginning, effect: Effect<A>) -> Result<Record<Self, A>, Refusal>
+    fn carry_out(
+        &mut self,
+        beginning: Beginning,
+        effect: Effect<A>,
+    ) -> Result<Record<Self, A>, Refusal>
         requires front { front_of self.old.state.active ≡ Front.Closing }
         requires beginning { BeginsInnermost self.old.state beginning }
         requires proper { IsProper (state_after effect (scan self.old.state)) }

@@ -1,5 +1,4 @@
-use Rattle.std.proofs.Common.{◌≡◌, List, ℕ, sym, ap, ◌∙◌, subst}
-use Rattle.trac_rules.specs.declared.scan.Front.TheVariants as front
+use Rattle.std.proofs.Common.{sym, ap, ◌∙◌, subst}
 use Rattle.trac_rules.specs.Proper.{IsProper}
 use Rattle.trac_rules.specs.Records.{Whole}
 use Rattle.trac_rules.specs.Scanning.{front_of, scan}
