@@ -46,7 +46,7 @@ const SCANNED: &[(&[u8], u64)] = &[
 ];
 
 /// `AB` is printed in eleven steps. These only move, on a machine that has had a mark.
-const STEPS_THAT_MOVE: &[u64] = &[2, 3, 6, 7, 9, 10];
+pub(crate) const STEPS_THAT_MOVE: &[u64] = &[2, 3, 6, 7, 9, 10];
 
 /// These scan: all but the calls of `rs` and `ps`.
 const STEPS_THAT_SCAN: &[u64] = &[1, 2, 3, 4, 5, 6, 7, 9, 10];
@@ -59,16 +59,16 @@ const MOST_REQUESTS: u64 = 1_000;
 
 /// What a walk is over.
 #[derive(Clone, Copy)]
-struct Walk<'a> {
-    plain: Global,
-    memory: Memory<'a>,
-    input: &'a [u8],
+pub(crate) struct Walk<'a> {
+    pub(crate) plain: Global,
+    pub(crate) memory: Memory<'a>,
+    pub(crate) input: &'a [u8],
     // the numbers of the steps during which every request for memory is refused
-    scarce: &'a [u64],
+    pub(crate) scarce: &'a [u64],
 }
 
 // Whether the number is among these.
-fn is_among(numbers: &[u64], number: u64) -> bool {
+pub(crate) fn is_among(numbers: &[u64], number: u64) -> bool {
     for it in numbers {
         if *it == number {
             return true;
@@ -78,7 +78,7 @@ fn is_among(numbers: &[u64], number: u64) -> bool {
 }
 
 // A machine shows what it showed before.
-fn expect_shown<E: TwoEnds<u8, A>, M: TwoEnds<Mark, A>, A: Allocator + Copy>(
+pub(crate) fn expect_shown<E: TwoEnds<u8, A>, M: TwoEnds<Mark, A>, A: Allocator + Copy>(
     rt: &impl Abort,
     walk: &Walk<'_>,
     machine: &Core<E, M, A>,
