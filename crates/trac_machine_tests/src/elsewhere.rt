@@ -9,7 +9,7 @@ ghost use Rattle.trac_step.specs.Room.{HasRoom, IsNoLess};
 
 use crate::machines::{Memory, let_go};
 use crate::shown::state_shown;
-use crate::walking::{Walk, is_among};
+use crate::walking::{Walk, expect_shown, is_among};
 use std::alloc::{Allocator, Global};
 use std::process::Abort;
 use trac_faults::Refusing;
@@ -20,33 +20,13 @@ use trac_step::{Core, Machine, Mark, Parts, Record, Tape};
 /// What a machine shows after a walk, all else being as at the start: its active text, its output, and how many bytes are read; and
 /// the room for texts, marks and output with which it is loaded.
 #[derive(Clone, Copy)]
-struct After {
-    active: &'static [u8],
-    output: &'static [u8],
-    position: usize,
-    text_room: usize,
-    mark_room: usize,
-    output_room: usize,
-}
-
-// What a machine shows.
-fn shown<E: TwoEnds<u8, A>, M: TwoEnds<Mark, A>, A: Allocator + Copy>(
-    rt: &impl Abort,
-    plain: Global,
-    machine: &Core<E, M, A>,
-) -> Vec<u8> {
-    state_shown(plain, machine).expect(rt, "there was no memory")
-}
-
-// A machine shows this.
-fn expect_shown<E: TwoEnds<u8, A>, M: TwoEnds<Mark, A>, A: Allocator + Copy>(
-    rt: &impl Abort,
-    plain: Global,
-    machine: &Core<E, M, A>,
-    wanted: Vec<u8>,
-) {
-    let text = shown(rt, plain, machine);
-    assert!(rt; text.as_slice() == wanted.as_slice());
+pub(crate) struct After {
+    pub(crate) active: &'static [u8],
+    pub(crate) output: &'static [u8],
+    pub(crate) position: usize,
+    pub(crate) text_room: usize,
+    pub(crate) mark_room: usize,
+    pub(crate) output_room: usize,
 }
 
 // Takes a step. Where the walk says so, every request for memory is refused meanwhile.
@@ -102,20 +82,20 @@ fn back_on_another<E: TwoEnds<u8, A>, M: TwoEnds<Mark, A>, A: Allocator + Copy>(
     ensures state { other.new.state ≡ machine.old.state }
     ensures room { IsNoLess other.old other.new }
 {
-    let wanted = shown(rt, walk.plain, machine);
+    let wanted = state_shown(walk.plain, machine).expect(rt, "there was no memory");
     let Some(rest) = left.checked_sub(1) else {
-        expect_shown(rt, walk.plain, other, wanted);
+        expect_shown(rt, walk, other, wanted.as_slice()).expect(rt, "there was no memory");
         return;
     };
     let number = done.saturating_add(1);
     let taken = take_step(rt, walk, machine, number);
     back_on_another(rt, walk, machine, other, number, rest);
     go_back(rt, walk, other, taken);
-    expect_shown(rt, walk.plain, other, wanted);
+    expect_shown(rt, walk, other, wanted.as_slice()).expect(rt, "there was no memory");
 }
 
 // A machine that is loaded from the parts of the state after a walk.
-fn loaded_after<'a>(
+pub(crate) fn loaded_after<'a>(
     rt: &impl Abort,
     memory: Memory<'a>,
     after: After,
@@ -142,26 +122,32 @@ fn loaded_after<'a>(
 }
 
 // A machine that is loaded from the parts of the state after a walk goes back over that walk.
-fn expect_back(rt: &impl Abort, walk: &Walk<'_>, after: After, steps: u64)
-    requires { (m : Shown) → IsLoaded (begun_with after.active.now after.output.now after.position) after.text_room after.mark_room after.output_room m → LeadsTo (over_whole walk.now.input.now) steps initial m }
+fn expect_back(
+    rt: &impl Abort,
+    plain: Global,
+    input: &[u8],
+    scarce: &[u64],
+    after: After,
+    steps: u64,
+)
+    requires { (m : Shown) → IsLoaded (begun_with after.active.now after.output.now after.position) after.text_room after.mark_room after.output_room m → LeadsTo (over_whole input.now) steps initial m }
 {
-    let mut machine = Core::new(walk.memory).expect(rt, "there was no memory");
-    let mut other = loaded_after(rt, walk.memory, after).expect(rt, "the parts were refused");
-    back_on_another(rt, walk, &mut machine, &mut other, 0, steps);
+    let memory = Refusing::new(plain);
+    let walk = Walk {
+        plain,
+        memory: &memory,
+        input,
+        scarce,
+    };
+    let mut machine = Core::new(&memory).expect(rt, "there was no memory");
+    let mut other = loaded_after(rt, &memory, after).expect(rt, "the parts were refused");
+    back_on_another(rt, &walk, &mut machine, &mut other, 0, steps);
     let_go(machine);
     let_go(other);
 }
 
 #[test]
 fn eleven_steps_back_on_a_loaded_machine(rt: HostRuntime) {
-    let memory = Refusing::new(rt.alloc());
-    let walk = Walk {
-        plain: rt.alloc(),
-        memory: &memory,
-        input: b"AB'",
-        // These only move, on a machine that has had a mark.
-        scarce: &[2, 3, 6, 7, 9, 10],
-    };
     let after = After {
         active: b"",
         output: b"AB",
@@ -170,5 +156,7 @@ fn eleven_steps_back_on_a_loaded_machine(rt: HostRuntime) {
         mark_room: 3,
         output_room: 2,
     };
-    expect_back(&rt, &walk, after, 11);
+    // These only move, on a machine that has had a mark.
+    let scarce = &[2, 3, 6, 7, 9, 10];
+    expect_back(&rt, rt.alloc(), b"AB'", scarce, after, 11);
 }
