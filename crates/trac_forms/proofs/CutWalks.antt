@@ -1,13 +1,12 @@
 -- How a form is segmented and joined again where it stands, gap by gap: what stands on the left is done, and what stands on the right is
 -- still to be walked.
-use Rattle.std.proofs.Common.{◌≡◌, ℕ, zero, suc, ◌+◌, ◌-◌, ◌<◌, ◌≤◌, Bool, true, false, List, [], ◌∷◌, ◌++◌, length, take, drop, get_or, refl, sym, ap, subst, ◌∙◌, arith}
+use Rattle.std.proofs.Common.{◌≡◌, ℕ, ◌+◌, ◌-◌, ◌<◌, ◌≤◌, Bool, true, false, List, [], ◌∷◌, ◌++◌, length, take, drop, get_or, refl, sym, ap, subst, ◌∙◌, arith}
 use Rattle.std.specs.Prelude.{Option, None, Some, is_some, option_and_then, option_map, unwrap_or, if◌then◌else◌, ◌==◌, IsTrue}
 use Rattle.std.specs.List.{All}
 use Rattle.std.proofs.lemmas.Bool.{eqb-true}
-use Rattle.std.proofs.lemmas.List.{append_assoc, append-nil, drop-drop, drop_all, drop_at, drop_more, length-append, length-map, take_at}
-use Rattle.std.proofs.lemmas.List.Elements.{All-append, All-cons}
+use Rattle.std.proofs.lemmas.List.{append_assoc, drop-drop, drop_all, drop_at, drop_more, length-append, length-map, take_at}
 use Rattle.std.proofs.lemmas.Option.{option_and_then_some, same_Some}
-use Rattle.trac_gap.specs.Ends.{Ends, item_count}
+use Rattle.trac_gap.specs.Ends.{Ends}
 use Rattle.trac_rules.specs.declared.item.CutGap.{CutGap}
 use Rattle.trac_rules.specs.declared.item.Item.{Item}
 use Rattle.trac_rules.specs.declared.item.Item.TheVariants.{Byte, Gap}
@@ -16,9 +15,10 @@ use Rattle.trac_rules.specs.Cuts.{cut_between, cut_of, fitting, joined, joined_f
 use Rattle.trac_rules.specs.Filling.{text_numbered}
 use Rattle.trac_rules.specs.Form.{Form, IsWide, all_items, as_items, at_start, extent}
 use Rattle.trac_rules.specs.Segmenting.{segmented}
-use Rattle.trac_rules.proofs.Cuts.{IsCut, done, kept, made, between_kept, between_made, cut_extent, fits_gap, joined_extent, joined_wide, mapped_some, segmented_is_cut}
-use Rattle.trac_rules.proofs.Cutting.{extent-append, extent-segmented, wide-segmented_from}
+use Rattle.trac_rules.proofs.Cuts.{IsCut, done, kept, made, between_kept, between_made, cut_extent, cut_wide, fits_gap, mapped_some, one_behind, same_items, segmented_is_cut}
+use Rattle.trac_rules.proofs.Cutting.{count_within_extent, extent-append, extent-segmented, wide-segmented_from}
 use Rattle.trac_forms.specs.Layout.{IsKept, divided}
+use Rattle.trac_forms.proofs.Divided.{kept_again}
 
 -- no gap at all
 abbrev pub no_cut_gap : CutGap
@@ -223,3 +223,211 @@ cut_kept texts old new same capacity fits =
       wide = subst (λ (xs : List Item). All IsWide xs) (sym all) (wide-segmented_from 1 texts (old.left ++ old.right) fits.wide);
       room = omega (arith, size, fits.room, capacity);
     }
+
+-- ---- the next gap that is filled
+
+-- what a result is that is there
+pub there_is : (o : Option (List Item)) → IsTrue (is_some o) → o ≡ Some (unwrap_or o [])
+there_is None h = absurd cc
+there_is (Some items) h = refl
+
+-- the first gap of a cut, the items before it, and what stands behind it, with gaps and filled
+pub record IsNextFilled (texts : List (List ℕ)) (place : ℕ) (items full : List Item) (gap : CutGap) (cut : List CutGap) : Type 0 where
+  pub front : List Item
+  pub rest : List Item
+  pub full_rest : List Item
+  pub items_are : items ≡ front ++ Gap gap.ordinal (length (text_numbered gap.ordinal texts)) ∷ rest
+  pub full_is : full ≡ front ++ (as_items (text_numbered gap.ordinal texts) ++ full_rest)
+  pub place_is : gap.place ≡ place + length front
+  pub some : 0 < length (text_numbered gap.ordinal texts)
+  pub behind : joined_from texts (gap.place + 1) cut rest ≡ Some full_rest
+
+-- an item before it, or the gap itself
+first_filled : (texts : List (List ℕ)) (place : ℕ) (gap : CutGap) (cut : List CutGap) (item : Item) (items full : List Item) (here : Bool) → (place == gap.place) ≡ here →
+    ((rest : List Item) → joined_from texts (place + 1) (gap ∷ cut) items ≡ Some rest → IsNextFilled texts (place + 1) items rest gap cut) →
+    (if here
+    then option_and_then (λ text. option_map (λ rest. as_items text ++ rest) (joined_from texts (place + 1) cut items)) (fitting texts gap.ordinal item)
+    else option_map (λ rest. item ∷ rest) (joined_from texts (place + 1) (gap ∷ cut) items)) ≡ Some full →
+    IsNextFilled texts place (item ∷ items) full gap cut
+first_filled texts place gap cut item items full true e further h =
+    option_and_then_some (λ text. option_map (λ rest. as_items text ++ rest) (joined_from texts (place + 1) cut items)) (fitting texts gap.ordinal item) full h (λ text fits there.
+    let named = fits_gap texts gap.ordinal item text fits in
+    let rest = mapped_some (λ (xs : List Item). as_items text ++ xs) (joined_from texts (place + 1) cut items) full there in
+    let here : place ≡ gap.place = eqb-true place gap.place e in
+    record {
+      front = [];
+      rest = items;
+      full_rest = rest.0;
+      items_are = ap (λ (i : Item). i ∷ items) (named.1 ∙ ap (λ (t : List ℕ). Gap gap.ordinal (length t)) (sym named.0));
+      full_is = sym rest.2 ∙ ap (λ (t : List ℕ). as_items t ++ rest.0) (sym named.0);
+      place_is = omega (arith, here);
+      some = omega (arith, named.2, ap length named.0);
+      behind = ap (λ (n : ℕ). joined_from texts (n + 1) cut items) (sym here) ∙ rest.1;
+    })
+first_filled texts place gap cut item items full false e further h =
+    let rest = mapped_some (λ (xs : List Item). item ∷ xs) (joined_from texts (place + 1) (gap ∷ cut) items) full h in
+    let n = further rest.0 rest.1 in
+    record {
+      front = item ∷ n.front;
+      rest = n.rest;
+      full_rest = n.full_rest;
+      items_are = ap (λ (xs : List Item). item ∷ xs) n.items_are;
+      full_is = sym rest.2 ∙ ap (λ (xs : List Item). item ∷ xs) n.full_is;
+      place_is = omega (arith, n.place_is);
+      some = n.some;
+      behind = n.behind;
+    }
+
+pub next_filled : (texts : List (List ℕ)) (place : ℕ) (gap : CutGap) (cut : List CutGap) (items full : List Item) → joined_from texts place (gap ∷ cut) items ≡ Some full →
+    IsNextFilled texts place items full gap cut
+next_filled texts place gap cut [] full h = absurd cc
+next_filled texts place gap cut (item ∷ items) full h =
+    first_filled texts place gap cut item items full (place == gap.place) refl (λ rest r. next_filled texts (place + 1) gap cut items rest r) h
+
+-- ---- joining
+
+-- the items on the left are those of the joined form, and the gaps are those that are still to be filled on the right; the first item on
+-- the right has this place among the items with gaps
+pub record IsFilledSoFar (texts : List (List ℕ)) (full : List Item) (place : ℕ) (items : Ends Item) (gaps : List CutGap) : Type 0 where
+  pub rest : List Item
+  pub whole : items.left ++ rest ≡ full
+  pub ahead : joined_from texts place gaps items.right ≡ Some rest
+  pub held : IsKept items
+  pub counted : place + length items.right ≤ FORM_LIMIT
+
+-- the first of the gaps that are to come
+pub gap_to_fill : (texts : List (List ℕ)) (full : List Item) (place : ℕ) (old : Ends Item) (gaps : List CutGap) (i : ℕ) → i < length gaps → IsFilledSoFar texts full place old (drop i gaps) →
+    IsFilledSoFar texts full place old (get_or gaps i no_cut_gap ∷ drop (i + 1) gaps)
+gap_to_fill texts full place old gaps i l so_far = subst (IsFilledSoFar texts full place old) (drop_more gaps i no_cut_gap l) so_far
+
+pub next_to_fill : (texts : List (List ℕ)) (full : List Item) (place : ℕ) (old : Ends Item) (gap : CutGap) (cut : List CutGap) (so_far : IsFilledSoFar texts full place old (gap ∷ cut)) →
+    IsNextFilled texts place old.right so_far.rest gap cut
+next_to_fill texts full place old gap cut so_far = next_filled texts place gap cut old.right so_far.rest so_far.ahead
+
+-- at the start
+pub fill_begins : (texts : List (List ℕ)) (old items : Ends Item) (gaps : List CutGap) → items.left ≡ [] → items.right ≡ old.left ++ old.right → items.capacity ≡ old.capacity → IsKept old →
+    IsTrue (is_some (joined texts gaps (old.left ++ old.right))) → IsFilledSoFar texts (unwrap_or (joined texts gaps (old.left ++ old.right)) []) 0 items gaps
+fill_begins texts old items gaps l r capacity fits there =
+    let full = unwrap_or (joined texts gaps (old.left ++ old.right)) [] in
+    let held = kept_again old items ((λ j. l j ++ r j)) (omega (arith, capacity)) fits in
+    record {
+      rest = full;
+      whole = ap (λ (xs : List Item). xs ++ full) l;
+      ahead = ap (λ (xs : List Item). joined_from texts 0 gaps xs) r ∙ there_is (joined texts gaps (old.left ++ old.right)) there;
+      held = held;
+      counted = omega (arith, held.within, count_within_extent (items.left ++ items.right) held.wide, length-append items.left items.right);
+    }
+
+-- the next gap
+module _ (texts : List (List ℕ)) (full : List Item) (place : ℕ) (old : Ends Item) (gap : CutGap) (cut : List CutGap) (so_far : IsFilledSoFar texts full place old (gap ∷ cut))
+    (next : IsNextFilled texts place old.right so_far.rest gap cut) where
+  -- stands no sooner than what is still to be walked
+  pub filled_behind : place ≤ gap.place
+  filled_behind = omega (arith, next.place_is)
+
+  right_count : length old.right ≡ length next.front + (length next.rest + 1)
+  right_count =
+      omega (arith, ap length next.items_are, length-append next.front (Gap gap.ordinal (length (text_numbered gap.ordinal texts)) ∷ next.rest))
+
+  -- stands there
+  pub filled_there : gap.place - place < length old.right
+  filled_there = omega (arith, next.place_is, right_count)
+
+  -- has a place behind it
+  pub filled_counted : gap.place + 1 + length next.rest ≤ FORM_LIMIT
+  filled_counted = omega (arith, next.place_is, right_count, so_far.counted)
+
+  -- all items, once it is filled
+  abbrev filled_all : List Item
+  filled_all = old.left ++ (next.front ++ (as_items (text_numbered gap.ordinal texts) ++ next.rest))
+
+  filled_is_cut : IsCut texts filled_all (old.left ++ old.right)
+  filled_is_cut =
+      subst (λ (xs : List Item). IsCut texts filled_all (old.left ++ xs)) (sym next.items_are)
+      (one_behind texts (same_items texts old.left) (one_behind texts (same_items texts next.front) (made gap.ordinal next.some (same_items texts next.rest))))
+
+  filled_extent : extent filled_all ≡ extent (old.left ++ old.right)
+  filled_extent = cut_extent texts filled_is_cut
+
+  filled_wide : All IsWide filled_all
+  filled_wide = cut_wide texts filled_is_cut so_far.held.wide
+
+  -- there is room for its text
+  pub filled_room : length old.left + length old.right + length (text_numbered gap.ordinal texts) ≤ old.capacity + 1
+  filled_room =
+      let text = text_numbered gap.ordinal texts in
+      omega (
+        arith,
+        count_within_extent filled_all filled_wide,
+        filled_extent,
+        so_far.held.room,
+        right_count,
+        length-append old.left (next.front ++ (as_items text ++ next.rest)),
+        length-append next.front (as_items text ++ next.rest),
+        length-append (as_items text) next.rest,
+        length-map text Byte,
+      )
+
+  -- once it is filled
+  module _ (items : Ends Item) (passed : ℕ) (text : List ℕ) (count : passed ≡ gap.place - place) (named : text ≡ text_numbered gap.ordinal texts)
+      (moved : items ≡ record old { left = old.left ++ (take passed old.right ++ as_items text); right = drop (passed + 1) old.right }) where
+    front_passed : passed ≡ length next.front
+    front_passed = omega (arith, next.place_is, count)
+
+    filled_left : items.left ≡ old.left ++ (next.front ++ as_items (text_numbered gap.ordinal texts))
+    filled_left =
+        let last = Gap gap.ordinal (length (text_numbered gap.ordinal texts)) ∷ next.rest in
+        ap (λ (e : Ends Item). e.left) moved
+        ∙ (λ j. old.left ++ (take (front_passed j) (next.items_are j) ++ as_items (named j)))
+        ∙ ap (λ (xs : List Item). old.left ++ (xs ++ as_items (text_numbered gap.ordinal texts))) (take_at next.front last (length next.front) refl)
+
+    filled_right : items.right ≡ next.rest
+    filled_right =
+        let last = Gap gap.ordinal (length (text_numbered gap.ordinal texts)) ∷ next.rest in
+        ap (λ (e : Ends Item). e.right) moved
+        ∙ (λ j. drop (front_passed j + 1) (next.items_are j))
+        ∙ sym (drop-drop 1 (length next.front) (next.front ++ last))
+        ∙ ap (drop 1) (drop_at next.front last (length next.front) refl)
+
+    filled_same : items.left ++ items.right ≡ filled_all
+    filled_same =
+        let filling = as_items (text_numbered gap.ordinal texts) in
+        (λ j. filled_left j ++ filled_right j) ∙ append_assoc old.left (next.front ++ filling) next.rest
+        ∙ ap (λ (xs : List Item). old.left ++ xs) (append_assoc next.front filling next.rest)
+
+    pub fill_more : IsFilledSoFar texts full (gap.place + 1) items cut
+    fill_more =
+        let filling = as_items (text_numbered gap.ordinal texts) in
+        let size : extent (items.left ++ items.right) ≡ extent (old.left ++ old.right) = ap extent filled_same ∙ filled_extent in
+        record {
+          rest = next.full_rest;
+          whole =
+              ap (λ (xs : List Item). xs ++ next.full_rest) filled_left ∙ append_assoc old.left (next.front ++ filling) next.full_rest
+              ∙ ap (λ (xs : List Item). old.left ++ xs) (append_assoc next.front filling next.full_rest ∙ sym next.full_is) ∙ so_far.whole;
+          ahead = ap (λ (xs : List Item). joined_from texts (gap.place + 1) cut xs) filled_right ∙ next.behind;
+          held = record {
+            within = omega (arith, size, so_far.held.within);
+            wide = subst (λ (xs : List Item). All IsWide xs) (sym filled_same) filled_wide;
+            room = omega (arith, size, so_far.held.room, ap (λ (e : Ends Item). e.capacity) moved);
+          };
+          counted = omega (arith, filled_counted, ap length filled_right);
+        }
+
+-- once all gaps are filled
+module _ (texts : List (List ℕ)) (form : Form) (place : ℕ) (old items : Ends Item) (all_gaps gaps : List CutGap) (i : ℕ) (l : length gaps ≤ i)
+    (there : IsTrue (is_some (joined texts all_gaps (all_items form))))
+    (so_far : IsFilledSoFar texts (unwrap_or (joined texts all_gaps (all_items form)) []) place old (drop i gaps))
+    (left : items.left ≡ []) (right : items.right ≡ old.left ++ old.right) where
+  all_filled : items.right ≡ unwrap_or (joined texts all_gaps (all_items form)) []
+  all_filled =
+      let ahead : Some old.right ≡ Some so_far.rest =
+      ap (λ (cut : List CutGap). joined_from texts place cut old.right) (sym (drop_all i gaps l)) ∙ so_far.ahead in
+      right ∙ ap (λ (xs : List Item). old.left ++ xs) (same_Some old.right so_far.rest ahead) ∙ so_far.whole
+
+  pub fill_ends : option_map at_start (joined texts all_gaps (all_items form)) ≡ Some (divided items)
+  fill_ends =
+      let same : at_start (unwrap_or (joined texts all_gaps (all_items form)) []) ≡ divided items = λ j. record { before = sym left j; after = sym all_filled j } in
+      ap (option_map at_start) (there_is (joined texts all_gaps (all_items form)) there) ∙ ap Some same
+
+  pub fill_kept : items.capacity ≡ old.capacity → IsKept items
+  fill_kept capacity = kept_again old items (λ j. left j ++ right j) (omega (arith, capacity)) so_far.held

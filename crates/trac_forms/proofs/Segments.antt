@@ -1,5 +1,5 @@
 -- Gaps that are made and filled one after another.
-use Rattle.std.proofs.Common.{◌≡◌, ℕ, zero, suc, ◌+◌, ◌-◌, ◌<◌, ◌≤◌, Fits, w64, true, List, [], ◌∷◌, ◌++◌, length, take, drop, get_or, refl, sym, ap, subst, ◌∙◌, arith}
+use Rattle.std.proofs.Common.{◌≡◌, ℕ, zero, suc, ◌+◌, ◌<◌, ◌≤◌, Fits, w64, true, List, [], ◌∷◌, ◌++◌, length, take, drop, get_or, refl, sym, ap, ◌∙◌, arith}
 use Rattle.std.specs.Prelude.{Bool, false, if◌then◌else◌, None, Some, slice_get}
 use Rattle.std.proofs.lemmas.List.{append_assoc, drop_more, drop-drop, take_more}
 use Rattle.std.proofs.lemmas.Option.{same_Some}
@@ -68,8 +68,8 @@ module _ (all items : List Item) (i old : ℕ) (done total : List CutGap) (l : i
 
   -- a gap, which stands there or is made
   at_gap : (k w : ℕ) (b : Bool) → get_or items i (Byte 0) ≡ Gap k w → begins_with_gap (drop old all) ≡ b →
-    done ++ (if b then cut_between (i + 1) (drop 1 (drop old all)) (drop (i + 1) items)
-    else record { place = i; ordinal = k } ∷ cut_between (i + 1) (drop w (drop old all)) (drop (i + 1) items)) ≡ total
+      done ++ (if b then cut_between (i + 1) (drop 1 (drop old all)) (drop (i + 1) items)
+      else record { place = i; ordinal = k } ∷ cut_between (i + 1) (drop w (drop old all)) (drop (i + 1) items)) ≡ total
   at_gap k w b e there =
       ap (λ (c : Bool). done ++ (if c then cut_between (i + 1) (drop 1 (drop old all)) (drop (i + 1) items)
       else record { place = i; ordinal = k } ∷ cut_between (i + 1) (drop w (drop old all)) (drop (i + 1) items))) (sym there)
@@ -80,7 +80,7 @@ module _ (all items : List Item) (i old : ℕ) (done total : List CutGap) (l : i
   gap_passed k w e there = ap (λ (xs : List Item). done ++ cut_between (i + 1) xs (drop (i + 1) items)) (sym (drop-drop 1 old all)) ∙ at_gap k w true e there
 
   pub gap_added : (k w : ℕ) (new : List CutGap) → get_or items i (Byte 0) ≡ Gap k w → begins_with_gap (drop old all) ≡ false → new ≡ done ++ record { place = i; ordinal = k } ∷ [] →
-    new ++ cut_between (i + 1) (drop (old + w) all) (drop (i + 1) items) ≡ total
+      new ++ cut_between (i + 1) (drop (old + w) all) (drop (i + 1) items) ≡ total
   gap_added k w new e there n =
       ap (λ (xs : List CutGap). xs ++ cut_between (i + 1) (drop (old + w) all) (drop (i + 1) items)) n
       ∙ append_assoc done (record { place = i; ordinal = k } ∷ []) (cut_between (i + 1) (drop (old + w) all) (drop (i + 1) items))

@@ -1,8 +1,8 @@
 -- Gap by gap.
-use Rattle.std.proofs.Common.{ap, arith, drop, get_or, length, refl, sym, ◌+◌, ◌∙◌, List, ℕ}
+use Rattle.std.proofs.Common.{ap, arith, drop, get_or, length, ◌+◌, ◌∙◌}
 use Rattle.trac_gap.specs.Ends.{Ends}
 use Rattle.trac_rules.specs.declared.item.Item.{Item}
-use Rattle.trac_rules.specs.Form.{all_items, extent}
+use Rattle.trac_rules.specs.Form.{all_items}
 use Rattle.trac_rules.specs.Segmenting.{segmented}
 use Rattle.trac_rules.proofs.Cutting.{extent-segmented}
 use Rattle.trac_forms.specs.Layout.{divided}

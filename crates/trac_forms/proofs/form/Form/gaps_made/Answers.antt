@@ -1,6 +1,5 @@
 -- Each item is passed, and a gap that was made is added.
-use Rattle.std.proofs.Common.{ap, arith, get_or, sym, ◌+◌, ◌∙◌}
-use Rattle.trac_rules.specs.declared.item.Item.{Item}
+use Rattle.std.proofs.Common.{ap, arith, sym, ◌+◌, ◌∙◌}
 use Rattle.trac_rules.specs.declared.item.Item.TheVariants.{Byte}
 use Rattle.trac_rules.specs.Form.{all_items, width_of}
 use Rattle.trac_forms.proofs.Segments.{byte_passed, gap_added, gap_passed, passed_fits, passed_more}
