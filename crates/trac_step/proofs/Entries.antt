@@ -1,9 +1,9 @@
 -- Lists of named forms, of blocks and of names, one after another.
-use Rattle.std.proofs.Common.{◌≡◌, ℕ, suc, ◌+◌, ◌<◌, ◌≤◌, ◌&&◌, Bool, true, false, List, [], ◌∷◌, ◌++◌, length, take, drop, get_or, map, All, refl, sym, ap, subst, ◌∙◌, arith}
+use Rattle.std.proofs.Common.{◌≡◌, ℕ, suc, ◌+◌, ◌<◌, ◌≤◌, ◌&&◌, Bool, true, false, IsTrue, List, [], ◌∷◌, ◌++◌, length, take, drop, get_or, map, All, refl, sym, ap, subst, ◌∙◌, arith}
 use Rattle.std.specs.Prelude.{Vec, nat_le}
 use Rattle.std.specs.List.{list_all}
 use Rattle.std.proofs.Math.Seq.{drop-cons}
-use Rattle.std.proofs.lemmas.Bool.{false_from_ne_true, le-leb, leb-true}
+use Rattle.std.proofs.lemmas.Bool.{and_parts, false_from_ne_true, le-leb, leb-true}
 use Rattle.std.proofs.lemmas.List.{map-append, take_more}
 use Rattle.std.proofs.lemmas.List.Elements.{All-push}
 use Rattle.std.proofs.lemmas.List.Folds.{list_all-map, list_all_at, list_all_more}
@@ -37,6 +37,19 @@ module _ {X : Type 0} (p : X → Bool) (xs : List X) (i : ℕ) (x : X) (within :
   -- one does not pass
   pub one_fails : p x ≡ false → list_all p xs ≡ false
   one_fails fails = list_all_at p xs i x within (ap p (sym is) ∙ fails)
+
+-- ---- five judgements
+
+module _ (a b c d e : Bool) where
+  -- of the same worth
+  pub judged_as : {f g h i j : Bool} → a ≡ f → b ≡ g → c ≡ h → d ≡ i → e ≡ j → (a && b && c && d && e) ≡ (f && g && h && i && j)
+  judged_as p q r s t = cc
+
+  -- where all are passed, the last two are
+  pub last_two : IsTrue (a && b && c && d && e) → IsTrue d × IsTrue e
+  last_two all =
+      let last = and_parts (a && b && c && d) e all in
+      ((and_parts (a && b && c) d last.0).1, last.1)
 
 -- ---- forms with their names
 
