@@ -12,6 +12,7 @@ pub mod Addressing
 pub mod ComingBack
 pub mod Listed
 pub mod Held
+pub mod Changes
 pub mod Given
 pub mod Fitting
 pub mod ReadCounts
