@@ -1,5 +1,5 @@
 -- Changes of the forms and blocks, as those of calls.
-use Rattle.std.proofs.Common.{◌≡◌, ℕ, List, [], ◌++◌, length, drop, take, refl, sym, ap, subst, ◌∙◌, ⊎_elim, true, false}
+use Rattle.std.proofs.Common.{◌≡◌, ℕ, List, length, drop, refl, sym, ap, subst, ◌∙◌, ⊎_elim, true, false}
 use Rattle.std.specs.Prelude.{Option, None, Some, Vec, bytes_eq, cond, is_some, IfSome, IsTrue}
 use Rattle.std.specs.Cmp.Lexicographic.{nat_list_cmp_total}
 use Rattle.std.specs.FinMap as finite
@@ -16,14 +16,13 @@ use Rattle.trac_rules.specs.Blocks.{block_at, forms_in, moved_out, named_block_n
 use Rattle.trac_rules.specs.Cuts.{cut_of}
 use Rattle.trac_rules.specs.Effect.{argument}
 use Rattle.trac_rules.specs.Form.{Form, all_items, pointed_at}
-use Rattle.trac_rules.specs.Handling.{keeping, named_form, pointing, without}
+use Rattle.trac_rules.specs.Handling.{keeping, named_form, without}
 use Rattle.trac_rules.specs.State.{Forms, Held, Storage}
-use Rattle.trac_rules.specs.Undone.{Undone, Nothing, Join, Swap, Restore, MoveOut, Unbring, block_lost, bytes_lost, handling_lost, pointer_lost, replaced_lost, undone_by}
+use Rattle.trac_rules.specs.Undone.{Join, Swap, Restore, MoveOut, Unbring, block_lost, bytes_lost, pointer_lost, replaced_lost, names_in}
 use Rattle.trac_rules.proofs.NamedForms.{only_equal_tie}
-use Rattle.trac_prims.specs.declared.change.Change as code
-use Rattle.trac_prims.specs.declared.change.Change.TheVariants.{Keep, Put, Cut, Remove, Clear, Point, MoveIn, Bring, Erase}
-use Rattle.trac_prims.specs.Changes.{IsChangeOf, NamesGiven, cut_lost, undone_of}
-use Rattle.trac_prims.specs.Effects.{named_forms, names_in, pointed, texts_of}
+use Rattle.trac_prims.specs.declared.change.Change.TheVariants.{Keep, Put, Cut, Remove, Point, MoveIn, Bring, Erase}
+use Rattle.trac_prims.specs.Changes.{IsChangeOf, cut_lost}
+use Rattle.trac_prims.specs.Effects.{named_forms, pointed, texts_of}
 use Rattle.trac_prims.proofs.MovedOut.{without-again}
 
 -- ---- a form whose pointer stays

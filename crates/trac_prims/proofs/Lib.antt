@@ -16,5 +16,6 @@ pub mod Changes
 pub mod Given
 pub mod Fitting
 pub mod ReadCounts
+pub mod MetaSets
 pub mod Joining
 pub mod Planned

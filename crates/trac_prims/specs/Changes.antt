@@ -9,10 +9,10 @@ use Rattle.trac_rules.specs.Effect.{argument}
 use Rattle.trac_rules.specs.Form.{Form}
 use Rattle.trac_rules.specs.Handling.{named_form, without}
 use Rattle.trac_rules.specs.State.{Storage}
-use Rattle.trac_rules.specs.Undone.{Undone, Nothing, Join, Swap, Restore, MoveOut, Unbring, block_lost, pointer_lost, undone_by}
+use Rattle.trac_rules.specs.Undone.{Undone, Nothing, Join, Swap, Restore, MoveOut, Unbring, block_lost, pointer_lost, undone_by, names_in}
 use Rattle.trac_prims.specs.declared.change.Change as code
 use Rattle.trac_prims.specs.declared.change.Change.TheVariants.{Keep, Put, Cut, Remove, Clear, Point, MoveIn, Bring, Erase}
-use Rattle.trac_prims.specs.Effects.{named_forms, names_in, texts_of}
+use Rattle.trac_prims.specs.Effects.{named_forms, texts_of}
 
 -- the gaps of a cut are made in a form, where there is one, and its pointer is lost
 abbrev pub cut_lost : List CutGap → Option Form → Undone

@@ -32,10 +32,6 @@ abbrev pub cut_in : List ℕ → List (List ℕ) → Option Form → Storage →
 cut_in name texts None storage = storage
 cut_in name texts (Some form) storage = keeping (finite.insert storage.forms name (segmented texts form)) storage
 
--- the names of forms
-abbrev pub names_in : Held → List (List ℕ)
-names_in held = map (λ entry. entry.0) held
-
 -- forms of the code with their names
 abbrev pub named_forms : {A : Type 0} → List (Vec ℕ A × Form) → Held
 named_forms forms = map (λ entry. (entry.0.items, entry.1)) forms

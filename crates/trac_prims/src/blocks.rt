@@ -12,7 +12,8 @@ ghost use Rattle.trac_rules.specs.declared.primitive.BlockAction.TheVariants.{Er
 ghost use Rattle.trac_prims.specs.Blocks.{IsBlock, count_further};
 ghost use Rattle.trac_rules.specs.declared.primitive.Primitive.TheVariants.{HandleBlock};
 ghost use Rattle.trac_prims.specs.Changes.{IsChangeOf};
-ghost use Rattle.trac_prims.specs.Effects.{IsDone, named_forms, names_in, texts_of};
+ghost use Rattle.trac_rules.specs.Undone.{names_in};
+ghost use Rattle.trac_prims.specs.Effects.{IsDone, named_forms, texts_of};
 
 use crate::args::{Args, Behind};
 use crate::change::Change;

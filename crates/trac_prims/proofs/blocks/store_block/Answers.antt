@@ -11,7 +11,8 @@ use Rattle.trac_rules.specs.Limits.{may_be_put}
 use Rattle.trac_rules.specs.declared.primitive.BlockAction.TheVariants.{StoreBlock}
 use Rattle.trac_rules.specs.declared.primitive.Primitive.TheVariants.{HandleBlock}
 use Rattle.trac_prims.specs.Changes.{IsChangeOf}
-use Rattle.trac_prims.specs.Effects.{names_in, texts_of}
+use Rattle.trac_rules.specs.Undone.{names_in}
+use Rattle.trac_prims.specs.Effects.{texts_of}
 use Rattle.trac_prims.proofs.BlockPlans.{stored_so}
 use Rattle.trac_prims.proofs.Changes.{moves_in}
 use Rattle.trac_prims.proofs.MovedOut.{fewer_held}

@@ -1,6 +1,5 @@
-use Rattle.std.proofs.Common.{◌≡◌, ℕ, List, Ok, Some, drop, sym, ap, ◌∙◌, false, true}
+use Rattle.std.proofs.Common.{◌≡◌, ℕ, List, Ok, Some, drop, sym, ap, ◌∙◌}
 use Rattle.std.specs.FinMap as finite
-use Rattle.trac_forms.specs.Layout.{IsSound}
 use Rattle.trac_forms.specs.Stored.{storage_in}
 use Rattle.trac_rules.specs.Effect.{argument, leaves}
 use Rattle.trac_rules.specs.Handling.{named_form}

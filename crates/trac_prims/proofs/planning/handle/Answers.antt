@@ -1,4 +1,3 @@
-use Rattle.std.proofs.Common.{List, ℕ, Ok, ap, sym, subst}
 use Rattle.trac_forms.specs.Stored.{storage_in}
 use Rattle.trac_rules.specs.declared.primitive.FormAction.TheVariants as action
 use Rattle.trac_rules.specs.Handling.{handled}
