@@ -10,9 +10,8 @@ use Rattle.trac_rules.specs.Reading.{byte_read}
 use Rattle.trac_rules.specs.State.{Storage}
 use Rattle.trac_rules.specs.Outcomes.{limited}
 use Rattle.trac_rules.proofs.Outcomes.{limited_beyond}
-use Rattle.trac_prims.specs.declared.change.Change.{Change}
 use Rattle.trac_prims.specs.declared.made.Made as code
-use Rattle.trac_prims.specs.Effects.{IsMade, changed, effect_on, pieces_fit}
+use Rattle.trac_prims.specs.Effects.{IsMade, effect_on, pieces_fit}
 
 module _ {A : Type 0} (kept : code.Made A) (storage : Storage) (keeps : effect_on storage kept ≡ leaves storage) (piece : Vec ℕ A) (text : List ℕ) (is : piece.items ≡ text) where
   -- a value
@@ -44,11 +43,6 @@ meta_given kept storage keeps meta [] is =
     ap (λ (m : Option ℕ). effect_on storage (record kept { meta = m })) is ∙ ap (λ (e : Effect). record e { meta = None }) keeps
 meta_given kept storage keeps meta (b ∷ bytes) is =
     ap (λ (m : Option ℕ). effect_on storage (record kept { meta = m })) is ∙ ap (λ (e : Effect). record e { meta = Some b }) keeps
-
--- other forms
-pub changing : {A : Type 0} (kept : code.Made A) (storage : Storage) → effect_on storage kept ≡ leaves storage → (change : Change A) →
-    effect_on storage (record kept { change = change }) ≡ leaves (changed change storage)
-changing kept storage keeps change = ap (λ (e : Effect). record e { storage = changed change storage }) keeps
 
 -- ---- pieces that are too long
 
