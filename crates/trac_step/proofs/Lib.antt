@@ -14,6 +14,7 @@ pub mod Planned
 pub mod MovedForms
 pub mod Recorded
 pub mod ScanningBack
+pub mod StorageBack
 pub mod Functions
 pub mod NeutralAgain
 pub mod BegunFunctions

@@ -72,7 +72,7 @@ fn move_out<A: Allocator + Copy>(store: &mut Store<A>, name: &[u8], old: Option<
 // Puts what a block holds among the forms.
 fn put_held<A: Allocator + Copy>(store: &mut Store<A>, mut block: Block<A>)
     requires { KnowsNamed block.held store.old.known }
-    ensures { store.new ≡ record store.old { forms = with_all block.entry.held store.old.forms } }
+    ensures { store.new ≡ record store.old { forms = with_all block.held store.old.forms } }
 {
     // `len` is called for its clause that no name stands twice: so they may come from the last one on.
     let _len = block.len();
@@ -104,9 +104,10 @@ fn take_named<A: Allocator + Copy>(store: &mut Store<A>, block: &Block<A>)
     ensures { store.new ≡ record store.old { forms = without (names_in block.now.held) store.old.forms } }
 {
     for i in 0..block.len() {
-        if let Some((name, _form)) = block.get(i) {
-            store.take(name);
-        }
+        let Some((name, _form)) = block.get(i) else {
+            unreachable!()
+        };
+        store.take(name);
     }
 }
 
