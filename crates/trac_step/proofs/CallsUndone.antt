@@ -229,16 +229,24 @@ module _ {A : Type 0} (called : Called) (a : Arguments) (change : Undone A) (p :
 
   text_fits : length (parts_before called a p p.storage 0).active + length (parts_before called a p p.storage 0).text ≤ p.text_room
   text_fits =
-      omega (arith, there.room.text, text_size (parts_before called a p p.storage 0).text (parts_before called a p p.storage 0).marks _ shows,
-      ap (λ (t : Texts). length t.active + length t.base + argument_bytes t.frames) same_texts)
+      omega (
+        arith,
+        there.room.text,
+        text_size (parts_before called a p p.storage 0).text (parts_before called a p p.storage 0).marks _ shows,
+        ap (λ (t : Texts). length t.active + length t.base + argument_bytes t.frames) same_texts,
+      )
 
   pub text_room : item_count (before_call called.scanned called.value (all_texts a) (ends_in p)) ≤ p.text_room
   text_room = omega (arith, text_fits)
 
   pub mark_room : length p.marks + 1 + length a.finished ≤ p.mark_room
   mark_room =
-      omega (arith, there.room.marks, mark_size (without_value called.scanned called.value (ends_in p)).left p.marks _ texts.taken.shows,
-      ap (λ (t : Texts). marks t.frames) same_texts)
+      omega (
+        arith,
+        there.room.marks,
+        mark_size (without_value called.scanned called.value (ends_in p)).left p.marks _ texts.taken.shows,
+        ap (λ (t : Texts). marks t.frames) same_texts,
+      )
 
   pub ordered : AreMarks (length (parts_before called a p p.storage 0).text) (reverse (parts_before called a p p.storage 0).marks)
   ordered = shows.ordered
