@@ -1,6 +1,6 @@
 -- A session of the debugger, line by line.
 use Rattle.std.proofs.Common.{◌≡◌, ℕ, ◌+◌, ◌==◌, ◌<◌, ◌≤◌, not, Bool, true, false, List, [], ◌∷◌, ◌++◌, length, take, drop, refl, sym, ap, subst, ◌∙◌, arith, inl, inr, ⊎_elim}
-use Rattle.std.specs.Prelude.{◌⊎◌, Option, None, Some, Result, Ok, Err, IfErr, IsOkUnless, nat_le, if◌then◌else◌}
+use Rattle.std.specs.Prelude.{Option, Some, Result, Ok, Err, IfErr, IsOkUnless, nat_le, if◌then◌else◌}
 use Rattle.std.specs.Io.KnownBytes.{Appends, Consumes, IsAtEnd, Keeps}
 use Rattle.std.proofs.lemmas.Bool.{false≢true, cond-true, cond-false, le-leb, lt-leb, cases_lt}
 use Rattle.std.proofs.lemmas.Bool.Decides.{nat_tests}
@@ -21,7 +21,7 @@ use Rattle.trac_debug.specs.declared.lines.TheConstants.{LINE_LIMIT, LINE_COUNT_
 use Rattle.trac_debug.specs.Lines.{lines_of, is_within}
 use Rattle.trac_debug.specs.Commands.{Command, command_of}
 use Rattle.trac_debug.specs.Replies.{Replies}
-use Rattle.trac_debug.specs.Debugging.{Turn, Passes, Does, Ends, Takes, MayWrite, MayShow, RepliesToFirst, ready, shown_where, turn_at, turn_of}
+use Rattle.trac_debug.specs.Debugging.{Turn, Passes, Does, Ends, Takes, MayWrite, MayFollow, FollowsFirst, MayShow, RepliesToFirst, ready, shown_where, turn_at, turn_of}
 use Rattle.trac_debug.specs.Debugs.{UnlessFault, UnlessWrite, Debugs, IsReady, MayRefuseTape, IsNotReplied, Settles, Stops, Advances, Halts}
 use Rattle.trac_debug.specs.Pending.{Pending}
 use Rattle.trac_debug.specs.Reading.{IsFront, Gathers, MayFail}
@@ -315,16 +315,15 @@ halts_unread in_old in_new output number old p ending failed = record {
 
 -- what a session has done so far: what was read, what was written, the lines that were replied to, and that what may be written from the
 -- line of this number on is the rest
-pub record SoFar (in_old in_now out_old out_now : Option (List ℕ)) (tape : List ℕ) (limit number : ℕ) (lines : Pending) (p : PlainSession) : Type 0 where
+pub record SoFar (in_old in_now out_old out_now : Option (List ℕ)) (start : PlainSession) (number : ℕ) (lines : Pending) (p : PlainSession) : Type 0 where
   pub got : List ℕ
   pub written : List ℕ
   pub took : Consumes in_old in_now got
   pub gave : Appends out_old out_now written
   pub at_end : lines.ended ≡ true → IsAtEnd in_now
-  pub within : length tape ≤ TAPE_LIMIT
   pub before : List (List ℕ)
   pub splits : (more : List ℕ) → (lines.ended ≡ true → more ≡ []) → lines_of (got ++ more) ≡ before ++ lines_of (lines.bytes ++ more)
-  pub rest : (behind : List (List ℕ)) → (text : List ℕ) → (stop : Ending) → MayWrite behind number p text stop → MayWrite (before ++ behind) 1 (ready tape limit) (written ++ text) stop
+  pub rest : (behind : List (List ℕ)) → (text : List ℕ) → (stop : Ending) → MayWrite behind number p text stop → MayWrite (before ++ behind) 1 start (written ++ text) stop
 
 -- a tape that is not too long is gone over
 shown_within : (tape : List ℕ) (limit : ℕ) (commands text : List ℕ) (stop : Ending) → length tape ≤ TAPE_LIMIT →
@@ -338,39 +337,36 @@ shown_beyond tape limit commands beyond =
     subst (λ fits. shown_where tape limit commands [] Limit fits) (sym (lt-leb (length tape) TAPE_LIMIT beyond)) (refl, refl)
 
 -- at the beginning
-pub so_far_none : (input output : Option (List ℕ)) (tape : List ℕ) (limit : ℕ) (lines : Pending) (p : PlainSession) → IsReady tape limit p → lines ≡ record { bytes = []; ended = false } →
-    SoFar input input output output tape limit 1 lines p
-so_far_none input output tape limit lines p is none = record {
+pub so_far_none : (input output : Option (List ℕ)) (lines : Pending) (p : PlainSession) → lines ≡ record { bytes = []; ended = false } → SoFar input input output output p 1 lines p
+so_far_none input output lines p none = record {
   got = [];
   written = [];
   took = Consumes-nothing input;
   gave = Appends-nothing output;
   at_end = λ over. absurd (false≢true (sym (ap (λ (l : Pending). l.ended) none) ∙ over));
-  within = is.within;
   before = [];
   splits = λ more _. ap (λ (l : Pending). lines_of (l.bytes ++ more)) (sym none);
-  rest = λ behind text stop may. subst (λ q. MayWrite behind 1 q text stop) is.is may;
+  rest = λ behind text stop may. may;
 }
 
 -- a line more
-pub so_far_more : (in_old in_now in_new out_old out_now out_new : Option (List ℕ)) (tape : List ℕ) (limit number : ℕ) (lines after : Pending) (p q : PlainSession) →
-    SoFar in_old in_now out_old out_now tape limit number lines p → Advances in_now in_new out_now out_new number lines p after q →
-    SoFar in_old in_new out_old out_new tape limit (number + 1) after q
-so_far_more in_old in_now in_new out_old out_now out_new tape limit number lines after p q far on = record {
+pub so_far_more : (in_old in_now in_new out_old out_now out_new : Option (List ℕ)) (start : PlainSession) (number : ℕ) (lines after : Pending) (p q : PlainSession) →
+    SoFar in_old in_now out_old out_now start number lines p → Advances in_now in_new out_now out_new number lines p after q →
+    SoFar in_old in_new out_old out_new start (number + 1) after q
+so_far_more in_old in_now in_new out_old out_now out_new start number lines after p q far on = record {
   got = far.got ++ on.got;
   written = far.written ++ on.written;
   took = Consumes-both in_old in_now in_new far.got on.got far.took on.took;
   gave = Appends-both out_old out_now out_new far.written on.written far.gave on.gave;
   at_end = on.at_end;
-  within = far.within;
   before = far.before ++ (on.line ∷ []);
   splits = λ more none.
       ap lines_of (append_assoc far.got on.got more) ∙ far.splits (on.got ++ more) (λ over. let at = on.closed over in ap (λ g. g ++ more) at.0 ∙ none at.1)
       ∙ ap (λ ls. far.before ++ ls) (on.splits more none) ∙ sym (append_assoc far.before (on.line ∷ []) (lines_of (after.bytes ++ more)));
   rest = λ behind text stop may.
       let here = far.rest (on.line ∷ behind) (on.written ++ text) stop (on.rest behind text stop may) in
-      subst (λ ls. MayWrite ls 1 (ready tape limit) ((far.written ++ on.written) ++ text) stop) (sym (append_assoc far.before (on.line ∷ []) behind))
-      (subst (λ w. MayWrite (far.before ++ (on.line ∷ behind)) 1 (ready tape limit) w stop) (sym (append_assoc far.written on.written text)) here);
+      subst (λ ls. MayWrite ls 1 start ((far.written ++ on.written) ++ text) stop) (sym (append_assoc far.before (on.line ∷ []) behind))
+      (subst (λ w. MayWrite (far.before ++ (on.line ∷ behind)) 1 start w stop) (sym (append_assoc far.written on.written text)) here);
 }
 
 -- what is said of an ending without a fault, behind what was written
@@ -384,27 +380,26 @@ unless_behind Write Fact Other go fact = tt
 unless_behind (NotUnderstood line) Fact Other go fact = go fact
 
 -- the first lines of all, and nothing behind the replies to them
-first_replied : (tape : List ℕ) (limit : ℕ) (before behind lines : List (List ℕ)) (written nothing : List ℕ) → lines ≡ before ++ behind → nothing ≡ [] →
-    MayWrite (before ++ []) 1 (ready tape limit) (written ++ []) Ended → MayWrite (take (length before) lines) 1 (ready tape limit) (written ++ nothing) Ended
-first_replied tape limit before behind lines written nothing splits none may =
-    subst (λ ls. MayWrite ls 1 (ready tape limit) (written ++ nothing) Ended)
+first_replied : (start : PlainSession) (before behind lines : List (List ℕ)) (written nothing : List ℕ) → lines ≡ before ++ behind → nothing ≡ [] →
+    MayWrite (before ++ []) 1 start (written ++ []) Ended → MayWrite (take (length before) lines) 1 start (written ++ nothing) Ended
+first_replied start before behind lines written nothing splits none may =
+    subst (λ ls. MayWrite ls 1 start (written ++ nothing) Ended)
     (append-nil before ∙ sym (take-append_seam before behind) ∙ ap (take (length before)) (sym splits))
-    (subst (λ t. MayWrite (before ++ []) 1 (ready tape limit) (written ++ t) Ended) (sym none) may)
+    (subst (λ t. MayWrite (before ++ []) 1 start (written ++ t) Ended) (sym none) may)
 
 -- the end
-pub debugged : (in_old in_now in_new out_old out_now out_new : Option (List ℕ)) (tape : List ℕ) (limit number : ℕ) (lines : Pending) (p : PlainSession) (ending : Ending) →
-    SoFar in_old in_now out_old out_now tape limit number lines p → Halts in_now in_new out_now out_new number lines p ending →
-    Debugs in_old in_new out_old out_new (MayShow tape limit) (RepliesToFirst tape limit) ending
-debugged in_old in_now in_new out_old out_now out_new tape limit number lines p ending far last =
+pub debugged : (in_old in_now in_new out_old out_now out_new : Option (List ℕ)) (start : PlainSession) (number : ℕ) (lines : Pending) (p : PlainSession) (ending : Ending) →
+    SoFar in_old in_now out_old out_now start number lines p → Halts in_now in_new out_now out_new number lines p ending →
+    Debugs in_old in_new out_old out_new (MayFollow start) (FollowsFirst start) ending
+debugged in_old in_now in_new out_old out_now out_new start number lines p ending far last =
     let splits : (more : List ℕ) → (last.saw_end ≡ true → more ≡ []) → lines_of ((far.got ++ last.got) ++ more) ≡ far.before ++ lines_of (lines.bytes ++ (last.got ++ more)) =
     λ more none.
     ap lines_of (append_assoc far.got last.got more) ∙ far.splits (last.got ++ more) (λ over. let at = last.closed over in ap (λ g. g ++ more) at.0 ∙ none at.1) in
     let all : (more : List ℕ) → (last.saw_end ≡ true → more ≡ []) → (text : List ℕ) → (stop : Ending) → MayWrite (lines_of (lines.bytes ++ (last.got ++ more))) number p text stop →
-    MayShow tape limit ((far.got ++ last.got) ++ more) (far.written ++ text) stop =
+    MayFollow start ((far.got ++ last.got) ++ more) (far.written ++ text) stop =
     λ more none text stop may.
-    shown_within tape limit ((far.got ++ last.got) ++ more) (far.written ++ text) stop far.within
-    (subst (λ ls. MayWrite ls 1 (ready tape limit) (far.written ++ text) stop) (sym (splits more none))
-    (far.rest (lines_of (lines.bytes ++ (last.got ++ more))) text stop may)) in
+    subst (λ ls. MayWrite ls 1 start (far.written ++ text) stop) (sym (splits more none))
+    (far.rest (lines_of (lines.bytes ++ (last.got ++ more))) text stop may) in
     record {
       got = far.got ++ last.got;
       written = far.written ++ last.written;
@@ -417,14 +412,37 @@ debugged in_old in_now in_new out_old out_now out_new tape limit number lines p 
           (far.written ++ some.0, some.1, all more none some.0 some.1 some.2, front_behind far.written last.written some.0 some.3);
       whole = λ more none.
           unless_behind ending (MayWrite (lines_of (lines.bytes ++ (last.got ++ more))) number p last.written ending)
-          (MayShow tape limit ((far.got ++ last.got) ++ more) (far.written ++ last.written) ending)
+          (MayFollow start ((far.got ++ last.got) ++ more) (far.written ++ last.written) ending)
           (λ may. all more none last.written ending may) (last.whole more none);
       replied = length far.before;
       replies = λ more none.
-          behind_unless ending (last.written ≡ []) (RepliesToFirst tape limit (length far.before) ((far.got ++ last.got) ++ more) (far.written ++ last.written))
-          (λ nothing. first_replied tape limit far.before (lines_of (lines.bytes ++ (last.got ++ more))) (lines_of ((far.got ++ last.got) ++ more)) far.written last.written (splits more none) nothing
+          behind_unless ending (last.written ≡ []) (FollowsFirst start (length far.before) ((far.got ++ last.got) ++ more) (far.written ++ last.written))
+          (λ nothing. first_replied start far.before (lines_of (lines.bytes ++ (last.got ++ more))) (lines_of ((far.got ++ last.got) ++ more)) far.written last.written (splits more none) nothing
           (far.rest [] [] Ended (refl, refl)))
           last.nothing;
+    }
+
+-- the same over a tape that is not too long
+pub debugged_over : (in_old in_new out_old out_new : Option (List ℕ)) (tape : List ℕ) (limit : ℕ) (p : PlainSession) (ending : Ending) → IsReady tape limit p →
+    Debugs in_old in_new out_old out_new (MayFollow p) (FollowsFirst p) ending → Debugs in_old in_new out_old out_new (MayShow tape limit) (RepliesToFirst tape limit) ending
+debugged_over in_old in_new out_old out_new tape limit p ending is all =
+    let shown : (commands text : List ℕ) (stop : Ending) → MayFollow p commands text stop → MayShow tape limit commands text stop =
+    λ commands text stop may. shown_within tape limit commands text stop is.within (subst (λ q. MayFollow q commands text stop) is.is may) in
+    record {
+      got = all.got;
+      written = all.written;
+      saw_end = all.saw_end;
+      took = all.took;
+      gave = all.gave;
+      at_end = all.at_end;
+      front = λ more none. let some = all.front more none in (some.0, some.1, shown (all.got ++ more) some.0 some.1 some.2, some.3);
+      whole = λ more none.
+          unless_behind ending (MayFollow p (all.got ++ more) all.written ending) (MayShow tape limit (all.got ++ more) all.written ending) (shown (all.got ++ more) all.written ending)
+          (all.whole more none);
+      replied = all.replied;
+      replies = λ more none.
+          behind_unless ending (FollowsFirst p all.replied (all.got ++ more) all.written) (RepliesToFirst tape limit all.replied (all.got ++ more) all.written)
+          (λ first. subst (λ q. FollowsFirst q all.replied (all.got ++ more) all.written) is.is first) (all.replies more none);
     }
 
 -- over each tape something may be written

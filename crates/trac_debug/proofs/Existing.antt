@@ -1,5 +1,5 @@
 -- There is always something that may be written.
-use Rattle.std.proofs.Common.{◌≡◌, ℕ, zero, suc, ◌+◌, ◌<◌, ◌≤◌, Bool, true, false, List, [], ◌∷◌, ◌++◌, length, refl, sym, ap, subst, ◌∙◌, arith, inl, inr, ⊎_elim}
+use Rattle.std.proofs.Common.{◌≡◌, ℕ, zero, suc, ◌+◌, ◌≤◌, true, false, List, [], ◌∷◌, ◌++◌, length, refl, subst, arith, inl, inr, ⊎_elim}
 use Rattle.std.specs.Prelude.{◌⊎◌, Option, None, Some, max, nat_lt, ◌&&◌, codes}
 use Rattle.std.proofs.lemmas.Bool.{cases_Bool}
 use Rattle.trac_rules.specs.declared.refusal.Refusal.{Refusal}
@@ -9,7 +9,7 @@ use Rattle.trac_rules.specs.declared.reply.Reply.TheVariants.{Done, Refused}
 use Rattle.trac_rules.specs.Session as session
 use Rattle.trac_rules.specs.Session.{PlainSession, Goal, Answer, IsWalk, Answers, answer, done, refused, no_goal}
 use Rattle.trac_rules.proofs.Replies.{Step_refusals, answer_Commit, committed}
-use Rattle.trac_session.specs.Goals.{IsSearch, is_call_of, outcome}
+use Rattle.trac_session.specs.Goals.{is_call_of, outcome}
 use Rattle.trac_session.proofs.Walked.{GoesOn, Back_answered, Back_refused_same, Step_refused_same, goes_on_first, goes_on_more, stopped_walk, met_walk, whole_walk}
 use Rattle.trac_run.specs.declared.ending.Ending.{Ending}
 use Rattle.trac_run.specs.declared.ending.Ending.TheVariants as endings

@@ -1,11 +1,11 @@
 -- The words of a line, one after another.
-use Rattle.std.proofs.Common.{◌≡◌, ℕ, ◌+◌, ◌==◌, true, false, List, [], ◌∷◌, ◌++◌, take, drop, refl, sym, ap, ◌∙◌, ⊎_elim}
+use Rattle.std.proofs.Common.{◌≡◌, ℕ, ◌+◌, ◌==◌, true, false, List, [], ◌∷◌, take, drop, refl, sym, ap, ◌∙◌, ⊎_elim}
 use Rattle.std.specs.Prelude.{Option, None, Some, is_some}
 use Rattle.std.specs.List.{onto_first}
 use Rattle.std.proofs.lemmas.List.Splits.{slice_split-cons_yes, slice_split-cons_no}
 use Rattle.std.proofs.lemmas.Bool.{cases_Bool}
 use Rattle.trac_debug.specs.declared.command.TheConstants.{SPACE}
-use Rattle.trac_debug.specs.Commands.{Command, words_of, said_by, command_of, alone, with_one, with_two}
+use Rattle.trac_debug.specs.Commands.{words_of, said_by, command_of, alone, with_one, with_two}
 use Rattle.trac_debug.specs.Reading.{IsPlace}
 use Rattle.trac_debug.proofs.Splitting.{split_at, split_none}
 

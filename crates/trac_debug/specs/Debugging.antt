@@ -50,6 +50,14 @@ abbrev pub MayWrite : List (List ℕ) → ℕ → PlainSession → List ℕ → 
 MayWrite [] number p text ending = (text ≡ []) × (ending ≡ Ended)
 MayWrite (line ∷ lines) number p text ending = Takes (turn_at number line) p (λ q rest. MayWrite lines (number + 1) q rest ending) text ending
 
+-- from this session on, with these commands, this text may be written, and then the session ends so
+abbrev pub MayFollow : PlainSession → List ℕ → List ℕ → Ending → Type 0
+MayFollow p commands text ending = MayWrite (lines_of commands) 1 p text ending
+
+-- from this session on, this text may be written where the first so many of the lines of these commands are all that there are
+abbrev pub FollowsFirst : PlainSession → ℕ → List ℕ → List ℕ → Type 0
+FollowsFirst p count commands text = MayWrite (take count (lines_of commands)) 1 p text Ended
+
 -- ---- a whole session
 
 -- the session over a tape that has ended, its journal holding at most so many records

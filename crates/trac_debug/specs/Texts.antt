@@ -98,13 +98,18 @@ texts_text s = text_line (codes "active") s.active ++ text_line (codes "base") s
 abbrev pub storage_text : Forms → List Block → List ℕ
 storage_text forms blocks = flat_map (form_line (codes "form")) (map.entries forms) ++ flat_map block_lines (enumerate_from 0 blocks)
 
--- the last state of a session: all its parts, and how many records there are
+-- meta character, trace, position and output
+abbrev pub settings_text : State → List ℕ
+settings_text s =
+    text_line (codes "meta") (s.meta ∷ [])
+    ++ trace_line s.trace
+    ++ number_line (codes "position") s.position
+    ++ text_line (codes "output") s.output
+
+-- all parts of a state
+abbrev pub machine_text : State → List ℕ
+machine_text s = texts_text s ++ storage_text s.forms s.blocks ++ settings_text s
+
+-- the last state of a session, and how many records there are
 abbrev pub state_text : PlainSession → List ℕ
-state_text p =
-    texts_text p.last
-    ++ storage_text p.last.forms p.last.blocks
-    ++ text_line (codes "meta") (p.last.meta ∷ [])
-    ++ trace_line p.last.trace
-    ++ number_line (codes "position") p.last.position
-    ++ text_line (codes "output") p.last.output
-    ++ number_line (codes "journal") (length p.earlier)
+state_text p = machine_text p.last ++ number_line (codes "journal") (length p.earlier)

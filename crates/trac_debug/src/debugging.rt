@@ -1,7 +1,7 @@
 //! A session of the debugger: commands from a reader, replies to a writer.
 ghost use Rattle.std.specs.Prelude.{◌≡◌, ◌≤◌, true, length, IfOk, IfErr, OnOk};
 ghost use Rattle.std.specs.Io.KnownBytes.{IsAtEnd};
-ghost use Rattle.trac_debug.specs.Debugging.{MayShow, RepliesToFirst, turn_at, turn_of};
+ghost use Rattle.trac_debug.specs.Debugging.{FollowsFirst, MayFollow, MayShow, RepliesToFirst, turn_at, turn_of};
 ghost use Rattle.trac_debug.specs.Debugs.{Advances, Debugs, Halts, IsReady, MayRefuseTape, IsReplied, IsNotReplied, Settles, Stops};
 ghost use Rattle.trac_debug.specs.Views.{command_seen};
 
@@ -39,9 +39,22 @@ pub fn debug<R: Read, W: Write, A: Allocator + Copy>(
         Ok(session) => session,
         Err(ending) => return ending,
     };
+    take_lines(alloc, &mut session, commands, output)
+}
+
+// Takes line by line, until the session ends.
+fn take_lines<R: Read, W: Write, A: Allocator + Copy>(
+    alloc: A,
+    session: &mut Session<A>,
+    commands: &mut R,
+    output: &mut W,
+) -> Ending
+    ensures { Debugs (R.remaining commands.old) (R.remaining commands.new) (W.contents output.old) (W.contents output.new)
+        (MayFollow session.old) (FollowsFirst session.old) result }
+{
     let mut lines = Lines::new(alloc);
     for number in 1..LINE_COUNT_LIMIT + 1 {
-        if let Err(ending) = take_line(alloc, number, &mut session, &mut lines, commands, output) {
+        if let Err(ending) = take_line(alloc, number, session, &mut lines, commands, output) {
             return ending;
         }
     }

@@ -2,13 +2,14 @@
 ghost use Rattle.std.specs.Prelude.{◌≡◌, ◌++◌, ◌∷◌, reverse, IfOk, OnOk, None, Some, codes, option_map};
 ghost use Rattle.std.specs.FinMap as finite;
 ghost use Rattle.std.specs.List.{enumerate_from, flat_map};
-ghost use Rattle.trac_debug.specs.Texts.{arguments_line, block_lines, bracketed, feed, form_line, frame_line, lines_of_block, sharps, state_text, storage_text, texts_text, trace_line};
+ghost use Rattle.trac_debug.specs.Texts.{arguments_line, block_lines, bracketed, feed, form_line, frame_line, lines_of_block, machine_text, settings_text, sharps, state_text, storage_text, texts_text, trace_line};
 
 use crate::texts::{form_line_into, number_into, number_line_into, text_into, text_line_into};
 use std::alloc::{AllocError, Allocator};
 use trac_forms::{Block, Store};
-use trac_session::{Machine, Session};
-use trac_step::{Args, Kind};
+use trac_gap::TwoEnds;
+use trac_session::Session;
+use trac_step::{Args, Core, Kind, Mark};
 
 /// All parts of a session's last state and how many records it has, as lines (this project's profile).
 /// The error is that memory was refused.
@@ -18,21 +19,41 @@ pub fn state_lines<A: Allocator + Copy>(
 ) -> Result<Vec<u8, A>, AllocError>
     ensures { IfOk result (λ text. text.items ≡ state_text session.now) }
 {
-    let machine = session.machine();
     let mut out = Vec::new(alloc);
-    texts_into(machine, &mut out)?;
-    storage_into(machine.store(), &mut out)?;
-    text_line_into(b"meta", &[machine.meta()], &mut out)?;
-    trace_into(machine.trace(), &mut out)?;
-    number_line_into(b"position", machine.position() as u64, &mut out)?;
-    text_line_into(b"output", machine.output(), &mut out)?;
+    machine_into(session.machine(), &mut out)?;
     number_line_into(b"journal", session.len() as u64, &mut out)?;
     Ok(out)
 }
 
+// All parts of a machine's state, as lines. Here and below the machine may be of any representation: that the gap buffer is one is shown once,
+// where a session's machine is passed on, and not at each call.
+fn machine_into<E: TwoEnds<u8, A>, M: TwoEnds<Mark, A>, A: Allocator + Copy, B: Allocator>(
+    machine: &Core<E, M, A>,
+    out: &mut Vec<u8, B>,
+) -> Result<(), AllocError>
+    ensures { OnOk result (out.new.items ≡ out.old.items ++ machine_text machine.now.state) }
+{
+    texts_into(machine, out)?;
+    storage_into(machine.store(), out)?;
+    settings_into(machine, out)
+}
+
+// Meta character, trace, position and output, as lines.
+fn settings_into<E: TwoEnds<u8, A>, M: TwoEnds<Mark, A>, A: Allocator + Copy, B: Allocator>(
+    machine: &Core<E, M, A>,
+    out: &mut Vec<u8, B>,
+) -> Result<(), AllocError>
+    ensures { OnOk result (out.new.items ≡ out.old.items ++ settings_text machine.now.state) }
+{
+    text_line_into(b"meta", &[machine.meta()], out)?;
+    trace_into(machine.trace(), out)?;
+    number_line_into(b"position", machine.position() as u64, out)?;
+    text_line_into(b"output", machine.output(), out)
+}
+
 // Active text, base text and begun functions, as lines.
-fn texts_into<A: Allocator + Copy, B: Allocator>(
-    machine: &Machine<A>,
+fn texts_into<E: TwoEnds<u8, A>, M: TwoEnds<Mark, A>, A: Allocator + Copy, B: Allocator>(
+    machine: &Core<E, M, A>,
     out: &mut Vec<u8, B>,
 ) -> Result<(), AllocError>
     ensures { OnOk result (out.new.items ≡ out.old.items ++ texts_text machine.now.state) }
@@ -43,8 +64,8 @@ fn texts_into<A: Allocator + Copy, B: Allocator>(
 }
 
 // The begun functions from the outermost on, each a line.
-fn frames_into<A: Allocator + Copy, B: Allocator>(
-    machine: &Machine<A>,
+fn frames_into<E: TwoEnds<u8, A>, M: TwoEnds<Mark, A>, A: Allocator + Copy, B: Allocator>(
+    machine: &Core<E, M, A>,
     out: &mut Vec<u8, B>,
 ) -> Result<(), AllocError>
     ensures { OnOk result (out.new.items ≡ out.old.items ++ flat_map frame_line (reverse machine.now.state.frames)) }

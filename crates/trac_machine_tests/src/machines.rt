@@ -1,5 +1,7 @@
 //! A machine itself, on both representations of its lists: they show the same after each step, each step is undone and
 //! taken again, and each request for memory is refused in turn.
+//!
+//! Helpers are over any two lists: a proof for certain ones shows anew, at each call of the machine, that they are such lists.
 ghost use Rattle.std.specs.Prelude.{◌≤◌, length};
 
 use crate::shown::{PROGRAMS, state_shown};
@@ -9,13 +11,10 @@ use std::test::Fail;
 use trac_faults::Refusing;
 use trac_gap::{GapBuf, PlainEnds, TwoEnds};
 use trac_rules::refusal::Refusal;
-use trac_step::{Core, Machine, Mark, Record, Tape};
+use trac_step::{Core, Mark, Record, Tape};
 
 /// Memory of which a request may be refused.
 pub(crate) type Memory<'a> = &'a Refusing<Global>;
-
-/// The machine over plain vectors, with which the other one is compared.
-type PlainMachine<'a> = Core<PlainEnds<u8, Memory<'a>>, PlainEnds<Mark, Memory<'a>>, Memory<'a>>;
 
 /// How many requests a call may make at most.
 const MOST_REQUESTS: u64 = 1_000;
@@ -184,33 +183,44 @@ fn advance<E: TwoEnds<u8, A>, M: TwoEnds<Mark, A>, A: Allocator + Copy>(
     Ok(None)
 }
 
-// One step on, on both machines, which show the same before it; or why there is none.
-fn advance_both(
+// One step on, on two machines, which show the same before it; or why there is none.
+fn advance_both<
+    E: TwoEnds<u8, A>,
+    M: TwoEnds<Mark, A>,
+    F: TwoEnds<u8, A>,
+    N: TwoEnds<Mark, A>,
+    A: Allocator + Copy,
+>(
     rt: &impl Abort,
     plain: Global,
     memory: Memory<'_>,
-    machine: &mut Machine<Memory<'_>>,
-    vectors: &mut PlainMachine<'_>,
+    machine: &mut Core<E, M, A>,
+    other: &mut Core<F, N, A>,
     input: &[u8],
 ) -> Result<Option<Refusal>, Fail> {
     let shown = state_shown(plain, machine)?;
     let why = advance(rt, plain, memory, machine, shown.as_slice(), input)?;
-    let other = advance(rt, plain, memory, vectors, shown.as_slice(), input)?;
-    assert!(rt; other == why);
+    assert!(rt; advance(rt, plain, memory, other, shown.as_slice(), input)? == why);
     Ok(why)
 }
 
-// A whole run, step by step on both machines.
-fn walk_both(
+// A whole run, step by step on two machines.
+fn walk_both<
+    E: TwoEnds<u8, A>,
+    M: TwoEnds<Mark, A>,
+    F: TwoEnds<u8, A>,
+    N: TwoEnds<Mark, A>,
+    A: Allocator + Copy,
+>(
     rt: &impl Abort,
     plain: Global,
     memory: Memory<'_>,
-    machine: &mut Machine<Memory<'_>>,
-    vectors: &mut PlainMachine<'_>,
+    machine: &mut Core<E, M, A>,
+    other: &mut Core<F, N, A>,
     input: &[u8],
 ) -> Result<(), Fail> {
     for _ in 0..5_000 {
-        if let Some(why) = advance_both(rt, plain, memory, machine, vectors, input)? {
+        if let Some(why) = advance_both(rt, plain, memory, machine, other, input)? {
             assert!(rt; why == Refusal::Ended);
             return Ok(());
         }
@@ -219,7 +229,12 @@ fn walk_both(
     Ok(())
 }
 
-fn expect_settled(rt: &impl Abort, machine: &mut Machine<Memory<'_>>, output: &[u8], input: &[u8]) {
+fn expect_settled<E: TwoEnds<u8, A>, M: TwoEnds<Mark, A>, A: Allocator + Copy>(
+    rt: &impl Abort,
+    machine: &mut Core<E, M, A>,
+    output: &[u8],
+    input: &[u8],
+) {
     expect_text(rt, machine.output(), output, input);
     machine.settle();
     assert!(rt; machine.position() == 0 && machine.output().is_empty());
@@ -230,29 +245,44 @@ fn let_go<E: TwoEnds<u8, A>, M: TwoEnds<Mark, A>, A: Allocator + Copy>(machine: 
     let _last = machine;
 }
 
-// The run on a machine, beside the one over plain vectors.
-fn run_beside(
+// The run on a machine, beside the one over other lists.
+fn run_beside<
+    E: TwoEnds<u8, A>,
+    M: TwoEnds<Mark, A>,
+    F: TwoEnds<u8, A>,
+    N: TwoEnds<Mark, A>,
+    A: Allocator + Copy,
+>(
     rt: &impl Abort,
     plain: Global,
     memory: Memory<'_>,
-    machine: &mut Machine<Memory<'_>>,
+    alloc: A,
+    machine: &mut Core<E, M, A>,
     input: &[u8],
 ) -> Result<(), Fail> {
-    let mut vectors: PlainMachine<'_> = made(memory)?;
-    let outcome = walk_both(rt, plain, memory, machine, &mut vectors, input);
-    let_go(vectors);
+    let mut other = made::<F, N, A>(alloc)?;
+    let outcome = walk_both(rt, plain, memory, machine, &mut other, input);
+    let_go(other);
     outcome
 }
 
-fn run_both(
+// The run on a machine over the first two lists, beside one over the other two.
+fn run_both<
+    E: TwoEnds<u8, A>,
+    M: TwoEnds<Mark, A>,
+    F: TwoEnds<u8, A>,
+    N: TwoEnds<Mark, A>,
+    A: Allocator + Copy,
+>(
     rt: &impl Abort,
     plain: Global,
     memory: Memory<'_>,
+    alloc: A,
     input: &[u8],
     output: &[u8],
 ) -> Result<(), Fail> {
-    let mut machine: Machine<Memory<'_>> = made(memory)?;
-    let outcome = run_beside(rt, plain, memory, &mut machine, input);
+    let mut machine = made::<E, M, A>(alloc)?;
+    let outcome = run_beside::<E, M, F, N, A>(rt, plain, memory, alloc, &mut machine, input);
     if outcome.is_ok() {
         expect_settled(rt, &mut machine, output, input);
     }
@@ -275,7 +305,13 @@ fn each_request_for_a_machine(rt: HostRuntime) {
 fn both_representations(rt: HostRuntime) -> Result<(), Fail> {
     let memory = Refusing::new(rt.alloc());
     for (input, output) in PROGRAMS.iter() {
-        run_both(&rt, rt.alloc(), &memory, input, output)?;
+        run_both::<
+            GapBuf<u8, Memory<'_>>,
+            GapBuf<Mark, Memory<'_>>,
+            PlainEnds<u8, Memory<'_>>,
+            PlainEnds<Mark, Memory<'_>>,
+            Memory<'_>,
+        >(&rt, rt.alloc(), &memory, &memory, input, output)?;
     }
     Ok(())
 }

@@ -260,7 +260,7 @@ fn are_kept<A: Allocator + Copy>(functions: &[(Kind, Pieces<A>)], wanted: &[Kept
 }
 
 // Whether a record keeps this base text and these begun functions.
-fn empties(record: &Record<Machine, Global>, base: &[u8], functions: &[Kept]) -> bool {
+fn empties<C, A: Allocator + Copy>(record: &Record<C, A>, base: &[u8], functions: &[Kept]) -> bool {
     match record {
         Record::Idle { base: kept, frames } => {
             kept.as_slice() == base && are_kept(frames.as_slice(), functions)
@@ -270,20 +270,45 @@ fn empties(record: &Record<Machine, Global>, base: &[u8], functions: &[Kept]) ->
 }
 
 // Takes so many steps.
-fn go(rt: &impl Abort, machine: &mut Machine, input: &[u8], n: u64) -> Result<(), Refusal> {
+fn go<E: TwoEnds<u8, A>, M: TwoEnds<Mark, A>, A: Allocator + Copy>(
+    rt: &impl Abort,
+    machine: &mut Core<E, M, A>,
+    input: &[u8],
+    n: u64,
+) -> Result<(), Refusal> {
     for _ in 0..n {
         let _record = step(rt, machine, input)?;
     }
     Ok(())
 }
 
+// The step of this number empties all texts, and its record keeps these.
+fn expect_emptied<E: TwoEnds<u8, A>, M: TwoEnds<Mark, A>, A: Allocator + Copy>(
+    rt: &impl Abort,
+    alloc: A,
+    input: &[u8],
+    number: u64,
+    base: &[u8],
+    functions: &[Kept],
+) -> Result<(), Refusal> {
+    let mut machine = made::<E, M, A>(alloc)?;
+    go(rt, &mut machine, input, number.saturating_sub(1))?;
+    let record = step(rt, &mut machine, input)?;
+    assert!(rt; empties(&record, base, functions));
+    Ok(())
+}
+
 #[test]
 fn emptied_texts_are_kept(rt: HostRuntime) -> Result<(), Fail> {
     for (input, number, base, functions) in EMPTIED.iter() {
-        let mut machine: Machine = made(rt.alloc())?;
-        go(&rt, &mut machine, *input, number.saturating_sub(1))?;
-        let record = step(&rt, &mut machine, *input)?;
-        assert!(rt; empties(&record, *base, *functions));
+        expect_emptied::<GapBuf<u8>, GapBuf<Mark>, Global>(
+            &rt,
+            rt.alloc(),
+            *input,
+            *number,
+            *base,
+            *functions,
+        )?;
     }
     Ok(())
 }

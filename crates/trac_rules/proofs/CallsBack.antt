@@ -1,5 +1,5 @@
 -- The state before a call is got back from its record and the state after it, each of the three parts by itself.
-use Rattle.std.proofs.Common.{◌≡◌, ℕ, ◌+◌, ◌-◌, Bool, true, false, List, [], ◌∷◌, ◌++◌, length, drop, refl, sym, ap, subst, ◌∙◌, arith}
+use Rattle.std.proofs.Common.{◌≡◌, ℕ, ◌+◌, ◌-◌, Bool, true, false, List, [], ◌∷◌, ◌++◌, length, drop, is_some, refl, sym, ap, subst, ◌∙◌, arith}
 use Rattle.std.specs.Prelude.{Option, None, Some, Result, Ok, Err, nat_le, ◌&&◌, codes, option_map, option_and_then}
 use Rattle.std.specs.Bool.{then_some}
 use Rattle.std.specs.Option.{unwrap_or}
@@ -11,17 +11,21 @@ use Rattle.trac_rules.specs.declared.kind.Kind.TheVariants.{Active, Neutral}
 use Rattle.trac_rules.specs.declared.refusal.Refusal.{Refusal}
 use Rattle.trac_rules.specs.declared.scan.Front.{Front}
 use Rattle.trac_rules.specs.declared.scan.Front.TheVariants as front
-use Rattle.trac_rules.specs.Effect.{Effect}
+use Rattle.trac_rules.specs.Effect.{Effect, argument}
 use Rattle.trac_rules.specs.Limits.{texts_fit}
 use Rattle.trac_rules.specs.Outcomes.{seen_as}
-use Rattle.trac_rules.specs.Performing.{after_call, changed_by, performed, placed}
-use Rattle.trac_rules.specs.Records.{CallRecord, Rest, Texts, all_before_last, begun_again, call_record_in, call_record_of, call_recorded, is_scanned, rest_before, rest_of, texts_before, texts_in, value_taken}
+use Rattle.trac_rules.specs.Performing.{after_call, changed_by, effect_of, performed, placed, primitive_of, printed_behind, trace_line}
+use Rattle.trac_rules.specs.Proper.{IsProper}
+use Rattle.trac_rules.specs.Records.{CallRecord, Record, Called, IsOfParts, Rest, Texts, all_before_last, begun_again, call_record_in, call_record_of, call_recorded, comma_recorded, closing_recorded, is_scanned, put_together, record_in, record_of, recorded, recorded_at, rest_before, rest_of, restored, state_before, texts_before, texts_in, value_taken}
 use Rattle.trac_rules.specs.Scanning.{Call, Scanned, Moves, Calls, closing_in, deleted, front_of, gather, scan, scan_at}
 use Rattle.trac_rules.specs.State.{Environment, Frame, State, storage_of}
 use Rattle.trac_rules.specs.Stepping.{carried_out, step}
-use Rattle.trac_rules.proofs.Outcomes.{limited_Ok}
-use Rattle.trac_rules.proofs.Restored.{BeginsSo, all_before_last-append, begins_so, fits-append, frame_of-last}
+use Rattle.trac_rules.specs.Undone.{storage_before, undone_by}
+use Rattle.trac_rules.proofs.Outcomes.{limited_Ok, seen_as-Ok}
+use Rattle.trac_rules.proofs.ProperStates.{storage-placed}
+use Rattle.trac_rules.proofs.Restored.{BeginsSo, all_before_last-append, before_of_restored, begins_so, fits-append, frame_of-last, moved_goes_back}
 use Rattle.trac_rules.proofs.Scans.{gathered_in_shows}
+use Rattle.trac_rules.proofs.StorageBack.{IsKept, effect_kept}
 
 -- ---- a call that scanning asks for
 
@@ -162,3 +166,115 @@ rest_goes_back_over environment s t kept h k =
     ap (rest_before (call_recorded call e)) (rest-placed call.kind e.forced e.value (changed_by e call.state)) ∙ rest_goes_back call e ∙ ap Some done.at_front.rest in
     subst (λ (c : CallRecord). rest_before c (rest_of t) ≡ Some (rest_of s)) done.is
     (subst (λ (u : State). rest_before (call_recorded call e) (rest_of u) ≡ Some (rest_of s)) done.after back)
+
+-- ---- forms and blocks
+
+-- the line of the trace leaves what is kept
+pub performed_kept : (environment : Environment) (call : Call) (e : Effect) → performed environment call ≡ Ok e →
+    IsKept (primitive_of (argument 0 call.arguments)) call.arguments (storage_of call.state) e
+unfolding performed
+performed_kept environment call e done =
+    let primitive = primitive_of (argument 0 call.arguments) in
+    let line = trace_line call.state.trace call.kind call.arguments in
+    let parts = seen_as-Ok (printed_behind line) (effect_of primitive environment call.arguments call.state) e done in
+    let kept = effect_kept primitive environment call.arguments call.state parts.0 parts.1 in
+    subst (IsKept primitive call.arguments (storage_of call.state)) (sym parts.2) (record { storage_back = kept.storage_back; meta = kept.meta })
+
+pub storage_goes_back : (environment : Environment) (s t : State) (kept : CallRecord) → step environment s ≡ Ok t → call_record_of environment s ≡ Some kept →
+    storage_before kept.arguments kept.undone (storage_of t) ≡ Some (storage_of s)
+storage_goes_back environment s t kept h k =
+    let done = call_performed environment s t kept h k in
+    let call = done.call in
+    let e = done.effect in
+    let undone = undone_by (primitive_of (argument 0 call.arguments)) call.arguments (storage_of call.state) in
+    let back : storage_before call.arguments undone (storage_of (after_call call e)) ≡ Some (storage_of s) =
+    ap (storage_before call.arguments undone) (storage-placed call.kind e.forced e.value (changed_by e call.state))
+    ∙ (performed_kept environment call e done.done).storage_back
+    ∙ ap Some done.at_front.storage in
+    subst (λ (c : CallRecord). storage_before c.arguments c.undone (storage_of t) ≡ Some (storage_of s)) done.is
+    (subst (λ (u : State). storage_before call.arguments undone (storage_of u) ≡ Some (storage_of s)) done.after back)
+
+-- ---- the whole state
+
+-- a call's record gives back the state before
+pub call_goes_back : (environment : Environment) (s t : State) (kept : CallRecord) → step environment s ≡ Ok t → call_record_of environment s ≡ Some kept →
+    restored (Called kept) t ≡ Some s
+call_goes_back environment s t kept h k = λ i.
+    put_together (texts_go_back environment s t kept h k i) (storage_goes_back environment s t kept h k i) (rest_goes_back_over environment s t kept h k i)
+
+-- and so does the record of any step
+record_goes_back : (environment : Environment) (s t : State) (r : Record) (x : Scanned) → scan s ≡ x → step environment s ≡ Ok t → record_in environment s x ≡ Some r → restored r t ≡ Some s
+record_goes_back environment s t r (Moves u) scanned h k =
+    let same : recorded s ≡ r = cc in
+    subst (λ (q : Record). restored q t ≡ Some s) same (moved_goes_back environment s t u scanned h)
+record_goes_back environment s t r (Calls call) scanned h k =
+    by_record (call_record_in environment (Calls call)) refl k
+  where
+    by_record : (kept : Option CallRecord) → call_record_in environment (Calls call) ≡ kept → option_map Called kept ≡ Some r → restored r t ≡ Some s
+    by_record None is k = absurd (cc)
+    by_record (Some c) is k =
+        let same : Called c ≡ r = cc in
+        subst (λ (q : Record). restored q t ≡ Some s) same
+        (call_goes_back environment s t c h (ap (call_record_in environment) scanned ∙ is))
+
+pub record_restores : (environment : Environment) (s t : State) (r : Record) → step environment s ≡ Ok t → record_of environment s ≡ Some r → restored r t ≡ Some s
+record_restores environment s t r h k = record_goes_back environment s t r (scan s) refl h k
+
+-- the state before is that state, where it is proper
+pub record_leads_back : (environment : Environment) (s t : State) (r : Record) → IsProper s → step environment s ≡ Ok t → record_of environment s ≡ Some r →
+    state_before r t ≡ Some s
+record_leads_back environment s t r proper h k = before_of_restored r s t proper (record_restores environment s t r h k)
+
+-- an accepted step has a record
+pub record_is_there : (environment : Environment) (s t : State) → step environment s ≡ Ok t → is_some (record_of environment s) ≡ true
+unfolding step
+record_is_there environment s t h = by_scanned (scan s) (limited_Ok texts_fit (carried_out environment (scan s)) t h).0
+  where
+    by_outcome : (call : Call) (outcome : Result Effect Refusal) → seen_as (after_call call) outcome ≡ Ok t →
+        is_some (option_map Called (option_map (call_recorded call) (result_ok outcome))) ≡ true
+    by_outcome call (Ok e) h = refl
+    by_outcome call (Err refusal) h = absurd (cc)
+
+    by_scanned : (x : Scanned) → carried_out environment x ≡ Ok t → is_some (record_in environment s x) ≡ true
+    by_scanned (Moves u) h = refl
+    by_scanned (Calls call) h = by_outcome call (performed environment call) h
+
+-- a record of a rule that moves on keeps no whole state
+abbrev KeepsParts : Record → Scanned → Type 0
+KeepsParts r (Moves t) = IsOfParts r
+KeepsParts r (Calls call) = Unit {0}
+
+parts_at : (at : Front) (s : State) → KeepsParts (recorded_at at s) (scan_at at s)
+parts_at front.Nothing s = tt
+parts_at front.Opening s = tt
+parts_at front.Layout s = tt
+parts_at front.Comma s = by_frames s.frames
+  where
+    by_frames : (frames : List Frame) → IsOfParts (comma_recorded frames s)
+    by_frames [] = tt
+    by_frames (f ∷ fs) = tt
+parts_at front.ActiveCall s = tt
+parts_at front.NeutralCall s = tt
+parts_at front.Sharp s = tt
+parts_at front.Closing s = by_frames s.frames
+  where
+    by_frames : (frames : List Frame) → KeepsParts (closing_recorded frames s) (closing_in frames (deleted 1 s))
+    by_frames [] = tt
+    by_frames (f ∷ fs) = tt
+parts_at front.Plain s = tt
+
+scan_keeps_parts : (s : State) → KeepsParts (recorded s) (scan s)
+unfolding scan
+scan_keeps_parts s = parts_at (front_of s.active) s
+
+-- and neither does that of any step
+pub record_of_parts : (environment : Environment) (s : State) (r : Record) → record_of environment s ≡ Some r → IsOfParts r
+record_of_parts environment s r k = by_scanned (scan s) (scan_keeps_parts s) k
+  where
+    by_record : (kept : Option CallRecord) → option_map Called kept ≡ Some r → IsOfParts r
+    by_record None k = absurd (cc)
+    by_record (Some c) k = let same : Called c ≡ r = cc in subst IsOfParts same tt
+
+    by_scanned : (x : Scanned) → KeepsParts (recorded s) x → record_in environment s x ≡ Some r → IsOfParts r
+    by_scanned (Moves t) keeps k = let same : recorded s ≡ r = cc in subst IsOfParts same keeps
+    by_scanned (Calls call) keeps k = by_record (call_record_in environment (Calls call)) k

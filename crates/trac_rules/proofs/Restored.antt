@@ -185,6 +185,12 @@ carried_back : (e : Environment) (s t : State) (r : Record) (x : Scanned) → Go
 carried_back e s t r (Moves u) back h = let same : u ≡ t = cc in subst (λ (v : State). restored r v ≡ Some s) same back
 carried_back e s t r (Calls call) back h = ap (λ (q : Record). restored q t) back
 
+-- a step of scanning is led back by its record
+pub moved_goes_back : (e : Environment) (s t u : State) → scan s ≡ Moves u → step e s ≡ Ok t → restored (recorded s) t ≡ Some s
+unfolding step
+moved_goes_back e s t u scanned h =
+    carried_back e s t (recorded s) (scan s) (scan_goes_back s) (limited_Ok texts_fit (carried_out e (scan s)) t h).0
+
 -- where a proper state is restored, it is the one before
 pub before_of_restored : (r : Record) (s t : State) → IsProper s → restored r t ≡ Some s → state_before r t ≡ Some s
 unfolding state_before
@@ -264,7 +270,7 @@ all_go_back n old new proper h count =
 -- ---- records name no place of tape or output
 
 -- a state at another place of a tape, and with another output
-abbrev elsewhere : ℕ → List ℕ → State → State
+abbrev pub elsewhere : ℕ → List ℕ → State → State
 elsewhere position output s = record s { position = position; output = output }
 
 then_some-map : (f : State → State) (b : Bool) (s : State) → then_some b (f s) ≡ option_map f (then_some b s)

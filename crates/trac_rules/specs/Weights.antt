@@ -1,6 +1,6 @@
 -- What a record weighs, by what it keeps, and what a step may cost the journal, by the state before it: bytes of texts and names, items of
 -- forms, places of gaps, and one for each comma, frame and name. Lengths, flags, old pointers and numbers of blocks are not weighed.
-use Rattle.std.specs.Prelude.{ℕ, ◌+◌, ◌-◌, List, [], ◌∷◌, ◌++◌, length, map, take, drop, Option}
+use Rattle.std.specs.Prelude.{ℕ, ◌+◌, ◌-◌, List, [], ◌∷◌, ◌++◌, length, map, take, drop, Option, None, Some}
 use Rattle.std.specs.FinMap as finite
 use Rattle.std.specs.Option.{option_map_or}
 use Rattle.trac_rules.specs.declared.item.Item.{Item}
@@ -63,10 +63,15 @@ undone_weight (MoveOut old) = form_weight old
 undone_weight (Unbring number replaced) = held_weight replaced
 undone_weight (Unerase number held address) = held_weight held + length (all_items address)
 
+-- a meta character, where one is kept
+abbrev pub meta_weight : Option ℕ → ℕ
+meta_weight None = 0
+meta_weight (Some byte) = 1
+
 -- what a call destroyed: its arguments with one for each comma between them, one for a meta character, and what is kept of forms and blocks
 abbrev pub call_weight : CallRecord → ℕ
 call_weight call =
-    total_length call.arguments + (length call.arguments - 1) + option_map_or (λ meta. 1) call.meta 0 + undone_weight call.undone
+    total_length call.arguments + (length call.arguments - 1) + meta_weight call.meta + undone_weight call.undone
 
 -- what a record weighs
 abbrev pub weight : Record → ℕ

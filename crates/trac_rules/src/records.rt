@@ -1,14 +1,15 @@
 //! Records of what a step destroys: laws, and worked rows.
-ghost use Rattle.std.specs.Prelude.{◌≡◌, ◌≤◌, ◌++◌, ◌∷◌, [], codes, length, map, option_map, replicate, take, List, None, Ok, Some, false, true, ℕ};
+ghost use Rattle.std.specs.Prelude.{◌≡◌, ◌≤◌, ◌++◌, ◌∷◌, [], codes, length, map, is_some, option_map, replicate, take, List, None, Ok, Some, false, true, ℕ};
 ghost use Rattle.trac_rules.specs.Form.{defined, pointed_at};
 ghost use Rattle.trac_rules.specs.Limits.{marks, text_bytes};
 ghost use Rattle.trac_rules.specs.Proper.{IsProper};
-ghost use Rattle.trac_rules.specs.Records.{Begun, CallRecord, Comma, Deleted, Idle, IsOfScanning, Moved, Quoted, Record, call_record_of, led_back, recorded, rest_before, rest_of, restored, state_before, texts_before, texts_in};
+ghost use Rattle.trac_rules.specs.Records.{Begun, CallRecord, Called, Comma, Deleted, Idle, IsOfParts, IsOfScanning, Moved, Quoted, Record, call_record_of, further_on, led_back, record_of, recorded, rest_before, rest_of, restored, state_before, texts_before, texts_in};
 ghost use Rattle.trac_rules.specs.RecordRows.{Costs, losses_of, most_in, records_of};
 ghost use Rattle.trac_rules.specs.Rows.{replies_to, session_after, state_after, texts_of};
 ghost use Rattle.trac_rules.specs.Session.{Feed, PlainSession, Step, new_session, repeated};
-ghost use Rattle.trac_rules.specs.State.{Environment, State, initial};
+ghost use Rattle.trac_rules.specs.State.{Environment, State, initial, storage_of};
 ghost use Rattle.trac_rules.specs.Stepping.{call_at, step};
+ghost use Rattle.trac_rules.specs.Undone.{storage_before};
 ghost use Rattle.trac_rules.specs.Weights.{loss, weight};
 ghost use Rattle.trac_rules.specs.declared.byte.TheConstants.{CLOSING, COMMA, TAB};
 ghost use Rattle.trac_rules.specs.declared.item.Item.TheVariants.{Byte, Gap};
@@ -29,18 +30,42 @@ pub fn records_lead_back()
 {}
 
 /// The record of a call keeps what the call destroyed, and with that the state after it gives back the state before. Each of the
-/// three parts of the state is got back by itself, from its part of the state after and nothing else: texts and begun functions;
+/// three parts of a state is got back by itself, from its part of the state after and nothing else: texts and begun functions;
 /// forms and blocks; all the rest.
 pub fn records_of_calls_lead_back()
     ensures texts { (environment : Environment) (s t : State) (call : CallRecord) → step environment s ≡ Ok t → call_record_of environment s ≡ Some call →
         texts_before call (texts_in t) ≡ Some (texts_in s) }
+    ensures storage { (environment : Environment) (s t : State) (call : CallRecord) → step environment s ≡ Ok t → call_record_of environment s ≡ Some call →
+        storage_before call.arguments call.undone (storage_of t) ≡ Some (storage_of s) }
     ensures rest { (environment : Environment) (s t : State) (call : CallRecord) → step environment s ≡ Ok t → call_record_of environment s ≡ Some call →
         rest_before call (rest_of t) ≡ Some (rest_of s) }
+    ensures whole { (environment : Environment) (s t : State) (call : CallRecord) → step environment s ≡ Ok t → call_record_of environment s ≡ Some call →
+        restored (Called call) t ≡ Some s }
+{}
+
+/// Each accepted step, of scanning or a call, has a record that keeps what it destroyed and not the whole state. With the state after
+/// the step it gives back the state before, where that is a proper one.
+pub fn records_of_parts_lead_back()
+    ensures is_there { (environment : Environment) (s t : State) → step environment s ≡ Ok t → is_some (record_of environment s) ≡ true }
+    ensures of_parts { (environment : Environment) (s : State) (r : Record) → record_of environment s ≡ Some r → IsOfParts r }
+    ensures each_step { (environment : Environment) (s t : State) (r : Record) → IsProper s → step environment s ≡ Ok t → record_of environment s ≡ Some r →
+        state_before r t ≡ Some s }
+{}
+
+/// A record that keeps what a step destroyed names no absolute place of the tape or of the output: where the state after stands so many
+/// bytes further on, and its output has a text before it, so has the state before.
+pub fn records_name_no_place()
+    ensures { (r : Record) (s t : State) (k : ℕ) (text : List ℕ) → IsOfParts r → restored r t ≡ Some s → restored r (further_on k text t) ≡ Some (further_on k text s) }
 {}
 
 /// The record of a step of scanning weighs no more than the step may lose.
 pub fn records_weigh_no_more()
     ensures { (s : State) → call_at s ≡ None → weight (recorded s) ≤ loss s }
+{}
+
+/// The record of a step, of scanning or a call, weighs no more than the step may lose.
+pub fn records_of_parts_weigh_no_more()
+    ensures { (environment : Environment) (s : State) (r : Record) → record_of environment s ≡ Some r → weight r ≤ loss s }
 {}
 
 /// What the steps of scanning keep, and what is got back from that.

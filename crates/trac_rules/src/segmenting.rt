@@ -1,9 +1,12 @@
 //! Laws of segmenting and calling, each the contract of a function that does nothing.
-ghost use Rattle.std.specs.Prelude.{◌≡◌, ◌++◌, ◌∷◌, ◌≤◌, [], codes, List, None, Some, ℕ, length};
+ghost use Rattle.std.specs.Prelude.{◌≡◌, ◌+◌, ◌++◌, ◌∷◌, ◌≤◌, [], codes, List, None, Some, ℕ, length};
+ghost use Rattle.std.specs.List.{All};
 ghost use Rattle.trac_rules.specs.Cuts.{cut_of, joined};
 ghost use Rattle.trac_rules.specs.Filling.{all_filled};
-ghost use Rattle.trac_rules.specs.Form.{Form, all_items, as_items, defined, extent, pointed_at};
+ghost use Rattle.trac_rules.specs.Form.{Form, IsWide, all_items, as_items, defined, extent, pointed_at};
 ghost use Rattle.trac_rules.specs.Segmenting.{cut_out, part, segmented};
+ghost use Rattle.trac_rules.specs.Weights.{gap_count, gaps_made};
+ghost use Rattle.trac_rules.specs.declared.item.CutGap.{CutGap};
 ghost use Rattle.trac_rules.specs.declared.item.Item.{Item};
 ghost use Rattle.trac_rules.specs.declared.item.Item.TheVariants.{Byte, Gap};
 
@@ -34,6 +37,16 @@ pub fn segmenting_keeps_the_extent()
 pub fn filling_undoes_segmenting()
     ensures { (texts : List (List ℕ)) (form : Form) →
         all_filled texts (all_items (segmented texts form)) ≡ all_filled texts (all_items form) }
+{}
+
+/// The gaps that segmenting makes, filled with the same texts, give the items as they were before. There are as many of them as
+/// the form has gaps more than before. Filling the gaps of any cut keeps the extent, and leaves all gaps wide.
+pub fn cuts_are_filled_again()
+    ensures back { (texts : List (List ℕ)) (form : Form) → joined texts (cut_of texts form) (all_items (segmented texts form)) ≡ Some (all_items form) }
+    ensures count { (texts : List (List ℕ)) (form : Form) → gap_count (all_items (segmented texts form)) ≡ gap_count (all_items form) + length (cut_of texts form) }
+    ensures made { (texts : List (List ℕ)) (form : Form) → length (cut_of texts form) ≡ gaps_made texts form }
+    ensures extent { (texts : List (List ℕ)) (cut : List CutGap) (items before : List Item) → joined texts cut items ≡ Some before → extent before ≡ extent items }
+    ensures wide { (texts : List (List ℕ)) (cut : List CutGap) (items before : List Item) → joined texts cut items ≡ Some before → All IsWide items → All IsWide before }
 {}
 
 /// Which gaps segmenting makes, and how they are filled again.

@@ -1,9 +1,9 @@
 //! The steps that perform a function.
-ghost use Rattle.std.specs.Prelude.{◌≡◌, ◌<◌, ◌≤◌, ◌+◌, ◌^◌, ◌++◌, [], length, take, drop, IfErr, IfOk, IsOkUnless, OnOk, Ok, vec_capacity, vec_len};
+ghost use Rattle.std.specs.Prelude.{◌≡◌, ◌<◌, ◌≤◌, ◌+◌, ◌^◌, ◌++◌, [], length, take, drop, IfErr, IfOk, IsOkUnless, OnErr, OnOk, Ok, vec_capacity, vec_len};
 ghost use Rattle.trac_gap.specs.Ends.{item_count};
 ghost use Rattle.trac_rules.specs.Outcomes.{MayAnswer, MayRefuse};
 ghost use Rattle.trac_rules.specs.Proper.{IsProper};
-ghost use Rattle.trac_rules.specs.Records.{recorded};
+ghost use Rattle.trac_rules.specs.Records.{Whole, recorded};
 ghost use Rattle.trac_rules.specs.Scanning.{front_of, scan};
 ghost use Rattle.trac_rules.specs.Stepping.{step};
 ghost use Rattle.trac_prims.specs.Tape.{environment_of};
@@ -169,8 +169,44 @@ impl<E: TwoEnds<u8, A>, M: TwoEnds<Mark, A>, A: Allocator + Copy> Core<E, M, A> 
         Ok(Box::new(*self.output.allocator(), copy)?)
     }
 
+    // Takes all memory that the call needs: room for what it adds, a block for the forms that it moves out, and a copy of the machine as
+    // it is. The state stays.
+    fn made_ready(&mut self, effect: &Effect<A>) -> Result<(Block<A>, Box<Self, A>), Refusal>
+        ensures room_for { OnOk result (HasRoomFor effect.now self.new) }
+        ensures none { IfOk result (λ r. r.0.held ≡ []) }
+        ensures places { IfOk result (λ r. length (held_by effect.now.change) ≤ r.0.room) }
+        ensures same { IfOk result (λ r. r.1.value.state ≡ self.old.state) }
+        ensures state { self.new.state ≡ self.old.state }
+        ensures room { IsNoLess self.old self.new }
+        ensures err { IsOkUnless result Refusal.Memory }
+    {
+        self.make_room(effect)?;
+        let block = block_for(*self.output.allocator(), &effect.change)?;
+        let before = self.boxed_copy()?;
+        Ok((block, before))
+    }
+
+    // Performs the call that is planned, and answers its record. It is refused memory alone, and then the state stays.
+    fn carry_out(
+        &mut self,
+        beginning: Beginning,
+        effect: Effect<A>,
+    ) -> Result<Record<Self, A>, Refusal>
+        requires front { front_of self.old.state.active ≡ Front.Closing }
+        requires beginning { BeginsInnermost self.old.state beginning }
+        requires proper { IsProper (state_after effect (scan self.old.state)) }
+        ensures done { OnOk result (self.new.state ≡ state_after effect (scan self.old.state)) }
+        ensures recorded { IfOk result (λ r. recorded_by r ≡ Whole self.old.state) }
+        ensures unchanged { OnErr result (self.new.state ≡ self.old.state) }
+        ensures err { IsOkUnless result Refusal.Memory }
+        ensures room { IsNoLess self.old self.new }
+    {
+        let (block, before) = self.made_ready(&effect)?;
+        self.finish_call(beginning, effect, block);
+        Ok(Record::Whole(before))
+    }
+
     // The next step, where it performs a function.
-    #[tactic(auto, using(crate::proofs::Recorded::call_lacks_nothing))]
     pub(crate) fn call_step(&mut self, tape: Tape<'_>) -> Result<Record<Self, A>, Refusal>
         requires front { front_of self.old.state.active ≡ Front.Closing }
         requires inside { 0 < length self.old.state.frames }
@@ -182,10 +218,6 @@ impl<E: TwoEnds<u8, A>, M: TwoEnds<Mark, A>, A: Allocator + Copy> Core<E, M, A> 
         ensures room { IsNoLess self.old self.new }
     {
         let (beginning, effect) = self.planned(tape)?;
-        self.make_room(&effect)?;
-        let block = block_for(*self.output.allocator(), &effect.change)?;
-        let before = self.boxed_copy()?;
-        self.finish_call(beginning, effect, block);
-        Ok(Record::Whole(before))
+        self.carry_out(beginning, effect)
     }
 }

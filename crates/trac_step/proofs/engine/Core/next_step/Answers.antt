@@ -1,11 +1,9 @@
 use Rattle.std.proofs.Common.{◌≡◌, ◌==◌, length, sym, ap, ◌∙◌, true, false}
-use Rattle.std.proofs.lemmas.Result.{IfErr-weaker, on_ok_weaker}
 use denote.Enum.Bare.{sameb}
 use Rattle.trac_rules.specs.contracts.scan.Front.{the_type}
 use Rattle.trac_rules.specs.declared.scan.Front.TheVariants.{Closing}
 use Rattle.trac_rules.specs.Scanning.{front_of}
 use Rattle.trac_prims.specs.Neutral.{Neutral}
-use Rattle.trac_prims.specs.Tape.{environment_of}
 use Rattle.trac_step.specs.Layout.{Shown}
 use Rattle.trac_step.proofs.Scans.{is_move, no_frames}
 use Rattle.trac_step.proofs.engine.Core.next_step.Goals as goal

@@ -1,13 +1,11 @@
-use Rattle.std.proofs.Common.{◌≡◌, ◌≤◌, Some, Ok, sym, ap, ◌∙◌, subst}
+use Rattle.std.proofs.Common.{◌≡◌, ◌≤◌, sym, subst}
 use Rattle.std.proofs.lemmas.Result.{IfOk-weaker, on_ok_weaker}
-use Rattle.trac_rules.specs.Proper.{IsProper}
-use Rattle.trac_rules.specs.Records.{recorded, state_before}
+use Rattle.trac_rules.specs.Records.{recorded}
 use Rattle.trac_rules.specs.Weights.{loss, weight}
 use Rattle.trac_rules.proofs.ProperStates.{step_proper}
-use Rattle.trac_rules.proofs.Restored.{step_goes_back}
 use Rattle.trac_rules.proofs.Weighed.{weight_within}
 use Rattle.trac_prims.specs.Tape.{environment_of}
-use Rattle.trac_step.specs.Record.{before, recorded_by}
+use Rattle.trac_step.specs.Record.{recorded_by}
 use Rattle.trac_step.proofs.Recorded.{taken_and_before}
 use Rattle.trac_step.proofs.Rooms.{HasRoom-kept}
 use Rattle.trac_step.proofs.engine.Core.step.Goals as goal

@@ -1,0 +1,6 @@
+-- The law is that of `FurtherOn`.
+use Rattle.trac_rules.proofs.FurtherOn.{restored-further_on}
+use Rattle.trac_rules.proofs.records.records_name_no_place.Goals as goal
+
+pub returns : goal.returns
+returns c = restored-further_on
