@@ -1,6 +1,5 @@
 -- Of the form that is weighed now, and of those behind it, the weight is within that of all.
-use Rattle.std.proofs.Common.{List, ℕ, length, arith}
-use Rattle.trac_rules.specs.Form.{Form}
+use Rattle.std.proofs.Common.{arith}
 use Rattle.trac_step.proofs.Weighed.{held_next}
 use Rattle.trac_step.proofs.weighing.weigh_block.Goals as goal
 
