@@ -2,7 +2,7 @@
 ghost use Rattle.std.specs.Prelude.{◌≡◌, ◌==◌, ◌≤◌, ◌-◌, drop, length, IfOk, IsOkUnless};
 ghost use Rattle.trac_rules.specs.declared.reply.Reply.TheVariants.{Done};
 ghost use Rattle.trac_rules.specs.Reading.{unread};
-ghost use Rattle.trac_rules.specs.Session.{new_session, Feed, End, Step, Back, Commit, answer, Answers, IsWalk, no_goal};
+ghost use Rattle.trac_rules.specs.Session.{new_session, Feed, End, Step, Back, Commit, answer, Answers, IsWalk, no_goal, settled};
 ghost use Rattle.trac_session.specs.Replies.{reply_of};
 
 use crate::journal::Journal;
@@ -10,9 +10,10 @@ use crate::keeping::step_kept;
 use crate::walk::Walk;
 use std::alloc::{Allocator, Global};
 use std::marker::Model;
+use trac_gap::TwoEnds;
 use trac_rules::limit::{JOURNAL_LIMIT, TAPE_LIMIT};
 use trac_rules::refusal::Refusal;
-use trac_step::{Machine, Tape};
+use trac_step::{Core, Machine, Mark, Tape};
 
 /// A processor with its input and a journal of its steps. It is seen as a tape and the list of states
 /// from the last commit on, the last of which is the machine's.
@@ -132,10 +133,8 @@ impl<A: Allocator + Copy> Session<A> {
     pub fn commit(&mut self)
         ensures { answer Commit self.old ≡ record { reply = Done; session = self.new } }
     {
-        let read = self.machine.position();
-        drop_front(&mut self.tape, read);
+        settle(&mut self.machine, &mut self.tape);
         self.journal.clear();
-        self.machine.settle();
     }
 
     /// How many steps can be gone back over. It takes no memory (this project's profile).
@@ -159,6 +158,21 @@ impl<A: Allocator + Copy> Session<A> {
     {
         &self.machine
     }
+}
+
+// Releases what is printed, and takes what is read off the front of the tape. The machine may be of any representation: a proof for a
+// certain one shows anew, at each call, what its lists are.
+fn settle<E: TwoEnds<u8, A>, M: TwoEnds<Mark, A>, A: Allocator + Copy>(
+    machine: &mut Core<E, M, A>,
+    tape: &mut Vec<u8, A>,
+)
+    requires { machine.old.state.position ≤ length tape.old.items }
+    ensures machine { machine.new ≡ record machine.old { state = settled machine.old.state } }
+    ensures tape { tape.new.items ≡ drop machine.old.state.position tape.old.items }
+{
+    let read = machine.position();
+    drop_front(tape, read);
+    machine.settle();
 }
 
 // Takes so many bytes off the front. Where there are none to take, the length of the text costs nothing.
