@@ -13,7 +13,8 @@ pub mod Pointers
 pub mod Planned
 pub mod MovedForms
 pub mod Recorded
-pub mod Undone
+pub mod ScanningBack
+pub mod StorageBack
 pub mod Functions
 pub mod NeutralAgain
 pub mod BegunFunctions

@@ -3,9 +3,10 @@ use Rattle.std.specs.Prelude.{Option}
 use Rattle.trac_rules.specs.Records as rules
 use Rattle.trac_rules.specs.State.{State}
 use Rattle.trac_step.specs.Layout.{Shown}
-use Rattle.trac_step.specs.Pieces.{frames_in}
+use Rattle.trac_step.specs.Pieces.{all_texts, frames_in}
+use Rattle.trac_step.specs.Undone.{undone_in}
 use Rattle.trac_step.specs.declared.record.Record.{Record}
-use Rattle.trac_step.specs.declared.record.Record.TheVariants.{Moved, Comma, Begun, Quoted, Deleted, Idle, Whole}
+use Rattle.trac_step.specs.declared.record.Record.TheVariants.{Moved, Comma, Begun, Quoted, Deleted, Idle, Call, Whole}
 
 -- a record of the machine, read as one of the rules
 abbrev pub recorded_by : {A : Type 0} → Record Shown A → rules.Record
@@ -15,6 +16,18 @@ recorded_by Begun = rules.Begun
 recorded_by (Quoted inner closed) = rules.Quoted inner closed
 recorded_by (Deleted b) = rules.Deleted b
 recorded_by (Idle base frames) = rules.Idle base.items (frames_in frames.items)
+recorded_by (Call kind arguments value scanned printed read meta trace change) =
+    rules.Called (record {
+      kind = kind;
+      arguments = all_texts arguments;
+      value = value;
+      scanned = scanned;
+      printed = printed;
+      read = read;
+      meta = meta;
+      trace = trace;
+      undone = undone_in change;
+    })
 recorded_by (Whole b) = rules.Whole b.value.state
 
 -- the state before, from the record of a step and the state after it

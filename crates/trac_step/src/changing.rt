@@ -118,7 +118,7 @@ fn remove<A: Allocator + Copy>(store: &mut Store<A>, names: &[Vec<u8, A>])
 }
 
 // Sets the pointer of the form of this name, if there is one: before the item at this place, or at the end where there is none.
-fn point<A: Allocator + Copy>(store: &mut Store<A>, name: &[u8], place: usize)
+pub(crate) fn point<A: Allocator + Copy>(store: &mut Store<A>, name: &[u8], place: usize)
     ensures storage { storage_in store.new ≡ pointed name.now place (finite.get store.old.forms name.now) (storage_in store.old) }
     ensures names { store.new.known ≡ store.old.known }
 {

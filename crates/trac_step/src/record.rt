@@ -7,6 +7,8 @@ use crate::calling::overwrite;
 use crate::ends::refill_both;
 use crate::engine::Core;
 use crate::pieces::Pieces;
+use crate::undoing::Called;
+use crate::undone::Undone;
 use std::alloc::{Allocator, Global};
 use trac_gap::TwoEnds;
 use trac_prims::{Kind, Mark};
@@ -37,6 +39,27 @@ pub enum Record<M: Drop, A: Allocator + Copy = Global> {
         /// The begun functions, the innermost first: the kind of each, and all its arguments, of which the last was being gathered.
         frames: Vec<(Kind, Pieces<A>), A>,
     },
+    /// A function was performed.
+    Call {
+        /// Its kind.
+        kind: Kind,
+        /// All its arguments, its name being the first.
+        arguments: Pieces<A>,
+        /// How many bytes its value has.
+        value: usize,
+        /// Whether the value went before the active text, to be scanned, and not to the current text.
+        scanned: bool,
+        /// How many bytes were printed.
+        printed: usize,
+        /// How many bytes of the tape were read.
+        read: usize,
+        /// The meta character before, where the call set one.
+        meta: Option<u8>,
+        /// Whether each call was printed before.
+        trace: bool,
+        /// What was destroyed of forms and blocks.
+        change: Undone<A>,
+    },
     /// A function was performed: the machine as it was before, in memory of its own, which keeps the other records small.
     Whole(Box<M, A>),
 }
@@ -59,6 +82,28 @@ impl<E: TwoEnds<u8, A>, M: TwoEnds<Mark, A>, A: Allocator + Copy> Core<E, M, A> 
             Record::Quoted { inner, closed } => self.unprotect(inner, closed),
             Record::Deleted(byte) => self.undelete(byte),
             Record::Idle { base, frames } => self.unload(base.as_slice(), frames),
+            Record::Call {
+                kind,
+                arguments,
+                value,
+                scanned,
+                printed,
+                read,
+                meta,
+                trace,
+                change,
+            } => {
+                let called = Called {
+                    kind,
+                    value,
+                    scanned,
+                    printed,
+                    read,
+                    meta,
+                    trace,
+                };
+                self.uncall(called, &arguments, change);
+            }
             Record::Whole(earlier) => self.put_back(Box::into_inner(earlier)),
         }
     }

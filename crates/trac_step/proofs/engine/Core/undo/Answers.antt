@@ -7,7 +7,7 @@ use Rattle.trac_step.specs.Pieces.{frames_in}
 use Rattle.trac_step.specs.Record.{recorded_by}
 use Rattle.trac_step.specs.Room.{HasRoom}
 use Rattle.trac_step.specs.Undoing.{CanShow}
-use Rattle.trac_step.proofs.Undone.{before_is_restored, can_show_before, shown_is_some}
+use Rattle.trac_step.proofs.ScanningBack.{before_is_restored, can_show_before, shown_is_some}
 use Rattle.trac_step.proofs.engine.Core.undo.Goals as goal
 
 -- a record that is known to be this one
