@@ -12,7 +12,7 @@ use trac_forms::{Block, Form, FormError, Store};
 use trac_prims::{Change, Refusal};
 
 /// A form with its name.
-type Named<A> = (Vec<u8, A>, Form<A>);
+pub(crate) type Named<A> = (Vec<u8, A>, Form<A>);
 
 // A block of no forms with places for the forms that a change moves into one.
 pub(crate) fn block_for<A: Allocator + Copy>(

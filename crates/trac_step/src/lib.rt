@@ -10,6 +10,7 @@ pub mod engine;
 mod framing;
 mod front;
 mod idle;
+mod leaving;
 pub mod loading;
 mod matching;
 mod moves;
