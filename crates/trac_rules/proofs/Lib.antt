@@ -29,4 +29,5 @@ pub mod FurtherOn
 pub mod Weighed
 pub mod CallsWeighed
 pub mod Losses
+pub mod CallRows
 pub mod MovedOn
