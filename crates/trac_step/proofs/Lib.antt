@@ -15,6 +15,7 @@ pub mod MovedForms
 pub mod Recorded
 pub mod ScanningBack
 pub mod StorageBack
+pub mod CallsUndone
 pub mod Functions
 pub mod NeutralAgain
 pub mod BegunFunctions
