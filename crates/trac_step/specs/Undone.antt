@@ -2,12 +2,13 @@
 use Rattle.trac_rules.specs.Undone as rules
 use Rattle.trac_prims.specs.Effects.{named_forms}
 use Rattle.trac_step.specs.declared.undone.Undone as code
-use Rattle.trac_step.specs.declared.undone.Undone.TheVariants.{Nothing, Point, Swap, Restore, MoveOut, Unbring, Unerase}
+use Rattle.trac_step.specs.declared.undone.Undone.TheVariants.{Nothing, Point, Join, Swap, Restore, MoveOut, Unbring, Unerase}
 
 -- what the code keeps, read as one of the rules
 abbrev pub undone_in : {A : Type 0} → code.Undone A → rules.Undone
 undone_in Nothing = rules.Nothing
 undone_in (Point place) = rules.Point place
+undone_in (Join cut pointer) = rules.Join cut pointer
 undone_in (Swap old) = rules.Swap old
 undone_in (Restore forms) = rules.Restore (named_forms forms.items)
 undone_in (MoveOut old) = rules.MoveOut old

@@ -1,6 +1,6 @@
 //! What a call destroys of forms and blocks.
 use std::alloc::{Allocator, Global};
-use trac_forms::{Block, Form};
+use trac_forms::{Block, Cut, Form};
 
 /// What a call destroyed of forms and blocks, by which they can be got back from those that stand there afterwards. What still stands
 /// there is not kept: of forms that went into a block nothing, and of a form whose pointer moved the old pointer (this project's profile).
@@ -10,6 +10,13 @@ pub enum Undone<A: Allocator + Copy = Global> {
     Nothing,
     /// A form was restored or read: so many items stood before its pointer.
     Point(usize),
+    /// A form was segmented.
+    Join {
+        /// The gaps that were made.
+        cut: Cut<A>,
+        /// How many items stood before its pointer.
+        pointer: usize,
+    },
     /// A form was defined, in place of this one, if there was one.
     Swap(Option<Form<A>>),
     /// These forms were deleted.
