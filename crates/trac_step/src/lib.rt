@@ -15,6 +15,7 @@ pub mod loading;
 mod matching;
 mod moves;
 pub mod pieces;
+mod places;
 mod readers;
 pub mod record;
 mod scanning;
