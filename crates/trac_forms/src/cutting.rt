@@ -31,7 +31,7 @@ impl<A: Allocator + Copy> Form<A> {
     }
 
     // All items, these texts cut out in turn.
-    fn items_without<T: Texts>(&self, texts: &T) -> Result<Vec<Item, A>, FormError>
+    pub(crate) fn items_without<T: Texts>(&self, texts: &T) -> Result<Vec<Item, A>, FormError>
         requires { length (T.texts texts.now) ≤ MARK_LIMIT }
         ensures cut { IfOk result (λ items. items.items ≡ segmented_from 1 (T.texts texts.now) (all_items self.now)) }
         ensures within { IfOk result (λ items. extent items.items ≤ FORM_LIMIT) }

@@ -4,7 +4,7 @@ ghost use Rattle.std.specs.Prelude.{◌≡◌, ◌≤◌, length, None};
 
 use std::alloc::{AllocError, Allocator, Global};
 use std::process::Abort;
-use trac_forms::{Form, FormError, Store};
+use trac_forms::{Cut, Form, FormError, Store};
 use trac_prims::{Args, Change, Effect, Kind, Mark, Now, Tape, plan};
 use trac_rules::limit::MARK_LIMIT;
 use trac_rules::refusal::Refusal;
@@ -114,12 +114,26 @@ fn add_form<A: Allocator + Copy>(
     form.show_into(out)
 }
 
+// The gaps that are made: of each its place, a number below 10, and its ordinal.
+fn add_gaps<A: Allocator + Copy>(out: &mut Vec<u8>, cut: &Cut<A>) -> Result<(), AllocError> {
+    for gap in cut.gaps().iter() {
+        add_number(out, gap.place)?;
+        add(out, &[b'<', b'0' + gap.ordinal.min(9) as u8, b'>'])?;
+    }
+    Ok(())
+}
+
 fn add_change<A: Allocator + Copy>(out: &mut Vec<u8>, change: &Change<A>) -> Result<(), FormError> {
     match change {
         Change::Keep => add(out, b"keep")?,
         Change::Put(name, form) => {
             add(out, b"put ")?;
             add_form(out, name.as_slice(), form)?;
+        }
+        Change::Cut(name, cut) => {
+            add(out, b"cut ")?;
+            add(out, name.as_slice())?;
+            add_gaps(out, cut)?;
         }
         Change::Remove(names) => {
             add(out, b"remove ")?;

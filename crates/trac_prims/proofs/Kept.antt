@@ -8,9 +8,8 @@ use Rattle.trac_rules.specs.Effect.{Effect, forces, gives, leaves, prints, reads
 use Rattle.trac_rules.specs.State.{Storage}
 use Rattle.trac_rules.specs.Outcomes.{limited}
 use Rattle.trac_rules.proofs.Outcomes.{limited_beyond}
-use Rattle.trac_prims.specs.declared.change.Change.{Change}
 use Rattle.trac_prims.specs.declared.made.Made as code
-use Rattle.trac_prims.specs.Effects.{IsMade, changed, effect_on, pieces_fit}
+use Rattle.trac_prims.specs.Effects.{IsMade, effect_on, pieces_fit}
 
 module _ {A : Type 0} (kept : code.Made A) (storage : Storage) (keeps : effect_on storage kept ≡ leaves storage) (piece : Vec ℕ A) (text : List ℕ) (is : piece.items ≡ text) where
   -- a value
@@ -28,11 +27,6 @@ module _ {A : Type 0} (kept : code.Made A) (storage : Storage) (keeps : effect_o
   -- a value that is read
   pub read : (n : ℕ) → IsMade storage (Ok (reads text n storage)) (Ok (record kept { value = piece; read = n }))
   read n = ap (λ (v : List ℕ). Ok (reads v n storage)) (sym is) ∙ ap (λ (e : Effect). Ok (record e { value = piece.items; read = n })) (sym keeps)
-
--- other forms
-pub changing : {A : Type 0} (kept : code.Made A) (storage : Storage) → effect_on storage kept ≡ leaves storage → (change : Change A) →
-    effect_on storage (record kept { change = change }) ≡ leaves (changed change storage)
-changing kept storage keeps change = ap (λ (e : Effect). record e { storage = changed change storage }) keeps
 
 -- ---- pieces that are too long
 

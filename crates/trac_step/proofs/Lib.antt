@@ -12,8 +12,11 @@ pub mod Ended
 pub mod Pointers
 pub mod Planned
 pub mod MovedForms
+pub mod Replacing
 pub mod Recorded
-pub mod Undone
+pub mod ScanningBack
+pub mod StorageBack
+pub mod CallsUndone
 pub mod Functions
 pub mod NeutralAgain
 pub mod BegunFunctions

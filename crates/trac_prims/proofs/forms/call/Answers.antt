@@ -28,4 +28,4 @@ returns g c =
     ∙ ap (λ (before : List ℕ). before ++ called c.behind-texts.result c.in-Some.form.now) c.in_ok-value.ensures.items
     ∙ ap (λ (texts : List (List ℕ)). called texts c.in-Some.form.now) c.behind-texts.ensures in
     ap (λ h. on_form h (λ form. Ok (gives (called (drop 2 c.args.args.now) form) storage)) storage) held
-    ∙ given c.keeping-2.result storage (c.keeping-2.ensures storage) c.call_into.new.out (called (drop 2 c.args.args.now) c.in-Some.form.now) same
+    ∙ given c.keeping-2.result storage (c.keeping-2.ensures.effect storage) c.call_into.new.out (called (drop 2 c.args.args.now) c.in-Some.form.now) same
