@@ -17,6 +17,7 @@ pub mod Recorded
 pub mod ScanningBack
 pub mod StorageBack
 pub mod CallsUndone
+pub mod Weighed
 pub mod Functions
 pub mod NeutralAgain
 pub mod BegunFunctions

@@ -1,5 +1,5 @@
 -- Forms and blocks that are put back: the names of the forms are known, and the order in which they come does not matter.
-use Rattle.std.proofs.Common.{◌≡◌, ℕ, zero, suc, ◌+◌, ◌-◌, ◌<◌, ◌≤◌, ◌&&◌, Bool, true, false, cond, List, [], ◌∷◌, ◌++◌, length, take, drop, refl, sym, ap, subst, ◌∙◌, arith, is_some, IsTrue}
+use Rattle.std.proofs.Common.{◌≡◌, ℕ, zero, suc, ◌+◌, ◌-◌, ◌≤◌, Bool, true, false, cond, List, [], ◌∷◌, ◌++◌, length, take, drop, refl, sym, ap, subst, ◌∙◌, arith, is_some, IsTrue}
 use Rattle.std.specs.Prelude.{Option, Some, None, bytes_eq, nat_le, nat_lt, not, slice_get, slice_set, option_and_then, option_map}
 use Rattle.std.specs.Bool.{then_some}
 use Rattle.std.specs.FinMap as finite
@@ -19,7 +19,6 @@ use Rattle.trac_rules.specs.State.{Block, Forms, Held, Storage}
 use Rattle.trac_rules.specs.Undone.{is_erased, joined_back, last_block, moved_out_again, names_in, pointed_back, swapped_back, unbrought}
 use Rattle.trac_rules.proofs.NamedForms.{get-put, one_name, only_equal_tie}
 use Rattle.trac_forms.specs.Stored.{AreApart, KnowsAll, Names, Stored}
-use Rattle.trac_forms.proofs.BlockLists.{apart_front}
 use Rattle.trac_step.specs.Changing.{KnowsNamed}
 use Rattle.trac_step.specs.Returning.{KnowsBefore}
 

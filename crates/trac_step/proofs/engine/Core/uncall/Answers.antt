@@ -1,16 +1,11 @@
 -- The parts before the call are there: the lemmas of CallsUndone, at the machine's own lists.
-use Rattle.std.proofs.Common.{List, ℕ, ◌-◌, length, map, reverse, sym, ap, ◌∙◌, subst, arith, refl}
-use Rattle.std.specs.Prelude.{Some, take, vec_capacity}
+use Rattle.std.proofs.Common.{ℕ, ◌-◌, length, reverse, sym, ap, ◌∙◌, subst}
+use Rattle.std.specs.Prelude.{Some, take}
 use Rattle.trac_gap.specs.Ends.{Ends}
-use Rattle.trac_rules.specs.State.{Frame, State, Storage}
-use Rattle.trac_rules.specs.Undone.{storage_before}
 use Rattle.trac_forms.specs.Stored.{storage_in}
-use Rattle.trac_prims.specs.declared.mark.Mark.{Mark}
 use Rattle.trac_prims.specs.Neutral.{AreMarks, MarkedText, Neutral, neutral_of}
 use Rattle.trac_step.specs.Layout.{IsSound, Parts, parts_of, state_of}
-use Rattle.trac_step.specs.Returning.{KnowsBefore}
-use Rattle.trac_step.specs.Undone.{undone_in}
-use Rattle.trac_step.proofs.CallsUndone.{has_value, knows, mark_room, marked_same, never_outside, ordered, parts_before, restores, same_arguments, same_parts, sound_before, text_room}
+use Rattle.trac_step.proofs.CallsUndone.{has_value, knows, mark_room, marked_same, never_outside, ordered, restores, same_arguments, same_parts, sound_before, text_room}
 use Rattle.trac_step.proofs.engine.Core.uncall.Goals as goal
 
 pub put_call-requires-clause-value : goal.put_call-requires-clause-value
