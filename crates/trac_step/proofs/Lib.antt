@@ -12,6 +12,7 @@ pub mod Ended
 pub mod Pointers
 pub mod Planned
 pub mod MovedForms
+pub mod Replacing
 pub mod Recorded
 pub mod ScanningBack
 pub mod StorageBack

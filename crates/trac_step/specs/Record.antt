@@ -2,14 +2,13 @@
 use Rattle.std.specs.Prelude.{Option}
 use Rattle.trac_rules.specs.Records as rules
 use Rattle.trac_rules.specs.State.{State}
-use Rattle.trac_step.specs.Layout.{Shown}
 use Rattle.trac_step.specs.Pieces.{all_texts, frames_in}
 use Rattle.trac_step.specs.Undone.{undone_in}
 use Rattle.trac_step.specs.declared.record.Record.{Record}
-use Rattle.trac_step.specs.declared.record.Record.TheVariants.{Moved, Comma, Begun, Quoted, Deleted, Idle, Call, Whole}
+use Rattle.trac_step.specs.declared.record.Record.TheVariants.{Moved, Comma, Begun, Quoted, Deleted, Idle, Call}
 
 -- a record of the machine, read as one of the rules
-abbrev pub recorded_by : {A : Type 0} → Record Shown A → rules.Record
+abbrev pub recorded_by : {A : Type 0} → Record A → rules.Record
 recorded_by Moved = rules.Moved
 recorded_by Comma = rules.Comma
 recorded_by Begun = rules.Begun
@@ -28,8 +27,7 @@ recorded_by (Call kind arguments value scanned printed read meta trace change) =
       trace = trace;
       undone = undone_in change;
     })
-recorded_by (Whole b) = rules.Whole b.value.state
 
 -- the state before, from the record of a step and the state after it
-abbrev pub before : {A : Type 0} → Record Shown A → State → Option State
+abbrev pub before : {A : Type 0} → Record A → State → Option State
 before r t = rules.state_before (recorded_by r) t

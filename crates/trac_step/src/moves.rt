@@ -44,7 +44,7 @@ impl<E: TwoEnds<u8, A>, M: TwoEnds<Mark, A>, A: Allocator + Copy> Core<E, M, A> 
     }
 
     // Carries out the rule for this front, which asks for no call, and answers what it destroys.
-    fn move_on(&mut self, front: Front) -> Result<Record<Self, A>, Refusal>
+    fn move_on(&mut self, front: Front) -> Result<Record<A>, Refusal>
         requires front { front ≡ front_of self.old.state.active }
         requires moves { IsMove (scan self.old.state) }
         requires fits { IfMoves (scan self.old.state) (λ t. texts_fit t ≡ true) }
@@ -79,7 +79,7 @@ impl<E: TwoEnds<u8, A>, M: TwoEnds<Mark, A>, A: Allocator + Copy> Core<E, M, A> 
     }
 
     // The next step, where it performs no function.
-    pub(crate) fn move_step(&mut self, front: Front) -> Result<Record<Self, A>, Refusal>
+    pub(crate) fn move_step(&mut self, front: Front) -> Result<Record<A>, Refusal>
         requires front { front ≡ front_of self.old.state.active }
         requires moves { IsMove (scan self.old.state) }
         ensures taken { OnOk result ((environment : _) → step environment self.old.state ≡ Ok self.new.state) }

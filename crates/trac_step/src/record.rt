@@ -3,8 +3,6 @@ ghost use Rattle.std.specs.Prelude.{◌≡◌, IsSomeAnd, Some};
 ghost use Rattle.trac_step.specs.Record.{before};
 ghost use Rattle.trac_step.specs.Room.{HasRoom, IsNoLess};
 
-use crate::calling::overwrite;
-use crate::ends::refill_both;
 use crate::engine::Core;
 use crate::pieces::Pieces;
 use crate::undoing::Called;
@@ -13,10 +11,10 @@ use std::alloc::{Allocator, Global};
 use trac_gap::TwoEnds;
 use trac_prims::{Kind, Mark};
 
-/// What one step of a machine `M` destroyed, by which the machine can go back over it. What a step of scanning only moved is not
-/// kept: a record says how much it was, counted from the end of the text to which it went (this project's profile).
+/// What one step of a machine destroyed, by which any machine that shows the state after it can go back. What a step only moved is
+/// not kept: a record says how much it was, counted from the end of the text to which it went (this project's profile).
 #[derive(Drop)]
-pub enum Record<M: Drop, A: Allocator + Copy = Global> {
+pub enum Record<A: Allocator + Copy = Global> {
     /// A byte went to the current text.
     Moved,
     /// An argument was finished, and a null one begun.
@@ -60,8 +58,6 @@ pub enum Record<M: Drop, A: Allocator + Copy = Global> {
         /// What was destroyed of forms and blocks.
         change: Undone<A>,
     },
-    /// A function was performed: the machine as it was before, in memory of its own, which keeps the other records small.
-    Whole(Box<M, A>),
 }
 
 impl<E: TwoEnds<u8, A>, M: TwoEnds<Mark, A>, A: Allocator + Copy> Core<E, M, A> {
@@ -70,7 +66,7 @@ impl<E: TwoEnds<u8, A>, M: TwoEnds<Mark, A>, A: Allocator + Copy> Core<E, M, A> 
     /// It takes no memory and cannot fail, lessens no room and forgets no name (this project's profile). The record has to say a state
     /// before the one that the machine shows, and the machine has to have room for it and to know the names of its forms, as it does
     /// after the step.
-    pub fn undo(&mut self, taken: Record<Self, A>)
+    pub fn undo(&mut self, taken: Record<A>)
         requires { IsSomeAnd (before taken self.old.state) (λ s. HasRoom self.old s) }
         ensures state { before taken self.old.state ≡ Some self.new.state }
         ensures room { IsNoLess self.old self.new }
@@ -104,26 +100,6 @@ impl<E: TwoEnds<u8, A>, M: TwoEnds<Mark, A>, A: Allocator + Copy> Core<E, M, A> 
                 };
                 self.uncall(called, &arguments, change);
             }
-            Record::Whole(earlier) => self.put_back(Box::into_inner(earlier)),
         }
-    }
-
-    // Shows what an earlier machine shows, in this machine's room.
-    fn put_back(&mut self, earlier: Self)
-        requires { HasRoom self.old earlier.state }
-        ensures state { self.new.state ≡ earlier.state }
-        ensures room { IsNoLess self.old self.new }
-    {
-        refill_both(
-            &mut self.text,
-            &mut self.marks,
-            &earlier.text,
-            &earlier.marks,
-        );
-        overwrite(&mut self.output, earlier.output.as_slice());
-        self.meta = earlier.meta;
-        self.trace = earlier.trace;
-        self.position = earlier.position;
-        self.store.restore(earlier.store);
     }
 }

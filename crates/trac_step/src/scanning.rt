@@ -42,7 +42,7 @@ impl<E: TwoEnds<u8, A>, M: TwoEnds<Mark, A>, A: Allocator + Copy> Core<E, M, A> 
     }
 
     // A `,`: inside a function an argument is finished, and a null one begun.
-    pub(crate) fn comma(&mut self) -> Result<Record<Self, A>, Refusal>
+    pub(crate) fn comma(&mut self) -> Result<Record<A>, Refusal>
         requires front { 0 < length self.old.state.active }
         requires room { 0 < length self.old.state.frames → marks self.old.state.frames < MARK_LIMIT }
         ensures ok { OnOk result (self.new.state ≡ comma_in self.old.state.frames (deleted 1 self.old.state)) }

@@ -32,7 +32,9 @@ pub(crate) fn put_storage<A: Allocator + Copy>(
     let name = arguments.get(1);
     match change {
         Undone::Nothing => {}
-        Undone::Point(place) => point(store, name, place),
+        Undone::Point(place) => {
+            point(store, name, place);
+        }
         Undone::Join { cut, pointer } => join(store, arguments, cut, pointer),
         Undone::Swap(old) => swap(store, name, old),
         Undone::Restore(forms) => put_each(store, forms),

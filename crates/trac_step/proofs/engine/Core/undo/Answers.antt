@@ -1,6 +1,6 @@
 use Rattle.std.proofs.Common.{◌≡◌, Some, ap, sym, subst, ◌∙◌}
 use Rattle.std.specs.Prelude.{IsSomeAnd}
-use Rattle.trac_rules.specs.Records.{Record, Moved, Comma, Begun, Quoted, Deleted, Idle, Called, Whole, restored, state_before}
+use Rattle.trac_rules.specs.Records.{Record, Moved, Comma, Begun, Quoted, Deleted, Idle, Called, restored, state_before}
 use Rattle.trac_rules.specs.State.{State}
 use Rattle.trac_step.specs.declared.undoing.Called as code
 use Rattle.trac_step.specs.Layout.{Shown}
@@ -90,12 +90,3 @@ returns-in-Call-clause-state g c =
     } in
     goes_back (recorded_by c.args.taken) (Called (call_record told c.in-Call.arguments c.in-Call.change)) c.args.self.now c.args.self.now.state (ap (λ x. recorded_by x) c.in-Call.is) c.requires
     c.uncall.new.self.state c.uncall.ensures.state
-
-pub put_back-requires : goal.put_back-requires
-put_back-requires g c = (can_show (recorded_by c.args.taken) (Whole c.into_inner.result.state) c.args.self.now c.args.self.now.state
-    (ap (λ x. recorded_by x) c.in-Whole.is ∙ ap (λ (m : Shown). Whole m.state) (sym c.into_inner.ensures)) c.requires).0
-
-pub returns-in-Whole-clause-state : goal.returns-in-Whole-clause-state
-returns-in-Whole-clause-state g c =
-    goes_back (recorded_by c.args.taken) (Whole c.into_inner.result.state) c.args.self.now c.args.self.now.state
-    (ap (λ x. recorded_by x) c.in-Whole.is ∙ ap (λ (m : Shown). Whole m.state) (sym c.into_inner.ensures)) c.requires c.put_back.new.self.state (ap Some (sym c.put_back.ensures.state))

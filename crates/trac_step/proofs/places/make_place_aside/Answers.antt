@@ -3,7 +3,7 @@ use Rattle.std.specs.FinSet as set
 use Rattle.trac_forms.specs.Stored.{Stored}
 use Rattle.trac_forms.proofs.Tables.{known_then}
 use Rattle.trac_step.proofs.Rooms.{among_more}
-use Rattle.trac_step.proofs.changing.make_place_aside.Goals as goal
+use Rattle.trac_step.proofs.places.make_place_aside.Goals as goal
 
 pub returns-in_err-reserve_blocks-clause-names : goal.returns-in_err-reserve_blocks-clause-names
 returns-in_err-reserve_blocks-clause-names g c =
