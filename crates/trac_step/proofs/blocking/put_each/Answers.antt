@@ -1,4 +1,4 @@
-use Rattle.std.proofs.Common.{List, ℕ, sym, ap, subst, IsTrue}
+use Rattle.std.proofs.Common.{List, ℕ, sym, subst, IsTrue}
 use Rattle.std.specs.FinSet as set
 use Rattle.std.specs.Vec.Iter.{into_iter_items}
 use Rattle.trac_forms.specs.Stored.{Stored}
