@@ -1,7 +1,7 @@
 -- What each rule does to the parts of a machine: they stay sound, and show the state that the rule names.
 use Rattle.std.proofs.Common.{◌≡◌, ℕ, zero, suc, ◌+◌, ◌-◌, ◌<◌, ◌≤◌, List, [], ◌∷◌, ◌++◌, length, take, drop, reverse, refl, sym, ap, ◌∙◌, subst, arith, true, false, Bool}
 use Rattle.std.specs.Prelude.{Option, Some, None, ◌==◌, Vec, vec_capacity}
-use Rattle.std.proofs.lemmas.List.{length-append, length-drop, length-take, drop-drop, take_all, drop_all}
+use Rattle.std.proofs.lemmas.List.{append-nil, length-append, length-drop, length-take, drop-drop, take_all, drop_all}
 use Rattle.std.specs.FinSet as set
 use Rattle.trac_gap.specs.Ends.{Ends, item_count}
 use Rattle.trac_rules.specs.declared.kind.Kind.{Kind}
@@ -212,3 +212,17 @@ settled_parts p items room none same =
     ap (λ (xs : List ℕ). shown_by (record p { position = 0; output = xs; output_room = room })) gone
     ∙ ap (λ (n : ℕ). shown_by (record p { position = 0; output = drop (length p.output) p.output; output_room = n })) same
     ∙ ap (λ (n : ℕ). shown_by (record p { position = n; output = drop (length p.output) p.output })) start
+
+-- ---- other items in the place of all
+
+pub refilled : {T : Type 0} (old a b c d : Ends T) (left right : List T) (n m : ℕ) → n ≡ length old.left → m ≡ length a.right → a ≡ record old { left = take (length old.left - n) old.left } →
+    b ≡ record a { right = drop m a.right } → c ≡ record b { left = b.left ++ left } → d ≡ record c { right = right ++ c.right } → d ≡ record old { left = left; right = right }
+refilled {T} old a b c d left right n m all rest cut gone put last =
+    let none : length old.left - n ≡ 0 = omega (arith, all) in
+    last
+    ∙ ap (λ (e : Ends T). record e { right = right ++ e.right }) put
+    ∙ ap (λ (e : Ends T). record e { left = e.left ++ left; right = right ++ e.right }) gone
+    ∙ ap (λ (xs : List T). record a { left = a.left ++ left; right = right ++ xs }) (drop_all m a.right (omega (arith, rest)))
+    ∙ ap (λ (e : Ends T). record e { left = e.left ++ left; right = right ++ [] }) cut
+    ∙ ap (λ (k : ℕ). record old { left = take k old.left ++ left; right = right ++ [] }) none
+    ∙ ap (λ (xs : List T). record old { left = left; right = xs }) (append-nil right)
