@@ -1,5 +1,5 @@
 -- Wide items are no more than the bytes that they stand for, so there are places for all.
-use Rattle.std.proofs.Common.{List, ◌++◌, length, ap, ◌∙◌, arith, length-append}
+use Rattle.std.proofs.Common.{◌++◌, length, ap, ◌∙◌, arith, length-append}
 use Rattle.trac_gap.specs.Ends.{Ends}
 use Rattle.trac_rules.specs.declared.item.Item.{Item}
 use Rattle.trac_forms.proofs.Divided.{count_within, kept_put}
