@@ -58,8 +58,8 @@ invariant_of-self g c =
     let same = same_arguments c.args.called c.args.arguments.now c.args.change p c.args.self.now c.self.invariant c.self.view_is c.requires c.new-text.result f.number f.place f.kind f.arguments read c.in-Some.ensures in
     let store = c.put_storage.new.store in
     let storage = storage_in store in
-    let q_is = same_parts c.args.called c.args.arguments.now p (g.E.TwoEnds.ends c.put_call.new.text) (g.M.TwoEnds.ends c.put_call.new.marks) store c.unwrap_or-self-inside.result c.truncate.new.self
-    c.put_call.ensures.text c.put_call.ensures.marks c.put_call.ensures.mark_room c.put_storage.ensures.names c.unwrap_or-self-inside.ensures
+    let q_is = same_parts c.args.called c.args.arguments.now p (g.E.TwoEnds.ends c.put_call.new.text) (g.M.TwoEnds.ends c.put_call.new.marks) store c.meta_before-self-inside.result c.truncate.new.self
+    c.put_call.ensures.text c.put_call.ensures.marks c.put_call.ensures.mark_room c.put_storage.ensures.names c.meta_before-self-inside.ensures
     (c.truncate.ensures.items ∙ ap (λ (n : ℕ). take (n - c.args.called.printed) c.self.inside.output.items) (c.len.ensures ∙ c.self.inside.output.ok.0)) c.truncate.ensures.capacity in
     subst IsSound (sym q_is) (sound_before c.args.called c.args.arguments.now c.args.change p c.args.self.now c.self.invariant c.self.view_is c.requires f.arguments same storage store.spare c.put_storage.ensures.storage)
 
@@ -73,7 +73,7 @@ returns-clause-state g c =
     let same = same_arguments c.args.called c.args.arguments.now c.args.change p c.args.self.now c.self.invariant c.self.view_is c.requires c.new-text.result f.number f.place f.kind f.arguments read c.in-Some.ensures in
     let store = c.put_storage.new.store in
     let storage = storage_in store in
-    let q_is = same_parts c.args.called c.args.arguments.now p (g.E.TwoEnds.ends c.put_call.new.text) (g.M.TwoEnds.ends c.put_call.new.marks) store c.unwrap_or-self-inside.result c.truncate.new.self
-    c.put_call.ensures.text c.put_call.ensures.marks c.put_call.ensures.mark_room c.put_storage.ensures.names c.unwrap_or-self-inside.ensures
+    let q_is = same_parts c.args.called c.args.arguments.now p (g.E.TwoEnds.ends c.put_call.new.text) (g.M.TwoEnds.ends c.put_call.new.marks) store c.meta_before-self-inside.result c.truncate.new.self
+    c.put_call.ensures.text c.put_call.ensures.marks c.put_call.ensures.mark_room c.put_storage.ensures.names c.meta_before-self-inside.ensures
     (c.truncate.ensures.items ∙ ap (λ (n : ℕ). take (n - c.args.called.printed) c.self.inside.output.items) (c.len.ensures ∙ c.self.inside.output.ok.0)) c.truncate.ensures.capacity in
     restores c.args.called c.args.arguments.now c.args.change p c.args.self.now c.self.invariant c.self.view_is c.requires f.arguments same storage store.spare c.put_storage.ensures.storage ∙ ap (λ (x : Parts). Some (state_of x)) (sym q_is)
