@@ -1,13 +1,13 @@
 -- What the records of a session weigh together.
-use Rattle.std.proofs.Common.{◌≡◌, ℕ, ◌+◌, ◌*◌, ◌^◌, ◌<◌, ◌≤◌, Bool, List, [], ◌∷◌, ◌++◌, length, drop, zero, suc, All, add-one, refl, sym, ap, subst, ◌∙◌, arith}
-use Rattle.std.specs.Prelude.{Option, Some, reverse, replicate, slice_get}
+use Rattle.std.proofs.Common.{◌≡◌, ℕ, ◌+◌, ◌^◌, ◌<◌, ◌≤◌, Bool, List, [], ◌∷◌, ◌++◌, length, zero, suc, All, refl, sym, ap, subst, ◌∙◌, arith}
+use Rattle.std.specs.Prelude.{Option, reverse}
 use Rattle.std.proofs.lemmas.List.{length-reverse, reverse-append}
 use Rattle.std.proofs.lemmas.List.Elements.{All-cons, All-nil}
 use Rattle.trac_rules.specs.declared.limit.TheConstants.{JOURNAL_LIMIT}
 use Rattle.trac_rules.specs.Proper.{IsProper}
 use Rattle.trac_rules.specs.Session.{PlainSession}
 use Rattle.trac_rules.specs.State.{State}
-use Rattle.trac_rules.specs.Weights.{losses_from, step_weight, weights_from}
+use Rattle.trac_rules.specs.Weights.{weights_from}
 use Rattle.trac_rules.proofs.Bounded.{losses_bounded, weights_within_losses}
 use Rattle.trac_rules.proofs.Restored.{before_proper}
 use Rattle.trac_step.specs.Record.{before, recorded_by}
@@ -32,17 +32,6 @@ weights_by-reverse weigh (r ∷ records) =
     ∙ omega (arith, weights_by-append weigh (reverse records) (r ∷ []), weights_by-reverse weigh records)
 
 -- ---- as the journal keeps them
-
--- the next entry
-entry_first : {A : Type 0} → (entries : List (Entry A)) (i : ℕ) (entry : Entry A) → slice_get entries i ≡ Some entry →
-    entries_weight (drop i entries) ≡ weighed entry.kept + entries_weight (drop (suc i) entries)
-entry_first [] i entry is = absurd (cc)
-entry_first {A} (first ∷ entries) zero entry is = let same : first ≡ entry = cc in ap (λ (e : Entry A). weighed e.kept + entries_weight entries) same
-entry_first (first ∷ entries) (suc i) entry is = entry_first entries i entry is
-
-pub next_weight : {A : Type 0} → (entries : List (Entry A)) (i : ℕ) (entry : Entry A) → slice_get entries i ≡ Some entry →
-    entries_weight (drop i entries) ≡ weighed entry.kept + entries_weight (drop (i + 1) entries)
-next_weight entries i entry is = rw add-one (entry_first entries i entry is)
 
 moved_weights : (A : Type 0) (n : ℕ) → weights_by (weighed {A = A}) (all_moved n) ≡ 0
 moved_weights A zero = refl

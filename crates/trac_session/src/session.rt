@@ -179,7 +179,7 @@ fn settle<E: TwoEnds<u8, A>, M: TwoEnds<Mark, A>, A: Allocator + Copy>(
     tape: &mut Vec<u8, A>,
 )
     requires { machine.old.state.position ≤ length tape.old.items }
-    ensures machine { machine.new ≡ record machine.old { state = settled machine.old.state } }
+    ensures state { machine.new.state ≡ settled machine.old.state }
     ensures tape { tape.new.items ≡ drop machine.old.state.position tape.old.items }
 {
     let read = machine.position();
