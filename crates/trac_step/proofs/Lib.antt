@@ -7,6 +7,7 @@ pub mod Changes
 pub mod Moving
 pub mod Outcomes
 pub mod Calls
+pub mod CallsPlanned
 pub mod Beginnings
 pub mod Ended
 pub mod Pointers

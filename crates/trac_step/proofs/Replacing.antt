@@ -8,7 +8,8 @@ use Rattle.std.proofs.lemmas.List.{append-nil, map-append}
 use Rattle.std.proofs.lemmas.Map.Keys.{IsDistinct-head, IsDistinct-tail}
 use Rattle.std.proofs.lemmas.Map.Text.{is_eq-slice_cmp}
 use Rattle.trac_forms.specs.Stored.{AreApart, Stored}
-use Rattle.trac_prims.specs.Effects.{named_forms, names_in}
+use Rattle.trac_prims.specs.Effects.{named_forms}
+use Rattle.trac_rules.specs.Undone.{names_in}
 use Rattle.trac_rules.specs.Blocks.{moved_out, with_all, with_name}
 use Rattle.trac_rules.specs.Form.{Form}
 use Rattle.trac_rules.specs.State.{Forms, Held}
