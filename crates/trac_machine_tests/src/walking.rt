@@ -278,8 +278,8 @@ fn are_kept<A: Allocator + Copy>(functions: &[(Kind, Pieces<A>)], wanted: &[Kept
 }
 
 // Whether a record keeps this base text and these begun functions.
-fn empties<C: Drop, A: Allocator + Copy>(
-    record: &Record<C, A>,
+fn empties<A: Allocator + Copy>(
+    record: &Record<A>,
     base: &[u8],
     functions: &[Kept],
 ) -> bool {

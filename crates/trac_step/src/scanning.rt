@@ -76,7 +76,7 @@ impl<E: TwoEnds<u8, A>, M: TwoEnds<Mark, A>, A: Allocator + Copy> Core<E, M, A> 
     }
 
     // The first byte of the active text goes to the current text. Answers the record of that.
-    pub(crate) fn gather_first(&mut self) -> Record<Self, A>
+    pub(crate) fn gather_first(&mut self) -> Record<A>
         requires { 0 < length self.old.state.active }
         ensures shown { self.new ≡ record self.old { state = gather_first self.old.state } }
         ensures recorded { recorded_by result ≡ Moved }

@@ -1,29 +1,25 @@
 //! What a record weighs.
 ghost use Rattle.std.specs.Prelude.{◌≡◌, ◌+◌, ◌-◌, ◌<◌, ◌^◌, length};
 ghost use Rattle.trac_rules.specs.Limits.{total_length};
-ghost use Rattle.trac_rules.specs.Records.{IsOfParts};
 ghost use Rattle.trac_rules.specs.Weights.{form_weight, frames_weight, held_weight, meta_weight, undone_weight, weight};
 ghost use Rattle.trac_prims.specs.Effects.{named_forms};
 ghost use Rattle.trac_step.specs.Pieces.{all_texts, frames_in};
 ghost use Rattle.trac_step.specs.Record.{recorded_by};
 ghost use Rattle.trac_step.specs.Undone.{undone_in};
 
-use crate::engine::Core;
 use crate::pieces::Pieces;
 use crate::record::Record;
 use crate::undone::Undone;
 use std::alloc::Allocator;
 use trac_forms::{Block, Form};
-use trac_gap::TwoEnds;
-use trac_prims::{Kind, Mark};
+use trac_prims::Kind;
 
-impl<E: TwoEnds<u8, A>, M: TwoEnds<Mark, A>, A: Allocator + Copy> Record<Core<E, M, A>, A> {
+impl<A: Allocator + Copy> Record<A> {
     /// What the record keeps: bytes of texts and names, items of forms and places of gaps, and one for each `,`, begun function, name
     /// and meta character. Lengths, places and flags are not weighed. This is this project's profile. The sum has to fit a `usize`, as it
     /// does for every record of a step. It takes no memory, and time for the begun functions and the forms alone, whatever their length.
     pub fn weight(&self) -> usize
-        requires parts { IsOfParts (recorded_by self.now) }
-        requires fits { weight (recorded_by self.now) < 2 ^ 64 }
+        requires { weight (recorded_by self.now) < 2 ^ 64 }
         ensures { result ≡ weight (recorded_by self.now) }
     {
         match self {
@@ -36,7 +32,6 @@ impl<E: TwoEnds<u8, A>, M: TwoEnds<Mark, A>, A: Allocator + Copy> Record<Core<E,
                 change,
                 ..
             } => weigh_call(arguments, *meta, change),
-            Record::Whole(_earlier) => unreachable!(),
         }
     }
 }
