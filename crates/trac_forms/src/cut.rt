@@ -1,10 +1,10 @@
 //! What segmenting cuts: the gaps that it makes, kept so that they can be filled again.
-ghost use Rattle.std.specs.Prelude.{◌≡◌, ◌+◌, ◌-◌, ◌++◌, ◌<◌, ◌≤◌, ◌∷◌, [], length, take, drop, is_some, option_map, Some, IfOk, IsOkUnless, IsTrue};
+ghost use Rattle.std.specs.Prelude.{◌≡◌, ◌+◌, ◌++◌, ◌<◌, ◌≤◌, ◌∷◌, [], length, take, drop, is_some, option_map, Some, IfOk, IsOkUnless, IsTrue};
 ghost use Rattle.std.specs.List.{All};
 ghost use Rattle.trac_gap.specs.Ends.{item_count};
 ghost use Rattle.trac_rules.specs.Cuts.{begins_with_gap, cut_between, cut_of, joined};
 ghost use Rattle.trac_rules.specs.Form.{IsWide, all_items, as_items, at_start, extent};
-ghost use Rattle.trac_rules.specs.Segmenting.{segmented, segmented_from};
+ghost use Rattle.trac_rules.specs.Segmenting.{segmented};
 ghost use Rattle.trac_rules.specs.Weights.{gap_count};
 ghost use Rattle.trac_rules.specs.declared.item.Item.TheVariants.{Gap};
 ghost use Rattle.trac_forms.specs.Layout.{IsKept, divided};
@@ -155,8 +155,8 @@ fn cut_gaps<T: Texts, A: Allocator + Copy>(items: &mut Items<A>, gaps: &[CutGap]
         let passed = gap.place - items.left().len();
         cut_gap(items, passed, gap.ordinal, text(texts, gap.ordinal).len());
     }
-    let before = items.left().len();
-    items.shift_right(before);
+    let made = items.left().len();
+    items.shift_right(made);
 }
 
 // Passes so many items, and puts a gap in place of those behind them, as many as it is wide.
@@ -193,8 +193,8 @@ fn fill_gaps<T: Texts, A: Allocator + Copy>(items: &mut Items<A>, gaps: &[CutGap
         fill_gap(items, gap.place - place, text(texts, gap.ordinal));
         place = gap.place + 1;
     }
-    let before = items.left().len();
-    items.shift_right(before);
+    let joined = items.left().len();
+    items.shift_right(joined);
 }
 
 // Passes so many items, and puts the bytes of a text in place of the item behind them.

@@ -135,16 +135,16 @@ fn new_form<'a>(memory: Memory<'a>, text: &[u8]) -> Result<Form<Memory<'a>>, For
     Form::new(memory, text)
 }
 
-// A new form, where one request may be refused.
-fn made<'a>(memory: Memory<'a>, text: &[u8]) -> Result<Form<Memory<'a>>, FormError> {
+/// A new form, where one request may be refused.
+pub(crate) fn made<'a>(memory: Memory<'a>, text: &[u8]) -> Result<Form<Memory<'a>>, FormError> {
     let Ok(form) = new_form(memory, text) else {
         return new_form(memory, text);
     };
     Ok(form)
 }
 
-// The pointer goes to this place, and was at the one that this gives.
-fn set_pointer(rt: &impl Abort, form: &mut Form<Memory<'_>>, place: usize) -> usize {
+/// The pointer goes to this place, and was at the one that this gives.
+pub(crate) fn set_pointer(rt: &impl Abort, form: &mut Form<Memory<'_>>, place: usize) -> usize {
     assert!(rt; place <= form.len());
     form.set_pointer(place)
 }

@@ -9,6 +9,8 @@
 #[cfg(test)]
 mod blocks;
 #[cfg(test)]
+mod cuts;
+#[cfg(test)]
 mod ends;
 #[cfg(test)]
 mod expect;

@@ -92,7 +92,7 @@ loop-gap-preserved g c =
 
 pub returns-clause-cut : goal.returns-clause-cut
 returns-clause-cut g c =
-    let n = ap length c.left-before-2.ensures.left in
+    let n = ap length c.left-made.ensures.left in
     cut_ends (g.T.Texts.texts c.args.texts.now) (divided c.args.items.now) c.loop-gap.items c.shift_right-2.new.self c.args.gaps.now c.loop-gap.gap-index (omega (arith, c.loop-gap-test.false)) c.loop-gap.invariant.cut
     (left_is c.loop-gap.items c.shift_right-2.new.self _ n c.shift_right-2.ensures) (right_is c.loop-gap.items c.shift_right-2.new.self _ n c.shift_right-2.ensures)
 

@@ -77,14 +77,14 @@ loop-gap-preserved g c =
 
 pub returns-clause-filled : goal.returns-clause-filled
 returns-clause-filled g c =
-    let n = ap length c.left-before-2.ensures.left in
+    let n = ap length c.left-joined.ensures.left in
     fill_ends (g.T.Texts.texts c.args.texts.now) (divided c.args.items.now) c.loop-gap.place c.loop-gap.items c.shift_right-2.new.self c.args.gaps.now c.args.gaps.now c.loop-gap.gap-index
     (omega (arith, c.loop-gap-test.false)) c.requires.there c.loop-gap.invariant (left_is c.loop-gap.items c.shift_right-2.new.self _ n c.shift_right-2.ensures)
     (right_is c.loop-gap.items c.shift_right-2.new.self _ n c.shift_right-2.ensures)
 
 pub returns-clause-kept : goal.returns-clause-kept
 returns-clause-kept g c =
-    let n = ap length c.left-before-2.ensures.left in
+    let n = ap length c.left-joined.ensures.left in
     fill_kept (g.T.Texts.texts c.args.texts.now) (divided c.args.items.now) c.loop-gap.place c.loop-gap.items c.shift_right-2.new.self c.args.gaps.now c.args.gaps.now c.loop-gap.gap-index
     (omega (arith, c.loop-gap-test.false)) c.requires.there c.loop-gap.invariant (left_is c.loop-gap.items c.shift_right-2.new.self _ n c.shift_right-2.ensures)
     (right_is c.loop-gap.items c.shift_right-2.new.self _ n c.shift_right-2.ensures) (ap (λ (e : Ends Item). e.capacity) c.shift_right-2.ensures)
