@@ -241,7 +241,9 @@ fn expect_settled<E: TwoEnds<u8, A>, M: TwoEnds<Mark, A>, A: Allocator + Copy>(
 }
 
 // Lets a machine go. A function that owns one ends with this call, since its own proof would else carry all that is freed.
-fn let_go<E: TwoEnds<u8, A>, M: TwoEnds<Mark, A>, A: Allocator + Copy>(machine: Core<E, M, A>) {
+pub(crate) fn let_go<E: TwoEnds<u8, A>, M: TwoEnds<Mark, A>, A: Allocator + Copy>(
+    machine: Core<E, M, A>,
+) {
     let _last = machine;
 }
 

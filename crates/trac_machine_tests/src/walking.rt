@@ -2,8 +2,8 @@
 ghost use Rattle.std.specs.Prelude.{◌≡◌};
 ghost use Rattle.trac_step.specs.Room.{IsNoLess};
 
-use crate::loading::{load, nothing};
-use crate::machines::{Memory, made, step};
+use crate::elsewhere::{After, loaded_after};
+use crate::machines::{Memory, let_go, made, step};
 use crate::shown::state_shown;
 use std::alloc::{AllocError, Allocator, Global};
 use std::process::Abort;
@@ -45,10 +45,7 @@ const SCANNED: &[(&[u8], u64)] = &[
     (b"x)y#(a,b,c##(d,e#(f'", 32),
 ];
 
-/// `AB` is printed in eleven steps. These only move, on a machine that has had a mark.
-const STEPS_THAT_MOVE: &[u64] = &[2, 3, 6, 7, 9, 10];
-
-/// These scan: all but the calls of `rs` and `ps`.
+/// `AB` is printed in eleven steps. These scan: all but the calls of `rs` and `ps`.
 const STEPS_THAT_SCAN: &[u64] = &[1, 2, 3, 4, 5, 6, 7, 9, 10];
 
 /// More steps than any walk here takes.
@@ -59,16 +56,16 @@ const MOST_REQUESTS: u64 = 1_000;
 
 /// What a walk is over.
 #[derive(Clone, Copy)]
-struct Walk<'a> {
-    plain: Global,
-    memory: Memory<'a>,
-    input: &'a [u8],
+pub(crate) struct Walk<'a> {
+    pub(crate) plain: Global,
+    pub(crate) memory: Memory<'a>,
+    pub(crate) input: &'a [u8],
     // the numbers of the steps during which every request for memory is refused
-    scarce: &'a [u64],
+    pub(crate) scarce: &'a [u64],
 }
 
 // Whether the number is among these.
-fn is_among(numbers: &[u64], number: u64) -> bool {
+pub(crate) fn is_among(numbers: &[u64], number: u64) -> bool {
     for it in numbers {
         if *it == number {
             return true;
@@ -78,7 +75,7 @@ fn is_among(numbers: &[u64], number: u64) -> bool {
 }
 
 // A machine shows what it showed before.
-fn expect_shown<E: TwoEnds<u8, A>, M: TwoEnds<Mark, A>, A: Allocator + Copy>(
+pub(crate) fn expect_shown<E: TwoEnds<u8, A>, M: TwoEnds<Mark, A>, A: Allocator + Copy>(
     rt: &impl Abort,
     walk: &Walk<'_>,
     machine: &Core<E, M, A>,
@@ -147,15 +144,15 @@ fn expect_walk<E: TwoEnds<u8, A>, M: TwoEnds<Mark, A>, A: Allocator + Copy>(
     walk: &Walk<'_>,
     alloc: A,
     nth: u64,
-    most: u64,
     wanted: u64,
-) -> Result<(), Fail> {
-    let mut machine = made::<E, M, A>(alloc)?;
+) {
+    let mut machine = made::<E, M, A>(alloc).expect(rt, "there was no memory");
     walk.memory.refuse_nth(nth);
-    let done = there_and_back(rt, walk, &mut machine, 0, most)?;
+    let outcome = there_and_back(rt, walk, &mut machine, 0, MOST_STEPS);
+    let_go(machine);
     walk.memory.accept_all();
+    let done = outcome.expect(rt, "there was no memory");
     assert_eq!(rt; done, wanted, "steps over {:?}", walk.input);
-    Ok(())
 }
 
 // Walks over a whole input, with each request for memory refused in turn.
@@ -164,20 +161,19 @@ fn expect_walks<E: TwoEnds<u8, A>, M: TwoEnds<Mark, A>, A: Allocator + Copy>(
     walk: &Walk<'_>,
     alloc: A,
     wanted: u64,
-) -> Result<(), Fail> {
+) {
     for nth in 1..MOST_REQUESTS {
         let refusals = walk.memory.refusals();
-        expect_walk::<E, M, A>(rt, walk, alloc, nth, MOST_STEPS, wanted)?;
+        expect_walk::<E, M, A>(rt, walk, alloc, nth, wanted);
         if walk.memory.refusals() == refusals {
-            return Ok(());
+            return;
         }
     }
     assert!(rt; false);
-    Ok(())
 }
 
 #[test]
-fn there_and_back_without_memory(rt: HostRuntime) -> Result<(), Fail> {
+fn there_and_back_without_memory(rt: HostRuntime) {
     let memory = Refusing::new(rt.alloc());
     for (input, steps) in SCANNED.iter() {
         let walk = Walk {
@@ -188,46 +184,15 @@ fn there_and_back_without_memory(rt: HostRuntime) -> Result<(), Fail> {
         };
         expect_walks::<GapBuf<u8, Memory<'_>>, GapBuf<Mark, Memory<'_>>, Memory<'_>>(
             &rt, &walk, &memory, *steps,
-        )?;
+        );
         expect_walks::<PlainEnds<u8, Memory<'_>>, PlainEnds<Mark, Memory<'_>>, Memory<'_>>(
             &rt, &walk, &memory, *steps,
-        )?;
+        );
     }
-    Ok(())
 }
 
 #[test]
-fn eleven_steps_without_memory(rt: HostRuntime) -> Result<(), Fail> {
-    let memory = Refusing::new(rt.alloc());
-    let walk = Walk {
-        plain: rt.alloc(),
-        memory: &memory,
-        input: b"AB'",
-        scarce: STEPS_THAT_MOVE,
-    };
-    expect_walk::<GapBuf<u8, Memory<'_>>, GapBuf<Mark, Memory<'_>>, Memory<'_>>(
-        &rt, &walk, &memory, 0, 11, 11,
-    )
-}
-
-// A machine in the state in which a processor begins, with the room that eleven steps over `AB'` need, and no more.
-fn loaded_at_start<'a>(
-    rt: &impl Abort,
-    memory: Memory<'a>,
-) -> Result<Machine<Memory<'a>>, Refusal> {
-    let mut parts = nothing(memory);
-    parts.active = Vec::from_slice(memory, b"#(ps,#(rs))")?;
-    parts.meta = b'\'';
-    parts.trace = false;
-    parts.position = 0;
-    parts.text_room = 11;
-    parts.mark_room = 3;
-    parts.output_room = 2;
-    load(rt, memory, &parts)
-}
-
-#[test]
-fn eleven_steps_in_the_room_that_was_asked_for(rt: HostRuntime) -> Result<(), Fail> {
+fn eleven_steps_in_the_room_that_was_asked_for(rt: HostRuntime) {
     let memory = Refusing::new(rt.alloc());
     let walk = Walk {
         plain: rt.alloc(),
@@ -235,10 +200,18 @@ fn eleven_steps_in_the_room_that_was_asked_for(rt: HostRuntime) -> Result<(), Fa
         input: b"AB'",
         scarce: STEPS_THAT_SCAN,
     };
-    let mut machine = loaded_at_start(&rt, &memory)?;
-    let done = there_and_back(&rt, &walk, &mut machine, 0, 11)?;
-    assert!(rt; done == 11);
-    Ok(())
+    let start = After {
+        active: b"#(ps,#(rs))",
+        output: b"",
+        position: 0,
+        text_room: 11,
+        mark_room: 3,
+        output_room: 2,
+    };
+    let mut machine = loaded_after(&rt, &memory, start).expect(&rt, "the parts were refused");
+    let outcome = there_and_back(&rt, &walk, &mut machine, 0, 11);
+    let_go(machine);
+    assert!(rt; outcome == Ok(11));
 }
 
 // Whether a begun function is kept so.

@@ -1,5 +1,5 @@
--- The record of a step weighs no more than the step may lose.
-use Rattle.std.proofs.Common.{◌≡◌, ℕ, ◌+◌, ◌≤◌, List, [], ◌∷◌, drop, refl, ap, arith}
+-- What the record of a step weighs is told by the state before the step, and is no more than the step may lose.
+use Rattle.std.proofs.Common.{◌≡◌, ℕ, ◌+◌, ◌≤◌, List, [], ◌∷◌, drop, refl, sym, ap, ◌∙◌, arith}
 use Rattle.std.specs.Prelude.{Option, None, Some, Result, Ok, Err, option_map}
 use Rattle.std.specs.FinMap as finite
 use Rattle.std.specs.Option.{option_map_or}
@@ -23,10 +23,9 @@ use Rattle.trac_rules.specs.Scanning.{Call, Scanned, Moves, Calls, closing_in, d
 use Rattle.trac_rules.specs.State.{Environment, Frame, State, Storage, storage_of}
 use Rattle.trac_rules.specs.Stepping.{name_called}
 use Rattle.trac_rules.specs.Undone.{block_handling_lost, block_lost, bytes_lost, handling_lost, pointer_lost, replaced_lost, undone_by}
-use Rattle.trac_rules.specs.Weights.{block_loss, call_loss, call_weight, form_loss, form_weight, gaps_made, handled_loss, held_weight, loss, loss_at, meta_weight, primitive_loss, replaced_loss, undone_weight, weight}
+use Rattle.trac_rules.specs.Weights.{block_loss, call_loss, call_weight, form_loss, form_weight, gaps_made, handled_loss, held_weight, kept_weight, loss, loss_at, meta_kept, meta_weight, primitive_loss, replaced_loss, step_weight, step_weight_in, undone_weight, weight}
 use Rattle.trac_rules.proofs.CallsBack.{performed_kept}
 use Rattle.trac_rules.proofs.Cuts.{made_is}
-use Rattle.trac_rules.proofs.StorageBack.{meta_kept}
 use Rattle.trac_rules.proofs.Weighed.{weight_within}
 
 -- ---- what is kept of forms and blocks
@@ -97,16 +96,15 @@ old_meta_weighs : (old : ℕ) (new : Option ℕ) → meta_weight (option_map (λ
 old_meta_weighs old None = refl
 old_meta_weighs old (Some b) = refl
 
-pub call_within : (environment : Environment) (call : Call) (e : Effect) → performed environment call ≡ Ok e →
-    call_weight (call_recorded call e) ≤ call_loss call.arguments (storage_of call.state)
-call_within environment call e done =
-    let primitive = primitive_of (argument 0 call.arguments) in
-    omega (
-      arith,
-      old_meta_weighs call.state.meta e.meta,
-      (performed_kept environment call e done).meta,
-      primitive_within call.arguments (storage_of call.state) primitive,
-    )
+-- a call's record weighs what is said of the call
+pub call_weighs : (environment : Environment) (call : Call) (e : Effect) → performed environment call ≡ Ok e →
+    call_weight (call_recorded call e) ≡ kept_weight call.arguments (storage_of call.state)
+call_weighs environment call e done =
+    omega (arith, old_meta_weighs call.state.meta e.meta, (performed_kept environment call e done).meta)
+
+-- which is no more than the call may lose
+kept_within : (arguments : List (List ℕ)) (storage : Storage) → kept_weight arguments storage ≤ call_loss arguments storage
+kept_within arguments storage = omega (arith, primitive_within arguments storage (primitive_of (argument 0 arguments)))
 
 -- ---- a step
 
@@ -134,20 +132,27 @@ loses : (s : State) → LosesAsCall (front_of s.active) s (scan s)
 unfolding scan
 loses s = loses_at (front_of s.active) s
 
-pub record_within : (environment : Environment) (s : State) (r : Record) → record_of environment s ≡ Some r → weight r ≤ loss s
-record_within environment s r k = by_scanned (scan s) refl (loses s) k
+-- what the record of a step weighs is no more than the step may lose
+pub step_weight_within : (s : State) → step_weight s ≤ loss s
+step_weight_within s = by_scanned (scan s) refl (loses s)
   where
-    by_outcome : (call : Call) → loss s ≡ call_loss call.arguments (storage_of call.state) → (outcome : Result Effect Refusal) → performed environment call ≡ outcome →
-        option_map Called (option_map (call_recorded call) (result_ok outcome)) ≡ Some r → weight r ≤ loss s
-    by_outcome call lost (Ok e) done k =
-        let same : Called (call_recorded call e) ≡ r = cc in
-        let weighs : call_weight (call_recorded call e) ≡ weight r = ap weight same in
-        omega (arith, weighs, lost, call_within environment call e done)
-    by_outcome call lost (Err refusal) done k = absurd (cc)
+    by_scanned : (x : Scanned) → scan s ≡ x → LosesAsCall (front_of s.active) s x → step_weight_in s x ≤ loss s
+    by_scanned (Moves t) scanned lost = weight_within s (ap name_called scanned)
+    by_scanned (Calls call) scanned lost = omega (arith, lost, kept_within call.arguments (storage_of call.state))
 
-    by_scanned : (x : Scanned) → scan s ≡ x → LosesAsCall (front_of s.active) s x → record_in environment s x ≡ Some r → weight r ≤ loss s
-    by_scanned (Moves t) scanned lost k =
-        let same : recorded s ≡ r = cc in
-        let weighs : weight (recorded s) ≡ weight r = ap weight same in
-        omega (arith, weighs, weight_within s (ap name_called scanned))
-    by_scanned (Calls call) scanned lost k = by_outcome call lost (performed environment call) refl k
+pub record_weighs : (environment : Environment) (s : State) (r : Record) → record_of environment s ≡ Some r → weight r ≡ step_weight s
+record_weighs environment s r k = by_scanned (scan s) k
+  where
+    by_outcome : (call : Call) → (outcome : Result Effect Refusal) → performed environment call ≡ outcome →
+        option_map Called (option_map (call_recorded call) (result_ok outcome)) ≡ Some r → weight r ≡ kept_weight call.arguments (storage_of call.state)
+    by_outcome call (Ok e) done k =
+        let same : Called (call_recorded call e) ≡ r = cc in
+        sym (ap weight same) ∙ call_weighs environment call e done
+    by_outcome call (Err refusal) done k = absurd (cc)
+
+    by_scanned : (x : Scanned) → record_in environment s x ≡ Some r → weight r ≡ step_weight_in s x
+    by_scanned (Moves t) k = let same : recorded s ≡ r = cc in sym (ap weight same)
+    by_scanned (Calls call) k = by_outcome call (performed environment call) refl k
+
+pub record_within : (environment : Environment) (s : State) (r : Record) → record_of environment s ≡ Some r → weight r ≤ loss s
+record_within environment s r k = omega (arith, record_weighs environment s r k, step_weight_within s)

@@ -28,6 +28,7 @@ pub mod CallsBack
 pub mod FurtherOn
 pub mod Weighed
 pub mod CallsWeighed
+pub mod Bounded
 pub mod Losses
 pub mod CallRows
 pub mod MovedOn

@@ -34,7 +34,7 @@ use Rattle.trac_rules.specs.Segmenting.{segmented}
 use Rattle.trac_rules.specs.Showing.{shown}
 use Rattle.trac_rules.specs.State.{Block, Environment, Forms, Held, State, Storage, storage_of}
 use Rattle.trac_rules.specs.Undone.{Undone, Nothing, Point, Join, Swap, MoveOut, block_handling_lost, block_lost, bytes_lost, handling_lost, joined_back, last_block, moved_out_again, names_in, pointed_back, pointer_back, pointer_lost, replaced_lost, storage_before, swapped_back, undone_by, unerased}
-use Rattle.trac_rules.specs.Weights.{meta_weight}
+use Rattle.trac_rules.specs.Weights.{meta_kept, meta_weight}
 use Rattle.trac_rules.proofs.Balanced.{first_place_passes}
 use Rattle.trac_rules.proofs.Cuts.{cut_joined}
 use Rattle.trac_rules.proofs.FormsBack.{DifferAt, all_put_back, copies_taken_back, moved_back_in, put_differs, swapped, taken_differs}
@@ -311,11 +311,6 @@ effect_undone (Compute computation) environment arguments s sets_none = computed
 effect_undone (Handle action) environment arguments s sets_none = handled_back arguments (storage_of s) action
 effect_undone (HandleBlock action) environment arguments s sets_none = block_handled_back arguments (storage_of s) action
 effect_undone Unknown environment arguments s sets_none = (refl, refl)
-
--- what a primitive keeps of the meta character: one where it is set
-abbrev pub meta_kept : Primitive → List (List ℕ) → ℕ
-meta_kept SetMeta arguments = length (take 1 (argument 1 arguments))
-meta_kept primitive arguments = 0
 
 -- what a call's effect leaves is undone, and the old meta character is kept where one is set
 pub record IsKept (primitive : Primitive) (arguments : List (List ℕ)) (storage : Storage) (e : Effect) : Type 0 where

@@ -11,16 +11,11 @@ use Rattle.trac_rules.specs.Rows.{Named}
 use Rattle.trac_rules.specs.Session.{PlainSession, over}
 use Rattle.trac_rules.specs.State.{Block, State, Storage}
 use Rattle.trac_rules.specs.Undone.{Undone, storage_before, undone_by}
-use Rattle.trac_rules.specs.Weights.{call_loss, loss, weight}
+use Rattle.trac_rules.specs.Weights.{call_loss, losses_from, weight}
 
 -- the records of the steps of a session that began with one state, the newest first
 abbrev pub records_of : PlainSession → List Record
 records_of p = map recorded p.earlier
-
--- what the steps from these states may lose
-abbrev pub losses_from : List State → ℕ
-losses_from [] = 0
-losses_from (s ∷ states) = loss s + losses_from states
 
 -- what all steps of such a session may lose
 abbrev pub losses_of : PlainSession → ℕ

@@ -19,11 +19,11 @@ use Rattle.trac_rules.specs.Form.{Form, all_items}
 use Rattle.trac_rules.specs.Handling.{named_form, without}
 use Rattle.trac_rules.specs.Limits.{argument_bytes, marks, total_length}
 use Rattle.trac_rules.specs.Performing.{primitive_of}
-use Rattle.trac_rules.specs.Records.{CallRecord, Record, Moved, Comma, Begun, Quoted, Deleted, Idle, Called, Whole}
-use Rattle.trac_rules.specs.Scanning.{front_of}
+use Rattle.trac_rules.specs.Records.{CallRecord, Record, Moved, Comma, Begun, Quoted, Deleted, Idle, Called, Whole, recorded}
+use Rattle.trac_rules.specs.Scanning.{Scanned, Moves, Calls, front_of, scan}
 use Rattle.trac_rules.specs.Segmenting.{segmented}
 use Rattle.trac_rules.specs.State.{Block, Forms, Frame, Held, State, Storage, storage_of}
-use Rattle.trac_rules.specs.Undone.{Undone, Nothing, Point, Join, Swap, Restore, MoveOut, Unbring, Unerase}
+use Rattle.trac_rules.specs.Undone.{Undone, Nothing, Point, Join, Swap, Restore, MoveOut, Unbring, Unerase, undone_by}
 
 -- ---- what is kept
 
@@ -83,6 +83,33 @@ weight (Deleted b) = 1
 weight (Idle base frames) = length base + frames_weight frames
 weight (Called call) = call_weight call
 weight (Whole s) = state_weight s
+
+-- ---- what the record of a step weighs, by the state before the step: it does not depend on the input
+
+-- what a primitive keeps of the meta character: one where it is set
+abbrev pub meta_kept : Primitive → List (List ℕ) → ℕ
+meta_kept SetMeta arguments = length (take 1 (argument 1 arguments))
+meta_kept primitive arguments = 0
+
+-- of a call of these arguments: their bytes, one for each comma between them, one for a meta character that is set, and what is destroyed
+-- of forms and blocks
+abbrev pub kept_weight : List (List ℕ) → Storage → ℕ
+kept_weight arguments storage =
+    total_length arguments + (length arguments - 1) + meta_kept (primitive_of (argument 0 arguments)) arguments
+    + undone_weight (undone_by (primitive_of (argument 0 arguments)) arguments storage)
+
+-- by what scanning gives: of a rule that moves on the weight of what it destroys, and else that of the call
+abbrev pub step_weight_in : State → Scanned → ℕ
+step_weight_in s (Moves t) = weight (recorded s)
+step_weight_in s (Calls call) = kept_weight call.arguments (storage_of call.state)
+
+abbrev pub step_weight : State → ℕ
+step_weight s = step_weight_in s (scan s)
+
+-- what the records of the steps from these states weigh together
+abbrev pub weights_from : List State → ℕ
+weights_from [] = 0
+weights_from (s ∷ states) = step_weight s + weights_from states
 
 -- ---- what a call may lose beside its arguments
 
@@ -160,3 +187,8 @@ loss_at front.Plain s = 0
 -- what the step from a state may cost the journal
 abbrev pub loss : State → ℕ
 loss s = loss_at (front_of s.active) s
+
+-- what the steps from these states may lose
+abbrev pub losses_from : List State → ℕ
+losses_from [] = 0
+losses_from (s ∷ states) = loss s + losses_from states

@@ -1,5 +1,6 @@
 //! Records of what a step destroys: laws, and worked rows.
-ghost use Rattle.std.specs.Prelude.{◌≡◌, ◌≤◌, ◌++◌, ◌∷◌, [], codes, length, map, is_some, option_map, replicate, take, List, None, Ok, Some, false, true, ℕ};
+ghost use Rattle.std.specs.List.{All};
+ghost use Rattle.std.specs.Prelude.{◌≡◌, ◌≤◌, ◌*◌, ◌^◌, ◌++◌, ◌∷◌, [], codes, length, map, is_some, option_map, replicate, take, List, None, Ok, Some, false, true, ℕ};
 ghost use Rattle.trac_rules.specs.Form.{defined, pointed_at};
 ghost use Rattle.trac_rules.specs.Limits.{marks, text_bytes};
 ghost use Rattle.trac_rules.specs.Proper.{IsProper};
@@ -10,7 +11,7 @@ ghost use Rattle.trac_rules.specs.Session.{Feed, PlainSession, Step, new_session
 ghost use Rattle.trac_rules.specs.State.{Environment, State, initial, storage_of};
 ghost use Rattle.trac_rules.specs.Stepping.{call_at, step};
 ghost use Rattle.trac_rules.specs.Undone.{storage_before};
-ghost use Rattle.trac_rules.specs.Weights.{loss, weight};
+ghost use Rattle.trac_rules.specs.Weights.{loss, losses_from, step_weight, weight, weights_from};
 ghost use Rattle.trac_rules.specs.declared.byte.TheConstants.{CLOSING, COMMA, TAB};
 ghost use Rattle.trac_rules.specs.declared.item.Item.TheVariants.{Byte, Gap};
 ghost use Rattle.trac_rules.specs.declared.kind.Kind.TheVariants.{Active, Neutral};
@@ -66,6 +67,17 @@ pub fn records_weigh_no_more()
 /// The record of a step, of scanning or a call, weighs no more than the step may lose.
 pub fn records_of_parts_weigh_no_more()
     ensures { (environment : Environment) (s : State) (r : Record) → record_of environment s ≡ Some r → weight r ≤ loss s }
+{}
+
+/// What the record of a step weighs is told by the state before the step alone, whatever the input is, and is no more than the step may
+/// lose. From a proper state that is less than five million million. So a word of 64 bits holds what a record weighs, and what all records
+/// of a journal weigh together.
+pub fn weights_are_told_by_states()
+    ensures of_records { (environment : Environment) (s : State) (r : Record) → record_of environment s ≡ Some r → weight r ≡ step_weight s }
+    ensures within { (s : State) → step_weight s ≤ loss s }
+    ensures together { (states : List State) → weights_from states ≤ losses_from states }
+    ensures bounded { (s : State) → IsProper s → loss s ≤ 2 ^ 42 }
+    ensures all_bounded { (states : List State) → All IsProper states → losses_from states ≤ length states * 2 ^ 42 }
 {}
 
 /// What the steps of scanning keep, and what is got back from that.
