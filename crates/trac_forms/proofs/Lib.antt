@@ -1,5 +1,7 @@
 pub mod BlockLists
 pub mod Cuts
+pub mod Segments
+pub mod CutWalks
 pub mod Divided
 pub mod Extents
 pub mod Going

@@ -78,7 +78,7 @@ fn fill_into<T: Texts, B: Allocator>(
 }
 
 // The text of this number, the first being number 1; null where it is missing.
-fn text<T: Texts>(texts: &T, number: u32) -> &[u8]
+pub(crate) fn text<T: Texts>(texts: &T, number: u32) -> &[u8]
     ensures { result.now ≡ text_numbered number (T.texts texts.now) }
 {
     if number == 0 {

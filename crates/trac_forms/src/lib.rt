@@ -4,7 +4,7 @@
 
 pub mod block;
 mod blocks;
-mod copies;
+pub mod cut;
 mod cutting;
 pub mod error;
 mod filling;
@@ -17,9 +17,10 @@ pub mod store;
 pub mod texts;
 
 pub use block::Block;
+pub use cut::Cut;
 pub use error::FormError;
 pub use form::Form;
 pub use reading::Piece;
 pub use store::Store;
 pub use texts::Texts;
-pub use trac_rules::item::Item;
+pub use trac_rules::item::{CutGap, Item};

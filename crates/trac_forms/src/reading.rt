@@ -160,7 +160,7 @@ struct Reached {
 }
 
 // Whether an item is a gap.
-fn is_gap(item: Item) -> bool
+pub(crate) fn is_gap(item: Item) -> bool
     ensures { result ≡ is_gap item }
 {
     matches!(item, Item::Gap { .. })

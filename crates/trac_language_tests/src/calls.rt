@@ -28,8 +28,8 @@ const CALLS: &[(&[u8], &[usize], &[u8])] = &[
     (b"dsAACat", &[2, 4], b"||put AA <^>Cat 0"),
     // An earlier form is replaced, its gaps and its pointer too.
     (b"dsFCat", &[2, 3], b"||put F <^>Cat 0"),
-    (b"ssRbca", &[2, 3, 4], b"||put R <^>a<1><2><1>c 0"),
-    (b"ssBa", &[2, 3, 3], b"||put B <^>b<2>n<2>n<2> 0"),
+    (b"ssRbca", &[2, 3, 4], b"||cut R 1<1> 2<2> 3<1> 0"),
+    (b"ssBa", &[2, 3, 3], b"||cut B 1<2> 3<2> 5<2> 0"),
     (b"crF", &[2], b"||point F 0 0"),
     // A form is called from its pointer.
     (b"clFXY", &[2, 3, 4], b"XbcY||keep 0"),
@@ -39,7 +39,8 @@ const CALLS: &[(&[u8], &[usize], &[u8])] = &[
     (b"ccFZ", &[2, 3], b"b||point F 3 0"),
     (b"cnF-1Z", &[2, 3, 5], b"a||point F 0 0"),
     (b"inFcZ", &[2, 3, 4], b"b||point F 4 0"),
-    (b"inFabZ", &[2, 3, 5], b"Z!||keep 0"),
+    // Nothing is read: the pointer is set where it stands.
+    (b"inFabZ", &[2, 3, 5], b"Z!||point F 1 0"),
     (b"ln;", &[2], b";B;F;R||keep 0"),
     (b"pfF", &[2], b"|a<^><1>bc<2>|keep 0"),
     // The names that the call gives, the null name among them, and no other.

@@ -10,6 +10,8 @@ mod blocks;
 #[cfg(test)]
 mod calls;
 #[cfg(test)]
+mod cuts;
+#[cfg(test)]
 mod ends;
 #[cfg(test)]
 mod expect;

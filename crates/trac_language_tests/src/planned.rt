@@ -5,8 +5,8 @@ ghost use Rattle.std.specs.Prelude.{◌≡◌, ◌≤◌, length, None};
 use crate::expect::expect_text;
 use std::alloc::{AllocError, Allocator, Global};
 use std::process::Abort;
-use trac_forms::{Form, FormError, Store};
-use trac_prims::{Args, Change, Effect, Kind, Mark, Now, Tape, plan};
+use trac_forms::{Cut, Form, FormError, Store};
+use trac_prims::{Args, Change, Effect, Kind, Mark, Now, Tape, plan, sets_meta};
 use trac_rules::limit::MARK_LIMIT;
 use trac_rules::refusal::Refusal;
 
@@ -115,12 +115,26 @@ fn add_form<A: Allocator + Copy>(
     form.show_into(out)
 }
 
+// The gaps that are made: of each its place, a number below 10, and its ordinal.
+fn add_gaps<A: Allocator + Copy>(out: &mut Vec<u8>, cut: &Cut<A>) -> Result<(), AllocError> {
+    for gap in cut.gaps().iter() {
+        add_number(out, gap.place)?;
+        add(out, &[b'<', b'0' + gap.ordinal.min(9) as u8, b'>'])?;
+    }
+    Ok(())
+}
+
 fn add_change<A: Allocator + Copy>(out: &mut Vec<u8>, change: &Change<A>) -> Result<(), FormError> {
     match change {
         Change::Keep => add(out, b"keep")?,
         Change::Put(name, form) => {
             add(out, b"put ")?;
             add_form(out, name.as_slice(), form)?;
+        }
+        Change::Cut(name, cut) => {
+            add(out, b"cut ")?;
+            add(out, name.as_slice())?;
+            add_gaps(out, cut)?;
         }
         Change::Remove(names) => {
             add(out, b"remove ")?;
@@ -243,5 +257,28 @@ fn arguments_lie_one_behind_another(rt: HostRuntime) {
     assert!(rt; args.count() == 3);
     for (number, wanted) in ARGUMENTS.iter() {
         expect_argument(&rt, &args, *number, wanted);
+    }
+}
+
+// A call of two arguments, the place where the second begins, and whether it sets the meta character.
+const SETTINGS: &[(&[u8], usize, bool)] = &[
+    (b"cm;x", 2, true),
+    (b"CM'", 2, true),
+    (b"cm", 2, false),
+    (b"cr;", 2, false),
+    (b"cmx;", 3, false),
+];
+
+fn expect_setting(rt: &impl Abort, text: &[u8], place: usize, wanted: bool) {
+    assert!(rt; place <= text.len());
+    let marks = [behind(place)];
+    let args = Args::new(text, &marks, 0);
+    assert!(rt; sets_meta(&args) == wanted);
+}
+
+#[test]
+fn meta_character_is_set(rt: HostRuntime) {
+    for (text, place, wanted) in SETTINGS.iter() {
+        expect_setting(&rt, text, *place, *wanted);
     }
 }

@@ -5,6 +5,8 @@
 #![tactic(auto)]
 
 #[cfg(test)]
+mod elsewhere;
+#[cfg(test)]
 mod loading;
 #[cfg(test)]
 mod machines;

@@ -52,7 +52,7 @@ fn form_with_a_gap<A: Allocator + Copy>(alloc: A) -> Result<Form<A>, Refusal> {
 }
 
 // No text, no function, no form, no block, and no room.
-pub(crate) fn nothing<A: Allocator + Copy>(alloc: A) -> Parts<A> {
+fn nothing<A: Allocator + Copy>(alloc: A) -> Parts<A> {
     Parts {
         active: Vec::new(alloc),
         base: Vec::new(alloc),
@@ -92,7 +92,7 @@ fn rich<A: Allocator + Copy>(alloc: A) -> Result<Parts<A>, Refusal> {
     Ok(parts)
 }
 
-pub(crate) fn load<A: Allocator + Copy>(
+fn load<A: Allocator + Copy>(
     rt: &impl Abort,
     alloc: A,
     parts: &Parts<A>,

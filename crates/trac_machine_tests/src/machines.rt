@@ -63,7 +63,7 @@ pub(crate) fn step<E: TwoEnds<u8, A>, M: TwoEnds<Mark, A>, A: Allocator + Copy>(
     rt: &impl Abort,
     machine: &mut Core<E, M, A>,
     input: &[u8],
-) -> Result<Record<Core<E, M, A>, A>, Refusal> {
+) -> Result<Record<A>, Refusal> {
     assert!(rt; machine.position() <= input.len());
     machine.step(Tape {
         bytes: input,

@@ -59,16 +59,16 @@ const MOST_REQUESTS: u64 = 1_000;
 
 /// What a walk is over.
 #[derive(Clone, Copy)]
-struct Walk<'a> {
-    plain: Global,
-    memory: Memory<'a>,
-    input: &'a [u8],
+pub(crate) struct Walk<'a> {
+    pub(crate) plain: Global,
+    pub(crate) memory: Memory<'a>,
+    pub(crate) input: &'a [u8],
     // the numbers of the steps during which every request for memory is refused
-    scarce: &'a [u64],
+    pub(crate) scarce: &'a [u64],
 }
 
-// Whether the number is among these.
-fn is_among(numbers: &[u64], number: u64) -> bool {
+/// Whether the number is among these.
+pub(crate) fn is_among(numbers: &[u64], number: u64) -> bool {
     for it in numbers {
         if *it == number {
             return true;
@@ -77,8 +77,8 @@ fn is_among(numbers: &[u64], number: u64) -> bool {
     false
 }
 
-// A machine shows what it showed before.
-fn expect_shown<E: TwoEnds<u8, A>, M: TwoEnds<Mark, A>, A: Allocator + Copy>(
+/// A machine shows what it showed before.
+pub(crate) fn expect_shown<E: TwoEnds<u8, A>, M: TwoEnds<Mark, A>, A: Allocator + Copy>(
     rt: &impl Abort,
     walk: &Walk<'_>,
     machine: &Core<E, M, A>,
@@ -278,8 +278,8 @@ fn are_kept<A: Allocator + Copy>(functions: &[(Kind, Pieces<A>)], wanted: &[Kept
 }
 
 // Whether a record keeps this base text and these begun functions.
-fn empties<C: Drop, A: Allocator + Copy>(
-    record: &Record<C, A>,
+fn empties<A: Allocator + Copy>(
+    record: &Record<A>,
     base: &[u8],
     functions: &[Kept],
 ) -> bool {

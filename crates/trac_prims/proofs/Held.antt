@@ -1,16 +1,19 @@
 -- Forms that are there, and forms that cannot be made.
-use Rattle.std.proofs.Common.{◌≡◌, ℕ, List, length, refl, ap}
-use Rattle.std.specs.Prelude.{Option, None, Some, Ok}
+use Rattle.std.proofs.Common.{◌≡◌, ℕ, List, length, refl, sym, ap, ◌∙◌, true, false}
+use Rattle.std.specs.Prelude.{Option, None, Some, Ok, Err}
 use Rattle.trac_forms.specs.declared.error.FormError.{FormError}
 use Rattle.trac_forms.specs.declared.error.FormError.TheVariants.{Memory as NoMemory, TooLong as LongForm}
 use Rattle.trac_forms.specs.Outcomes.{MayRefuseForm, as_refusal}
+use Rattle.trac_rules.specs.declared.refusal.Refusal.TheVariants.{TooLong}
 use Rattle.trac_rules.specs.Effect.{leaves}
 use Rattle.trac_rules.specs.Form.{Form, defined}
 use Rattle.trac_rules.specs.Handling.{on_form, pointing, putting}
+use Rattle.trac_rules.specs.Limits.{may_be_put}
 use Rattle.trac_rules.specs.Outcomes.{limited}
+use Rattle.trac_rules.specs.Segmenting.{segmented}
 use Rattle.trac_rules.specs.State.{Storage}
-use Rattle.trac_prims.specs.Effects.{MayFail, pieces_fit, pointed}
-use Rattle.trac_prims.proofs.Putting.{long_text, not_put, putting_lacks}
+use Rattle.trac_prims.specs.Effects.{MayFail, cut_in, pieces_fit, pointed}
+use Rattle.trac_prims.proofs.Putting.{is_put, long_text, not_put, putting_lacks}
 
 -- the pointer of a form is set where the form is there
 pub restored : (name : List ℕ) (held : Option Form) (storage : Storage) →
@@ -22,3 +25,18 @@ restored name (Some form) storage = refl
 pub not_made : (name text : List ℕ) (storage : Storage) (e : FormError) → MayRefuseForm (length text) e → MayFail (putting name (defined text) storage) (as_refusal e)
 not_made name text storage NoMemory h = putting_lacks name (defined text) storage
 not_made name text storage LongForm long = ap (limited pieces_fit) (not_put name (defined text) storage (long_text name text storage.forms long))
+
+-- a form that is there is segmented where it may be put again
+module _ (name : List ℕ) (texts : List (List ℕ)) (held : Option Form) (form : Form) (storage : Storage) (there : held ≡ Some form) where
+  pub not_segmented : may_be_put name (segmented texts form) storage.forms ≡ false →
+      limited pieces_fit (on_form held (λ f. putting name (segmented texts f) storage) storage) ≡ Err TooLong
+  not_segmented refused =
+      ap (λ h. limited pieces_fit (on_form h (λ f. putting name (segmented texts f) storage) storage)) there
+      ∙ ap (limited pieces_fit) (not_put name (segmented texts form) storage refused)
+
+  pub is_segmented : may_be_put name (segmented texts form) storage.forms ≡ true →
+      on_form held (λ f. putting name (segmented texts f) storage) storage ≡ Ok (leaves (cut_in name texts held storage))
+  is_segmented may =
+      ap (λ h. on_form h (λ f. putting name (segmented texts f) storage) storage) there
+      ∙ is_put name (segmented texts form) storage may
+      ∙ ap (λ h. Ok (leaves (cut_in name texts h storage))) (sym there)

@@ -12,8 +12,10 @@ pub mod Addressing
 pub mod ComingBack
 pub mod Listed
 pub mod Held
+pub mod Changes
 pub mod Given
 pub mod Fitting
 pub mod ReadCounts
+pub mod MetaSets
 pub mod Joining
 pub mod Planned

@@ -15,7 +15,8 @@ use Rattle.trac_rules.specs.Form.{Form}
 use Rattle.trac_rules.specs.Handling.{without}
 use Rattle.trac_rules.specs.State.{Forms, Held}
 use Rattle.trac_rules.proofs.NamedForms.{only_equal_tie, ties_itself}
-use Rattle.trac_prims.specs.Effects.{names_in, texts_of}
+use Rattle.trac_rules.specs.Undone.{names_in}
+use Rattle.trac_prims.specs.Effects.{texts_of}
 
 -- ---- one name
 

@@ -109,7 +109,7 @@ module _ (environment : Environment) (call : Call) (kind : Kind) (arguments : Li
 
   -- an effect was made, the line of the trace put before it, and the plan completed
   module _ {A : Type 0} (made : code.Effect A) (first : Effect) (is : outcome ≡ Ok first)
-      (completed : planned_on (storage_of call.state) made ≡ planned_from now (printed_behind line first)) where
+      (completed : planned_on arguments (storage_of call.state) made ≡ planned_from now (printed_behind line first)) where
     performs : performed environment call ≡ Ok (printed_behind line first)
     performs = performed_is ∙ ap (seen_as (printed_behind line)) is
 
@@ -131,7 +131,7 @@ module _ (environment : Environment) (call : Call) (kind : Kind) (arguments : Li
         ∙ ap (seen_as (planned_from now)) (limited_beyond (fits_after call) (printed_behind line first)
         (false_from_ne_true (fits_after call (printed_behind line first)) (λ fits. none (place_then (fits_then call (printed_behind line first) fits)))))
 
-    pub within : HasPlace now made → wanted ≡ Ok (planned_on (storage_of call.state) made)
+    pub within : HasPlace now made → wanted ≡ Ok (planned_on arguments (storage_of call.state) made)
     within place =
         ap (λ o. seen_as (planned_from now) (limited (fits_after call) o)) performs
         ∙ ap (seen_as (planned_from now)) (limited_within (fits_after call) (printed_behind line first)

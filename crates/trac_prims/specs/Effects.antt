@@ -1,5 +1,5 @@
 -- What is planned, as the definitions see it.
-use Rattle.std.specs.Prelude.{◌≡◌, ◌+◌, ◌&&◌, ℕ, List, length, map, nat_le, Bool, Option, None, Some, Vec, Result, Ok, Err}
+use Rattle.std.specs.Prelude.{◌≡◌, ◌+◌, ◌&&◌, ℕ, List, length, map, drop, nat_le, Bool, Option, None, Some, Vec, Result, Ok, Err}
 use Rattle.std.specs.FinMap as finite
 use Rattle.std.specs.Option.{unwrap_or}
 use Rattle.trac_rules.specs.declared.limit.TheConstants.{OUTPUT_LIMIT, TEXT_LIMIT}
@@ -9,11 +9,13 @@ use Rattle.trac_rules.specs.Effect.{Effect}
 use Rattle.trac_rules.specs.Form.{Form}
 use Rattle.trac_rules.specs.Handling.{keeping, pointing, without}
 use Rattle.trac_rules.specs.Outcomes.{MayLackMemory, OrMemory, limited}
+use Rattle.trac_rules.specs.Segmenting.{segmented}
 use Rattle.trac_rules.specs.State.{Held, Storage}
 use Rattle.trac_prims.specs.declared.change.Change as code
-use Rattle.trac_prims.specs.declared.change.Change.TheVariants.{Keep, Put, Remove, Clear, Point, MoveIn, Bring, Erase}
+use Rattle.trac_prims.specs.declared.change.Change.TheVariants.{Keep, Put, Cut, Remove, Clear, Point, MoveIn, Bring, Erase}
 use Rattle.trac_prims.specs.declared.effect.Effect as planned
 use Rattle.trac_prims.specs.declared.effect.Now.{Now}
+use Rattle.trac_prims.specs.declared.made.Done as done
 use Rattle.trac_prims.specs.declared.made.Made as made
 
 -- texts of the code as lists of bytes
@@ -25,9 +27,10 @@ abbrev pub pointed : List ℕ → ℕ → Option Form → Storage → Storage
 pointed name place None storage = storage
 pointed name place (Some form) storage = pointing name place form storage
 
--- the names of forms
-abbrev pub names_in : Held → List (List ℕ)
-names_in held = map (λ entry. entry.0) held
+-- the storage where a form, if it is there, has these texts cut out
+abbrev pub cut_in : List ℕ → List (List ℕ) → Option Form → Storage → Storage
+cut_in name texts None storage = storage
+cut_in name texts (Some form) storage = keeping (finite.insert storage.forms name (segmented texts form)) storage
 
 -- forms of the code with their names
 abbrev pub named_forms : {A : Type 0} → List (Vec ℕ A × Form) → Held
@@ -37,18 +40,19 @@ named_forms forms = map (λ entry. (entry.0.items, entry.1)) forms
 abbrev pub with_form : List ℕ → Form → Storage → Storage
 with_form name form storage = keeping (finite.insert storage.forms name form) storage
 
--- the storage after a change
-abbrev pub changed : {A : Type 0} → code.Change A → Storage → Storage
-changed Keep storage = storage
-changed (Put name form) storage = keeping (finite.insert storage.forms name.items form) storage
-changed (Remove names) storage = keeping (without (texts_of names.items) storage.forms) storage
-changed Clear storage = keeping finite.empty storage
-changed (Point name place) storage = pointed name.items place (finite.get storage.forms name.items) storage
-changed (MoveIn held name address) storage = with_form name.items address (put_aside (texts_of held.items) storage)
-changed (Bring number forms) storage = keeping (with_all (named_forms forms.items) storage.forms) storage
-changed (Erase number name) storage = erased number name.items storage
+-- the storage after a change by a call of these arguments
+abbrev pub changed : {A : Type 0} → List (List ℕ) → code.Change A → Storage → Storage
+changed arguments Keep storage = storage
+changed arguments (Put name form) storage = keeping (finite.insert storage.forms name.items form) storage
+changed arguments (Cut name cut) storage = cut_in name.items (drop 2 arguments) (finite.get storage.forms name.items) storage
+changed arguments (Remove names) storage = keeping (without (texts_of names.items) storage.forms) storage
+changed arguments Clear storage = keeping finite.empty storage
+changed arguments (Point name place) storage = pointed name.items place (finite.get storage.forms name.items) storage
+changed arguments (MoveIn held name address) storage = with_form name.items address (put_aside (texts_of held.items) storage)
+changed arguments (Bring number forms) storage = keeping (with_all (named_forms forms.items) storage.forms) storage
+changed arguments (Erase number name) storage = erased number name.items storage
 
--- what a primitive made, as an effect on a storage
+-- what a primitive made, as an effect that leaves this storage
 abbrev pub effect_on : {A : Type 0} → Storage → made.Made A → Effect
 effect_on storage e = record {
   value = e.value.items;
@@ -57,8 +61,12 @@ effect_on storage e = record {
   read = e.read;
   meta = e.meta;
   trace = e.trace;
-  storage = changed e.change storage;
+  storage = storage;
 }
+
+-- what a primitive with these arguments made and changes, as an effect on a storage
+abbrev pub done_on : {A : Type 0} → List (List ℕ) → Storage → done.Done A → Effect
+done_on arguments storage d = effect_on (changed arguments d.change storage) d.made
 
 -- ---- what is planned
 
@@ -84,16 +92,16 @@ planned_from now e = record {
   storage = e.storage;
 }
 
--- the pieces that were made, over a storage
-abbrev pub planned_on : {A : Type 0} → Storage → planned.Effect A → Planned
-planned_on storage e = record {
+-- the pieces that were made for a call of these arguments, over a storage
+abbrev pub planned_on : {A : Type 0} → List (List ℕ) → Storage → planned.Effect A → Planned
+planned_on arguments storage e = record {
   value = e.value.items;
   forced = e.forced;
   printed = e.print.items;
   position = e.position;
   meta = e.meta;
   trace = e.trace;
-  storage = changed e.change storage;
+  storage = changed arguments e.change storage;
 }
 
 -- ---- pieces that are too long
@@ -111,3 +119,8 @@ MayFail outcome refusal = OrMemory (MayLackMemory outcome) (λ said. limited pie
 abbrev pub IsMade : {A : Type 0} → Storage → Result Effect Refusal → Result (made.Made A) Refusal → Type 0
 IsMade storage outcome (Ok e) = outcome ≡ Ok (effect_on storage e)
 IsMade storage outcome (Err refusal) = MayFail outcome refusal
+
+-- what is made and changed with these arguments where this is the outcome of the definitions
+abbrev pub IsDone : {A : Type 0} → List (List ℕ) → Storage → Result Effect Refusal → Result (done.Done A) Refusal → Type 0
+IsDone arguments storage outcome (Ok d) = outcome ≡ Ok (done_on arguments storage d)
+IsDone arguments storage outcome (Err refusal) = MayFail outcome refusal

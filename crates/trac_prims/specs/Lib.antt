@@ -4,5 +4,6 @@ pub mod Neutral
 pub mod Frames
 pub mod Tape
 pub mod Effects
+pub mod Changes
 pub mod Blocks
 pub mod Plans

@@ -10,11 +10,14 @@ ghost use Rattle.trac_rules.specs.Limits.{may_be_put};
 ghost use Rattle.trac_rules.specs.Pieces.{bytes_in};
 ghost use Rattle.trac_rules.specs.declared.primitive.BlockAction.TheVariants.{EraseBlock, FetchBlock, StoreBlock};
 ghost use Rattle.trac_prims.specs.Blocks.{IsBlock, count_further};
-ghost use Rattle.trac_prims.specs.Effects.{IsMade, named_forms, names_in, texts_of};
+ghost use Rattle.trac_rules.specs.declared.primitive.Primitive.TheVariants.{HandleBlock};
+ghost use Rattle.trac_prims.specs.Changes.{IsChangeOf};
+ghost use Rattle.trac_rules.specs.Undone.{names_in};
+ghost use Rattle.trac_prims.specs.Effects.{IsDone, named_forms, texts_of};
 
 use crate::args::{Args, Behind};
 use crate::change::Change;
-use crate::made::Made;
+use crate::made::Done;
 use std::alloc::Allocator;
 use trac_forms::{Block, Form, Item, Store, Texts};
 use trac_num::{print_into, read_tail, value};
@@ -29,8 +32,9 @@ pub(crate) fn store_block<A: Allocator + Copy>(
     alloc: A,
     args: &Args<'_>,
     store: &Store<A>,
-) -> Result<Made<A>, Refusal>
-    ensures { IsMade (storage_in store.now) (block_handled StoreBlock args.now (storage_in store.now)) result }
+) -> Result<Done<A>, Refusal>
+    ensures outcome { IsDone args.now (storage_in store.now) (block_handled StoreBlock args.now (storage_in store.now)) result }
+    ensures change { IfOk result (λ d. IsChangeOf (HandleBlock StoreBlock) args.now (storage_in store.now) d.change) }
 {
     let name = args.get(1);
     let held = leaving(alloc, store, &args.behind(2))?;
@@ -43,14 +47,12 @@ pub(crate) fn store_block<A: Allocator + Copy>(
     }
     let address = address_of(alloc, number)?;
     let name = Vec::from_slice(alloc, name)?;
-    Ok(Made {
-        change: Change::MoveIn {
-            held,
-            name,
-            address,
-        },
-        ..Made::keeping(alloc)
-    })
+    let change = Change::MoveIn {
+        held,
+        name,
+        address,
+    };
+    Ok(Done::changing(alloc, change))
 }
 
 // `fb`: copies of a block's forms are put among the forms.
@@ -58,21 +60,19 @@ pub(crate) fn fetch_block<A: Allocator + Copy>(
     alloc: A,
     args: &Args<'_>,
     store: &Store<A>,
-) -> Result<Made<A>, Refusal>
-    ensures { IsMade (storage_in store.now) (block_handled FetchBlock args.now (storage_in store.now)) result }
+) -> Result<Done<A>, Refusal>
+    ensures outcome { IsDone args.now (storage_in store.now) (block_handled FetchBlock args.now (storage_in store.now)) result }
+    ensures change { IfOk result (λ d. IsChangeOf (HandleBlock FetchBlock) args.now (storage_in store.now) d.change) }
 {
     let found = named_block(alloc, args, store)?;
     let Some((number, block)) = found else {
-        return Ok(Made::keeping(alloc));
+        return Ok(Done::changing(alloc, Change::Keep));
     };
     if !may_come_back(store, block) {
         return Err(Refusal::TooLong);
     }
     let forms = copies_of(alloc, block)?;
-    Ok(Made {
-        change: Change::Bring { number, forms },
-        ..Made::keeping(alloc)
-    })
+    Ok(Done::changing(alloc, Change::Bring { number, forms }))
 }
 
 // `eb`: a block is erased, and the form that names it deleted.
@@ -80,18 +80,16 @@ pub(crate) fn erase_block<A: Allocator + Copy>(
     alloc: A,
     args: &Args<'_>,
     store: &Store<A>,
-) -> Result<Made<A>, Refusal>
-    ensures { IsMade (storage_in store.now) (block_handled EraseBlock args.now (storage_in store.now)) result }
+) -> Result<Done<A>, Refusal>
+    ensures outcome { IsDone args.now (storage_in store.now) (block_handled EraseBlock args.now (storage_in store.now)) result }
+    ensures change { IfOk result (λ d. IsChangeOf (HandleBlock EraseBlock) args.now (storage_in store.now) d.change) }
 {
     let found = named_block(alloc, args, store)?;
     let Some((number, _block)) = found else {
-        return Ok(Made::keeping(alloc));
+        return Ok(Done::changing(alloc, Change::Keep));
     };
     let name = Vec::from_slice(alloc, args.get(1))?;
-    Ok(Made {
-        change: Change::Erase { number, name },
-        ..Made::keeping(alloc)
-    })
+    Ok(Done::changing(alloc, Change::Erase { number, name }))
 }
 
 // ---- forms that leave

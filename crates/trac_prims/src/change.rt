@@ -1,6 +1,6 @@
 //! What a call will change among the forms and blocks.
 use std::alloc::{Allocator, Global};
-use trac_forms::Form;
+use trac_forms::{Cut, Form};
 
 /// A change of the forms and blocks, its pieces already made.
 #[derive(Drop)]
@@ -9,6 +9,8 @@ pub enum Change<A: Allocator + Copy = Global> {
     Keep,
     /// A form is put under a name, in place of an earlier one.
     Put(Vec<u8, A>, Form<A>),
+    /// The texts that the call gives behind this name are cut out of the form of this name: these are the gaps that this makes.
+    Cut(Vec<u8, A>, Cut<A>),
     /// The forms of these names are deleted; names without a form are passed over.
     Remove(Vec<Vec<u8, A>, A>),
     /// All forms are deleted.

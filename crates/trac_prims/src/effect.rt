@@ -1,7 +1,7 @@
 //! What a call will do, and what it has to know for that.
-ghost use Rattle.std.specs.Prelude.{◌≡◌, ◌+◌, ◌<◌, ◌^◌};
+ghost use Rattle.std.specs.Prelude.{◌≡◌, ◌+◌, ◌<◌, ◌^◌, List, ℕ};
 ghost use Rattle.trac_rules.specs.State.{Storage};
-ghost use Rattle.trac_prims.specs.Effects.{effect_on, planned_from, planned_on};
+ghost use Rattle.trac_prims.specs.Effects.{changed, effect_on, planned_from, planned_on};
 
 use crate::change::Change;
 use crate::made::Made;
@@ -41,10 +41,15 @@ pub struct Now {
     pub text: usize,
 }
 
-// What a call will do, from what its primitive does and from what is so now.
-pub(crate) fn completed<A: Allocator + Copy>(now: Now, made: Made<A>) -> Effect<A>
+// What a call will do, from what its primitive made and changes, and from what is so now.
+pub(crate) fn completed<A: Allocator + Copy>(
+    now: Now,
+    made: Made<A>,
+    change: Change<A>,
+) -> Effect<A>
     requires { now.position + made.read < 2 ^ 64 }
-    ensures { (storage : Storage) → planned_on storage result ≡ planned_from now (effect_on storage made) }
+    ensures effect { (arguments : List (List ℕ)) (storage : Storage) → planned_on arguments storage result ≡ planned_from now (effect_on (changed arguments change storage) made) }
+    ensures change { result.change ≡ change }
 {
     Effect {
         value: made.value,
@@ -53,6 +58,6 @@ pub(crate) fn completed<A: Allocator + Copy>(now: Now, made: Made<A>) -> Effect<
         position: now.position + made.read,
         meta: made.meta.unwrap_or(now.meta),
         trace: made.trace.unwrap_or(now.trace),
-        change: made.change,
+        change,
     }
 }

@@ -1,18 +1,21 @@
 //! Calls that look at the forms or change them.
-ghost use Rattle.std.specs.Prelude.{◌≡◌, ◌≤◌, ◌++◌, length, flat_map, IfOk, IsOkUnless, SomeIff};
+ghost use Rattle.std.specs.Prelude.{◌≡◌, ◌≤◌, ◌++◌, List, ℕ, length, flat_map, IfOk, IsOkUnless, SomeIff};
 ghost use Rattle.std.specs.FinMap as finite;
 ghost use Rattle.trac_forms.specs.Layout.{IsSound};
 ghost use Rattle.trac_forms.specs.Stored.{storage_in};
-ghost use Rattle.trac_rules.specs.Effect.{leaves};
+ghost use Rattle.trac_rules.specs.Effect.{argument, leaves};
+ghost use Rattle.trac_rules.specs.Form.{Form as Divided};
 ghost use Rattle.trac_rules.specs.Handling.{handled, keeping, putting};
 ghost use Rattle.trac_rules.specs.Limits.{may_be_put};
 ghost use Rattle.trac_rules.specs.State.{Storage};
-ghost use Rattle.trac_rules.specs.declared.primitive.FormAction.TheVariants.{Define, Delete, ListNames, PrintForm, Restore, Segment, Call as CallForm};
-ghost use Rattle.trac_prims.specs.Effects.{IsMade, effect_on, texts_of};
+ghost use Rattle.trac_rules.specs.declared.primitive.FormAction.TheVariants.{Define, Delete, DeleteAll, ListNames, PrintForm, Restore, Segment, Call as CallForm};
+ghost use Rattle.trac_rules.specs.declared.primitive.Primitive.TheVariants.{Handle};
+ghost use Rattle.trac_prims.specs.Changes.{IsChangeOf};
+ghost use Rattle.trac_prims.specs.Effects.{IsDone, IsMade, done_on, texts_of};
 
 use crate::args::{Args, Behind};
 use crate::change::Change;
-use crate::made::Made;
+use crate::made::{Done, Made};
 use std::alloc::Allocator;
 use trac_forms::{Form, Store, Texts};
 use trac_rules::limit::{FORM_COUNT_LIMIT, MARK_LIMIT, NAME_LIMIT, TEXT_LIMIT};
@@ -23,32 +26,29 @@ pub(crate) fn define<A: Allocator + Copy>(
     alloc: A,
     args: &Args<'_>,
     store: &Store<A>,
-) -> Result<Made<A>, Refusal>
-    ensures { IsMade (storage_in store.now) (handled Define args.now (storage_in store.now)) result }
+) -> Result<Done<A>, Refusal>
+    ensures outcome { IsDone args.now (storage_in store.now) (handled Define args.now (storage_in store.now)) result }
+    ensures change { IfOk result (λ d. IsChangeOf (Handle Define) args.now (storage_in store.now) d.change) }
 {
     let form = Form::new(alloc, args.get(2))?;
     put(alloc, store, args.get(1), form)
 }
 
 // `dd`: the forms of some names are deleted.
-pub(crate) fn delete<A: Allocator + Copy>(alloc: A, args: &Args<'_>) -> Result<Made<A>, Refusal>
-    ensures { (storage : Storage) → IsMade storage (handled Delete args.now storage) result }
+pub(crate) fn delete<A: Allocator + Copy>(alloc: A, args: &Args<'_>) -> Result<Done<A>, Refusal>
+    ensures outcome { (storage : Storage) → IsDone args.now storage (handled Delete args.now storage) result }
+    ensures change { IfOk result (λ d. (storage : Storage) → IsChangeOf (Handle Delete) args.now storage d.change) }
 {
     let names = copies(alloc, &args.behind(1))?;
-    Ok(Made {
-        change: Change::Remove(names),
-        ..Made::keeping(alloc)
-    })
+    Ok(Done::changing(alloc, Change::Remove(names)))
 }
 
 // `da`: all forms are deleted.
-pub(crate) fn delete_all<A: Allocator + Copy>(alloc: A) -> Made<A>
-    ensures { (storage : Storage) → effect_on storage result ≡ leaves (keeping finite.empty storage) }
+pub(crate) fn delete_all<A: Allocator + Copy>(alloc: A) -> Done<A>
+    ensures effect { (arguments : List (List ℕ)) (storage : Storage) → done_on arguments storage result ≡ leaves (keeping finite.empty storage) }
+    ensures change { (arguments : List (List ℕ)) (storage : Storage) → IsChangeOf (Handle DeleteAll) arguments storage result.change }
 {
-    Made {
-        change: Change::Clear,
-        ..Made::keeping(alloc)
-    }
+    Done::changing(alloc, Change::Clear)
 }
 
 // `ss`: texts are cut out of a form.
@@ -56,16 +56,21 @@ pub(crate) fn segment<A: Allocator + Copy>(
     alloc: A,
     args: &Args<'_>,
     store: &Store<A>,
-) -> Result<Made<A>, Refusal>
+) -> Result<Done<A>, Refusal>
     requires { length args.now ≤ MARK_LIMIT }
-    ensures { IsMade (storage_in store.now) (handled Segment args.now (storage_in store.now)) result }
+    ensures outcome { IsDone args.now (storage_in store.now) (handled Segment args.now (storage_in store.now)) result }
+    ensures change { IfOk result (λ d. IsChangeOf (Handle Segment) args.now (storage_in store.now) d.change) }
 {
     let name = args.get(1);
     let Some(form) = store.get(name) else {
-        return Ok(Made::keeping(alloc));
+        return Ok(Done::changing(alloc, Change::Keep));
     };
-    let segmented = form.segmented(&args.behind(2))?;
-    put(alloc, store, name, segmented)
+    if !may_put(store, name) {
+        return Err(Refusal::TooLong);
+    }
+    let cut = form.cut_for(&args.behind(2))?;
+    let name = Vec::from_slice(alloc, name)?;
+    Ok(Done::changing(alloc, Change::Cut(name, cut)))
 }
 
 // `cr`: the pointer of a form goes before its first item.
@@ -73,18 +78,16 @@ pub(crate) fn restore<A: Allocator + Copy>(
     alloc: A,
     args: &Args<'_>,
     store: &Store<A>,
-) -> Result<Made<A>, Refusal>
-    ensures { IsMade (storage_in store.now) (handled Restore args.now (storage_in store.now)) result }
+) -> Result<Done<A>, Refusal>
+    ensures outcome { IsDone args.now (storage_in store.now) (handled Restore args.now (storage_in store.now)) result }
+    ensures change { IfOk result (λ d. IsChangeOf (Handle Restore) args.now (storage_in store.now) d.change) }
 {
     let name = args.get(1);
     if store.get(name).is_none() {
-        return Ok(Made::keeping(alloc));
+        return Ok(Done::changing(alloc, Change::Keep));
     }
     let name = Vec::from_slice(alloc, name)?;
-    Ok(Made {
-        change: Change::Point(name, 0),
-        ..Made::keeping(alloc)
-    })
+    Ok(Done::changing(alloc, Change::Point(name, 0)))
 }
 
 // `cl`: a form from its pointer on, its gaps filled with texts.
@@ -154,10 +157,9 @@ pub(crate) fn print_form<A: Allocator + Copy>(
 
 // ---- pieces
 
-// Whether a form may be put under this name.
-fn may_put<A: Allocator + Copy>(store: &Store<A>, name: &[u8], form: &Form<A>) -> bool
-    requires { IsSound form.now }
-    ensures { result ≡ may_be_put name.now form.now store.now.forms }
+// Whether a form may be put under this name: all forms are alike in that.
+fn may_put<A: Allocator + Copy>(store: &Store<A>, name: &[u8]) -> bool
+    ensures { (form : Divided) → IsSound form → result ≡ may_be_put name.now form store.now.forms }
 {
     if name.len() > NAME_LIMIT {
         return false;
@@ -170,24 +172,22 @@ fn may_put<A: Allocator + Copy>(store: &Store<A>, name: &[u8], form: &Form<A>) -
     }
 }
 
-// A form is put under this name.
+// A form is put under this name, the first argument behind that of the call.
 fn put<A: Allocator + Copy>(
     alloc: A,
     store: &Store<A>,
     name: &[u8],
     form: Form<A>,
-) -> Result<Made<A>, Refusal>
+) -> Result<Done<A>, Refusal>
     requires { IsSound form }
-    ensures { IsMade (storage_in store.now) (putting name.now form (storage_in store.now)) result }
+    ensures outcome { (arguments : List (List ℕ)) → IsDone arguments (storage_in store.now) (putting name.now form (storage_in store.now)) result }
+    ensures change { IfOk result (λ d. (arguments : List (List ℕ)) → name.now ≡ argument 1 arguments → IsChangeOf (Handle Define) arguments (storage_in store.now) d.change) }
 {
-    if !may_put(store, name, &form) {
+    if !may_put(store, name) {
         return Err(Refusal::TooLong);
     }
     let name = Vec::from_slice(alloc, name)?;
-    Ok(Made {
-        change: Change::Put(name, form),
-        ..Made::keeping(alloc)
-    })
+    Ok(Done::changing(alloc, Change::Put(name, form)))
 }
 
 // Texts with memory of their own.

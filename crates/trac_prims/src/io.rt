@@ -1,9 +1,9 @@
 //! Input and output.
-ghost use Rattle.std.specs.Prelude.{◌≡◌, ◌==◌, ◌+◌, ◌<◌, ◌≤◌, length, drop, position, IfOk, IfSome, Ok};
-ghost use Rattle.trac_rules.specs.Effect.{argument, prints, sets_trace};
-ghost use Rattle.trac_rules.specs.Performing.{meta_set};
+ghost use Rattle.std.specs.Prelude.{◌≡◌, ◌==◌, ◌+◌, ◌<◌, ◌≤◌, length, drop, is_some, position, IfOk, IfSome, Ok};
+ghost use Rattle.trac_rules.specs.Effect.{Effect, argument, prints, sets_trace};
+ghost use Rattle.trac_rules.specs.Performing.{effect_of, meta_set, primitive_of};
 ghost use Rattle.trac_rules.specs.Reading.{byte_read, string_read};
-ghost use Rattle.trac_rules.specs.State.{Storage};
+ghost use Rattle.trac_rules.specs.State.{Environment, State, Storage};
 ghost use Rattle.trac_prims.specs.Effects.{IsMade, effect_on};
 
 use crate::args::Args;
@@ -95,6 +95,15 @@ pub(crate) fn set_meta<A: Allocator + Copy>(alloc: A, args: &Args<'_>) -> Made<A
         meta: args.get(1).first().copied(),
         ..Made::keeping(alloc)
     }
+}
+
+/// Whether a call of these arguments sets the meta character, as the rule of T-64 for `cm` has it: its name is one of the primitive,
+/// each letter in either case, and the text behind it is not null (that a null one sets nothing, and the cases, are this project's
+/// profile). It takes no memory, and looks at the name alone and not at the table of names.
+pub fn sets_meta(args: &Args<'_>) -> bool
+    ensures { (environment : Environment) (s : State) (e : Effect) → effect_of (primitive_of (argument 0 args.now)) environment args.now s ≡ Ok e → is_some e.meta ≡ result }
+{
+    args.get(0).eq_ignore_ascii_case(b"cm") && !args.get(1).is_empty()
 }
 
 // `tn` and `tf`: from now on each call is printed, or none is.

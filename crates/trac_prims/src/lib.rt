@@ -23,6 +23,7 @@ pub use args::Args;
 pub use change::Change;
 pub use effect::{Effect, Now};
 pub use frames::{Innermost, NeutralText};
+pub use io::sets_meta;
 pub use mark::Mark;
 pub use planning::plan;
 pub use tape::Tape;

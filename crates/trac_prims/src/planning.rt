@@ -5,22 +5,26 @@ ghost use Rattle.trac_rules.specs.Blocks.{block_handled};
 ghost use Rattle.trac_rules.specs.Computing.{computed};
 ghost use Rattle.trac_rules.specs.Handling.{handled};
 ghost use Rattle.trac_rules.specs.Outcomes.{MayAnswer, limited, seen_as};
-ghost use Rattle.trac_rules.specs.Performing.{effect_of, performed};
+ghost use Rattle.trac_rules.specs.Effect.{argument};
+ghost use Rattle.trac_rules.specs.Performing.{effect_of, performed, primitive_of};
 ghost use Rattle.trac_rules.specs.Scanning.{Call};
 ghost use Rattle.trac_rules.specs.State.{State, Storage, storage_of};
-ghost use Rattle.trac_prims.specs.Effects.{IsMade, planned_from, planned_on};
+ghost use Rattle.trac_rules.specs.declared.primitive.Primitive.TheVariants as primitive;
+ghost use Rattle.trac_prims.specs.Changes.{IsChangeOf};
+ghost use Rattle.trac_prims.specs.Effects.{IsDone, IsMade, planned_from, planned_on};
 ghost use Rattle.trac_prims.specs.Plans.{HasPlace, IsGiven, IsNow, fits_after};
 ghost use Rattle.trac_prims.specs.Tape.{environment_of};
 
 use crate::args::Args;
 use crate::bits::{complement_of, meet_of, rotation_of, shift_of, union_of};
 use crate::blocks::{erase_block, fetch_block, store_block};
+use crate::change::Change;
 use crate::decimals::calculate;
 use crate::decisions::{equal_texts, greater_number};
 use crate::effect::{Effect, Now, completed};
 use crate::forms::{call, define, delete, delete_all, list_names, print_form, restore, segment};
 use crate::io::{print_string, read_byte, read_string, set_meta, set_trace};
-use crate::made::Made;
+use crate::made::{Done, Made, unchanged};
 use crate::name::primitive_named;
 use crate::reading::read;
 use crate::tape::Tape;
@@ -53,13 +57,14 @@ pub fn plan<A: Allocator + Copy>(
     requires text { now.text ≤ TEXT_LIMIT }
     requires output { now.output ≤ OUTPUT_LIMIT }
     ensures outcome { (call : Call) → IsGiven call kind args.now store.now now →
-        MayAnswer (planned_on (storage_of call.state)) (seen_as (planned_from now) (limited (fits_after call) (performed (environment_of tape.entry) call))) result }
+        MayAnswer (planned_on args.now (storage_of call.state)) (seen_as (planned_from now) (limited (fits_after call) (performed (environment_of tape.entry) call))) result }
     ensures within { IfOk result (λ e. e.position ≤ length tape.entry.bytes.now) }
     ensures place { IfOk result (HasPlace now) }
+    ensures change { IfOk result (λ e. IsChangeOf (primitive_of (argument 0 args.now)) args.now (storage_in store.now) e.change) }
 {
-    let made = perform(alloc, primitive_named(args.get(0)), args, store, tape, now)?;
-    let made = print_line(alloc, now.trace, kind, args, made)?;
-    let effect = completed(now, made);
+    let done = perform(alloc, primitive_named(args.get(0)), args, store, tape, now)?;
+    let made = print_line(alloc, now.trace, kind, args, done.made)?;
+    let effect = completed(now, made, done.change);
     if !has_place(now, &effect) {
         return Err(Refusal::TooLong);
     }
@@ -83,23 +88,24 @@ fn perform<A: Allocator + Copy>(
     store: &Store<A>,
     tape: Tape<'_>,
     now: Now,
-) -> Result<Made<A>, Refusal>
+) -> Result<Done<A>, Refusal>
     requires position { now.position ≤ length tape.bytes.now }
     requires count { length args.now ≤ MARK_LIMIT }
-    ensures outcome { (s : State) → IsNow s store.now now → IsMade (storage_of s) (effect_of primitive (environment_of tape.entry) args.now s) result }
-    ensures within { IfOk result (λ e. now.position + e.read ≤ length tape.entry.bytes.now) }
+    ensures outcome { (s : State) → IsNow s store.now now → IsDone args.now (storage_of s) (effect_of primitive (environment_of tape.entry) args.now s) result }
+    ensures within { IfOk result (λ d. now.position + d.made.read ≤ length tape.entry.bytes.now) }
+    ensures change { IfOk result (λ d. IsChangeOf primitive args.now (storage_in store.now) d.change) }
 {
     match primitive {
-        Primitive::PrintString => print_string(alloc, args),
-        Primitive::ReadString => read_string(alloc, tape, now.position, now.meta),
-        Primitive::ReadByte => read_byte(alloc, tape, now.position),
+        Primitive::PrintString => unchanged(print_string(alloc, args)),
+        Primitive::ReadString => unchanged(read_string(alloc, tape, now.position, now.meta)),
+        Primitive::ReadByte => unchanged(read_byte(alloc, tape, now.position)),
         Primitive::Halt => Err(Refusal::Ended),
-        Primitive::SetMeta => Ok(set_meta(alloc, args)),
-        Primitive::SetTrace(trace) => Ok(set_trace(alloc, trace)),
-        Primitive::Compute(computation) => compute(alloc, computation, args),
+        Primitive::SetMeta => unchanged(Ok(set_meta(alloc, args))),
+        Primitive::SetTrace(trace) => unchanged(Ok(set_trace(alloc, trace))),
+        Primitive::Compute(computation) => unchanged(compute(alloc, computation, args)),
         Primitive::Handle(action) => handle(alloc, action, args, store),
         Primitive::HandleBlock(action) => handle_block(alloc, action, args, store),
-        Primitive::Unknown => Ok(Made::keeping(alloc)),
+        Primitive::Unknown => Ok(Done::changing(alloc, Change::Keep)),
     }
 }
 
@@ -129,9 +135,10 @@ fn handle<A: Allocator + Copy>(
     action: FormAction,
     args: &Args<'_>,
     store: &Store<A>,
-) -> Result<Made<A>, Refusal>
+) -> Result<Done<A>, Refusal>
     requires { length args.now ≤ MARK_LIMIT }
-    ensures { IsMade (storage_in store.now) (handled action args.now (storage_in store.now)) result }
+    ensures outcome { IsDone args.now (storage_in store.now) (handled action args.now (storage_in store.now)) result }
+    ensures change { IfOk result (λ d. IsChangeOf (primitive.Handle action) args.now (storage_in store.now) d.change) }
 {
     match action {
         FormAction::Define => define(alloc, args, store),
@@ -139,10 +146,10 @@ fn handle<A: Allocator + Copy>(
         FormAction::DeleteAll => Ok(delete_all(alloc)),
         FormAction::Segment => segment(alloc, args, store),
         FormAction::Restore => restore(alloc, args, store),
-        FormAction::Call => call(alloc, args, store),
+        FormAction::Call => unchanged(call(alloc, args, store)),
         FormAction::Read(reading) => read(alloc, reading, args, store),
-        FormAction::ListNames => list_names(alloc, args, store),
-        FormAction::PrintForm => print_form(alloc, args, store),
+        FormAction::ListNames => unchanged(list_names(alloc, args, store)),
+        FormAction::PrintForm => unchanged(print_form(alloc, args, store)),
     }
 }
 
@@ -152,8 +159,9 @@ fn handle_block<A: Allocator + Copy>(
     action: BlockAction,
     args: &Args<'_>,
     store: &Store<A>,
-) -> Result<Made<A>, Refusal>
-    ensures { IsMade (storage_in store.now) (block_handled action args.now (storage_in store.now)) result }
+) -> Result<Done<A>, Refusal>
+    ensures outcome { IsDone args.now (storage_in store.now) (block_handled action args.now (storage_in store.now)) result }
+    ensures change { IfOk result (λ d. IsChangeOf (primitive.HandleBlock action) args.now (storage_in store.now) d.change) }
 {
     match action {
         BlockAction::StoreBlock => store_block(alloc, args, store),

@@ -7,34 +7,38 @@ ghost use Rattle.trac_rules.specs.Effect.{argument, forces};
 ghost use Rattle.trac_rules.specs.Handling.{default_argument, gives_piece, handled, piece_read};
 ghost use Rattle.trac_rules.specs.State.{Storage};
 ghost use Rattle.trac_rules.specs.declared.primitive.FormAction.TheVariants.{Read};
-ghost use Rattle.trac_prims.specs.Effects.{IsMade};
+ghost use Rattle.trac_rules.specs.declared.primitive.FormReading.{FormReading};
+ghost use Rattle.trac_rules.specs.declared.primitive.Primitive.TheVariants.{Handle};
+ghost use Rattle.trac_prims.specs.Changes.{IsChangeOf};
+ghost use Rattle.trac_prims.specs.Effects.{IsDone};
 
 use crate::args::Args;
 use crate::change::Change;
 use crate::decimals::number_at;
-use crate::made::Made;
+use crate::made::{Done, Made};
 use std::alloc::Allocator;
 use trac_forms::{Form, Piece, Store};
 use trac_rules::primitive::FormReading;
 use trac_rules::refusal::Refusal;
 
 // `cs`, `cc`, `cn` and `in`: what is read of a form at its pointer, and the pointer where it stands then; where there is nothing
-// to read the default argument, which is forced.
+// to read the default argument, which is forced, and the pointer where it stands already.
 pub(crate) fn read<A: Allocator + Copy>(
     alloc: A,
     reading: FormReading,
     args: &Args<'_>,
     store: &Store<A>,
-) -> Result<Made<A>, Refusal>
-    ensures { IsMade (storage_in store.now) (handled (Read reading) args.now (storage_in store.now)) result }
+) -> Result<Done<A>, Refusal>
+    ensures outcome { IsDone args.now (storage_in store.now) (handled (Read reading) args.now (storage_in store.now)) result }
+    ensures change { IfOk result (λ d. IsChangeOf (Handle (Read reading)) args.now (storage_in store.now) d.change) }
 {
     let name = args.get(1);
     let Some(form) = store.get(name) else {
-        return Ok(Made::keeping(alloc));
+        return Ok(Done::changing(alloc, Change::Keep));
     };
     match piece_of(reading, args, form)? {
         Some(piece) => give(alloc, name, form, &piece),
-        None => force(alloc, args.get(default_place(reading))),
+        None => force(alloc, name, form, args.get(default_place(reading))),
     }
 }
 
@@ -72,29 +76,47 @@ fn give<A: Allocator + Copy>(
     name: &[u8],
     form: &Form<A>,
     piece: &Piece,
-) -> Result<Made<A>, Refusal>
+) -> Result<Done<A>, Refusal>
     requires { IsThere form.now piece.now }
-    ensures { (other : List ℕ) (storage : Storage) → finite.get storage.forms name.now ≡ Some form.now →
-        IsMade storage (Ok (gives_piece (Some (taken piece.now form.now)) other name.now form.now storage)) result }
+    ensures outcome { (other : List ℕ) (arguments : List (List ℕ)) (storage : Storage) → finite.get storage.forms name.now ≡ Some form.now →
+        IsDone arguments storage (Ok (gives_piece (Some (taken piece.now form.now)) other name.now form.now storage)) result }
+    ensures change { (reading : FormReading) (arguments : List (List ℕ)) (storage : Storage) → name.now ≡ argument 1 arguments →
+        IfOk result (λ d. IsChangeOf (Handle (Read reading)) arguments storage d.change) }
 {
     let mut value = Vec::with_capacity(alloc, piece.len)?;
     form.piece_into(piece, &mut value)?;
     let name = Vec::from_slice(alloc, name)?;
-    Ok(Made {
+    let made = Made {
         value,
-        change: Change::Point(name, piece.pointer),
         ..Made::keeping(alloc)
+    };
+    Ok(Done {
+        made,
+        change: Change::Point(name, piece.pointer),
     })
 }
 
-// Gives a text, forced.
-fn force<A: Allocator + Copy>(alloc: A, text: &[u8]) -> Result<Made<A>, Refusal>
-    ensures { (storage : Storage) → IsMade storage (Ok (forces text.now storage)) result }
+// Gives a text, forced; the pointer of the form of this name stays.
+fn force<A: Allocator + Copy>(
+    alloc: A,
+    name: &[u8],
+    form: &Form<A>,
+    text: &[u8],
+) -> Result<Done<A>, Refusal>
+    ensures outcome { (arguments : List (List ℕ)) (storage : Storage) → finite.get storage.forms name.now ≡ Some form.now →
+        IsDone arguments storage (Ok (forces text.now storage)) result }
+    ensures change { (reading : FormReading) (arguments : List (List ℕ)) (storage : Storage) → name.now ≡ argument 1 arguments →
+        IfOk result (λ d. IsChangeOf (Handle (Read reading)) arguments storage d.change) }
 {
     let value = Vec::from_slice(alloc, text)?;
-    Ok(Made {
+    let name = Vec::from_slice(alloc, name)?;
+    let made = Made {
         value,
         forced: true,
         ..Made::keeping(alloc)
+    };
+    Ok(Done {
+        made,
+        change: Change::Point(name, form.pointer()),
     })
 }

@@ -51,7 +51,7 @@ const RUNS: &[(&[&str], Options)] = &[
         &["trac", "run"],
         Options {
             budget: 1_000_000_000,
-            journal: 64,
+            journal: 65_536,
         },
     ),
     (

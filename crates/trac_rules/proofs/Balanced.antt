@@ -79,6 +79,17 @@ first_place_cases p (suc n) = go (first_place_cases p n) (cases_Bool (p n))
     go (inl none) (inr t) =
         inl (λ k l. ⊎_elim (λ (e : k ≡ n). rw e t) (λ (ne : k ≡ n → ⊥). none k (omega arith)) (cases_eq k n))
 
+-- the first place that passes does pass
+pub first_place_passes : (passes : ℕ → Bool) (n k : ℕ) → first_place passes n ≡ Some k → passes k ≡ true
+first_place_passes p n k found =
+    ⊎_elim
+    (λ (none : (j : ℕ) → j < n → p j ≡ false). absurd (let missing : first_place p n ≡ None = first_place_none p n none in cc))
+    (λ (some : (j : ℕ) × (j < n) × (p j ≡ true) × ((i : ℕ) → i < j → p i ≡ false)).
+    let there : first_place p n ≡ Some some.0 = first_place_some p n some.0 some.1 some.2 some.3 in
+    let same : some.0 ≡ k = cc in
+    ap p (sym same) ∙ some.2)
+    (first_place_cases p n)
+
 -- ---- places that close
 
 -- a `)` before which there are as many `(` as `)` closes

@@ -38,7 +38,7 @@ abbrev pub all_put : Held → Named → Named
 all_put [] es = es
 all_put (entry ∷ entries) es = all_put entries (entry ∷ es)
 
-with_all-held : (entries : Held) (es : Named) → with_all entries (held es) ≡ held (all_put entries es)
+pub with_all-held : (entries : Held) (es : Named) → with_all entries (held es) ≡ held (all_put entries es)
 with_all-held [] es = refl
 with_all-held (entry ∷ entries) es = with_all-held entries (entry ∷ es)
 

@@ -2,6 +2,7 @@ pub mod Balanced
 pub mod Calculated
 pub mod Numerals
 pub mod Cutting
+pub mod Cuts
 pub mod Outcomes
 pub mod Scans
 pub mod Changed
@@ -21,6 +22,14 @@ pub mod Waiting
 pub mod GoingOn
 pub mod OctalTexts
 pub mod Restored
+pub mod FormsBack
+pub mod StorageBack
+pub mod CallsBack
+pub mod StepsBack
+pub mod FurtherOn
 pub mod Weighed
+pub mod CallsWeighed
+pub mod Bounded
 pub mod Losses
+pub mod CallRows
 pub mod MovedOn

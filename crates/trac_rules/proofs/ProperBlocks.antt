@@ -41,7 +41,7 @@ moved_out_among (name ∷ names) forms =
     (moved_out names (finite.remove forms name)) (moved_out_among names (finite.remove forms name)))
 
 -- under a name that was taken nothing is found
-get_taken : (forms : Forms) (name : List ℕ) → finite.get (finite.remove forms name) name ≡ None
+pub get_taken : (forms : Forms) (name : List ℕ) → finite.get (finite.remove forms name) name ≡ None
 get_taken forms name =
     finite.get-remove nat_list_cmp_total forms name name
     ∙ cond-true (eq_by_cmp (slice_cmp nat_cmp) name name) None (finite.get forms name) (ties_itself name)
@@ -115,13 +115,13 @@ All-append_right P [] ys all = all
 All-append_right P (x ∷ xs) ys all = All-append_right P xs ys (All-tail P x (xs ++ ys) all)
 
 -- the block of a number is proper, also where there is none
-block_at_proper : (blocks : List Block) (number : ℕ) → All IsProperBlock blocks → IsProperBlock (block_at number blocks)
+pub block_at_proper : (blocks : List Block) (number : ℕ) → All IsProperBlock blocks → IsProperBlock (block_at number blocks)
 block_at_proper [] number all = tt
 block_at_proper (block ∷ blocks) zero all = All-head IsProperBlock block blocks all
 block_at_proper (block ∷ blocks) (suc number) all = block_at_proper blocks number (All-tail IsProperBlock block blocks all)
 
 -- the forms in a proper block are proper
-in_proper : (block : Block) → IsProperBlock block → All IsProperEntry (forms_in block)
+pub in_proper : (block : Block) → IsProperBlock block → All IsProperEntry (forms_in block)
 in_proper None proper = All-nil IsProperEntry
 in_proper (Some held) proper = proper.each
 

@@ -69,14 +69,14 @@ of_entries (e ∷ es) name form all there =
     (sym (cond-false (eq_by_cmp (slice_cmp nat_cmp) name e.0) (Some e.1) (find (slice_cmp nat_cmp) name es) t) ∙ there))
     (cases_Bool (eq_by_cmp (slice_cmp nat_cmp) name e.0))
 
--- where what is found is proper, so is each entry, since each is found under its own name
-all_entries : (es : List (List ℕ × Form)) → T (is_sorted (slice_cmp nat_cmp) es) →
-    ((name : List ℕ) (form : Form) → find (slice_cmp nat_cmp) name es ≡ Some form → IsProperForm name form) → All IsProperEntry es
-all_entries [] sorted found = All-nil IsProperEntry
-all_entries (e ∷ es) sorted found =
-    All-cons IsProperEntry e es
+-- what holds of all that is found holds of each entry, since each is found under its own name
+pub all_entries : (P : List ℕ → Form → Type 0) (es : List (List ℕ × Form)) → T (is_sorted (slice_cmp nat_cmp) es) →
+    ((name : List ℕ) (form : Form) → find (slice_cmp nat_cmp) name es ≡ Some form → P name form) → All (λ e. P e.0 e.1) es
+all_entries P [] sorted found = All-nil (λ e. P e.0 e.1)
+all_entries P (e ∷ es) sorted found =
+    All-cons (λ e. P e.0 e.1) e es
     (found e.0 e.1 (cond-true (eq_by_cmp (slice_cmp nat_cmp) e.0 e.0) (Some e.1) (find (slice_cmp nat_cmp) e.0 es) (ties_itself e.0)))
-    (all_entries es parts.1 (λ name form there. found name form (later name form there)))
+    (all_entries P es parts.1 (λ name form there. found name form (later name form there)))
   where
     both : (a b : Bool) → T (a && b) → T a × T b
     both true b h = (tt, h)
@@ -103,7 +103,7 @@ forms_decided forms =
     (λ h. record { count = h.0; each = λ name form there. of_entries (finite.entries forms) name form h.1 (sym (finite.get-entries forms name) ∙ there) })
     (λ proper. (
       proper.count,
-      all_entries (finite.entries forms) (finite.entries_sorted forms)
+      all_entries IsProperForm (finite.entries forms) (finite.entries_sorted forms)
           (λ name form there. proper.each name form (finite.get-entries forms name ∙ there)),
     ))
     (Decides-and (nat_le (finite.len forms) FORM_COUNT_LIMIT) (list_all (λ e. is_proper_form e.0 e.1) (finite.entries forms))

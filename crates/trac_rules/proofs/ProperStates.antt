@@ -91,7 +91,7 @@ pointed_proper name place form forms proper there =
     (let again = len-put_again forms name form (pointed_at place (all_items form)) there in omega (arith, again, proper.count))
 
 -- and they stay proper without these names
-without_proper : (names : List (List ℕ)) (forms : Forms) → AreProperForms forms → AreProperForms (without names forms)
+pub without_proper : (names : List (List ℕ)) (forms : Forms) → AreProperForms forms → AreProperForms (without names forms)
 without_proper [] forms proper = proper
 without_proper (name ∷ names) forms proper =
     without_proper names (finite.remove forms name) (record {

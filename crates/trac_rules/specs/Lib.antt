@@ -6,6 +6,7 @@ pub mod State
 pub mod Matching
 pub mod Segmenting
 pub mod Filling
+pub mod Cuts
 pub mod Showing
 pub mod Listing
 pub mod Pieces
@@ -22,6 +23,7 @@ pub mod Blocks
 pub mod Outcomes
 pub mod Performing
 pub mod Stepping
+pub mod Undone
 pub mod Records
 pub mod Weights
 pub mod PlainRuns

@@ -1,6 +1,6 @@
 -- What a record weighs, by what it keeps, and what a step may cost the journal, by the state before it: bytes of texts and names, items of
--- forms, and one for each comma, frame and form. Lengths and flags are not weighed.
-use Rattle.std.specs.Prelude.{ℕ, ◌+◌, ◌-◌, List, [], ◌∷◌, ◌++◌, length, map, take, drop}
+-- forms, places of gaps, and one for each comma, frame and name. Lengths, flags, old pointers and numbers of blocks are not weighed.
+use Rattle.std.specs.Prelude.{ℕ, ◌+◌, ◌-◌, List, [], ◌∷◌, ◌++◌, length, map, take, drop, Option, None, Some}
 use Rattle.std.specs.FinMap as finite
 use Rattle.std.specs.Option.{option_map_or}
 use Rattle.trac_rules.specs.declared.item.Item.{Item}
@@ -19,10 +19,11 @@ use Rattle.trac_rules.specs.Form.{Form, all_items}
 use Rattle.trac_rules.specs.Handling.{named_form, without}
 use Rattle.trac_rules.specs.Limits.{argument_bytes, marks, total_length}
 use Rattle.trac_rules.specs.Performing.{primitive_of}
-use Rattle.trac_rules.specs.Records.{Record, Moved, Comma, Begun, Quoted, Deleted, Idle, Whole}
-use Rattle.trac_rules.specs.Scanning.{front_of}
+use Rattle.trac_rules.specs.Records.{CallRecord, Record, Moved, Comma, Begun, Quoted, Deleted, Idle, Called, recorded}
+use Rattle.trac_rules.specs.Scanning.{Scanned, Moves, Calls, front_of, scan}
 use Rattle.trac_rules.specs.Segmenting.{segmented}
-use Rattle.trac_rules.specs.State.{Block, Forms, Frame, Held, State, Storage, storage_of}
+use Rattle.trac_rules.specs.State.{Forms, Frame, Held, State, Storage, storage_of}
+use Rattle.trac_rules.specs.Undone.{Undone, Nothing, Point, Join, Swap, Restore, MoveOut, Unbring, Unerase, undone_by}
 
 -- ---- what is kept
 
@@ -36,16 +37,30 @@ abbrev pub held_weight : Held → ℕ
 held_weight [] = 0
 held_weight (entry ∷ held) = length (all_items entry.1) + length entry.0 + 1 + held_weight held
 
--- blocks: the forms that they hold
-abbrev pub blocks_weight : List Block → ℕ
-blocks_weight [] = 0
-blocks_weight (block ∷ blocks) = held_weight (forms_in block) + blocks_weight blocks
+-- a form without its name, where there is one: its items
+abbrev pub form_weight : Option Form → ℕ
+form_weight found = option_map_or (λ form. length (all_items form)) found 0
 
--- a state: its texts, one for the meta character, its frames, forms and blocks
-abbrev pub state_weight : State → ℕ
-state_weight s =
-    length s.active + length s.base + frames_weight s.frames + length s.output + 1
-    + held_weight (finite.entries s.forms) + blocks_weight s.blocks
+-- what a call destroyed of forms and blocks
+abbrev pub undone_weight : Undone → ℕ
+undone_weight Nothing = 0
+undone_weight (Point place) = 0
+undone_weight (Join cut place) = length cut
+undone_weight (Swap old) = form_weight old
+undone_weight (Restore held) = held_weight held
+undone_weight (MoveOut old) = form_weight old
+undone_weight (Unbring number replaced) = held_weight replaced
+undone_weight (Unerase number held address) = held_weight held + length (all_items address)
+
+-- a meta character, where one is kept
+abbrev pub meta_weight : Option ℕ → ℕ
+meta_weight None = 0
+meta_weight (Some byte) = 1
+
+-- what a call destroyed: its arguments with one for each comma between them, one for a meta character, and what is kept of forms and blocks
+abbrev pub call_weight : CallRecord → ℕ
+call_weight call =
+    total_length call.arguments + (length call.arguments - 1) + meta_weight call.meta + undone_weight call.undone
 
 -- what a record weighs
 abbrev pub weight : Record → ℕ
@@ -55,7 +70,34 @@ weight Begun = 0
 weight (Quoted inner closed) = 0
 weight (Deleted b) = 1
 weight (Idle base frames) = length base + frames_weight frames
-weight (Whole s) = state_weight s
+weight (Called call) = call_weight call
+
+-- ---- what the record of a step weighs, by the state before the step: it does not depend on the input
+
+-- what a primitive keeps of the meta character: one where it is set
+abbrev pub meta_kept : Primitive → List (List ℕ) → ℕ
+meta_kept SetMeta arguments = length (take 1 (argument 1 arguments))
+meta_kept primitive arguments = 0
+
+-- of a call of these arguments: their bytes, one for each comma between them, one for a meta character that is set, and what is destroyed
+-- of forms and blocks
+abbrev pub kept_weight : List (List ℕ) → Storage → ℕ
+kept_weight arguments storage =
+    total_length arguments + (length arguments - 1) + meta_kept (primitive_of (argument 0 arguments)) arguments
+    + undone_weight (undone_by (primitive_of (argument 0 arguments)) arguments storage)
+
+-- by what scanning gives: of a rule that moves on the weight of what it destroys, and else that of the call
+abbrev pub step_weight_in : State → Scanned → ℕ
+step_weight_in s (Moves t) = weight (recorded s)
+step_weight_in s (Calls call) = kept_weight call.arguments (storage_of call.state)
+
+abbrev pub step_weight : State → ℕ
+step_weight s = step_weight_in s (scan s)
+
+-- what the records of the steps from these states weigh together
+abbrev pub weights_from : List State → ℕ
+weights_from [] = 0
+weights_from (s ∷ states) = step_weight s + weights_from states
 
 -- ---- what a call may lose beside its arguments
 
@@ -133,3 +175,8 @@ loss_at front.Plain s = 0
 -- what the step from a state may cost the journal
 abbrev pub loss : State → ℕ
 loss s = loss_at (front_of s.active) s
+
+-- what the steps from these states may lose
+abbrev pub losses_from : List State → ℕ
+losses_from [] = 0
+losses_from (s ∷ states) = loss s + losses_from states

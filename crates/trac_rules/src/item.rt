@@ -8,3 +8,10 @@ pub enum Item {
     /// Where the text of this ordinal was cut out, which was `width` bytes long: at least one.
     Gap { ordinal: u32, width: u32 },
 }
+
+/// A gap that segmenting makes: how many items stand before it in the segmented form, and its ordinal.
+#[derive(Clone, Copy, Debug, PartialEq, Eq)]
+pub struct CutGap {
+    pub place: usize,
+    pub ordinal: u32,
+}

@@ -4,6 +4,7 @@
 
 pub mod blocks;
 pub mod byte;
+pub mod call_rows;
 pub mod item;
 pub mod kind;
 pub mod laws;

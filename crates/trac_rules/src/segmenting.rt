@@ -1,10 +1,14 @@
 //! Laws of segmenting and calling, each the contract of a function that does nothing.
-ghost use Rattle.std.specs.Prelude.{◌≡◌, ◌++◌, ◌∷◌, ◌≤◌, [], List, ℕ, length};
+ghost use Rattle.std.specs.Prelude.{◌≡◌, ◌+◌, ◌++◌, ◌∷◌, ◌≤◌, [], codes, List, None, Some, ℕ, length};
+ghost use Rattle.std.specs.List.{All};
+ghost use Rattle.trac_rules.specs.Cuts.{cut_of, joined};
 ghost use Rattle.trac_rules.specs.Filling.{all_filled};
-ghost use Rattle.trac_rules.specs.Form.{Form, all_items, as_items, extent};
+ghost use Rattle.trac_rules.specs.Form.{Form, IsWide, all_items, as_items, defined, extent, pointed_at};
 ghost use Rattle.trac_rules.specs.Segmenting.{cut_out, part, segmented};
+ghost use Rattle.trac_rules.specs.Weights.{gap_count, gaps_made};
+ghost use Rattle.trac_rules.specs.declared.item.CutGap.{CutGap};
 ghost use Rattle.trac_rules.specs.declared.item.Item.{Item};
-ghost use Rattle.trac_rules.specs.declared.item.Item.TheVariants.{Gap};
+ghost use Rattle.trac_rules.specs.declared.item.Item.TheVariants.{Byte, Gap};
 
 /// Of a run the leftmost occurrence of a text is cut out first, and what stands behind it is cut in the same way.
 /// A run without an occurrence stays, and so does each run where the text is null.
@@ -33,4 +37,43 @@ pub fn segmenting_keeps_the_extent()
 pub fn filling_undoes_segmenting()
     ensures { (texts : List (List ℕ)) (form : Form) →
         all_filled texts (all_items (segmented texts form)) ≡ all_filled texts (all_items form) }
+{}
+
+/// The gaps that segmenting makes, filled with the same texts, give the items as they were before. There are as many of them as
+/// the form has gaps more than before. Filling the gaps of any cut keeps the extent, and leaves all gaps wide.
+pub fn cuts_are_filled_again()
+    ensures back { (texts : List (List ℕ)) (form : Form) → joined texts (cut_of texts form) (all_items (segmented texts form)) ≡ Some (all_items form) }
+    ensures count { (texts : List (List ℕ)) (form : Form) → gap_count (all_items (segmented texts form)) ≡ gap_count (all_items form) + length (cut_of texts form) }
+    ensures made { (texts : List (List ℕ)) (form : Form) → length (cut_of texts form) ≡ gaps_made texts form }
+    ensures extent { (texts : List (List ℕ)) (cut : List CutGap) (items before : List Item) → joined texts cut items ≡ Some before → extent before ≡ extent items }
+    ensures wide { (texts : List (List ℕ)) (cut : List CutGap) (items before : List Item) → joined texts cut items ≡ Some before → All IsWide items → All IsWide before }
+{}
+
+/// Which gaps segmenting makes, and how they are filled again.
+pub fn worked_cuts()
+    // A text that stands twice.
+    ensures twice { cut_of (codes "b" ∷ []) (defined (codes "abcb")) ≡ record { place = 1; ordinal = 1 } ∷ record { place = 3; ordinal = 1 } ∷ [] }
+    ensures twice_back { joined (codes "b" ∷ []) (record { place = 1; ordinal = 1 } ∷ record { place = 3; ordinal = 1 } ∷ []) (Byte 97 ∷ Gap 1 1 ∷ Byte 99 ∷ Gap 1 1 ∷ []) ≡ Some (as_items (codes "abcb")) }
+    // Two texts, the second one searched in what the first one left.
+    ensures two_texts { cut_of (codes "b" ∷ codes "ca" ∷ []) (defined (codes "abcabc")) ≡ record { place = 1; ordinal = 1 } ∷ record { place = 2; ordinal = 2 } ∷ record { place = 3; ordinal = 1 } ∷ [] }
+    ensures two_texts_back { joined (codes "b" ∷ codes "ca" ∷ []) (record { place = 1; ordinal = 1 } ∷ record { place = 2; ordinal = 2 } ∷ record { place = 3; ordinal = 1 } ∷ []) (Byte 97 ∷ Gap 1 1 ∷ Gap 2 2 ∷ Gap 1 1 ∷ Byte 99 ∷ []) ≡ Some (as_items (codes "abcabc")) }
+    // A null text makes no gap, and uses up its number.
+    ensures null_text { cut_of ([] ∷ codes "na" ∷ []) (defined (codes "ban")) ≡ [] }
+    ensures behind_null_text { cut_of ([] ∷ codes "an" ∷ []) (defined (codes "ban")) ≡ record { place = 1; ordinal = 2 } ∷ [] }
+    // An earlier gap is none of them, though it is like them in all, and stays when they are filled.
+    ensures beside_an_earlier_gap { cut_of (codes "x" ∷ []) (segmented (codes "y" ∷ []) (defined (codes "yxb"))) ≡ record { place = 1; ordinal = 1 } ∷ [] }
+    ensures earlier_gap_stays { joined (codes "x" ∷ []) (record { place = 1; ordinal = 1 } ∷ []) (Gap 1 1 ∷ Gap 1 1 ∷ Byte 98 ∷ []) ≡ Some (Gap 1 1 ∷ Byte 120 ∷ Byte 98 ∷ []) }
+    ensures earlier_gaps_alone { cut_of (codes "y" ∷ []) (pointed_at 1 (Gap 1 1 ∷ Gap 2 3 ∷ [])) ≡ [] }
+    ensures nothing_to_fill { joined [] [] (Byte 97 ∷ Gap 1 1 ∷ []) ≡ Some (Byte 97 ∷ Gap 1 1 ∷ []) }
+    // The pointer bounds no run.
+    ensures across_the_pointer { cut_of (codes "bc" ∷ []) (pointed_at 2 (as_items (codes "abc"))) ≡ record { place = 1; ordinal = 1 } ∷ [] }
+    // There is nothing to fill where no gap stands, or one of another ordinal or width; nor at a place that does not rise or is past the end.
+    ensures byte_there { joined (codes "x" ∷ []) (record { place = 0; ordinal = 1 } ∷ []) (Byte 120 ∷ Gap 1 1 ∷ []) ≡ None }
+    ensures other_ordinal { joined (codes "x" ∷ codes "y" ∷ []) (record { place = 0; ordinal = 2 } ∷ []) (Gap 1 1 ∷ []) ≡ None }
+    ensures narrower { joined (codes "xy" ∷ []) (record { place = 0; ordinal = 1 } ∷ []) (Gap 1 1 ∷ []) ≡ None }
+    ensures wider { joined (codes "x" ∷ []) (record { place = 0; ordinal = 1 } ∷ []) (Gap 1 2 ∷ []) ≡ None }
+    ensures no_width { joined ([] ∷ []) (record { place = 0; ordinal = 1 } ∷ []) (Gap 1 0 ∷ []) ≡ None }
+    ensures missing_text { joined [] (record { place = 0; ordinal = 1 } ∷ []) (Gap 1 1 ∷ []) ≡ None }
+    ensures same_place { joined (codes "x" ∷ []) (record { place = 0; ordinal = 1 } ∷ record { place = 0; ordinal = 1 } ∷ []) (Gap 1 1 ∷ Gap 1 1 ∷ []) ≡ None }
+    ensures past_the_end { joined (codes "x" ∷ []) (record { place = 1; ordinal = 1 } ∷ []) (Gap 1 1 ∷ []) ≡ None }
 {}

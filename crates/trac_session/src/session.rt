@@ -3,6 +3,7 @@ ghost use Rattle.std.specs.Prelude.{◌≡◌, ◌==◌, ◌≤◌, ◌-◌, dro
 ghost use Rattle.trac_rules.specs.declared.reply.Reply.TheVariants.{Done};
 ghost use Rattle.trac_rules.specs.Reading.{unread};
 ghost use Rattle.trac_rules.specs.Session.{new_session, Feed, End, Step, Back, Commit, answer, Answers, IsWalk, no_goal, settled};
+ghost use Rattle.trac_rules.specs.Weights.{losses_from, weights_from};
 ghost use Rattle.trac_session.specs.Replies.{reply_of};
 
 use crate::journal::Journal;
@@ -31,6 +32,7 @@ impl<A: Allocator + Copy> Model for Session<A> {
     ghost use Rattle.trac_rules.specs.Session.{PlainSession};
     ghost use Rattle.trac_session.specs.Codes.{session_code};
     ghost use Rattle.trac_session.specs.Journal.{plain_of, IsSound};
+    ghost use Rattle.trac_session.specs.Weighed.{weighed};
 
     ghost Value = { PlainSession };
 
@@ -38,7 +40,7 @@ impl<A: Allocator + Copy> Model for Session<A> {
 
     ghost view = { λ s. plain_of before s.limit s.tape.items s.ended s.journal s.machine.state };
 
-    ghost invariant = { λ s. IsSound before s.limit s.tape.items s.journal s.machine };
+    ghost invariant = { λ s. IsSound before weighed s.limit s.tape.items s.journal s.machine };
 }
 
 impl<A: Allocator + Copy> Session<A> {
@@ -151,6 +153,16 @@ impl<A: Allocator + Copy> Session<A> {
         self.len() == 0
     }
 
+    /// What the records of the steps that can be gone back over weigh together: of what was destroyed bytes, items of forms and places
+    /// of gaps, and one for each comma, begun function, name and meta character. Lengths, places and flags are not weighed (this project's
+    /// profile). It takes no memory, and time for the records but those of moved bytes.
+    pub fn weight(&self) -> u64
+        ensures together { result ≡ weights_from self.now.earlier }
+        ensures within { result ≤ losses_from self.now.earlier }
+    {
+        self.journal.weight()
+    }
+
     /// The machine, which shows the last state. It takes no memory (this project's profile).
     pub fn machine(&self) -> &Machine<A>
         ensures last { result.now.state ≡ self.now.last }
@@ -167,7 +179,7 @@ fn settle<E: TwoEnds<u8, A>, M: TwoEnds<Mark, A>, A: Allocator + Copy>(
     tape: &mut Vec<u8, A>,
 )
     requires { machine.old.state.position ≤ length tape.old.items }
-    ensures machine { machine.new ≡ record machine.old { state = settled machine.old.state } }
+    ensures state { machine.new.state ≡ settled machine.old.state }
     ensures tape { tape.new.items ≡ drop machine.old.state.position tape.old.items }
 {
     let read = machine.position();

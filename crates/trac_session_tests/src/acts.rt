@@ -41,6 +41,8 @@ pub(crate) enum Act {
     Forms(usize),
     /// So many steps can be gone back over.
     Records(usize),
+    /// The records of these weigh so much together.
+    Weighs(u64),
     /// The state is the one in which a processor begins.
     Initial,
 }
@@ -148,10 +150,15 @@ fn has_records(session: &Session, count: usize) -> bool {
     session.len() == count && session.is_empty() == (count == 0)
 }
 
+fn weighs(session: &Session, weight: u64) -> bool {
+    session.weight() == weight
+}
+
 // Whether the part that an act speaks of is so.
 fn look(alloc: Global, session: &Session, act: &Act) -> Result<bool, AllocError> {
     match *act {
         Act::Records(count) => Ok(has_records(session, count)),
+        Act::Weighs(weight) => Ok(weighs(session, weight)),
         Act::Pending(text) => Ok(session.pending() == text),
         _ => look_at(alloc, session.machine(), act),
     }

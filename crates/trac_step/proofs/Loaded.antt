@@ -21,7 +21,8 @@ use Rattle.trac_rules.proofs.NamedForms.{get-put}
 use Rattle.trac_rules.proofs.ProperBlocks.{All-append_right, EachProper, IsProperEntry, each_with_all, moved_out_among, moved_out_distinct}
 use Rattle.trac_rules.proofs.ProperDecided.{proper_decided}
 use Rattle.trac_forms.specs.Stored.{KnowsAll, Names}
-use Rattle.trac_prims.specs.Effects.{named_forms, names_in, texts_of}
+use Rattle.trac_rules.specs.Undone.{names_in}
+use Rattle.trac_prims.specs.Effects.{named_forms, texts_of}
 use Rattle.trac_step.specs.declared.loading.Parts as code
 use Rattle.trac_step.specs.Changing.{KnowsNamed}
 use Rattle.trac_step.specs.Loading.{AreProperEntries, IsProperList, block_entries_fit, block_few, block_of, blocks_fit, counts_fit, entries_fit, forms_few, forms_of, held_of, lengths_fit, names_fit, parts_fit, rooms_fit, state_in}

@@ -54,7 +54,12 @@ with_protected p e = record e { left = e.left ++ p.inner; right = p.rest }
 -- the state after the call that scanning asks for, where this is planned
 abbrev pub state_after : {A : Type 0} → code.Effect A → Scanned → State
 state_after e (Moves t) = t
-state_after e (Calls call) = after_planned call (planned_on (storage_of call.state) e)
+state_after e (Calls call) = after_planned call (planned_on call.arguments (storage_of call.state) e)
+
+-- the arguments of the call that scanning asks for
+abbrev pub arguments_in : Scanned → List (List ℕ)
+arguments_in (Moves t) = []
+arguments_in (Calls call) = call.arguments
 
 -- the first of the frames, the innermost function, begins here: the base text and the other frames stand before it
 abbrev pub BeginsFirst : List Frame → List ℕ → Beginning → Type 0

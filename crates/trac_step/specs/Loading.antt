@@ -15,7 +15,8 @@ use Rattle.trac_rules.specs.State.{Block, Forms, Frame, Held, State, Storage}
 use Rattle.trac_gap.specs.Ends.{Ends}
 use Rattle.trac_prims.specs.declared.mark.Mark.{Mark}
 use Rattle.trac_prims.specs.Neutral.{MarkedText, Neutral}
-use Rattle.trac_prims.specs.Effects.{named_forms, names_in, texts_of}
+use Rattle.trac_rules.specs.Undone.{names_in}
+use Rattle.trac_prims.specs.Effects.{named_forms, texts_of}
 use Rattle.trac_step.specs.declared.loading.Parts as code
 use Rattle.trac_step.specs.Layout.{Shown}
 

@@ -1,46 +1,17 @@
 //! Moving forms into a block, and bringing copies of them back, as a call planned it.
-ghost use Rattle.std.specs.Prelude.{◌≡◌, ◌≤◌, [], length, IfOk, IsOkUnless, OnOk};
+ghost use Rattle.std.specs.Prelude.{◌≡◌, ◌≤◌, [], length, IsOkUnless, OnOk};
 ghost use Rattle.trac_rules.specs.Blocks.{moved_out, with_all};
 ghost use Rattle.trac_rules.specs.Handling.{without};
 ghost use Rattle.trac_forms.specs.Stored.{storage_in};
 ghost use Rattle.trac_prims.specs.Effects.{named_forms, texts_of};
-ghost use Rattle.trac_step.specs.Changing.{KnowsNamed, held_by};
+ghost use Rattle.trac_step.specs.Changing.{KnowsNamed};
 ghost use Rattle.trac_step.specs.Room.{AreAmong};
 
 use std::alloc::Allocator;
 use trac_forms::{Block, Form, FormError, Store};
-use trac_prims::{Change, Refusal};
 
 /// A form with its name.
-type Named<A> = (Vec<u8, A>, Form<A>);
-
-// A block of no forms with places for the forms that a change moves into one.
-pub(crate) fn block_for<A: Allocator + Copy>(
-    alloc: A,
-    change: &Change<A>,
-) -> Result<Block<A>, Refusal>
-    ensures none { IfOk result (λ block. block.held ≡ []) }
-    ensures room { IfOk result (λ block. length (held_by change.now) ≤ block.room) }
-    ensures err { IsOkUnless result Refusal.Memory }
-{
-    Ok(Block::with_room(alloc, count_held(change))?)
-}
-
-// How many forms a change moves into a block.
-fn count_held<A: Allocator + Copy>(change: &Change<A>) -> usize
-    ensures { result ≡ length (held_by change.now) }
-{
-    match change {
-        Change::MoveIn { held, .. } => held.len(),
-        Change::Keep
-        | Change::Put(_, _)
-        | Change::Remove(_)
-        | Change::Clear
-        | Change::Point(_, _)
-        | Change::Bring { .. }
-        | Change::Erase { .. } => 0,
-    }
-}
+pub(crate) type Named<A> = (Vec<u8, A>, Form<A>);
 
 // Makes a place for each of these forms. The forms of the store stay as they are.
 pub(crate) fn know_each<A: Allocator + Copy>(

@@ -1,26 +1,37 @@
 //! The steps that perform a function.
-ghost use Rattle.std.specs.Prelude.{◌≡◌, ◌<◌, ◌≤◌, ◌+◌, ◌^◌, ◌++◌, [], length, take, drop, IfErr, IfOk, IsOkUnless, OnOk, Ok, vec_capacity, vec_len};
+ghost use Rattle.std.specs.Prelude.{◌≡◌, ◌<◌, ◌≤◌, ◌+◌, ◌-◌, ◌++◌, length, take, drop, option_map, IfErr, IfOk, IsOkUnless, OnErr, OnOk, Ok, Some, vec_capacity, vec_len};
 ghost use Rattle.trac_gap.specs.Ends.{item_count};
 ghost use Rattle.trac_rules.specs.Outcomes.{MayAnswer, MayRefuse};
 ghost use Rattle.trac_rules.specs.Proper.{IsProper};
-ghost use Rattle.trac_rules.specs.Records.{recorded};
+ghost use Rattle.trac_rules.specs.Effect as acting;
+ghost use Rattle.trac_rules.specs.Effect.{argument};
+ghost use Rattle.trac_rules.specs.Performing.{effect_of, primitive_of};
+ghost use Rattle.trac_rules.specs.Records as rules;
+ghost use Rattle.trac_rules.specs.Records.{is_scanned, record_of};
+ghost use Rattle.trac_rules.specs.State.{Environment, State, storage_of};
 ghost use Rattle.trac_rules.specs.Scanning.{front_of, scan};
 ghost use Rattle.trac_rules.specs.Stepping.{step};
 ghost use Rattle.trac_prims.specs.Tape.{environment_of};
-ghost use Rattle.trac_step.specs.Changing.{held_by};
-ghost use Rattle.trac_step.specs.Calling.{BeginsInnermost, HasRoomFor, state_after, with_value};
+ghost use Rattle.trac_prims.specs.Changes.{NamesGiven, undone_of};
+ghost use Rattle.trac_step.specs.Changing.{AreMadeFor};
+ghost use Rattle.trac_step.specs.Calling.{BeginsInnermost, HasRoomFor, arguments_in, state_after, with_value};
+ghost use Rattle.trac_step.specs.Pieces.{all_texts};
 ghost use Rattle.trac_step.specs.Record.{recorded_by};
+ghost use Rattle.trac_step.specs.Returning.{record_with};
 ghost use Rattle.trac_step.specs.Room.{IsNoLess, LacksRoomAhead};
+ghost use Rattle.trac_step.specs.Undone.{undone_in};
 
-use crate::blocking::block_for;
-use crate::changing::{change_forms, make_place};
+use crate::changing::change_forms;
 use crate::ends;
 use crate::engine::Core;
+use crate::pieces::Pieces;
+use crate::places::{Places, make_place, places_for};
 use crate::record::Record;
+use crate::undoing::Called;
+use crate::undone::Undone;
 use std::alloc::Allocator;
-use trac_forms::Block;
 use trac_gap::TwoEnds;
-use trac_prims::{Effect, Kind, Mark, Now, Refusal, Tape, plan};
+use trac_prims::{Args, Effect, Kind, Mark, NeutralText, Now, Refusal, Tape, plan, sets_meta};
 use trac_rules::scan::Front;
 
 // Where a begun function begins.
@@ -31,6 +42,41 @@ pub(crate) struct Beginning {
     // how many bytes of the neutral text stand before it
     pub(crate) place: usize,
     pub(crate) kind: Kind,
+}
+
+// Where the function of a planned call begins, and what the call's record says beside its arguments, and what was destroyed of forms and
+// blocks.
+#[derive(Clone, Copy)]
+pub(crate) struct Plan {
+    pub(crate) beginning: Beginning,
+    pub(crate) called: Called,
+}
+
+// What the record of a call says beside its arguments, and what was destroyed of forms and blocks.
+fn called_by<A: Allocator + Copy>(
+    kind: Kind,
+    arguments: &Args<'_>,
+    now: Now,
+    effect: &Effect<A>,
+) -> Called
+    requires { now.position ≤ effect.now.position }
+    ensures kind { result.kind ≡ kind }
+    ensures value { result.value ≡ length effect.now.value.items }
+    ensures scanned { result.scanned ≡ is_scanned kind effect.now.forced }
+    ensures printed { result.printed ≡ length effect.now.print.items }
+    ensures read { result.read ≡ effect.now.position - now.position }
+    ensures meta { (environment : Environment) (s : State) (e : acting.Effect) → effect_of (primitive_of (argument 0 arguments.now)) environment arguments.now s ≡ Ok e → result.meta ≡ option_map (λ _. now.meta) e.meta }
+    ensures trace { result.trace ≡ now.trace }
+{
+    Called {
+        kind,
+        value: effect.value.len(),
+        scanned: effect.forced | (kind == Kind::Active),
+        printed: effect.print.len(),
+        read: effect.position - now.position,
+        meta: sets_meta(arguments).then_some(now.meta),
+        trace: now.trace,
+    }
 }
 
 // Cuts off the function that begins here, and its `)`.
@@ -77,24 +123,17 @@ pub(crate) fn append<A: Allocator + Copy>(list: &mut Vec<u8, A>, text: &[u8])
     };
 }
 
-// Puts a text in the place of all that the list holds; the list has to have room for it.
-pub(crate) fn overwrite<A: Allocator + Copy>(list: &mut Vec<u8, A>, text: &[u8])
-    requires { length text.now ≤ vec_capacity list.old }
-    ensures items { list.new.items ≡ text.now }
-    ensures room { vec_capacity list.old ≤ vec_capacity list.new }
-{
-    list.clear();
-    append(list, text);
-}
-
 impl<E: TwoEnds<u8, A>, M: TwoEnds<Mark, A>, A: Allocator + Copy> Core<E, M, A> {
-    // What the call will do that the next step performs, and where its function begins; or why it is refused.
-    fn planned(&self, tape: Tape<'_>) -> Result<(Beginning, Effect<A>), Refusal>
+    // What the call will do that the next step performs, where its function begins, and what its record says; or why it is refused.
+    fn planned(&self, tape: Tape<'_>) -> Result<(Plan, Effect<A>), Refusal>
         requires front { front_of self.now.state.active ≡ Front.Closing }
         requires inside { 0 < length self.now.state.frames }
         requires within { self.now.state.position ≤ length tape.bytes.now }
         ensures outcome { MayAnswer (λ r. state_after r.1 (scan self.now.state)) (step (environment_of tape.entry) self.now.state) result }
-        ensures beginning { IfOk result (λ r. BeginsInnermost self.now.state r.0) }
+        ensures beginning { IfOk result (λ r. BeginsInnermost self.now.state r.0.beginning) }
+        ensures recorded { IfOk result (λ r. record_of (environment_of tape.entry) self.now.state
+            ≡ Some (rules.Called (record_with r.0.called (arguments_in (scan self.now.state)) (undone_of r.1.change (storage_of self.now.state))))) }
+        ensures given { IfOk result (λ r. NamesGiven (arguments_in (scan self.now.state)) (storage_of self.now.state) r.1.change) }
         ensures proper { IfOk result (λ r. IsProper (state_after r.1 (scan self.now.state))) }
     {
         let Some(function) = self.neutral().innermost() else {
@@ -120,7 +159,21 @@ impl<E: TwoEnds<u8, A>, M: TwoEnds<Mark, A>, A: Allocator + Copy> Core<E, M, A> 
             place: function.place,
             kind: function.kind,
         };
-        Ok((beginning, effect))
+        let called = called_by(function.kind, &function.arguments, now, &effect);
+        Ok((Plan { beginning, called }, effect))
+    }
+
+    // A copy of the arguments of the call that the next step performs.
+    fn arguments(&self) -> Result<Pieces<A>, Refusal>
+        requires front { front_of self.now.state.active ≡ Front.Closing }
+        requires inside { 0 < length self.now.state.frames }
+        ensures same { IfOk result (λ p. all_texts p ≡ arguments_in (scan self.now.state)) }
+        ensures err { IsOkUnless result Refusal.Memory }
+    {
+        let Some(function) = self.neutral().innermost() else {
+            unreachable!()
+        };
+        Pieces::of(*self.output.allocator(), &function.arguments)
     }
 
     // Makes room for what the call adds, so that finishing it needs no memory. The state stays.
@@ -135,17 +188,55 @@ impl<E: TwoEnds<u8, A>, M: TwoEnds<Mark, A>, A: Allocator + Copy> Core<E, M, A> 
         make_place(&mut self.store, &effect.change)
     }
 
-    // Performs the call: the function is gone, what it prints is printed, and its value is where it goes. It takes no memory.
-    fn finish_call(&mut self, beginning: Beginning, effect: Effect<A>, block: Block<A>)
+    // What is made for the change of forms and blocks that a call planned.
+    fn places(&self, effect: &Effect<A>) -> Result<Places<A>, Refusal>
+        ensures made { IfOk result (AreMadeFor effect.now.change self.now.state.forms) }
+        ensures err { IsOkUnless result Refusal.Memory }
+    {
+        places_for(*self.output.allocator(), &self.store, &effect.change)
+    }
+
+    // Takes all memory that the call needs: for a copy of its arguments, for what leaves forms and blocks, and room for what it adds. The
+    // state stays.
+    fn made_ready(&mut self, effect: &Effect<A>) -> Result<(Pieces<A>, Places<A>), Refusal>
+        requires front { front_of self.old.state.active ≡ Front.Closing }
+        requires inside { 0 < length self.old.state.frames }
+        ensures room_for { OnOk result (HasRoomFor effect.now self.new) }
+        ensures arguments { IfOk result (λ r. all_texts r.0 ≡ arguments_in (scan self.old.state)) }
+        ensures made { IfOk result (λ r. AreMadeFor effect.now.change self.old.state.forms r.1) }
+        ensures state { self.new.state ≡ self.old.state }
+        ensures room { IsNoLess self.old self.new }
+        ensures err { IsOkUnless result Refusal.Memory }
+    {
+        let arguments = self.arguments()?;
+        let places = self.places(effect)?;
+        self.make_room(effect)?;
+        Ok((arguments, places))
+    }
+
+    // Performs the call: forms and blocks change, the function is gone, what it prints is printed, and its value is where it goes. Answers
+    // what was destroyed of forms and blocks. It takes no memory.
+    fn finish_call(
+        &mut self,
+        beginning: Beginning,
+        effect: Effect<A>,
+        places: Places<A>,
+    ) -> Undone<A>
         requires front { front_of self.old.state.active ≡ Front.Closing }
         requires beginning { BeginsInnermost self.old.state beginning }
         requires room { HasRoomFor effect self.old }
-        requires none { block.held ≡ [] }
-        requires places { length (held_by effect.change) ≤ block.room }
+        requires made { AreMadeFor effect.change self.old.state.forms places }
+        requires given { NamesGiven (arguments_in (scan self.old.state)) (storage_of self.old.state) effect.change }
         requires proper { IsProper (state_after effect (scan self.old.state)) }
         ensures state { self.new.state ≡ state_after effect (scan self.old.state) }
+        ensures undone { undone_in result ≡ undone_of effect.change (storage_of self.old.state) }
         ensures room { IsNoLess self.old self.new }
     {
+        let text = NeutralText::new(self.text.left(), self.marks.left());
+        let Some(function) = text.innermost() else {
+            unreachable!()
+        };
+        let change = change_forms(&mut self.store, &function.arguments, effect.change, places);
         cut_function(&mut self.text, &mut self.marks, beginning);
         put_value(
             &mut self.text,
@@ -154,38 +245,53 @@ impl<E: TwoEnds<u8, A>, M: TwoEnds<Mark, A>, A: Allocator + Copy> Core<E, M, A> 
             effect.value.as_slice(),
         );
         append(&mut self.output, effect.print.as_slice());
-        change_forms(&mut self.store, effect.change, block);
         self.meta = effect.meta;
         self.trace = effect.trace;
         self.position = effect.position;
+        change
     }
 
-    // A second machine that shows the same state, in a block of its own.
-    fn boxed_copy(&self) -> Result<Box<Self, A>, Refusal>
-        ensures same { IfOk result (λ b. b.value.state ≡ self.now.state) }
+    // Performs the call that is planned, and answers its record. It is refused memory alone, and then the state stays.
+    fn carry_out(&mut self, plan: Plan, effect: Effect<A>) -> Result<Record<A>, Refusal>
+        requires front { front_of self.old.state.active ≡ Front.Closing }
+        requires inside { 0 < length self.old.state.frames }
+        requires beginning { BeginsInnermost self.old.state plan.beginning }
+        requires given { NamesGiven (arguments_in (scan self.old.state)) (storage_of self.old.state) effect.change }
+        requires proper { IsProper (state_after effect (scan self.old.state)) }
+        ensures done { OnOk result (self.new.state ≡ state_after effect (scan self.old.state)) }
+        ensures recorded { IfOk result (λ r. recorded_by r ≡ rules.Called (record_with plan.called (arguments_in (scan self.old.state)) (undone_of effect.change (storage_of self.old.state)))) }
+        ensures unchanged { OnErr result (self.new.state ≡ self.old.state) }
         ensures err { IsOkUnless result Refusal.Memory }
+        ensures room { IsNoLess self.old self.new }
     {
-        let copy = self.copy()?;
-        Ok(Box::new(*self.output.allocator(), copy)?)
+        let (arguments, places) = self.made_ready(&effect)?;
+        let change = self.finish_call(plan.beginning, effect, places);
+        let called = plan.called;
+        Ok(Record::Call {
+            kind: called.kind,
+            arguments,
+            value: called.value,
+            scanned: called.scanned,
+            printed: called.printed,
+            read: called.read,
+            meta: called.meta,
+            trace: called.trace,
+            change,
+        })
     }
 
     // The next step, where it performs a function.
-    #[tactic(auto, using(crate::proofs::Recorded::call_lacks_nothing))]
-    pub(crate) fn call_step(&mut self, tape: Tape<'_>) -> Result<Record<Self, A>, Refusal>
+    pub(crate) fn call_step(&mut self, tape: Tape<'_>) -> Result<Record<A>, Refusal>
         requires front { front_of self.old.state.active ≡ Front.Closing }
         requires inside { 0 < length self.old.state.frames }
         requires within { self.old.state.position ≤ length tape.bytes.now }
         ensures taken { OnOk result (step (environment_of tape.entry) self.old.state ≡ Ok self.new.state) }
-        ensures recorded { IfOk result (λ r. recorded_by r ≡ recorded self.old.state) }
+        ensures recorded { IfOk result (λ r. record_of (environment_of tape.entry) self.old.state ≡ Some (recorded_by r)) }
         ensures refused { IfErr result (λ e. (self.new.state ≡ self.old.state) × MayRefuse (step (environment_of tape.entry) self.old.state) e) }
         ensures lacking { LacksRoomAhead self.old }
         ensures room { IsNoLess self.old self.new }
     {
-        let (beginning, effect) = self.planned(tape)?;
-        self.make_room(&effect)?;
-        let block = block_for(*self.output.allocator(), &effect.change)?;
-        let before = self.boxed_copy()?;
-        self.finish_call(beginning, effect, block);
-        Ok(Record::Whole(before))
+        let (plan, effect) = self.planned(tape)?;
+        self.carry_out(plan, effect)
     }
 }

@@ -1,8 +1,9 @@
 //! The machine: its parts, and how they are read as a state.
-ghost use Rattle.std.specs.Prelude.{◌≡◌, ◌≤◌, IfOk, IsOkUnless, OnOk, vec_capacity};
+ghost use Rattle.std.specs.Prelude.{◌≡◌, IfOk, IsOkUnless};
+ghost use Rattle.std.specs.FinSet as set;
+ghost use Rattle.trac_rules.specs.Listing.{names_of};
 ghost use Rattle.trac_rules.specs.State.{initial};
 ghost use Rattle.trac_rules.specs.Session.{settled};
-ghost use Rattle.trac_step.specs.Room.{HasRoom, IsNoLess};
 
 use crate::ends;
 use std::alloc::{Allocator, Global};
@@ -69,46 +70,14 @@ impl<E: TwoEnds<u8, A>, M: TwoEnds<Mark, A>, A: Allocator + Copy> Core<E, M, A> 
         })
     }
 
-    /// A second machine that shows the same state, with memory of its own: it has no less room, and knows no fewer names
-    /// (this project's profile).
-    /// Refused with `Memory` where the allocator refuses.
-    pub fn copy(&self) -> Result<Self, Refusal>
-        ensures same { IfOk result (λ m. m.state ≡ self.now.state) }
-        ensures room { IfOk result (λ m. IsNoLess self.now m) }
-
-        // A machine has room for its own state.
-        ensures holds { OnOk result (HasRoom self.now self.now.state) }
-        ensures err { IsOkUnless result Refusal.Memory }
-    {
-        let (text, marks) = ends::copy_both(&self.text, &self.marks)?;
-        Ok(Core {
-            text,
-            marks,
-            store: self.store.copy()?,
-            meta: self.meta,
-            trace: self.trace,
-            position: self.position,
-            output: copy_of(&self.output)?,
-        })
-    }
-
     /// Empties the output and begins to count the input anew: what is printed is released, and what is read is dropped.
-    /// It takes no memory, and keeps the machine's room and the names that it knows (this project's profile).
+    /// Names without a form are forgotten, and all others stay known. It takes no memory, and keeps the machine's room
+    /// (this project's profile).
     pub fn settle(&mut self)
-        ensures { self.new ≡ record self.old { state = settled self.old.state } }
+        ensures { self.new ≡ record self.old { state = settled self.old.state; known = set.from_list (names_of self.old.state.forms) } }
     {
         self.output.clear();
         self.position = 0;
+        self.store.sweep();
     }
-}
-
-// A second list of the same bytes, with no less room.
-fn copy_of<A: Allocator + Copy>(list: &Vec<u8, A>) -> Result<Vec<u8, A>, Refusal>
-    ensures items { IfOk result (λ copy. copy.items ≡ list.now.items) }
-    ensures room { IfOk result (λ copy. vec_capacity list.now ≤ vec_capacity copy) }
-    ensures err { IsOkUnless result Refusal.Memory }
-{
-    let mut copy = Vec::with_capacity(*list.allocator(), list.capacity())?;
-    copy.extend_from_slice(list.as_slice())?;
-    Ok(copy)
 }

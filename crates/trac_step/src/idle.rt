@@ -102,7 +102,7 @@ fn put_functions<A: Allocator + Copy, E: TwoEnds<u8, A>, M: TwoEnds<Mark, A>>(
 }
 
 // Puts a begun function at the end of the text on the left: the mark at which it begins, its bytes, and a mark for each `,`.
-fn put_function<A: Allocator + Copy, E: TwoEnds<u8, A>, M: TwoEnds<Mark, A>>(
+pub(crate) fn put_function<A: Allocator + Copy, E: TwoEnds<u8, A>, M: TwoEnds<Mark, A>>(
     text: &mut E,
     marks: &mut M,
     kind: Kind,

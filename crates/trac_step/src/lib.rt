@@ -3,24 +3,30 @@
 
 mod blocking;
 mod calling;
+mod calls_back;
 mod changing;
 mod ends;
 pub mod engine;
 mod framing;
 mod front;
 mod idle;
+mod leaving;
 pub mod loading;
 mod matching;
 mod moves;
 pub mod pieces;
+mod places;
 mod readers;
 pub mod record;
 mod scanning;
 mod stepping;
+mod storage_back;
 mod storing;
 mod texts;
 mod texts_back;
 mod undoing;
+pub mod undone;
+mod weighing;
 
 pub use engine::{Core, Machine};
 pub use loading::Parts;
@@ -28,3 +34,4 @@ pub use pieces::Pieces;
 pub use record::Record;
 pub use trac_forms::Store;
 pub use trac_prims::{Args, Kind, Mark, Refusal, Tape};
+pub use undone::Undone;

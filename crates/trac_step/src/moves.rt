@@ -44,7 +44,7 @@ impl<E: TwoEnds<u8, A>, M: TwoEnds<Mark, A>, A: Allocator + Copy> Core<E, M, A> 
     }
 
     // Carries out the rule for this front, which asks for no call, and answers what it destroys.
-    fn move_on(&mut self, front: Front) -> Result<Record<Self, A>, Refusal>
+    fn move_on(&mut self, front: Front) -> Result<Record<A>, Refusal>
         requires front { front ≡ front_of self.old.state.active }
         requires moves { IsMove (scan self.old.state) }
         requires fits { IfMoves (scan self.old.state) (λ t. texts_fit t ≡ true) }
@@ -74,15 +74,12 @@ impl<E: TwoEnds<u8, A>, M: TwoEnds<Mark, A>, A: Allocator + Copy> Core<E, M, A> 
                 self.mark(3, Some(Kind::Neutral))?;
                 Ok(Record::Begun)
             }
-            Front::Sharp | Front::Plain => {
-                self.gather_first();
-                Ok(Record::Moved)
-            }
+            Front::Sharp | Front::Plain => Ok(self.gather_first()),
         }
     }
 
     // The next step, where it performs no function.
-    pub(crate) fn move_step(&mut self, front: Front) -> Result<Record<Self, A>, Refusal>
+    pub(crate) fn move_step(&mut self, front: Front) -> Result<Record<A>, Refusal>
         requires front { front ≡ front_of self.old.state.active }
         requires moves { IsMove (scan self.old.state) }
         ensures taken { OnOk result ((environment : _) → step environment self.old.state ≡ Ok self.new.state) }

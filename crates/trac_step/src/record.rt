@@ -3,18 +3,18 @@ ghost use Rattle.std.specs.Prelude.{◌≡◌, IsSomeAnd, Some};
 ghost use Rattle.trac_step.specs.Record.{before};
 ghost use Rattle.trac_step.specs.Room.{HasRoom, IsNoLess};
 
-use crate::calling::overwrite;
-use crate::ends::refill_both;
 use crate::engine::Core;
 use crate::pieces::Pieces;
+use crate::undoing::Called;
+use crate::undone::Undone;
 use std::alloc::{Allocator, Global};
 use trac_gap::TwoEnds;
 use trac_prims::{Kind, Mark};
 
-/// What one step of a machine `M` destroyed, by which the machine can go back over it. What a step of scanning only moved is not
-/// kept: a record says how much it was, counted from the end of the text to which it went (this project's profile).
+/// What one step of a machine destroyed, by which any machine that shows the state after it can go back. What a step only moved is
+/// not kept: a record says how much it was, counted from the end of the text to which it went (this project's profile).
 #[derive(Drop)]
-pub enum Record<M: Drop, A: Allocator + Copy = Global> {
+pub enum Record<A: Allocator + Copy = Global> {
     /// A byte went to the current text.
     Moved,
     /// An argument was finished, and a null one begun.
@@ -37,8 +37,27 @@ pub enum Record<M: Drop, A: Allocator + Copy = Global> {
         /// The begun functions, the innermost first: the kind of each, and all its arguments, of which the last was being gathered.
         frames: Vec<(Kind, Pieces<A>), A>,
     },
-    /// A function was performed: the machine as it was before, in memory of its own, which keeps the other records small.
-    Whole(Box<M, A>),
+    /// A function was performed.
+    Call {
+        /// Its kind.
+        kind: Kind,
+        /// All its arguments, its name being the first.
+        arguments: Pieces<A>,
+        /// How many bytes its value has.
+        value: usize,
+        /// Whether the value went before the active text, to be scanned, and not to the current text.
+        scanned: bool,
+        /// How many bytes were printed.
+        printed: usize,
+        /// How many bytes of the tape were read.
+        read: usize,
+        /// The meta character before, where the call set one.
+        meta: Option<u8>,
+        /// Whether each call was printed before.
+        trace: bool,
+        /// What was destroyed of forms and blocks.
+        change: Undone<A>,
+    },
 }
 
 impl<E: TwoEnds<u8, A>, M: TwoEnds<Mark, A>, A: Allocator + Copy> Core<E, M, A> {
@@ -47,7 +66,7 @@ impl<E: TwoEnds<u8, A>, M: TwoEnds<Mark, A>, A: Allocator + Copy> Core<E, M, A> 
     /// It takes no memory and cannot fail, lessens no room and forgets no name (this project's profile). The record has to say a state
     /// before the one that the machine shows, and the machine has to have room for it and to know the names of its forms, as it does
     /// after the step.
-    pub fn undo(&mut self, taken: Record<Self, A>)
+    pub fn undo(&mut self, taken: Record<A>)
         requires { IsSomeAnd (before taken self.old.state) (λ s. HasRoom self.old s) }
         ensures state { before taken self.old.state ≡ Some self.new.state }
         ensures room { IsNoLess self.old self.new }
@@ -59,26 +78,28 @@ impl<E: TwoEnds<u8, A>, M: TwoEnds<Mark, A>, A: Allocator + Copy> Core<E, M, A> 
             Record::Quoted { inner, closed } => self.unprotect(inner, closed),
             Record::Deleted(byte) => self.undelete(byte),
             Record::Idle { base, frames } => self.unload(base.as_slice(), frames),
-            Record::Whole(earlier) => self.put_back(Box::into_inner(earlier)),
+            Record::Call {
+                kind,
+                arguments,
+                value,
+                scanned,
+                printed,
+                read,
+                meta,
+                trace,
+                change,
+            } => {
+                let called = Called {
+                    kind,
+                    value,
+                    scanned,
+                    printed,
+                    read,
+                    meta,
+                    trace,
+                };
+                self.uncall(called, &arguments, change);
+            }
         }
-    }
-
-    // Shows what an earlier machine shows, in this machine's room.
-    fn put_back(&mut self, earlier: Self)
-        requires { HasRoom self.old earlier.state }
-        ensures state { self.new.state ≡ earlier.state }
-        ensures room { IsNoLess self.old self.new }
-    {
-        refill_both(
-            &mut self.text,
-            &mut self.marks,
-            &earlier.text,
-            &earlier.marks,
-        );
-        overwrite(&mut self.output, earlier.output.as_slice());
-        self.meta = earlier.meta;
-        self.trace = earlier.trace;
-        self.position = earlier.position;
-        self.store.restore(earlier.store);
     }
 }

@@ -1,9 +1,11 @@
 //! One step of the machine.
-ghost use Rattle.std.specs.Prelude.{◌≡◌, ◌≤◌, length, IfOk, IfErr, OnOk, None, Ok, Some};
+ghost use Rattle.std.specs.Prelude.{◌≡◌, ◌≤◌, length, IfOk, IfErr, OnOk, Ok, Some};
 ghost use Rattle.trac_rules.specs.Outcomes.{MayRefuse};
 ghost use Rattle.trac_rules.specs.Proper.{IsProper};
-ghost use Rattle.trac_rules.specs.Records.{recorded};
-ghost use Rattle.trac_rules.specs.Stepping.{call_at, step};
+ghost use Rattle.trac_rules.specs.Records.{CallRecord, Called, record_of, rest_before, rest_of, texts_before, texts_in};
+ghost use Rattle.trac_rules.specs.State.{storage_of};
+ghost use Rattle.trac_rules.specs.Stepping.{step};
+ghost use Rattle.trac_rules.specs.Undone.{storage_before};
 ghost use Rattle.trac_rules.specs.Weights.{loss, weight};
 ghost use Rattle.trac_prims.specs.Tape.{environment_of};
 ghost use Rattle.trac_step.specs.Record.{before, recorded_by};
@@ -19,8 +21,8 @@ use trac_rules::scan::Front;
 
 impl<E: TwoEnds<u8, A>, M: TwoEnds<Mark, A>, A: Allocator + Copy> Core<E, M, A> {
     /// Takes the next step of T-64's rules over this tape, and gives what the way back needs: the record of what the step
-    /// destroyed, and of nothing else where it scanned. The state after it is a proper one: a step is refused where its new
-    /// state would pass any limit.
+    /// destroyed, and of nothing else. The state after it is a proper one: a step is refused where its new state would pass any
+    /// limit.
     ///
     /// Refused with `NeedInput` where a function reads input that is not there yet, with `Ended` where it will never be there or `hl`
     /// is performed, with `TooLong` where the state after the step would pass a limit, and with `Memory` where the allocator refuses; after each the state is as it was.
@@ -28,11 +30,16 @@ impl<E: TwoEnds<u8, A>, M: TwoEnds<Mark, A>, A: Allocator + Copy> Core<E, M, A> 
     /// all texts, which keeps them in its record (this project's profile).
     /// No step, refused ones among them, lessens the machine's room or forgets a name, and after an accepted one there is room
     /// for the state before it. The tape has to hold at least as many bytes as are read.
-    pub fn step(&mut self, tape: Tape<'_>) -> Result<Record<Self, A>, Refusal>
+    pub fn step(&mut self, tape: Tape<'_>) -> Result<Record<A>, Refusal>
         requires { self.old.state.position ≤ length tape.bytes.now }
         ensures taken { IfOk result (λ r. (step (environment_of tape.entry) self.old.state ≡ Ok self.new.state) × (before r self.new.state ≡ Some self.old.state)) }
-        ensures recorded { IfOk result (λ r. recorded_by r ≡ recorded self.old.state) }
-        ensures weighs { IfOk result (λ r. call_at self.old.state ≡ None → weight (recorded_by r) ≤ loss self.old.state) }
+        ensures recorded { IfOk result (λ r. record_of (environment_of tape.entry) self.old.state ≡ Some (recorded_by r)) }
+        ensures weighs { IfOk result (λ r. weight (recorded_by r) ≤ loss self.old.state) }
+
+        // Of a call each of three parts is got back by itself: texts and begun functions, forms and blocks, and all else.
+        ensures texts { IfOk result (λ r. (c : CallRecord) → recorded_by r ≡ Called c → texts_before c (texts_in self.new.state) ≡ Some (texts_in self.old.state)) }
+        ensures storage { IfOk result (λ r. (c : CallRecord) → recorded_by r ≡ Called c → storage_before c.arguments c.undone (storage_of self.new.state) ≡ Some (storage_of self.old.state)) }
+        ensures rest { IfOk result (λ r. (c : CallRecord) → recorded_by r ≡ Called c → rest_before c (rest_of self.new.state) ≡ Some (rest_of self.old.state)) }
         ensures proper { OnOk result (IsProper self.new.state) }
         ensures held { OnOk result (HasRoom self.new self.old.state) }
         ensures refused { IfErr result (λ e. (self.new.state ≡ self.old.state) × MayRefuse (step (environment_of tape.entry) self.old.state) e) }
@@ -53,10 +60,10 @@ impl<E: TwoEnds<u8, A>, M: TwoEnds<Mark, A>, A: Allocator + Copy> Core<E, M, A> 
     }
 
     // The next step, by whether it performs a function.
-    fn next_step(&mut self, tape: Tape<'_>) -> Result<Record<Self, A>, Refusal>
+    fn next_step(&mut self, tape: Tape<'_>) -> Result<Record<A>, Refusal>
         requires { self.old.state.position ≤ length tape.bytes.now }
         ensures taken { OnOk result (step (environment_of tape.entry) self.old.state ≡ Ok self.new.state) }
-        ensures recorded { IfOk result (λ r. recorded_by r ≡ recorded self.old.state) }
+        ensures recorded { IfOk result (λ r. record_of (environment_of tape.entry) self.old.state ≡ Some (recorded_by r)) }
         ensures refused { IfErr result (λ e. (self.new.state ≡ self.old.state) × MayRefuse (step (environment_of tape.entry) self.old.state) e) }
         ensures lacking { IfErr result (λ e. e ≡ Refusal.Memory → LacksRoomAhead self.old) }
         ensures room { IsNoLess self.old self.new }

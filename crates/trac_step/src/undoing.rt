@@ -1,13 +1,45 @@
 //! The way back over the rules of scanning, each on the machine's own parts.
 ghost use Rattle.std.specs.Prelude.{◌≡◌, IsSome, Some};
+ghost use Rattle.std.specs.Option.{unwrap_or};
+ghost use Rattle.trac_rules.specs.Records as rules;
 ghost use Rattle.trac_rules.specs.Records.{Begun, Comma, Deleted, Quoted, moved_back, restored};
+ghost use Rattle.trac_step.specs.Returning.{call_record};
+ghost use Rattle.trac_step.specs.Room.{IsNoLess};
 ghost use Rattle.trac_step.specs.Undoing.{CanShow};
 
+use crate::calls_back::put_call;
 use crate::engine::Core;
+use crate::pieces::Pieces;
+use crate::storage_back::put_storage;
 use crate::texts_back::{give_protected_back, pop_beginning, pop_mark};
+use crate::undone::Undone;
 use std::alloc::Allocator;
 use trac_gap::TwoEnds;
-use trac_prims::Mark;
+use trac_prims::{Kind, Mark, NeutralText};
+
+// What the record of a call says beside its arguments, and what was destroyed of forms and blocks.
+#[derive(Clone, Copy)]
+pub(crate) struct Called {
+    pub(crate) kind: Kind,
+    pub(crate) value: usize,
+    pub(crate) scanned: bool,
+    pub(crate) printed: usize,
+    pub(crate) read: usize,
+    pub(crate) meta: Option<u8>,
+    pub(crate) trace: bool,
+}
+
+impl Called {
+    // The meta character before the call, from the one after it.
+    fn meta_before(&self, after: u8) -> u8
+        ensures { result ≡ unwrap_or self.now.meta after }
+    {
+        match self.meta {
+            Some(before) => before,
+            None => after,
+        }
+    }
+}
 
 impl<E: TwoEnds<u8, A>, M: TwoEnds<Mark, A>, A: Allocator + Copy> Core<E, M, A> {
     /// Moves the last n bytes of the current text back before the active text, as going back over as many records `Moved` does. The
@@ -54,5 +86,31 @@ impl<E: TwoEnds<u8, A>, M: TwoEnds<Mark, A>, A: Allocator + Copy> Core<E, M, A> 
         ensures others { self.new ≡ record self.old { state = self.new.state } }
     {
         pop_beginning(&mut self.text, &mut self.marks);
+    }
+
+    // The call is not performed: its function is begun again, and its `)` is back before the active text; forms, blocks and all else
+    // are as they were.
+    pub(crate) fn uncall(&mut self, called: Called, arguments: &Pieces<A>, change: Undone<A>)
+        requires { CanShow self.old (restored (rules.Called (call_record called arguments.now change)) self.old.state) }
+        ensures state { restored (rules.Called (call_record called arguments.now change)) self.old.state ≡ Some self.new.state }
+        ensures room { IsNoLess self.old self.new }
+    {
+        put_call(
+            &mut self.text,
+            &mut self.marks,
+            called.kind,
+            arguments,
+            called.scanned,
+            called.value,
+        );
+        let text = NeutralText::new(self.text.left(), self.marks.left());
+        let Some(function) = text.innermost() else {
+            unreachable!()
+        };
+        put_storage(&mut self.store, &function.arguments, change);
+        self.output.truncate(self.output.len() - called.printed);
+        self.position -= called.read;
+        self.meta = called.meta_before(self.meta);
+        self.trace = called.trace;
     }
 }

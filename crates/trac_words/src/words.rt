@@ -9,7 +9,7 @@ use trac_rules::limit::JOURNAL_LIMIT;
 use trac_run::{BUDGET_LIMIT, DEFAULT_BUDGET, Options, budget_of};
 
 /// How many records a run's journal may hold where nothing else is said (this project's profile).
-pub const DEFAULT_JOURNAL: usize = 64;
+pub const DEFAULT_JOURNAL: usize = 65_536;
 
 /// What `--version` shows behind the program's name: the program's version, and what `rt version` prints of the toolchain that
 /// proves and builds it. No crate can ask for that line, so it is written here, and `tests/launcher` compares the two: with
@@ -157,7 +157,7 @@ fn run_command<'a>(alloc: Global) -> Result<Command<'a>, AllocError> {
         .arg(budget(alloc))?
         .arg(journal(
             alloc,
-            "How many steps are kept before their output is written: 1 to 1048576 [default: 64]",
+            "How many steps are kept before their output is written: 1 to 1048576 [default: 65536]",
         ))
 }
 
@@ -168,7 +168,7 @@ fn debug_command<'a>(alloc: Global) -> Result<Command<'a>, AllocError> {
         .arg(file(alloc))?
         .arg(journal(
             alloc,
-            "How many steps can be gone back over: 1 to 1048576 [default: 64]",
+            "How many steps can be gone back over: 1 to 1048576 [default: 65536]",
         ))
 }
 

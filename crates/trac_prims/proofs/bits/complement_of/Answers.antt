@@ -8,6 +8,6 @@ use Rattle.trac_prims.proofs.bits.complement_of.Goals as goal
 pub returns : goal.returns
 returns g c = λ storage.
     let wanted = complement (octal_argument 1 c.args.args.now) in
-    given c.keeping.result storage (c.keeping.ensures storage) c.in_ok-value.value (text_of wanted)
+    given c.keeping.result storage (c.keeping.ensures.effect storage) c.in_ok-value.value (text_of wanted)
     (text_from_bits c.in_ok-value.value.items wanted c.in_ok-value.ensures.octal
     (c.in_ok-value.ensures.bits ∙ ap (λ (text : List ℕ). complement (bits_of text)) (c.octal_tail.ensures.value ∙ ap octal_tail c.get.ensures)))

@@ -22,4 +22,4 @@ returns g c = λ storage.
           ∙ ap (λ n. moved shift n (octal_argument 2 c.args.args.now)) w.in-Some.ensures
       | in-None w ↦ ap (λ (v : Vec ℕ _). v.items) w.value-is ∙ w.new-value.ensures.items ∙ ap (λ n. moved shift n (octal_argument 2 c.args.args.now)) w.in-None.ensures
     ] in
-    given c.keeping.result storage (c.keeping.ensures storage) c.match-number_at.value wanted made
+    given c.keeping.result storage (c.keeping.ensures.effect storage) c.match-number_at.value wanted made

@@ -11,7 +11,7 @@ returns g c = λ storage.
     let first : c.octal_tail.result.now ≡ octal_tail (argument 1 c.args.args.now) = c.octal_tail.ensures.value ∙ ap octal_tail c.get.ensures in
     let second : c.octal_tail-2.result.now ≡ octal_tail (argument 2 c.args.args.now) = c.octal_tail-2.ensures.value ∙ ap octal_tail c.get-2.ensures in
     let wanted = union (octal_argument 1 c.args.args.now) (octal_argument 2 c.args.args.now) in
-    given c.keeping.result storage (c.keeping.ensures storage) c.in_ok-value.value (text_of wanted)
+    given c.keeping.result storage (c.keeping.ensures.effect storage) c.in_ok-value.value (text_of wanted)
     (text_from_bits c.in_ok-value.value.items wanted c.in_ok-value.ensures.octal
     (c.in_ok-value.ensures.bits
     ∙ ap (λ (text : List ℕ). union (bits_of text) (bits_of c.octal_tail-2.result.now)) first

@@ -1,7 +1,7 @@
 use Rattle.std.proofs.Common.{ℕ, List, [], ◌∷◌, ◌++◌, ◌<◌, ap, arith, length, sym, take, ◌∙◌}
 use Rattle.std.proofs.lemmas.List.{take_more}
 use Rattle.trac_rules.specs.Blocks.{moved_out}
-use Rattle.trac_prims.specs.Effects.{names_in}
+use Rattle.trac_rules.specs.Undone.{names_in}
 use Rattle.trac_prims.proofs.blocks.leaving.Goals as goal
 
 pub loop-i-preserved : goal.loop-i-preserved

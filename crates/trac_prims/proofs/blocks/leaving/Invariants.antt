@@ -1,7 +1,8 @@
 -- The names that were found so far.
 use Rattle.std.proofs.Common.{◌≡◌, take}
 use Rattle.trac_rules.specs.Blocks.{moved_out}
-use Rattle.trac_prims.specs.Effects.{names_in, texts_of}
+use Rattle.trac_rules.specs.Undone.{names_in}
+use Rattle.trac_prims.specs.Effects.{texts_of}
 use Rattle.trac_prims.proofs.blocks.leaving.Given as goal
 
 abbrev pub invariant-loop-i : goal.invariant-loop-i

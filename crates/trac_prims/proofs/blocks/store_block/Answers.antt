@@ -1,4 +1,4 @@
-use Rattle.std.proofs.Common.{◌≡◌, ℕ, List, Ok, ap, arith, length, sym, true, ◌<◌, ◌≤◌, ◌∙◌}
+use Rattle.std.proofs.Common.{◌≡◌, ℕ, List, Ok, ap, arith, drop, length, subst, sym, true, ◌<◌, ◌≤◌, ◌∙◌}
 use Rattle.std.specs.Prelude.{Vec, decimal}
 use Rattle.std.proofs.lemmas.List.{length-map}
 use Rattle.trac_forms.specs.Stored.{storage_in}
@@ -8,20 +8,22 @@ use Rattle.trac_rules.specs.Effect.{argument}
 use Rattle.trac_rules.specs.Form.{defined}
 use Rattle.trac_rules.specs.Handling.{without}
 use Rattle.trac_rules.specs.Limits.{may_be_put}
-use Rattle.trac_prims.specs.declared.change.Change.TheVariants.{MoveIn}
-use Rattle.trac_prims.specs.Effects.{names_in, texts_of}
+use Rattle.trac_rules.specs.declared.primitive.BlockAction.TheVariants.{StoreBlock}
+use Rattle.trac_rules.specs.declared.primitive.Primitive.TheVariants.{HandleBlock}
+use Rattle.trac_prims.specs.Changes.{IsChangeOf}
+use Rattle.trac_rules.specs.Undone.{names_in}
+use Rattle.trac_prims.specs.Effects.{texts_of}
 use Rattle.trac_prims.proofs.BlockPlans.{stored_so}
-use Rattle.trac_prims.proofs.Kept.{changing}
+use Rattle.trac_prims.proofs.Changes.{moves_in}
 use Rattle.trac_prims.proofs.MovedOut.{fewer_held}
 use Rattle.trac_prims.proofs.blocks.store_block.Goals as goal
-use Rattle.std.specs.Prelude.{drop}
 
 pub may_stand-requires : goal.may_stand-requires
 may_stand-requires g c =
     fewer_held c.as_slice.result.now c.in_ok-held.held.items c.behind.result c.args.store.now.forms c.as_slice.ensures.value c.in_ok-held.ensures.made
 
-pub returns : goal.returns
-returns g c =
+pub returns-clause-outcome : goal.returns-clause-outcome
+returns-clause-outcome g c =
     let storage = storage_in c.args.store.now in
     let name = argument 1 c.args.args.now in
     let names = drop 2 c.args.args.now in
@@ -38,4 +40,12 @@ returns g c =
     ∙ sym (c.if-not-may_stand.ensures names (length blocks) (omega (arith, more)) slice) in
     stored_so name names storage (texts_of c.in_ok-held.held.items) c.in_ok-name.name.items c.in_ok-address.address held (c.in_ok-name.ensures.items ∙ c.get-name.ensures)
     (c.in_ok-address.ensures.made ∙ ap (λ (n : ℕ). defined (decimal n)) c.block_count-number.ensures.count) few more may
-    ∙ ap Ok (sym (changing c.keeping.result storage (c.keeping.ensures storage) (MoveIn c.in_ok-held.held c.in_ok-name.name c.in_ok-address.address)))
+    ∙ ap Ok (sym (c.changing.ensures.effect c.args.args.now storage))
+
+pub returns-clause-change : goal.returns-clause-change
+returns-clause-change g c =
+    let storage = storage_in c.args.store.now in
+    let held : texts_of c.in_ok-held.held.items ≡ names_in (moved_out (drop 2 c.args.args.now) storage.forms) =
+    c.in_ok-held.ensures.made ∙ ap (λ (ns : List (List ℕ)). names_in (moved_out ns storage.forms)) c.behind.ensures in
+    subst (IsChangeOf (HandleBlock StoreBlock) c.args.args.now storage) (sym c.changing.ensures.change)
+    (moves_in c.args.args.now storage c.in_ok-held.held c.in_ok-name.name c.in_ok-address.address (c.in_ok-name.ensures.items ∙ c.get-name.ensures) held)

@@ -12,7 +12,7 @@ pub returns-in_default : goal.returns-in_default
 returns-in_default g c = λ storage.
     let none = calculated-None (result_of c.args.operation) (argument 1 c.args.args.now) (argument 2 c.args.args.now) c.in_default.ensures in
     subst (λ o. IsMade storage (Ok (gives_or_forces o (argument 3 c.args.args.now) storage)) (Ok (record c.keeping.result { value = c.in_ok-value.value; forced = true }))) none
-    (forced c.keeping.result storage (c.keeping.ensures storage) c.in_ok-value.value (argument 3 c.args.args.now) (c.in_ok-value.ensures.items ∙ c.get.ensures))
+    (forced c.keeping.result storage (c.keeping.ensures.effect storage) c.in_ok-value.value (argument 3 c.args.args.now) (c.in_ok-value.ensures.items ∙ c.get.ensures))
 
 pub returns : goal.returns
 returns g c = λ storage.
@@ -23,4 +23,4 @@ returns g c = λ storage.
     ∙ ap (λ (prefix : List ℕ). prefix ++ number_text c.in-Some.n) (c.in_ok-value-2.ensures.items ∙ c.read_tail.ensures.prefix ∙ ap prefix_of c.get-2.ensures) in
     let some = calculated-Some (result_of c.args.operation) (argument 1 c.args.args.now) (argument 2 c.args.args.now) c.print_into.new.out.items c.in-Some.n c.in-Some.ensures text in
     subst (λ o. IsMade storage (Ok (gives_or_forces o (argument 3 c.args.args.now) storage)) (Ok (record c.keeping-2.result { value = c.print_into.new.out }))) some
-    (given c.keeping-2.result storage (c.keeping-2.ensures storage) c.print_into.new.out c.print_into.new.out.items refl)
+    (given c.keeping-2.result storage (c.keeping-2.ensures.effect storage) c.print_into.new.out c.print_into.new.out.items refl)

@@ -6,13 +6,13 @@ use Rattle.trac_rules.specs.Effect.{argument}
 use Rattle.trac_rules.specs.Form.{Form, defined}
 use Rattle.trac_rules.specs.Handling.{putting}
 use Rattle.trac_forms.specs.Stored.{storage_in}
-use Rattle.trac_prims.specs.Effects.{IsMade, MayFail}
+use Rattle.trac_prims.specs.Effects.{IsDone, MayFail}
 use Rattle.trac_prims.proofs.Held.{not_made}
 use Rattle.trac_prims.proofs.Putting.{sound_defined}
 use Rattle.trac_prims.proofs.forms.define.Goals as goal
 
-pub returns-in_err-form : goal.returns-in_err-form
-returns-in_err-form g c =
+pub returns-in_err-form-clause-outcome : goal.returns-in_err-form-clause-outcome
+returns-in_err-form-clause-outcome g c =
     let storage = storage_in c.args.store.now in
     let text = argument 2 c.args.args.now in
     let name = argument 1 c.args.args.now in
@@ -23,9 +23,9 @@ returns-in_err-form g c =
 pub put-requires : goal.put-requires
 put-requires g c = subst IsSound (sym c.in_ok-form.ensures.made) (sound_defined c.get.result.now c.in_ok-form.ensures.fits)
 
-pub returns : goal.returns
-returns g c =
+pub returns-clause-outcome : goal.returns-clause-outcome
+returns-clause-outcome g c =
     let storage = storage_in c.args.store.now in
     let form : c.in_ok-form.form ≡ defined (argument 2 c.args.args.now) = c.in_ok-form.ensures.made ∙ ap defined c.get.ensures in
-    subst (λ (name : List ℕ). IsMade storage (putting name (defined (argument 2 c.args.args.now)) storage) c.put.result) c.get-2.ensures
-    (subst (λ (f : Form). IsMade storage (putting c.get-2.result.now f storage) c.put.result) form c.put.ensures)
+    subst (λ (name : List ℕ). IsDone c.args.args.now storage (putting name (defined (argument 2 c.args.args.now)) storage) c.put.result) c.get-2.ensures
+    (subst (λ (f : Form). IsDone c.args.args.now storage (putting c.get-2.result.now f storage) c.put.result) form (c.put.ensures.outcome c.args.args.now))

@@ -1,11 +1,18 @@
-use Rattle.std.proofs.Common.{List, ℕ, Ok, sym, ap, ◌∙◌}
+use Rattle.std.proofs.Common.{List, ℕ, Ok, sym, ap, subst, ◌∙◌}
+use Rattle.trac_rules.specs.declared.primitive.FormAction.TheVariants.{Delete}
+use Rattle.trac_rules.specs.declared.primitive.Primitive.TheVariants.{Handle}
 use Rattle.trac_rules.specs.Effect.{leaves}
 use Rattle.trac_rules.specs.Handling.{keeping, without}
-use Rattle.trac_prims.specs.declared.change.Change.TheVariants.{Remove}
-use Rattle.trac_prims.proofs.Kept.{changing}
+use Rattle.trac_prims.specs.Changes.{IsChangeOf}
+use Rattle.trac_prims.proofs.Changes.{removes}
 use Rattle.trac_prims.proofs.forms.delete.Goals as goal
 
-pub returns : goal.returns
-returns g c = λ storage.
+pub returns-clause-outcome : goal.returns-clause-outcome
+returns-clause-outcome g c = λ storage.
     ap (λ (names : List (List ℕ)). Ok (leaves (keeping (without names storage.forms) storage))) (sym (c.in_ok-names.ensures.made ∙ c.behind.ensures))
-    ∙ ap Ok (sym (changing c.keeping.result storage (c.keeping.ensures storage) (Remove c.in_ok-names.names)))
+    ∙ ap Ok (sym (c.changing.ensures.effect c.args.args.now storage))
+
+pub returns-clause-change : goal.returns-clause-change
+returns-clause-change g c = λ storage.
+    subst (IsChangeOf (Handle Delete) c.args.args.now storage) (sym c.changing.ensures.change)
+    (removes c.args.args.now storage c.in_ok-names.names (c.in_ok-names.ensures.made ∙ c.behind.ensures))

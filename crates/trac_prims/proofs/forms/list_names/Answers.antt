@@ -23,4 +23,4 @@ returns g c =
     c.in_ok-value.ensures.made
     ∙ listed_names c.get-text.result.now c.in_ok-names.names.items c.as_slice-2.result.now c.args.store.now.forms c.in_ok-names.ensures.names c.as_slice-2.ensures.value
     ∙ ap (λ (text : List ℕ). listed text c.args.store.now.forms) c.get-text.ensures in
-    given c.keeping.result (storage_in c.args.store.now) (c.keeping.ensures (storage_in c.args.store.now)) c.in_ok-value.value all same
+    given c.keeping.result (storage_in c.args.store.now) (c.keeping.ensures.effect (storage_in c.args.store.now)) c.in_ok-value.value all same

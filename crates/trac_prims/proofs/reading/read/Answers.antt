@@ -1,31 +1,40 @@
-use Rattle.std.proofs.Common.{◌≡◌, List, ℕ, Ok, None, Some, sym, ap, subst, ◌∙◌}
-use Rattle.std.specs.Prelude.{option_map}
+use Rattle.std.proofs.Common.{◌≡◌, ℕ, List, Ok, Some, None, sym, ap, subst, ◌∙◌}
 use Rattle.std.specs.FinMap as finite
+use Rattle.std.specs.Prelude.{option_map}
 use Rattle.trac_forms.specs.Stored.{storage_in}
 use Rattle.trac_forms.specs.Taken.{taken}
 use Rattle.trac_rules.specs.Effect.{forces}
 use Rattle.trac_rules.specs.Handling.{default_argument, gives_piece, named_form}
-use Rattle.trac_prims.specs.Effects.{IsMade}
+use Rattle.trac_prims.specs.Effects.{IsDone}
 use Rattle.trac_prims.proofs.Given.{form_is_read}
 use Rattle.trac_prims.proofs.reading.read.Goals as goal
 
-pub returns-in-None : goal.returns-in-None
-returns-in-None g c =
+pub returns-in-None-clause-outcome : goal.returns-in-None-clause-outcome
+returns-in-None-clause-outcome g c =
+    let arguments = c.args.args.now in
     let storage = storage_in c.args.store.now in
-    let held : named_form c.args.args.now storage ≡ Some c.in-Some.form.now = ap (finite.get storage.forms) (sym c.get-name.ensures) ∙ sym c.in-Some.ensures.value in
-    let outcome = form_is_read c.args.reading c.args.args.now storage c.in-Some.form.now None held
+    let held : named_form arguments storage ≡ Some c.in-Some.form.now = ap (finite.get storage.forms) (sym c.get-name.ensures) ∙ sym c.in-Some.ensures.value in
+    let outcome = form_is_read c.args.reading arguments storage c.in-Some.form.now None held
     (ap (option_map (λ p. taken p c.in-Some.form.now)) (sym c.in-None.is) ∙ c.in_ok-piece.ensures.read) in
-    subst (λ o. IsMade storage o c.force.result) (sym outcome)
-    (subst (λ (text : List ℕ). IsMade storage (Ok (forces text storage)) c.force.result) (c.get-in-None.ensures ∙ c.default_place.ensures c.args.args.now) (c.force.ensures storage))
+    subst (λ o. IsDone arguments storage o c.force.result) (sym outcome)
+    (subst (λ (text : List ℕ). IsDone arguments storage (Ok (forces text storage)) c.force.result) (c.get-in-None.ensures ∙ c.default_place.ensures arguments)
+    (c.force.ensures.outcome arguments storage (sym c.in-Some.ensures.value)))
 
-pub returns-in-Some-2 : goal.returns-in-Some-2
-returns-in-Some-2 g c =
+pub returns-in-Some-2-clause-outcome : goal.returns-in-Some-2-clause-outcome
+returns-in-Some-2-clause-outcome g c =
+    let arguments = c.args.args.now in
     let storage = storage_in c.args.store.now in
     let form = c.in-Some.form.now in
-    let held : named_form c.args.args.now storage ≡ Some form = ap (finite.get storage.forms) (sym c.get-name.ensures) ∙ sym c.in-Some.ensures.value in
-    let other = default_argument c.args.reading c.args.args.now in
-    let outcome = form_is_read c.args.reading c.args.args.now storage form (Some (taken c.in-Some-2.piece form)) held
+    let held : named_form arguments storage ≡ Some form = ap (finite.get storage.forms) (sym c.get-name.ensures) ∙ sym c.in-Some.ensures.value in
+    let other = default_argument c.args.reading arguments in
+    let outcome = form_is_read c.args.reading arguments storage form (Some (taken c.in-Some-2.piece form)) held
     (ap (option_map (λ p. taken p form)) (sym c.in-Some-2.is) ∙ c.in_ok-piece.ensures.read) in
-    subst (λ o. IsMade storage o c.give.result) (sym outcome)
-    (subst (λ (name : List ℕ). IsMade storage (Ok (gives_piece (Some (taken c.in-Some-2.piece form)) other name form storage)) c.give.result) c.get-name.ensures
-    (c.give.ensures other storage (sym c.in-Some.ensures.value)))
+    subst (λ o. IsDone arguments storage o c.give.result) (sym outcome)
+    (subst (λ (name : List ℕ). IsDone arguments storage (Ok (gives_piece (Some (taken c.in-Some-2.piece form)) other name form storage)) c.give.result) c.get-name.ensures
+    (c.give.ensures.outcome other arguments storage (sym c.in-Some.ensures.value)))
+
+pub returns-in-Some-2-clause-change : goal.returns-in-Some-2-clause-change
+returns-in-Some-2-clause-change g c = c.give.ensures.change c.args.reading c.args.args.now (storage_in c.args.store.now) c.get-name.ensures
+
+pub returns-in-None-clause-change : goal.returns-in-None-clause-change
+returns-in-None-clause-change g c = c.force.ensures.change c.args.reading c.args.args.now (storage_in c.args.store.now) c.get-name.ensures

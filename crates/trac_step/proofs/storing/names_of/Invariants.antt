@@ -1,6 +1,7 @@
 -- The names so far.
 use Rattle.std.proofs.Common.{◌≡◌, take}
-use Rattle.trac_prims.specs.Effects.{named_forms, names_in, texts_of}
+use Rattle.trac_rules.specs.Undone.{names_in}
+use Rattle.trac_prims.specs.Effects.{named_forms, texts_of}
 use Rattle.trac_step.proofs.storing.names_of.Given as goal
 
 abbrev pub invariant-loop-name : goal.invariant-loop-name

@@ -1,12 +1,13 @@
 -- The store holds what the parts say, or there is too much of it.
-use Rattle.std.proofs.Common.{List, All, map, IsTrue, sym, ap, ◌∙◌, subst}
+use Rattle.std.proofs.Common.{List, All, map, IsTrue, refl, sym, ap, ◌∙◌, subst}
 use Rattle.std.specs.Prelude.{ℕ, Ok, Vec}
 use Rattle.std.specs.FinSet as set
 use Rattle.std.specs.List.{list_all}
 use Rattle.std.proofs.lemmas.Result.{err_from_is_err_and}
 use Rattle.trac_rules.specs.Outcomes.{MayRefuse, limited}
 use Rattle.trac_rules.specs.State.{Block, Forms, Storage, storage_of}
-use Rattle.trac_rules.proofs.Outcomes.{limited_within}
+use Rattle.trac_rules.proofs.Outcomes.{limited_beyond, limited_within}
+use Rattle.trac_forms.specs.Outcomes.{as_refusal}
 use Rattle.trac_forms.specs.Stored.{KnowsAll}
 use Rattle.trac_prims.specs.Effects.{named_forms, texts_of}
 use Rattle.trac_rules.specs.Form.{Form}
@@ -14,8 +15,8 @@ use Rattle.trac_step.specs.Changing.{KnowsNamed}
 use Rattle.trac_step.specs.Loading.{block_few, block_of, counts_fit, state_in}
 use Rattle.trac_step.proofs.Loaded.{knows_forms}
 use Rattle.trac_step.proofs.MovedForms.{knows_still}
-use Rattle.trac_step.proofs.Outcomes.{refuses_with}
-use Rattle.trac_step.proofs.Stored.{blocks_many, counts_kept, whole_storage}
+use Rattle.trac_step.proofs.Outcomes.{lacks_limited, refuses_memory, refuses_with}
+use Rattle.trac_step.proofs.Stored.{blocks_many, counts_kept, forms_many, whole_storage}
 use Rattle.trac_step.proofs.storing.stored.Goals as goal
 
 pub returns-in_err-push_copies-clause-answer : goal.returns-in_err-push_copies-clause-answer
@@ -54,3 +55,21 @@ returns-clause-names g c =
 pub returns-clause-further : goal.returns-clause-further
 returns-clause-further g c =
     subst (λ (names : List (Vec ℕ g.row.A.Denot)). All (λ name. IsTrue (set.contains c.know_names.new.store.known name)) (texts_of names)) c.as_slice-3.ensures.value c.in_ok-know_names.ensures.known
+
+pub returns-in_err-store-clause-answer : goal.returns-in_err-store-clause-answer
+returns-in_err-store-clause-answer g c =
+    let p = err_from_is_err_and c.from_residual.result c.from_residual.ensures.1 in
+    rw p.1 (refuses_memory _ p.0 (p.2 ∙ ap as_refusal c.in_err-store.ensures.err) (lacks_limited counts_fit (storage_of (state_in c.args.parts.now))))
+
+pub returns-then-form_count-gt-FORM_COUNT_LIMIT-clause-answer : goal.returns-then-form_count-gt-FORM_COUNT_LIMIT-clause-answer
+returns-then-form_count-gt-FORM_COUNT_LIMIT-clause-answer g c =
+    let parts = c.args.parts.now in
+    let store = c.in_ok-store.store in
+    limited_beyond counts_fit (storage_of (state_in parts))
+    (forms_many parts c.as_slice.result.now parts.blocks.items store store store c.as_slice.ensures.value refl c.in_ok-store.ensures.forms c.form_count.result c.form_count.ensures
+    c.if-form_count-gt-FORM_COUNT_LIMIT.true)
+
+pub returns-in_err-know_names-clause-answer : goal.returns-in_err-know_names-clause-answer
+returns-in_err-know_names-clause-answer g c =
+    let p = err_from_is_err_and c.from_residual-in_err-know_names.result c.from_residual-in_err-know_names.ensures.1 in
+    rw p.1 (refuses_memory _ p.0 (p.2 ∙ ap as_refusal c.in_err-know_names.ensures.err) (lacks_limited counts_fit (storage_of (state_in c.args.parts.now))))

@@ -1,7 +1,6 @@
 use Rattle.std.proofs.Common.{◌≡◌, ◌<◌, List, [], ◌∷◌, length, refl, subst, arith}
 use Rattle.trac_step.specs.Layout.{parts_of, Shown}
 use Rattle.std.proofs.lemmas.Result.{err_from_is_err_and}
-use Rattle.trac_rules.specs.Limits.{marks}
 use Rattle.trac_rules.specs.Records.{Comma, comma_recorded}
 use Rattle.trac_rules.specs.State.{Frame, State}
 use Rattle.trac_step.proofs.Rules.{has_frames-parts}

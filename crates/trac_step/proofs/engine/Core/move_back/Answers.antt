@@ -3,7 +3,7 @@ use Rattle.std.specs.Prelude.{Some}
 use Rattle.trac_gap.specs.Ends.{Ends}
 use Rattle.trac_rules.specs.Records.{moved_back}
 use Rattle.trac_step.specs.Layout.{parts_of, state_of, IsSound, Shown}
-use Rattle.trac_step.proofs.Undone.{moves_back}
+use Rattle.trac_step.proofs.ScanningBack.{moves_back}
 use Rattle.trac_step.proofs.engine.Core.move_back.Goals as goal
 
 pub shift_right-requires : goal.shift_right-requires

@@ -4,7 +4,7 @@ use Rattle.trac_gap.specs.Ends.{Ends}
 use Rattle.trac_rules.specs.Records.{Begun, restored}
 use Rattle.trac_prims.specs.declared.mark.Mark.{Mark}
 use Rattle.trac_step.specs.Layout.{parts_of, state_of, IsSound, Shown}
-use Rattle.trac_step.proofs.Undone.{takes_beginning_back}
+use Rattle.trac_step.proofs.ScanningBack.{takes_beginning_back}
 use Rattle.trac_step.proofs.engine.Core.take_beginning_back.Goals as goal
 
 pub pop_beginning-requires-clause-room : goal.pop_beginning-requires-clause-room

@@ -3,7 +3,7 @@ use Rattle.std.specs.Prelude.{Some}
 use Rattle.trac_gap.specs.Ends.{Ends}
 use Rattle.trac_rules.specs.Records.{Deleted, restored}
 use Rattle.trac_step.specs.Layout.{parts_of, state_of, IsSound, Shown}
-use Rattle.trac_step.proofs.Undone.{undeletes}
+use Rattle.trac_step.proofs.ScanningBack.{undeletes}
 use Rattle.trac_step.proofs.engine.Core.undelete.Goals as goal
 
 pub invariant_of-self : goal.invariant_of-self

@@ -1,13 +1,15 @@
 use Rattle.std.proofs.Common.{◌≡◌, Some, ap, sym, subst, ◌∙◌}
 use Rattle.std.specs.Prelude.{IsSomeAnd}
-use Rattle.trac_rules.specs.Records.{Record, Moved, Comma, Begun, Quoted, Deleted, Idle, Whole, restored, state_before}
+use Rattle.trac_rules.specs.Records.{Record, Moved, Comma, Begun, Quoted, Deleted, Idle, Called, restored, state_before}
 use Rattle.trac_rules.specs.State.{State}
+use Rattle.trac_step.specs.declared.undoing.Called as code
 use Rattle.trac_step.specs.Layout.{Shown}
 use Rattle.trac_step.specs.Pieces.{frames_in}
 use Rattle.trac_step.specs.Record.{recorded_by}
+use Rattle.trac_step.specs.Returning.{call_record}
 use Rattle.trac_step.specs.Room.{HasRoom}
 use Rattle.trac_step.specs.Undoing.{CanShow}
-use Rattle.trac_step.proofs.Undone.{before_is_restored, can_show_before, shown_is_some}
+use Rattle.trac_step.proofs.ScanningBack.{before_is_restored, can_show_before, shown_is_some}
 use Rattle.trac_step.proofs.engine.Core.undo.Goals as goal
 
 -- a record that is known to be this one
@@ -62,11 +64,29 @@ returns-in-Idle-clause-state g c =
     goes_back (recorded_by c.args.taken) (Idle c.as_slice.result.now (frames_in c.in-Idle.frames.items)) c.args.self.now c.args.self.now.state
     (ap (λ x. recorded_by x) c.in-Idle.is ∙ ap (λ base. Idle base (frames_in c.in-Idle.frames.items)) (sym c.as_slice.ensures.value)) c.requires c.unload.new.self.state c.unload.ensures.state
 
-pub put_back-requires : goal.put_back-requires
-put_back-requires g c = (can_show (recorded_by c.args.taken) (Whole c.into_inner.result.state) c.args.self.now c.args.self.now.state
-    (ap (λ x. recorded_by x) c.in-Whole.is ∙ ap (λ (m : Shown). Whole m.state) (sym c.into_inner.ensures)) c.requires).0
+pub uncall-requires : goal.uncall-requires
+uncall-requires g c =
+    let told : code.Called = record {
+      kind = c.in-Call.kind;
+      value = c.in-Call.value;
+      scanned = c.in-Call.scanned;
+      printed = c.in-Call.printed;
+      read = c.in-Call.read;
+      meta = c.in-Call.meta;
+      trace = c.in-Call.trace;
+    } in
+    can_show (recorded_by c.args.taken) (Called (call_record told c.in-Call.arguments c.in-Call.change)) c.args.self.now c.args.self.now.state (ap (λ x. recorded_by x) c.in-Call.is) c.requires
 
-pub returns-in-Whole-clause-state : goal.returns-in-Whole-clause-state
-returns-in-Whole-clause-state g c =
-    goes_back (recorded_by c.args.taken) (Whole c.into_inner.result.state) c.args.self.now c.args.self.now.state
-    (ap (λ x. recorded_by x) c.in-Whole.is ∙ ap (λ (m : Shown). Whole m.state) (sym c.into_inner.ensures)) c.requires c.put_back.new.self.state (ap Some (sym c.put_back.ensures.state))
+pub returns-in-Call-clause-state : goal.returns-in-Call-clause-state
+returns-in-Call-clause-state g c =
+    let told : code.Called = record {
+      kind = c.in-Call.kind;
+      value = c.in-Call.value;
+      scanned = c.in-Call.scanned;
+      printed = c.in-Call.printed;
+      read = c.in-Call.read;
+      meta = c.in-Call.meta;
+      trace = c.in-Call.trace;
+    } in
+    goes_back (recorded_by c.args.taken) (Called (call_record told c.in-Call.arguments c.in-Call.change)) c.args.self.now c.args.self.now.state (ap (λ x. recorded_by x) c.in-Call.is) c.requires
+    c.uncall.new.self.state c.uncall.ensures.state

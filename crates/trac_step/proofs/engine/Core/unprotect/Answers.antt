@@ -3,7 +3,7 @@ use Rattle.std.specs.Prelude.{Some}
 use Rattle.trac_gap.specs.Ends.{Ends}
 use Rattle.trac_rules.specs.Records.{Quoted, restored}
 use Rattle.trac_step.specs.Layout.{parts_of, state_of, IsSound, Shown}
-use Rattle.trac_step.proofs.Undone.{unprotects}
+use Rattle.trac_step.proofs.ScanningBack.{unprotects}
 use Rattle.trac_step.proofs.engine.Core.unprotect.Goals as goal
 
 pub give_protected_back-requires-clause-length : goal.give_protected_back-requires-clause-length

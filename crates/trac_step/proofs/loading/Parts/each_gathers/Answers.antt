@@ -1,7 +1,5 @@
 -- Each function so far has an argument.
-use Rattle.std.proofs.Common.{ℕ, List, length, sym, ap, subst, arith, take_all}
-use Rattle.std.specs.Prelude.{Vec}
-use Rattle.trac_rules.specs.declared.kind.Kind.{Kind}
+use Rattle.std.proofs.Common.{length, ap, subst, arith, take_all}
 use Rattle.trac_step.specs.Loading.{EachGathers}
 use Rattle.trac_step.proofs.BegunFunctions.{gathers_next}
 use Rattle.trac_step.proofs.loading.Parts.each_gathers.Goals as goal

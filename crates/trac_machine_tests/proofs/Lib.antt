@@ -1,0 +1,2 @@
+-- Walks that lead to what a loaded machine shows.
+pub mod Walks

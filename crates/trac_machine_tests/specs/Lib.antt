@@ -1,0 +1,2 @@
+-- Walks of one machine, over which another one goes back.
+pub mod Walks

@@ -1,0 +1,325 @@
+-- Going back over a call: the parts before it, which show the state that its record restores.
+use Rattle.std.proofs.Common.{◌≡◌, ℕ, ◌+◌, ◌-◌, ◌≤◌, Bool, true, false, List, [], ◌∷◌, ◌++◌, length, map, take, drop, reverse, refl, sym, ap, ◌∙◌, subst, arith}
+use Rattle.std.specs.Prelude.{Option, Some, None, IsSome, codes, nat_le, ◌&&◌, option_map, option_and_then, Vec, vec_capacity}
+use Rattle.std.specs.Bool.{then_some}
+use Rattle.std.specs.Option.{unwrap_or}
+use Rattle.std.proofs.lemmas.Bool.{and_parts, leb-true}
+use Rattle.trac_gap.specs.Ends.{Ends, item_count}
+use Rattle.trac_rules.specs.declared.kind.Kind.{Kind}
+use Rattle.trac_rules.specs.Limits.{argument_bytes, marks}
+use Rattle.trac_rules.specs.Proper.{IsProper}
+use Rattle.trac_rules.specs.Records.{CallRecord, Rest, Texts, all_before_last, begun_again, end_taken_in, last_of, moved_back, moved_back_in, put_before, put_together, rest_before, rest_of, restored_call, texts_before, texts_in, value_taken}
+use Rattle.trac_rules.specs.Records as rules
+use Rattle.trac_rules.specs.State.{Frame, State, Storage, storage_of}
+use Rattle.trac_rules.specs.Undone.{storage_before}
+use Rattle.trac_rules.proofs.Restored.{frame_of-last}
+use Rattle.trac_forms.specs.Stored.{Stored, storage_in}
+use Rattle.trac_prims.specs.declared.mark.Mark.{Mark}
+use Rattle.trac_prims.specs.Frames.{IsInnermost}
+use Rattle.trac_prims.specs.Neutral.{AreMarks, MarkedText, Neutral, cut_back, neutral, neutral_of}
+use Rattle.trac_step.specs.declared.undoing.Called.{Called}
+use Rattle.trac_step.specs.declared.undone.Undone.{Undone}
+use Rattle.trac_step.specs.Layout.{Parts, IsSound, Shown, parts_of, shown_by, state_of}
+use Rattle.trac_step.specs.Pieces.{Arguments, all_texts, frame_in, function_marks}
+use Rattle.trac_step.specs.Returning.{HasValue, KnowsBefore, before_call, call_record, without_value}
+use Rattle.trac_step.specs.Room.{HasRoom}
+use Rattle.trac_step.specs.Undone.{undone_in}
+use Rattle.trac_step.specs.Undoing.{CanShow}
+use Rattle.trac_step.proofs.Limited.{sound_if_proper}
+use Rattle.trac_step.proofs.NeutralAgain.{Shows, mark_size, shows_function, text_size}
+use Rattle.trac_step.proofs.ScanningBack.{is_moved_back, moved_parts}
+
+-- ---- options
+
+then_is : {X : Type 0} (b : Bool) (x y : X) → then_some b x ≡ Some y → (b ≡ true) × (x ≡ y)
+then_is true x y h = (refl, let same : x ≡ y = cc in same)
+then_is false x y h = absurd (let none : None ≡ Some y = h in cc)
+
+-- ---- the value is taken off
+
+-- the texts of parts as two lists
+abbrev pub ends_in : Parts → Ends ℕ
+ends_in p = record { left = p.text; right = p.active; capacity = p.text_room }
+
+-- so many bytes of a value are there, and without them the parts show these texts
+record IsValueTaken (scanned : Bool) (n : ℕ) (p : Parts) (texts : Texts) : Type 0 where
+  there : HasValue scanned n (ends_in p)
+  active : texts.active ≡ (without_value scanned n (ends_in p)).right
+  shows : Shows (without_value scanned n (ends_in p)).left p.marks (record { base = texts.base; frames = texts.frames })
+
+-- what is off the end of the current text would go back before the active text
+record IsEndTaken (frames : List Frame) (n : ℕ) (s : State) (texts : Texts) : Type 0 where
+  active : texts.active ≡ s.active
+  before : List ℕ
+  moved : moved_back_in frames n s ≡ Some (record s { active = before; base = texts.base; frames = texts.frames })
+
+end_taken : (frames : List Frame) (n : ℕ) (s : State) (texts : Texts) → end_taken_in frames n (texts_in s) ≡ Some texts → IsEndTaken frames n s texts
+end_taken [] n s texts h =
+    let is = then_is (nat_le n (length s.base)) (record (texts_in s) { base = all_before_last n s.base }) texts h in
+    record {
+      active = ap (λ (t : Texts). t.active) (sym is.1);
+      before = last_of n s.base ++ s.active;
+      moved =
+          ap (λ (b : Bool). then_some b (put_before (last_of n s.base) (record s { base = all_before_last n s.base }))) is.0
+          ∙ ap (λ (t : Texts). let u : State = record s { active = last_of n s.base ++ s.active; base = t.base; frames = t.frames } in Some u) is.1;
+    }
+end_taken (f ∷ fs) n s texts h =
+    let is = then_is (nat_le n (length f.gathered)) (record (texts_in s) { frames = record f { gathered = all_before_last n f.gathered } ∷ fs }) texts h in
+    record {
+      active = ap (λ (t : Texts). t.active) (sym is.1);
+      before = last_of n f.gathered ++ s.active;
+      moved =
+          ap (λ (b : Bool). then_some b (put_before (last_of n f.gathered) (record s { frames = record f { gathered = all_before_last n f.gathered } ∷ fs }))) is.0
+          ∙ ap (λ (t : Texts). let u : State = record s { active = last_of n f.gathered ++ s.active; base = t.base; frames = t.frames } in Some u) is.1;
+    }
+
+is_value_taken : (scanned : Bool) (n : ℕ) (p : Parts) (texts : Texts) → AreMarks (length p.text) (reverse p.marks) → value_taken scanned n (texts_in (state_of p)) ≡ Some texts →
+    IsValueTaken scanned n p texts
+is_value_taken true n p texts ordered h =
+    let is = then_is (nat_le n (length p.active)) (record (texts_in (state_of p)) { active = drop n p.active }) texts h in
+    record {
+      there = leb-true n (length p.active) is.0;
+      active = ap (λ (t : Texts). t.active) (sym is.1);
+      shows = record { same = ap (λ (t : Texts). let shown : Neutral = record { base = t.base; frames = t.frames } in shown) is.1; ordered = ordered };
+    }
+is_value_taken false n p texts ordered h =
+    let s = state_of p in
+    let is = end_taken s.frames n s texts h in
+    let moved = is_moved_back n p ordered (subst IsSome (sym is.moved) refl) in
+    let both : Some (state_of (moved_parts n p)) ≡ Some (record s { active = is.before; base = texts.base; frames = texts.frames }) = sym moved.state ∙ is.moved in
+    let same : state_of (moved_parts n p) ≡ record s { active = is.before; base = texts.base; frames = texts.frames } = cc in
+    record {
+      there = moved.within;
+      active = is.active;
+      shows = record { same = ap (λ (t : State). let shown : Neutral = record { base = t.base; frames = t.frames } in shown) same; ordered = moved.ordered };
+    }
+
+-- ---- the function is begun again
+
+again : (kind : Kind) (a : Arguments) (texts : Texts) →
+    begun_again kind (all_texts a) texts ≡ Some (record texts { active = codes ")" ++ texts.active; frames = frame_in (kind, a) ∷ texts.frames })
+again kind a texts =
+    ap (option_map (λ (f : Frame). let t : Texts = record texts { active = codes ")" ++ texts.active; frames = f ∷ texts.frames } in t)) (frame_of-last (frame_in (kind, a)))
+
+-- the value is off, and then the function is begun again
+record AreTextsBack (called : Called) (a : Arguments) (p : Parts) (texts : Texts) : Type 0 where
+  without : Texts
+  taken : IsValueTaken called.scanned called.value p without
+  same : record without { active = codes ")" ++ without.active; frames = frame_in (called.kind, a) ∷ without.frames } ≡ texts
+
+texts_back : (called : Called) (a : Arguments) (p : Parts) (texts : Texts) → AreMarks (length p.text) (reverse p.marks) →
+    option_and_then (begun_again called.kind (all_texts a)) (value_taken called.scanned called.value (texts_in (state_of p))) ≡ Some texts → AreTextsBack called a p texts
+texts_back called a p texts ordered h = by_taken (value_taken called.scanned called.value (texts_in (state_of p))) refl h
+  where
+    by_taken : (o : Option Texts) → value_taken called.scanned called.value (texts_in (state_of p)) ≡ o → option_and_then (begun_again called.kind (all_texts a)) o ≡ Some texts →
+        AreTextsBack called a p texts
+    by_taken None is h = absurd (let none : None ≡ Some texts = h in cc)
+    by_taken (Some u) is h =
+        let both : Some (record u { active = codes ")" ++ u.active; frames = frame_in (called.kind, a) ∷ u.frames }) ≡ Some texts = sym (again called.kind a u) ∙ h in
+        record {
+          without = u;
+          taken = is_value_taken called.scanned called.value p u ordered is;
+          same = let same : record u { active = codes ")" ++ u.active; frames = frame_in (called.kind, a) ∷ u.frames } ≡ texts = cc in same;
+        }
+
+-- ---- the state before the call
+
+-- the parts before a call, from those after it, with these forms and blocks
+abbrev pub parts_before : Called → Arguments → Parts → Storage → ℕ → Parts
+parts_before called a p storage spare =
+    let e = before_call called.scanned called.value (all_texts a) (ends_in p) in
+    record p {
+      active = e.right;
+      text = e.left;
+      marks = p.marks ++ function_marks (length (without_value called.scanned called.value (ends_in p)).left) called.kind (map length a.finished);
+      storage = storage;
+      meta = unwrap_or called.meta p.meta;
+      trace = called.trace;
+      position = p.position - called.read;
+      output = take (length p.output - called.printed) p.output;
+      spare = spare;
+    }
+
+-- what stands at the end of the text then
+abbrev pub neutral_before : Called → Arguments → Parts → Neutral
+neutral_before called a p =
+    let e = before_call called.scanned called.value (all_texts a) (ends_in p) in
+    neutral e.left (reverse (p.marks ++ function_marks (length (without_value called.scanned called.value (ends_in p)).left) called.kind (map length a.finished)))
+
+-- the three parts of a state are there, and a machine can show them
+record CanShowParts (call : CallRecord) (m : Shown) (t : State) : Type 0 where
+  texts : Texts
+  storage : Storage
+  rest : Rest
+  texts_are : texts_before call (texts_in t) ≡ Some texts
+  storage_is : storage_before call.arguments call.undone (storage_of t) ≡ Some storage
+  rest_is : rest_before call (rest_of t) ≡ Some rest
+  room : HasRoom m (rules.state_of texts storage rest)
+  proper : IsProper (rules.state_of texts storage rest)
+
+can_show_parts : (call : CallRecord) (m : Shown) (t : State) → CanShow m (restored_call call t) → CanShowParts call m t
+can_show_parts call m t h =
+    by_parts (texts_before call (texts_in t)) (storage_before call.arguments call.undone (storage_of t)) (rest_before call (rest_of t)) refl refl refl h
+  where
+    by_parts : (texts : Option Texts) (storage : Option Storage) (rest : Option Rest) → texts_before call (texts_in t) ≡ texts →
+        storage_before call.arguments call.undone (storage_of t) ≡ storage → rest_before call (rest_of t) ≡ rest → CanShow m (put_together texts storage rest) → CanShowParts call m t
+    by_parts None storage rest x y z h = absurd h
+    by_parts (Some texts) None rest x y z h = absurd h
+    by_parts (Some texts) (Some storage) None x y z h = absurd h
+    by_parts (Some texts) (Some storage) (Some rest) x y z h = record {
+      texts = texts;
+      storage = storage;
+      rest = rest;
+      texts_are = x;
+      storage_is = y;
+      rest_is = z;
+      room = h.0;
+      proper = h.1;
+    }
+
+-- all else is got back
+record IsRestBack (called : Called) (p : Parts) (rest : Rest) : Type 0 where
+  read : called.read ≤ p.position
+  printed : called.printed ≤ length p.output
+  same : record { meta = unwrap_or called.meta p.meta; trace = called.trace; position = p.position - called.read; output = take (length p.output - called.printed) p.output } ≡ rest
+
+rest_back : {A : Type 0} (called : Called) (a : Arguments) (change : Undone A) (p : Parts) (rest : Rest) →
+    rest_before (call_record called a change) (rest_of (state_of p)) ≡ Some rest → IsRestBack called p rest
+rest_back called a change p rest h =
+    let is = then_is (nat_le called.read p.position && nat_le called.printed (length p.output)) _ rest h in
+    let both = and_parts (nat_le called.read p.position) (nat_le called.printed (length p.output)) is.0 in
+    record { read = leb-true called.read p.position both.0; printed = leb-true called.printed (length p.output) both.1; same = is.1 }
+
+module _ {A : Type 0} (called : Called) (a : Arguments) (change : Undone A) (p : Parts) (m : Shown) (sound : IsSound p) (view : shown_by p ≡ m)
+    (h : CanShow m (restored_call (call_record called a change) m.state)) where
+  abbrev call : CallRecord
+  call = call_record called a change
+
+  there : CanShowParts call (shown_by p) (state_of p)
+  there = can_show_parts call (shown_by p) (state_of p) (subst (λ (n : Shown). CanShow n (restored_call call n.state)) (sym view) h)
+
+  texts : AreTextsBack called a p there.texts
+  texts = texts_back called a p there.texts sound.ordered there.texts_are
+
+  rest : IsRestBack called p there.rest
+  rest = rest_back called a change p there.rest there.rest_is
+
+  shows : Shows (parts_before called a p p.storage 0).text (parts_before called a p p.storage 0).marks
+      (record { base = texts.without.base; frames = frame_in (called.kind, a) ∷ texts.without.frames })
+  shows = shows_function (without_value called.scanned called.value (ends_in p)).left p.marks (record { base = texts.without.base; frames = texts.without.frames }) called.kind a texts.taken.shows
+
+  -- the state that is shown
+  same_texts : there.texts ≡ record { active = codes ")" ++ (without_value called.scanned called.value (ends_in p)).right; base = texts.without.base; frames = frame_in (called.kind, a) ∷ texts.without.frames }
+  same_texts = sym texts.same ∙ ap (λ (active : List ℕ). let t : Texts = record { active = codes ")" ++ active; base = texts.without.base; frames = frame_in (called.kind, a) ∷ texts.without.frames } in t) texts.taken.active
+
+  shown : (storage : Storage) (spare : ℕ) → rules.state_of there.texts storage there.rest ≡ state_of (parts_before called a p storage spare)
+  shown storage spare =
+      (λ i. rules.state_of (same_texts i) storage (sym rest.same i))
+      ∙ ap (λ (n : Neutral). record (state_of (parts_before called a p storage spare)) { base = n.base; frames = n.frames }) (sym shows.same)
+
+  pub has_value : HasValue called.scanned called.value (ends_in p)
+  has_value = texts.taken.there
+
+  pub read_within : called.read ≤ p.position
+  read_within = rest.read
+
+  pub printed_within : called.printed ≤ length p.output
+  printed_within = rest.printed
+
+  text_fits : length (parts_before called a p p.storage 0).active + length (parts_before called a p p.storage 0).text ≤ p.text_room
+  text_fits =
+      omega (
+        arith,
+        there.room.text,
+        text_size (parts_before called a p p.storage 0).text (parts_before called a p p.storage 0).marks _ shows,
+        ap (λ (t : Texts). length t.active + length t.base + argument_bytes t.frames) same_texts,
+      )
+
+  pub text_room : item_count (before_call called.scanned called.value (all_texts a) (ends_in p)) ≤ p.text_room
+  text_room = omega (arith, text_fits)
+
+  pub mark_room : length p.marks + 1 + length a.finished ≤ p.mark_room
+  mark_room =
+      omega (
+        arith,
+        there.room.marks,
+        mark_size (without_value called.scanned called.value (ends_in p)).left p.marks _ texts.taken.shows,
+        ap (λ (t : Texts). marks t.frames) same_texts,
+      )
+
+  pub ordered : AreMarks (length (parts_before called a p p.storage 0).text) (reverse (parts_before called a p p.storage 0).marks)
+  ordered = shows.ordered
+
+  -- the innermost function is the one that is back
+  is_inside : (neutral_before called a p).frames ≡ frame_in (called.kind, a) ∷ texts.without.frames
+  is_inside = ap (λ (n : Neutral). n.frames) shows.same
+
+  pub never_outside : (neutral_before called a p).frames ≡ [] → ⊥
+  never_outside none = let unset : [] ≡ frame_in (called.kind, a) ∷ texts.without.frames = sym none ∙ is_inside in absurd (cc)
+
+  pub same_arguments : (n : MarkedText) (number place : ℕ) (kind : Kind) (arguments : List (List ℕ)) → neutral_of n ≡ neutral_before called a p → IsInnermost n number place kind arguments →
+      arguments ≡ all_texts a
+  same_arguments n number place kind arguments is inner =
+      let both : inner.frame ∷ (neutral_of (cut_back number place n)).frames ≡ frame_in (called.kind, a) ∷ texts.without.frames = sym inner.frames_are ∙ ap (λ (x : Neutral). x.frames) is ∙ is_inside in
+      let same : inner.frame ≡ frame_in (called.kind, a) = cc in
+      sym inner.arguments_are ∙ ap (λ (f : Frame). f.arguments ++ f.gathered ∷ []) same
+
+  pub knows : (arguments : List (List ℕ)) → arguments ≡ all_texts a → KnowsBefore p.known (storage_before arguments (undone_in change) p.storage)
+  knows arguments same =
+      let one : KnowsBefore p.known (storage_before (all_texts a) (undone_in change) p.storage) = subst (λ (o : Option Storage). KnowsBefore p.known o) (sym there.storage_is) there.room.names in
+      subst (λ (texts : List (List ℕ)). KnowsBefore p.known (storage_before texts (undone_in change) p.storage)) (sym same) one
+
+  module _ (arguments : List (List ℕ)) (same : arguments ≡ all_texts a) (storage : Storage) (spare : ℕ) (is : storage_before arguments (undone_in change) p.storage ≡ Some storage) where
+    same_storage : there.storage ≡ storage
+    same_storage =
+        let both : Some there.storage ≡ Some storage = sym there.storage_is ∙ ap (λ (texts : List (List ℕ)). storage_before texts (undone_in change) p.storage) (sym same) ∙ is in
+        let one : there.storage ≡ storage = cc in
+        one
+
+    shows_before : rules.state_of there.texts there.storage there.rest ≡ state_of (parts_before called a p storage spare)
+    shows_before = ap (λ (s : Storage). rules.state_of there.texts s there.rest) same_storage ∙ shown storage spare
+
+    pub restores : restored_call call m.state ≡ Some (state_of (parts_before called a p storage spare))
+    restores =
+        ap (λ (n : Shown). restored_call call n.state) (sym view)
+        ∙ (λ i. put_together (there.texts_are i) (there.storage_is i) (there.rest_is i))
+        ∙ ap Some shows_before
+
+    pub sound_before : IsSound (parts_before called a p storage spare)
+    sound_before =
+        sound_if_proper (parts_before called a p storage spare) ordered text_fits
+        (omega (arith, there.room.marks, mark_size (parts_before called a p p.storage 0).text (parts_before called a p p.storage 0).marks _ shows, ap (λ (t : Texts). marks t.frames) same_texts))
+        (subst IsProper shows_before there.proper)
+
+-- ---- the parts as a machine holds them
+
+pub same_parts : {A : Type 0} (called : Called) (a : Arguments) (p : Parts) (text : Ends ℕ) (ms : Ends Mark) (store : Stored) (meta : ℕ) (output : Vec ℕ A) →
+    text ≡ before_call called.scanned called.value (all_texts a) (ends_in p) →
+    ms.left ≡ p.marks ++ function_marks (length (without_value called.scanned called.value (ends_in p)).left) called.kind (map length a.finished) →
+    ms.capacity ≡ p.mark_room → store.known ≡ p.known → meta ≡ unwrap_or called.meta p.meta → output.items ≡ take (length p.output - called.printed) p.output →
+    vec_capacity output ≡ p.output_room →
+    parts_of text ms store meta called.trace (p.position - called.read) output ≡ parts_before called a p (storage_in store) store.spare
+same_parts called a p text ms store meta output text_is marks_are mark_room known meta_is items output_room i =
+    record (parts_before called a p (storage_in store) store.spare) {
+      active = (text_is i).right;
+      text = (text_is i).left;
+      marks = marks_are i;
+      meta = meta_is i;
+      output = items i;
+      text_room = room i;
+      mark_room = mark_room i;
+      output_room = output_room i;
+      known = known i;
+    }
+  where
+    room : text.capacity ≡ p.text_room
+    room = ap (λ (e : Ends ℕ). e.capacity) text_is ∙ kept called.scanned
+      where
+        kept : (scanned : Bool) → (without_value scanned called.value (ends_in p)).capacity ≡ p.text_room
+        kept true = refl
+        kept false = refl
+
+-- a text with its marks is the same where both are
+pub marked_same : (text other : List ℕ) (ms others : List Mark) → text ≡ other → ms ≡ others →
+    (let m : MarkedText = record { text = text; marks = ms } in m) ≡ (let m : MarkedText = record { text = other; marks = others } in m)
+marked_same text other ms others text_is marks_are i = record { text = text_is i; marks = marks_are i }

@@ -1,0 +1,151 @@
+//! The way back over a call, on forms and blocks.
+ghost use Rattle.std.specs.Prelude.{◌≡◌, ◌∷◌, [], slice_get, slice_set, None, Some, option_map, IsTrue};
+ghost use Rattle.std.specs.FinMap as finite;
+ghost use Rattle.std.specs.FinSet as set;
+ghost use Rattle.trac_rules.specs.Blocks.{block_at, with_all};
+ghost use Rattle.trac_rules.specs.Handling.{keeping, without};
+ghost use Rattle.trac_rules.specs.Undone.{Join, moved_out_again, names_in, storage_before, swapped_back, unbrought, unerased};
+ghost use Rattle.trac_forms.specs.Stored.{storage_in};
+ghost use Rattle.trac_prims.specs.Effects.{named_forms};
+ghost use Rattle.trac_step.specs.Changing.{KnowsNamed};
+ghost use Rattle.trac_step.specs.Returning.{KnowsBefore};
+ghost use Rattle.trac_step.specs.Undone.{undone_in};
+
+use crate::blocking::put_each;
+use crate::changing::point;
+use crate::undone::Undone;
+use std::alloc::Allocator;
+use trac_forms::{Block, Cut, Form, Store};
+use trac_prims::Args;
+
+// Puts back what a call of these arguments destroyed of forms and blocks. It takes no memory, and forgets no name; the names of the
+// forms before have to be known.
+pub(crate) fn put_storage<A: Allocator + Copy>(
+    store: &mut Store<A>,
+    arguments: &Args<'_>,
+    change: Undone<A>,
+)
+    requires { KnowsBefore store.old.known (storage_before arguments.now (undone_in change) (storage_in store.old)) }
+    ensures storage { storage_before arguments.now (undone_in change) (storage_in store.old) ≡ Some (storage_in store.new) }
+    ensures names { store.new.known ≡ store.old.known }
+{
+    let name = arguments.get(1);
+    match change {
+        Undone::Nothing => {}
+        Undone::Point(place) => {
+            point(store, name, place);
+        }
+        Undone::Join { cut, pointer } => join(store, arguments, cut, pointer),
+        Undone::Swap(old) => swap(store, name, old),
+        Undone::Restore(forms) => put_each(store, forms),
+        Undone::MoveOut(old) => move_out(store, name, old),
+        Undone::Unbring { number, replaced } => unbring(store, number, replaced),
+        Undone::Unerase {
+            number,
+            block,
+            address,
+        } => unerase(store, name, number, block, address),
+    }
+}
+
+// Fills the gaps of a cut, in the form that the arguments name, with the texts that they give behind the name, and sets its pointer.
+fn join<A: Allocator + Copy>(
+    store: &mut Store<A>,
+    arguments: &Args<'_>,
+    cut: Cut<A>,
+    pointer: usize,
+)
+    requires { KnowsBefore store.old.known (storage_before arguments.now (Join cut pointer) (storage_in store.old)) }
+    ensures storage { storage_before arguments.now (Join cut pointer) (storage_in store.old) ≡ Some (storage_in store.new) }
+    ensures names { store.new.known ≡ store.old.known }
+{
+    let name = arguments.get(1);
+    let Some(mut form) = store.take(name) else {
+        unreachable!()
+    };
+    form.unsegment(cut, &arguments.behind(2));
+    form.set_pointer(pointer);
+    store.put(name, form);
+}
+
+// Puts a form under a name again, or takes away the one that is there.
+fn swap<A: Allocator + Copy>(store: &mut Store<A>, name: &[u8], old: Option<Form<A>>)
+    requires { KnowsBefore store.old.known (Some (keeping (swapped_back name.now old store.old.forms) (storage_in store.old))) }
+    ensures { store.new ≡ record store.old { forms = swapped_back name.now old store.old.forms } }
+{
+    match old {
+        Some(form) => store.put(name, form),
+        None => store.take(name),
+    };
+}
+
+// Takes the last block off the list, puts a form under a name again, or takes it away, and then puts back what the block holds.
+fn move_out<A: Allocator + Copy>(store: &mut Store<A>, name: &[u8], old: Option<Form<A>>)
+    requires { KnowsBefore store.old.known (moved_out_again name.now old (storage_in store.old)) }
+    ensures storage { moved_out_again name.now old (storage_in store.old) ≡ Some (storage_in store.new) }
+    ensures names { store.new.known ≡ store.old.known }
+{
+    let Some(block) = store.pop_block() else {
+        unreachable!()
+    };
+    swap(store, name, old);
+    put_held(store, block);
+}
+
+// Puts what a block holds among the forms.
+fn put_held<A: Allocator + Copy>(store: &mut Store<A>, mut block: Block<A>)
+    requires { KnowsNamed block.held store.old.known }
+    ensures { store.new ≡ record store.old { forms = with_all block.held store.old.forms } }
+{
+    // `len` is called for its clause that no name stands twice: so they may come from the last one on.
+    let _len = block.len();
+    while let Some((name, form)) = block.pop() {
+        store.put(name.as_slice(), form);
+    }
+}
+
+// Takes away the forms of all names in the block of this number, and puts back those that they replaced.
+fn unbring<A: Allocator + Copy>(
+    store: &mut Store<A>,
+    number: usize,
+    replaced: Vec<(Vec<u8, A>, Form<A>), A>,
+)
+    requires { KnowsBefore store.old.known (unbrought number (named_forms replaced.items) (storage_in store.old)) }
+    ensures storage { unbrought number (named_forms replaced.items) (storage_in store.old) ≡ Some (storage_in store.new) }
+    ensures names { store.new.known ≡ store.old.known }
+{
+    let Some(block) = store.take_block(number) else {
+        unreachable!()
+    };
+    take_named(store, &block);
+    store.set_block(number, block);
+    put_each(store, replaced);
+}
+
+// Takes away the forms of all names in a block.
+fn take_named<A: Allocator + Copy>(store: &mut Store<A>, block: &Block<A>)
+    ensures { store.new ≡ record store.old { forms = without (names_in block.now.held) store.old.forms } }
+{
+    for i in 0..block.len() {
+        let Some((name, _form)) = block.get(i) else {
+            unreachable!()
+        };
+        store.take(name);
+    }
+}
+
+// Puts a block in the place of the erased one of this number, and its address under a name.
+fn unerase<A: Allocator + Copy>(
+    store: &mut Store<A>,
+    name: &[u8],
+    number: usize,
+    block: Block<A>,
+    address: Form<A>,
+)
+    requires { KnowsBefore store.old.known (unerased number block.held name.now address (storage_in store.old)) }
+    ensures storage { unerased number block.held name.now address (storage_in store.old) ≡ Some (storage_in store.new) }
+    ensures names { store.new.known ≡ store.old.known }
+{
+    store.set_block(number, block);
+    store.put(name, address);
+}
