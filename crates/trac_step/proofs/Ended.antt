@@ -14,7 +14,7 @@ use Rattle.trac_forms.specs.Stored.{Stored, storage_in}
 use Rattle.trac_prims.specs.declared.mark.Mark.{Mark}
 use Rattle.trac_prims.specs.declared.effect.Effect as code
 use Rattle.trac_prims.specs.Effects.{Planned, planned_on}
-use Rattle.trac_prims.specs.Frames.{IsInnermost}
+use Rattle.trac_prims.specs.Frames.{all_arguments, IsInnermost}
 use Rattle.trac_prims.specs.Neutral.{AreMarks, cut_back, neutral_of}
 use Rattle.trac_prims.proofs.Neutral.{AreMarks-longer}
 use Rattle.trac_step.specs.Calling.{state_after, with_value}

@@ -8,12 +8,14 @@ pub mod Moving
 pub mod Outcomes
 pub mod Calls
 pub mod CallsPlanned
+pub mod Finishing
 pub mod Beginnings
 pub mod Ended
 pub mod Pointers
 pub mod Planned
 pub mod MovedForms
 pub mod Replacing
+pub mod Clearing
 pub mod Recorded
 pub mod ScanningBack
 pub mod StorageBack
