@@ -1,11 +1,11 @@
 -- Blocks as they are kept, and the forms in one of them.
-use Rattle.std.proofs.Common.{◌≡◌, ℕ, ◌+◌, ◌<◌, ◌≤◌, List, [], ◌∷◌, ◌++◌, false, ap, arith, get_or, length, map, subst, sym, take, ◌∙◌}
-use Rattle.std.specs.Prelude.{MatchOption, Option, None, Some, Vec, bytes_eq, option_map, option_to_list, slice_get, slice_set, vec_capacity, vec_len}
+use Rattle.std.proofs.Common.{◌≡◌, ℕ, ◌+◌, ◌<◌, List, [], ◌∷◌, ◌++◌, false, ap, arith, get_or, length, map, subst, sym, ◌∙◌}
+use Rattle.std.specs.Prelude.{MatchOption, Option, None, Some, Vec, bytes_eq, option_map, option_to_list, slice_get, slice_set, vec_len}
 use Rattle.std.specs.List.{AllByRecursion, IsDistinct, list_any}
 use Rattle.std.specs.Vec.{with_item}
 use Rattle.std.specs.Cmp.Lexicographic.{nat_list_eq_equiv}
 use Rattle.std.proofs.lemmas.Bool.{or_parts}
-use Rattle.std.proofs.lemmas.List.{length-map, length-take-le, map-append, map-set, nil_from_length, take_all}
+use Rattle.std.proofs.lemmas.List.{map-append, map-set, nil_from_length}
 use Rattle.std.proofs.lemmas.Option.{slice_get-get_or, slice_get-map}
 use Rattle.trac_rules.specs.Form.{Form}
 use Rattle.trac_rules.specs.State.{Block, Held}
@@ -70,26 +70,8 @@ module _ {K V : Type 0} (name : K → List ℕ) where
   pub named-append : (xs ys : List (K × V)) → named name (xs ++ ys) ≡ named name xs ++ named name ys
   named-append xs ys = map-append (λ (e : K × V). (name e.0, e.1)) xs ys
 
-  length-named : (xs : List (K × V)) → length (named name xs) ≡ length xs
-  length-named xs = length-map xs (λ (e : K × V). (name e.0, e.1))
-
-  -- so many are copied so far
-  pub count_so_far : (done all : List (K × V)) (i : ℕ) → i ≤ length all → named name done ≡ named name (take i all) → length done ≡ i
-  count_so_far done all i within so_far =
-      sym (length-named done) ∙ ap (λ (es : List (List ℕ × V)). length es) so_far ∙ length-named (take i all) ∙ length-take-le i all within
-
-  -- all are copied
-  pub all_so_far : (done all read : List (K × V)) (i : ℕ) → read ≡ all → length read ≤ i → named name done ≡ named name (take i read) → named name done ≡ named name all
-  all_so_far done all read i same past so_far = so_far ∙ ap (named name) (take_all i read past ∙ same)
-
 -- what a block holds, and its room, by its vector
 module _ {K A : Type 0} (name : K → List ℕ) (old : Vec (K × Form) A) (held : Held) (is : named name old.items ≡ held) where
-  -- a copy with as many places
-  pub same_places : (new : Vec (K × Form) A) → named name new.items ≡ named name old.items → vec_capacity new ≡ vec_capacity old → places_left new ≡ places_left old
-  same_places new same places =
-      let lengths = sym (length-named name new.items) ∙ ap (λ (es : Held). length es) same ∙ length-named name old.items in
-      omega (arith, lengths, places, old.ok.0, new.ok.0)
-
   -- the last one taken
   pub popped : (new : Vec (K × Form) A) (last : Option (K × Form)) → old.items ≡ new.items ++ option_to_list last →
       MatchOption last ((vec_len old ≡ 0) × (vec_len new ≡ 0)) (λ _. vec_len new + 1 ≡ vec_len old) →

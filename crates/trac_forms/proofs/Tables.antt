@@ -1,5 +1,5 @@
 -- Entries of a table, and the forms and names that they stand for.
-use Rattle.std.proofs.Common.{◌≡◌, ℕ, ◌+◌, ◌-◌, Bool, true, false, cond, ◌||◌, List, [], ◌∷◌, ◌++◌, length, map, refl, sym, ap, subst, ◌∙◌, arith, ⊎_elim, is_some, filter, IsSome, IsTrue}
+use Rattle.std.proofs.Common.{◌≡◌, ℕ, ◌+◌, ◌-◌, Bool, true, false, cond, ◌||◌, List, [], ◌∷◌, ◌++◌, length, map, refl, sym, ap, subst, ◌∙◌, arith, ⊎_elim, is_some, filter, IsSome}
 use Rattle.std.specs.Prelude.{Option, None, Some}
 use Rattle.std.specs.Cmp.Lexicographic.{slice_cmp, nat_list_cmp_total, nat_list_eq_equiv}
 use Rattle.std.specs.FinMap as finite
@@ -7,10 +7,10 @@ use Rattle.std.specs.FinSet as set
 use Rattle.std.specs.List.{list_any, IsDistinct, AllByRecursion}
 use Rattle.std.specs.Map.Calls.{RetainsPairs}
 use Rattle.std.specs.Map.{keys_of, lookup, set_value}
-use Rattle.std.specs.Option.{option_flatten, option_or}
+use Rattle.std.specs.Option.{option_flatten}
 use Rattle.std.specs.Ordering.{nat_cmp, eq_by_cmp}
 use Rattle.std.specs.Str.{bytes_eq}
-use Rattle.std.proofs.lemmas.Bool.{cases_Bool, cond-true, cond-false, false≢true}
+use Rattle.std.proofs.lemmas.Bool.{cases_Bool, cond-true, cond-false}
 use Rattle.std.proofs.lemmas.Map.{lookup-set_value, keys-set_value}
 use Rattle.std.proofs.lemmas.Map.Entries.{lookup-filter-values, option_filter}
 use Rattle.std.proofs.lemmas.Map.Keys.{IsDistinct-head, IsDistinct-tail}
@@ -22,8 +22,8 @@ use Rattle.trac_rules.proofs.NamedForms.{only_equal_tie, ties_itself}
 use Rattle.trac_rules.specs.Listing.{names_of}
 use Rattle.trac_rules.specs.State.{Forms}
 use Rattle.trac_forms.specs.Stored.{KnowsAll, Names, Stored, swept}
-use Rattle.trac_forms.specs.Table.{Kept, named, with_any, with_entry, forms_of, known_of, stored}
-use Rattle.std.proofs.lemmas.List.{append_assoc, length-map, map-append}
+use Rattle.trac_forms.specs.Table.{Kept, named, with_entry, forms_of, known_of, stored}
+use Rattle.std.proofs.lemmas.List.{length-map}
 
 -- entries of a table of forms
 abbrev pub Entries : Type 0
@@ -351,106 +351,6 @@ module _ {K : Type 0} (name : K → List ℕ) (es : List (K × Option Form)) (bs
 pub none_of_false : {X : Type 0} (o : Option X) → is_some o ≡ false → o ≡ None
 none_of_false None h = refl
 none_of_false (Some x) h = absurd (cc)
-
--- a key that is still to come is not among those before it
-pub not_yet : {V : Type 0} (done rest all : List (List ℕ × V)) (e : List ℕ × V) → done ++ e ∷ rest ≡ all → IsDistinct bytes_eq (keys_of all) → lookup (bytes_eq e.0) done ≡ None
-not_yet [] rest all e is apart = refl
-not_yet {V} (d ∷ done) rest all e is apart =
-    let whole : IsDistinct bytes_eq (d.0 ∷ keys_of (done ++ e ∷ rest)) = subst (λ (xs : List (List ℕ × V)). IsDistinct bytes_eq (keys_of xs)) (sym is) apart in
-    let other : bytes_eq d.0 e.0 ≡ false = among done (IsDistinct-head bytes_eq d.0 (keys_of (done ++ e ∷ rest)) whole) in
-    cond-false (bytes_eq e.0 d.0) (Some d.1) (lookup (bytes_eq e.0) done) (nat_list_eq_equiv.symm e.0 d.0 ∙ other)
-    ∙ not_yet done rest (done ++ e ∷ rest) e refl (IsDistinct-tail bytes_eq d.0 (keys_of (done ++ e ∷ rest)) whole)
-  where
-    among : (xs : List (List ℕ × V)) → AllByRecursion (λ y. bytes_eq d.0 y ≡ false) (keys_of (xs ++ e ∷ rest)) → bytes_eq d.0 e.0 ≡ false
-    among [] h = h.0
-    among (x ∷ xs) h = among xs h.1
-
--- a table that is copied entry by entry: what is done, what is left, and all of it
-module _ {K V : Type 0} (name : K → List ℕ) (done left rest all : List (K × V)) (k : K) (v : V) (next : left ≡ (k, v) ∷ rest) (so_far : named name done ++ named name left ≡ named name all) where
-  at_next : named name done ++ (name k, v) ∷ named name rest ≡ named name all
-  at_next = ap (λ (xs : List (K × V)). named name done ++ named name xs) (sym next) ∙ so_far
-
-  -- the next key is new
-  pub entry_new : (called : List ℕ) → called ≡ name k → IsDistinct (λ x y. bytes_eq (name x) (name y)) (keys_of all) → lookup (λ y. bytes_eq called (name y)) done ≡ None
-  entry_new called e apart =
-      sym (lookup-named name (bytes_eq called) done)
-      ∙ ap (λ (n : List ℕ). lookup (bytes_eq n) (named name done)) e
-      ∙ not_yet (named name done) (named name rest) (named name all) (name k, v) at_next (IsDistinct-named name all apart)
-
-  -- and once it is added, the rest is left
-  pub entry_added : (added : K) (w : V) (new : List (K × V)) → new ≡ done ++ (added, w) ∷ [] → name added ≡ name k → w ≡ v → named name new ++ named name rest ≡ named name all
-  entry_added added w new e called same =
-      ap (λ (xs : List (K × V)). named name xs ++ named name rest) e
-      ∙ ap (λ (xs : List (List ℕ × V)). xs ++ named name rest) (map-append (λ x. (name x.0, x.1)) done ((added, w) ∷ []))
-      ∙ append_assoc (named name done) ((name added, w) ∷ []) (named name rest)
-      ∙ ap (λ (n : List ℕ). named name done ++ (n, w) ∷ named name rest) called
-      ∙ ap (λ (x : V). named name done ++ (name k, x) ∷ named name rest) same
-      ∙ at_next
-
--- ---- a table whose forms are put into another one, entry by entry
-
--- the forms of all entries put, one after another
-abbrev pub put_all : Entries → Forms → Forms
-put_all [] forms = forms
-put_all (e ∷ es) forms = put_all es (with_any e.0 e.1 forms)
-
--- the names of all entries with a form are known
-abbrev pub KnowsEach : Names → Entries → Type 0
-KnowsEach known [] = Unit {0}
-KnowsEach known (e ∷ es) = (IsTrue (is_some e.1) → IsTrue (set.contains known e.0)) × KnowsEach known es
-
-get-with_any : (name q : List ℕ) (form : Option Form) (forms : Forms) → finite.get (with_any name form forms) q ≡ cond (bytes_eq q name) (option_or form (finite.get forms q)) (finite.get forms q)
-get-with_any name q None forms = elim (bytes_eq q name) as (λ b. finite.get forms q ≡ cond b (finite.get forms q) (finite.get forms q)) [ true ↦ refl | false ↦ refl ]
-get-with_any name q (Some form) forms =
-    finite.get-insert nat_list_cmp_total forms name form q ∙ ap (λ b. cond b (Some form) (finite.get forms q)) (is_eq-slice_cmp q name)
-
-get-put_all : (es : Entries) (forms : Forms) (q : List ℕ) → IsDistinct bytes_eq (keys_of es) →
-    finite.get (put_all es forms) q ≡ option_or (option_flatten (lookup (bytes_eq q) es)) (finite.get forms q)
-get-put_all [] forms q apart = refl
-get-put_all (e ∷ es) forms q apart =
-    let rest = get-put_all es (with_any e.0 e.1 forms) q (IsDistinct-tail bytes_eq e.0 (keys_of es) apart) in
-    rest
-    ∙ ap (option_or (option_flatten (lookup (bytes_eq q) es))) (get-with_any e.0 q e.1 forms)
-    ∙ ⊎_elim
-    (λ (t : bytes_eq q e.0 ≡ true).
-    let none : lookup (bytes_eq q) es ≡ None =
-    ap (λ k. lookup (bytes_eq k) es) ((bytes_eq-Decides q e.0).0 t) ∙ lookup_none e.0 es (IsDistinct-head bytes_eq e.0 (keys_of es) apart) in
-    rw (t, none) refl)
-    (λ (t : bytes_eq q e.0 ≡ false). rw t refl)
-    (cases_Bool (bytes_eq q e.0))
-
--- put into nothing, they are the forms of the table
-pub put_all-forms_of : (es : Entries) → IsDistinct bytes_eq (keys_of es) → put_all es finite.empty ≡ forms_of es
-put_all-forms_of es apart =
-    finite.same_map nat_list_cmp_total only_equal_tie (put_all es finite.empty) (forms_of es) (λ q.
-    get-put_all es finite.empty q apart
-    ∙ ap (option_or (option_flatten (lookup (bytes_eq q) es))) (finite.get-empty (slice_cmp nat_cmp) q)
-    ∙ or_none (option_flatten (lookup (bytes_eq q) es))
-    ∙ sym (get-forms_of es q))
-  where
-    or_none : {X : Type 0} (o : Option X) → option_or o None ≡ o
-    or_none None = refl
-    or_none (Some x) = refl
-
--- where the names of all forms are known
-knows_each : (known : Names) (es : Entries) → IsDistinct bytes_eq (keys_of es) →
-    ((q : List ℕ) → IsTrue (is_some (option_flatten (lookup (bytes_eq q) es))) → IsTrue (set.contains known q)) → KnowsEach known es
-knows_each known [] apart all = tt
-knows_each known (e ∷ es) apart all = (
-  (λ some. all e.0 (rw (nat_list_eq_equiv.refl e.0) some)),
-  knows_each known es (IsDistinct-tail bytes_eq e.0 (keys_of es) apart) (λ q some.
-      ⊎_elim
-      (λ (t : bytes_eq q e.0 ≡ true).
-      let none : lookup (bytes_eq q) es ≡ None =
-      ap (λ k. lookup (bytes_eq k) es) ((bytes_eq-Decides q e.0).0 t) ∙ lookup_none e.0 es (IsDistinct-head bytes_eq e.0 (keys_of es) apart) in
-      absurd (false≢true (sym (ap (λ o. is_some (option_flatten o)) none) ∙ some)))
-      (λ (t : bytes_eq q e.0 ≡ false). all q (rw t some))
-      (cases_Bool (bytes_eq q e.0))),
-)
-
-pub KnowsEach-forms_of : (known : Names) (es : Entries) → IsDistinct bytes_eq (keys_of es) → KnowsAll known (forms_of es) → KnowsEach known es
-KnowsEach-forms_of known es apart all =
-    knows_each known es apart (λ q some. all q (ap is_some (get-forms_of es q) ∙ some))
 
 -- ---- after the calls
 

@@ -48,8 +48,3 @@ kept_in blocks = record { blocks = blocks_of blocks.items; spare = places_left b
 -- what a table of these entries holds, beside these blocks
 abbrev pub stored : List (List ℕ × Option Form) → Kept → Stored
 stored entries kept = record { forms = forms_of entries; blocks = kept.blocks; spare = kept.spare; known = known_of entries }
-
--- a form, if there is one, put under a name
-abbrev pub with_any : List ℕ → Option Form → Forms → Forms
-with_any name None forms = forms
-with_any name (Some form) forms = finite.insert forms name form

@@ -1,8 +1,7 @@
 //! Blocks: forms that were put aside together, with their names.
-ghost use Rattle.std.specs.Prelude.{◌≡◌, ◌+◌, ◌-◌, ◌<◌, ◌≤◌, ◌++◌, ◌∷◌, [], false, vec_capacity, IfOk, IsOkUnless, MatchOption};
+ghost use Rattle.std.specs.Prelude.{◌≡◌, ◌+◌, ◌-◌, ◌<◌, ◌≤◌, ◌++◌, ◌∷◌, [], false, IfOk, IsOkUnless, MatchOption};
 ghost use Rattle.std.specs.List.{list_any};
 ghost use Rattle.std.specs.Str.{bytes_eq};
-ghost use Rattle.trac_forms.specs.Table.{places_left};
 
 use crate::error::FormError;
 use crate::form::Form;
@@ -59,48 +58,5 @@ impl<A: Allocator + Copy> Block<A> {
         ensures room { self.old.room ≤ self.new.room }
     {
         self.entries.pop()
-    }
-
-    // A second block of the same forms under the same names and with as many spare places, with memory of its own.
-    fn copy(&self) -> Result<Self, FormError>
-        ensures same { IfOk result (λ b. b ≡ self.now) }
-        ensures err { IsOkUnless result FormError.Memory }
-    {
-        let alloc = *self.entries.allocator();
-        let places = self.entries.capacity();
-        let mut entries = Vec::with_capacity(alloc, places)?;
-        for (key, form) in &self.entries {
-            let name = Vec::from_slice(alloc, key.as_slice())?;
-            let copy = form.copy()?;
-            entries.push_reserved((name, copy));
-        }
-        Ok(Block { entries })
-    }
-}
-
-// The same blocks with as many spare places, with memory of their own.
-pub(crate) fn blocks_copy<A: Allocator + Copy>(
-    blocks: &Vec<Option<Block<A>>, A>,
-) -> Result<Vec<Option<Block<A>>, A>, FormError>
-    ensures same { IfOk result (λ copy. copy.items ≡ blocks.now.items) }
-    ensures places { IfOk result (λ copy. places_left copy ≡ places_left blocks.now) }
-    ensures err { IsOkUnless result FormError.Memory }
-{
-    let places = blocks.capacity();
-    let mut copy = Vec::with_capacity(*blocks.allocator(), places)?;
-    for block in blocks {
-        copy.push_reserved(block_copy(block)?);
-    }
-    Ok(copy)
-}
-
-// The same block, if it is not erased, with memory of its own.
-fn block_copy<A: Allocator + Copy>(block: &Option<Block<A>>) -> Result<Option<Block<A>>, FormError>
-    ensures same { IfOk result (λ copy. copy ≡ block.now) }
-    ensures err { IsOkUnless result FormError.Memory }
-{
-    match block {
-        Some(block) => Ok(Some(block.copy()?)),
-        None => Ok(None),
     }
 }

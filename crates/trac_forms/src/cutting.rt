@@ -1,9 +1,8 @@
 //! Segmenting a form: texts are cut out of it, and what is cut leaves gaps.
 ghost use Rattle.std.specs.Prelude.{◌≡◌, ◌+◌, ◌++◌, ◌<◌, ◌≤◌, ◌∷◌, [], length, IfOk, IsOkUnless, OnOk};
 ghost use Rattle.std.specs.List.{All};
-ghost use Rattle.trac_rules.specs.Form.{IsWide, all_items, as_items, at_start, extent};
-ghost use Rattle.trac_rules.specs.Segmenting.{cut_out, part, segmented, segmented_from};
-ghost use Rattle.trac_forms.specs.Layout.{IsSound};
+ghost use Rattle.trac_rules.specs.Form.{IsWide, all_items, as_items, extent};
+ghost use Rattle.trac_rules.specs.Segmenting.{cut_out, part, segmented_from};
 
 use crate::error::FormError;
 use crate::form::{Form, extent_within, items_of};
@@ -14,22 +13,6 @@ use trac_rules::item::Item;
 use trac_rules::limit::{FORM_LIMIT, MARK_LIMIT};
 
 impl<A: Allocator + Copy> Form<A> {
-    /// The form with these texts cut out, its pointer at the start. For each text in turn, every run of bytes between gaps
-    /// is searched from the left, and the leftmost occurrences that do not overlap become gaps of that text's number, which
-    /// counts from 1. Earlier gaps stay. A null text cuts nothing, and uses up its number. There may be at most 1,048,576
-    /// texts. All of this is this project's profile.
-    ///
-    /// Refused with `Memory` where the allocator refuses.
-    pub fn segmented<T: Texts>(&self, texts: &T) -> Result<Form<A>, FormError>
-        requires { length (T.texts texts.now) ≤ MARK_LIMIT }
-        ensures cut { IfOk result (λ f. f ≡ segmented (T.texts texts.now) self.now) }
-        ensures sound { IfOk result IsSound }
-        ensures err { IsOkUnless result FormError.Memory }
-    {
-        let items = self.items_without(texts)?;
-        form_at_start(self.alloc, items.as_slice())
-    }
-
     // All items, these texts cut out in turn.
     pub(crate) fn items_without<T: Texts>(&self, texts: &T) -> Result<Vec<Item, A>, FormError>
         requires { length (T.texts texts.now) ≤ MARK_LIMIT }
@@ -47,21 +30,6 @@ impl<A: Allocator + Copy> Form<A> {
         }
         Ok(items)
     }
-}
-
-// A form of these items, its pointer at the start.
-fn form_at_start<A: Allocator + Copy>(alloc: A, items: &[Item]) -> Result<Form<A>, FormError>
-    requires within { extent items.now ≤ FORM_LIMIT }
-    requires wide { All IsWide items.now }
-    ensures made { IfOk result (λ f. f ≡ at_start items.now) }
-    ensures sound { IfOk result IsSound }
-    ensures err { IsOkUnless result FormError.Memory }
-{
-    let Some(bytes) = extent_within(items, FORM_LIMIT) else {
-        unreachable!()
-    };
-    let items = items_of(alloc, &[], items, bytes)?;
-    Ok(Form { alloc, items })
 }
 
 // The items with the text of this number cut out; a null text cuts nothing.

@@ -4,7 +4,6 @@
 
 pub mod block;
 mod blocks;
-mod copies;
 pub mod cut;
 mod cutting;
 pub mod error;

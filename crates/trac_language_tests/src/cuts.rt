@@ -98,8 +98,12 @@ fn cut_for<'a, T: Texts>(
     Ok(cut)
 }
 
-// The texts are cut out, and what is cut is let go.
-fn cut_out(rt: &impl Abort, form: &mut Form<Memory<'_>>, texts: &[&[u8]]) -> Result<(), FormError> {
+/// The texts are cut out, and what is cut is let go. One request may be refused.
+pub(crate) fn cut_out(
+    rt: &impl Abort,
+    form: &mut Form<Memory<'_>>,
+    texts: &[&[u8]],
+) -> Result<(), FormError> {
     let cut = cut_for(rt, form, &texts)?;
     form.segment(&cut, &texts);
     Ok(())

@@ -1,5 +1,6 @@
 //! Forms: what is cut out of them, what a call of them gives, and how they are printed. Each request for memory is refused
 //! in turn.
+use crate::cuts::cut_out;
 use crate::expect::{Memory, expect_each, expect_text};
 use crate::samples::divided;
 use std::alloc::Allocator;
@@ -7,7 +8,6 @@ use std::process::Abort;
 use std::test::Fail;
 use trac_faults::Refusing;
 use trac_forms::{Form, FormError, Item, Texts};
-use trac_rules::limit::MARK_LIMIT;
 
 // What is printed of a form, which may be refused once.
 fn printed<A: Allocator + Copy>(alloc: A, form: &Form<A>) -> Result<Vec<u8, A>, FormError> {
@@ -118,19 +118,6 @@ const CASES: &[Case] = &[
     },
 ];
 
-// The form with these texts cut out, where one request may be refused.
-fn cut<'a>(
-    rt: &impl Abort,
-    form: &Form<Memory<'a>>,
-    texts: &[&[u8]],
-) -> Result<Form<Memory<'a>>, FormError> {
-    assert!(rt; texts.len() <= MARK_LIMIT);
-    match form.segmented(&texts) {
-        Err(FormError::Memory) => form.segmented(&texts),
-        other => other,
-    }
-}
-
 fn new_form<'a>(memory: Memory<'a>, text: &[u8]) -> Result<Form<Memory<'a>>, FormError> {
     Form::new(memory, text)
 }
@@ -157,7 +144,7 @@ fn cut_all(
 ) -> Result<(), FormError> {
     set_pointer(rt, form, 2);
     for texts in cuts.iter() {
-        *form = cut(rt, form, texts)?;
+        cut_out(rt, form, texts)?;
     }
     Ok(())
 }

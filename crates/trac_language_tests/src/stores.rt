@@ -17,8 +17,6 @@ pub(crate) enum Act {
     Take(&'static [u8], &'static [u8]),
     Clear,
     Sweep,
-    /// The store is replaced by a copy of it, and the earlier one cleared.
-    Copy,
     /// The form of this name is printed so.
     Shows(&'static [u8], &'static [u8]),
     /// There is no form of this name.
@@ -44,8 +42,6 @@ const FORMS: &[Act] = &[
     Act::Define(b"a", b"22"),
     Act::Names(b"a;b;"),
     Act::Count(2),
-    Act::Copy,
-    Act::Names(b"a;b;"),
     Act::Shows(b"a", b"<^>22"),
     // the null name
     Act::Define(b"", b"1"),
@@ -102,13 +98,6 @@ fn expect_taken<'a>(
     expect_form(rt, memory, form.as_ref(), text)
 }
 
-fn replace_by_copy(store: &mut Store<Memory<'_>>) -> Result<(), FormError> {
-    let copy = store.copy()?;
-    store.clear();
-    *store = copy;
-    Ok(())
-}
-
 // Carries out an act that may change the store, and says whether it is answered so, or that memory was refused.
 fn carry_out<'a>(
     rt: &impl Abort,
@@ -121,7 +110,6 @@ fn carry_out<'a>(
         Act::Take(name, text) => expect_taken(rt, memory, store, name, text)?,
         Act::Clear => store.clear(),
         Act::Sweep => store.sweep(),
-        Act::Copy => replace_by_copy(store)?,
         Act::PutAside(name) => put_aside(memory, store, name)?,
         Act::Pop(name) => return Ok(pop(store, name)),
         Act::Erase(i, len) => return Ok(erase(store, i) == len),

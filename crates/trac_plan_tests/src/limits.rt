@@ -28,8 +28,10 @@ fn put_gaps<A: Allocator + Copy>(
     row: &[u8],
 ) -> Result<(), FormError> {
     let letter: [&[u8]; 1] = [b"x"];
-    let form = Form::new(alloc, row)?;
-    put_form(store, b"F", form.segmented(&letter.as_slice())?)
+    let mut form = Form::new(alloc, row)?;
+    let cut = form.cut_for(&letter.as_slice())?;
+    form.segment(&cut, &letter.as_slice());
+    put_form(store, b"F", form)
 }
 
 // A store with a form of 4,096 gaps of number 1 under the name `F`.

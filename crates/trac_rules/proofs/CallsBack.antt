@@ -16,7 +16,7 @@ use Rattle.trac_rules.specs.Limits.{texts_fit}
 use Rattle.trac_rules.specs.Outcomes.{seen_as}
 use Rattle.trac_rules.specs.Performing.{after_call, changed_by, effect_of, performed, placed, primitive_of, printed_behind, trace_line}
 use Rattle.trac_rules.specs.Proper.{IsProper}
-use Rattle.trac_rules.specs.Records.{CallRecord, Record, Called, IsOfParts, Rest, Texts, all_before_last, begun_again, call_record_in, call_record_of, call_recorded, comma_recorded, closing_recorded, is_scanned, put_together, record_in, record_of, recorded, recorded_at, rest_before, rest_of, restored, state_before, texts_before, texts_in, value_taken}
+use Rattle.trac_rules.specs.Records.{CallRecord, Record, Called, Rest, Texts, all_before_last, begun_again, call_record_in, call_record_of, call_recorded, is_scanned, put_together, record_in, record_of, recorded, rest_before, rest_of, restored, state_before, texts_before, texts_in, value_taken}
 use Rattle.trac_rules.specs.Scanning.{Call, Scanned, Moves, Calls, closing_in, deleted, front_of, gather, scan, scan_at}
 use Rattle.trac_rules.specs.State.{Environment, Frame, State, storage_of}
 use Rattle.trac_rules.specs.Stepping.{carried_out, step}
@@ -238,43 +238,3 @@ record_is_there environment s t h = by_scanned (scan s) (limited_Ok texts_fit (c
     by_scanned : (x : Scanned) → carried_out environment x ≡ Ok t → is_some (record_in environment s x) ≡ true
     by_scanned (Moves u) h = refl
     by_scanned (Calls call) h = by_outcome call (performed environment call) h
-
--- a record of a rule that moves on keeps no whole state
-abbrev KeepsParts : Record → Scanned → Type 0
-KeepsParts r (Moves t) = IsOfParts r
-KeepsParts r (Calls call) = Unit {0}
-
-parts_at : (at : Front) (s : State) → KeepsParts (recorded_at at s) (scan_at at s)
-parts_at front.Nothing s = tt
-parts_at front.Opening s = tt
-parts_at front.Layout s = tt
-parts_at front.Comma s = by_frames s.frames
-  where
-    by_frames : (frames : List Frame) → IsOfParts (comma_recorded frames s)
-    by_frames [] = tt
-    by_frames (f ∷ fs) = tt
-parts_at front.ActiveCall s = tt
-parts_at front.NeutralCall s = tt
-parts_at front.Sharp s = tt
-parts_at front.Closing s = by_frames s.frames
-  where
-    by_frames : (frames : List Frame) → KeepsParts (closing_recorded frames s) (closing_in frames (deleted 1 s))
-    by_frames [] = tt
-    by_frames (f ∷ fs) = tt
-parts_at front.Plain s = tt
-
-scan_keeps_parts : (s : State) → KeepsParts (recorded s) (scan s)
-unfolding scan
-scan_keeps_parts s = parts_at (front_of s.active) s
-
--- and neither does that of any step
-pub record_of_parts : (environment : Environment) (s : State) (r : Record) → record_of environment s ≡ Some r → IsOfParts r
-record_of_parts environment s r k = by_scanned (scan s) (scan_keeps_parts s) k
-  where
-    by_record : (kept : Option CallRecord) → option_map Called kept ≡ Some r → IsOfParts r
-    by_record None k = absurd (cc)
-    by_record (Some c) k = let same : Called c ≡ r = cc in subst IsOfParts same tt
-
-    by_scanned : (x : Scanned) → KeepsParts (recorded s) x → record_in environment s x ≡ Some r → IsOfParts r
-    by_scanned (Moves t) keeps k = let same : recorded s ≡ r = cc in subst IsOfParts same keeps
-    by_scanned (Calls call) keeps k = by_record (call_record_in environment (Calls call)) k

@@ -25,6 +25,7 @@ pub mod Restored
 pub mod FormsBack
 pub mod StorageBack
 pub mod CallsBack
+pub mod StepsBack
 pub mod FurtherOn
 pub mod Weighed
 pub mod CallsWeighed

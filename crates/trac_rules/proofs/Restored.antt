@@ -1,32 +1,28 @@
 -- The state before a step is got back from its record and the state after it.
-use Rattle.std.proofs.Common.{◌≡◌, ℕ, zero, suc, ◌+◌, ◌-◌, ◌<◌, Bool, true, false, List, [], ◌∷◌, ◌++◌, length, take, drop, get_or, map, refl, sym, ap, subst, ◌∙◌, arith, ⊎_elim}
-use Rattle.std.specs.Prelude.{Option, None, Some, Result, Ok, Err, nat_le, nat_lt, nat_eq, codes, is_some, if◌then◌else◌, option_map, option_and_then, ◌==◌, ◌&&◌}
+use Rattle.std.proofs.Common.{◌≡◌, ℕ, ◌+◌, ◌-◌, ◌<◌, Bool, true, false, List, [], ◌∷◌, ◌++◌, length, take, drop, get_or, refl, sym, ap, subst, ◌∙◌, arith, ⊎_elim}
+use Rattle.std.specs.Prelude.{Option, None, Some, Ok, nat_le, nat_eq, codes, is_some, if◌then◌else◌, option_map, option_and_then, ◌==◌, ◌&&◌}
 use Rattle.std.specs.Bool.{then_some}
 use Rattle.std.specs.List.{starts_with}
 use Rattle.std.proofs.lemmas.Bool.{eqb-true, le-leb}
 use Rattle.std.proofs.lemmas.Bool.Decides.{Decides-eqb}
-use Rattle.std.proofs.lemmas.List.{append-nil, drop_at, length-append, length-map, reverse-append, reverse-reverse, take-append-drop, take_all, take_at}
+use Rattle.std.proofs.lemmas.List.{append-nil, drop_at, length-append, reverse-append, reverse-reverse, take-append-drop, take_at}
 use Rattle.std.proofs.lemmas.Option.{option_and_then_some}
 use Rattle.std.proofs.lemmas.Slice.Eq.{starts_is}
 use Rattle.trac_rules.specs.declared.byte.TheConstants.{OPENING, CLOSING, COMMA, SHARP}
 use Rattle.trac_rules.specs.declared.kind.Kind.TheVariants.{Active, Neutral}
-use Rattle.trac_rules.specs.declared.refusal.Refusal.{Refusal}
-use Rattle.trac_rules.specs.declared.refusal.Refusal.TheVariants.{JournalFull}
 use Rattle.trac_rules.specs.declared.scan.Front.{Front}
 use Rattle.trac_rules.specs.declared.scan.Front.TheVariants as front
 use Rattle.trac_rules.specs.Limits.{texts_fit}
 use Rattle.trac_rules.specs.Matching.{closes_at, match_of, protected, protected_up_to}
 use Rattle.trac_rules.specs.Performing.{beginning_of}
 use Rattle.trac_rules.specs.Proper.{IsProper, is_proper}
-use Rattle.trac_rules.specs.Records.{Record, Moved, Comma, Begun, Quoted, Deleted, Idle, Called, Whole, IsOfScanning, all_before_last, closing_recorded, comma_recorded, ending_of, frame_of, gathered_again_in, is_idle, last_of, led_back, moved_back, moved_back_in, not_begun_in, put_before, recorded, recorded_at, restored, state_before}
+use Rattle.trac_rules.specs.Records.{Record, Moved, Comma, Begun, Quoted, Deleted, Idle, Called, IsOfScanning, all_before_last, comma_recorded, deletion, ending_of, frame_of, gathered_again_in, is_idle, last_of, moved_back, moved_back_in, not_begun_in, put_before, recorded, recorded_at, restored, state_before}
 use Rattle.trac_rules.specs.Scanning.{Scanned, Moves, Calls, closing_in, comma_in, deleted, front_of, gather, gather_first, is_layout, scan, scan_at, sharp_before}
-use Rattle.trac_rules.specs.Session.{PlainSession, Step, accepted_by, answer, over, refused, repeated, stepped_to}
 use Rattle.trac_rules.specs.State.{Environment, Frame, State}
 use Rattle.trac_rules.specs.Stepping.{carried_out, step}
 use Rattle.trac_rules.proofs.Balanced.{first_place_cases, match_at, match_none, split_at_closing}
 use Rattle.trac_rules.proofs.Outcomes.{limited_Ok}
 use Rattle.trac_rules.proofs.ProperDecided.{proper_decided}
-use Rattle.trac_rules.proofs.ProperStates.{step_proper}
 
 -- ---- what the active text begins with
 
@@ -120,10 +116,10 @@ protected_parts text = by_match (match_of text) refl
 
 -- ---- scanning
 
--- what scanning leads to is led back by a record; a call has the whole state
+-- what scanning leads to is led back by a record, where it moves on
 abbrev GoesBack : State → Record → Scanned → Type 0
 GoesBack s r (Moves t) = restored r t ≡ Some s
-GoesBack s r (Calls call) = r ≡ Whole s
+GoesBack s r (Calls call) = Unit {0}
 
 -- a byte goes back from the current text
 pub first_goes_back : (s : State) → s.active ≡ get_or s.active 0 0 ∷ drop 1 s.active → restored Moved (gather_first s) ≡ Some s
@@ -155,12 +151,12 @@ comma_goes_back (f ∷ fs) s e =
 
 -- and so does a `)` outside any function
 closing_goes_back : (frames : List Frame) (s : State) → s.active ≡ codes ")" ++ drop 1 s.active →
-    GoesBack (record s { frames = frames }) (closing_recorded frames (record s { frames = frames })) (closing_in frames (deleted 1 (record s { frames = frames })))
+    GoesBack (record s { frames = frames }) (deletion (record s { frames = frames })) (closing_in frames (deleted 1 (record s { frames = frames })))
 closing_goes_back [] s e =
     let first : get_or s.active 0 0 ≡ CLOSING = ap (λ (text : List ℕ). get_or text 0 0) e in
     let whole : get_or s.active 0 0 ∷ drop 1 s.active ≡ s.active = ap (λ (b : ℕ). b ∷ drop 1 s.active) first ∙ sym e in
     ap (λ (text : List ℕ). Some (record s { active = text; frames = [] })) whole
-closing_goes_back (f ∷ fs) s e = refl
+closing_goes_back (f ∷ fs) s e = tt
 
 -- each rule
 goes_back_at : (at : Front) (s : State) → BeginsSo at s.active → GoesBack s (recorded_at at s) (scan_at at s)
@@ -180,29 +176,21 @@ scan_goes_back s = goes_back_at (front_of s.active) s (begins_so s.active)
 
 -- ---- a step
 
--- what is carried out of that is led back
-carried_back : (e : Environment) (s t : State) (r : Record) (x : Scanned) → GoesBack s r x → carried_out e x ≡ Ok t → restored r t ≡ Some s
-carried_back e s t r (Moves u) back h = let same : u ≡ t = cc in subst (λ (v : State). restored r v ≡ Some s) same back
-carried_back e s t r (Calls call) back h = ap (λ (q : Record). restored q t) back
-
 -- a step of scanning is led back by its record
 pub moved_goes_back : (e : Environment) (s t u : State) → scan s ≡ Moves u → step e s ≡ Ok t → restored (recorded s) t ≡ Some s
 unfolding step
 moved_goes_back e s t u scanned h =
-    carried_back e s t (recorded s) (scan s) (scan_goes_back s) (limited_Ok texts_fit (carried_out e (scan s)) t h).0
+    let back : restored (recorded s) u ≡ Some s = subst (GoesBack s (recorded s)) scanned (scan_goes_back s) in
+    let after : carried_out e (scan s) ≡ Ok t = (limited_Ok texts_fit (carried_out e (scan s)) t h).0 in
+    let done : carried_out e (Moves u) ≡ Ok t = ap (carried_out e) (sym scanned) ∙ after in
+    let same : u ≡ t = cc in
+    subst (λ (v : State). restored (recorded s) v ≡ Some s) same back
 
 -- where a proper state is restored, it is the one before
 pub before_of_restored : (r : Record) (s t : State) → IsProper s → restored r t ≡ Some s → state_before r t ≡ Some s
 unfolding state_before
 before_of_restored r s t proper back =
     ap (option_and_then (λ (u : State). then_some (is_proper u) u)) back ∙ ap (λ (b : Bool). then_some b s) ((proper_decided s).1 proper)
-
--- the state before, of the record of a step and the state after it, is the state
-pub step_goes_back : (e : Environment) (s t : State) → IsProper s → step e s ≡ Ok t → state_before (recorded s) t ≡ Some s
-unfolding step
-step_goes_back e s t proper h =
-    before_of_restored (recorded s) s t proper
-    (carried_back e s t (recorded s) (scan s) (scan_goes_back s) (limited_Ok texts_fit (carried_out e (scan s)) t h).0)
 
 -- a state before is restored, and proper
 pub restored_of_before : (r : Record) (s t : State) → state_before r t ≡ Some s → (restored r t ≡ Some s) × IsProper s
@@ -216,56 +204,6 @@ restored_of_before r s t h =
 
 pub before_proper : (r : Record) (s t : State) → state_before r t ≡ Some s → IsProper s
 before_proper r s t h = (restored_of_before r s t h).1
-
--- ---- steps of a session
-
--- an accepted step leads to the next state, and adds the one before it to the list
-step_accepted : (p q : PlainSession) → accepted_by (answer Step p) ≡ Some q → (step (over p.tape) p.last ≡ Ok q.last) × (q.earlier ≡ p.last ∷ p.earlier)
-unfolding answer
-step_accepted p q h = by_room (nat_lt (length p.earlier) p.limit) h
-  where
-    by_outcome : (outcome : Result State Refusal) → accepted_by (stepped_to outcome p) ≡ Some q → (outcome ≡ Ok q.last) × (q.earlier ≡ p.last ∷ p.earlier)
-    by_outcome (Ok t) same =
-        let one : record p { earlier = p.last ∷ p.earlier; last = t } ≡ q = cc in
-        (ap (λ (x : PlainSession). Ok x.last) one, ap (λ (x : PlainSession). x.earlier) (sym one))
-    by_outcome (Err refusal) same = absurd (cc)
-
-    by_room : (b : Bool) → accepted_by (if b then stepped_to (step (over p.tape) p.last) p else refused JournalFull p) ≡ Some q →
-        (step (over p.tape) p.last ≡ Ok q.last) × (q.earlier ≡ p.last ∷ p.earlier)
-    by_room true same = by_outcome (step (over p.tape) p.last) same
-    by_room false same = absurd (cc)
-
--- as many records lead back as there were steps
-abbrev IsLedBack : ℕ → PlainSession → PlainSession → Type 0
-IsLedBack n old new = led_back (take n (map recorded new.earlier)) new.last ≡ Some old.last
-
-walk_goes_back : (n : ℕ) (old new : PlainSession) → IsProper old.last → repeated Step n old ≡ Some new → IsLedBack n old new × IsProper new.last
-walk_goes_back zero old new proper h =
-    let same : old ≡ new = cc in
-    (ap (λ (p : PlainSession). Some p.last) (sym same), subst (λ (p : PlainSession). IsProper p.last) same proper)
-walk_goes_back (suc n) old new proper h =
-    option_and_then_some (λ (q : PlainSession). accepted_by (answer Step q)) (repeated Step n old) new h
-    (λ q there next. one_more q (walk_goes_back n old q proper there) (step_accepted q new next))
-  where
-    one_more : (q : PlainSession) → IsLedBack n old q × IsProper q.last → (step (over q.tape) q.last ≡ Ok new.last) × (new.earlier ≡ q.last ∷ q.earlier) →
-        IsLedBack (suc n) old new × IsProper new.last
-    one_more q before next = (
-      ap (λ (earlier : List State). led_back (take (suc n) (map recorded earlier)) new.last) next.1
-          ∙ ap (option_and_then (led_back (take n (map recorded q.earlier)))) (step_goes_back (over q.tape) q.last new.last before.1 next.0)
-          ∙ before.0,
-      step_proper (over q.tape) q.last new.last before.1 next.0,
-    )
-
-pub steps_go_back : (n : ℕ) (old new : PlainSession) → IsProper old.last → repeated Step n old ≡ Some new → IsLedBack n old new
-steps_go_back n old new proper h = (walk_goes_back n old new proper h).0
-
--- all records of a session lead back over as many steps
-pub all_go_back : (n : ℕ) (old new : PlainSession) → IsProper old.last → repeated Step n old ≡ Some new → length new.earlier ≡ n →
-    led_back (map recorded new.earlier) new.last ≡ Some old.last
-all_go_back n old new proper h count =
-    let whole : take n (map recorded new.earlier) ≡ map recorded new.earlier =
-    take_all n (map recorded new.earlier) (omega (arith, length-map new.earlier recorded)) in
-    ap (λ (records : List Record). led_back records new.last) (sym whole) ∙ steps_go_back n old new proper h
 
 -- ---- records name no place of tape or output
 
@@ -321,4 +259,3 @@ restored-elsewhere (Deleted b) t p o of = refl
 restored-elsewhere (Idle base frames) t p o of =
     then_some-map (elsewhere p o) (is_idle t) (record t { active = []; base = base; frames = frames })
 restored-elsewhere (Called call) t p o of = absurd of
-restored-elsewhere (Whole s) t p o of = absurd of

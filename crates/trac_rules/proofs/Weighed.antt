@@ -4,7 +4,7 @@ use Rattle.std.specs.Prelude.{None}
 use Rattle.trac_rules.specs.declared.scan.Front.{Front}
 use Rattle.trac_rules.specs.declared.scan.Front.TheVariants as front
 use Rattle.trac_rules.specs.Limits.{argument_bytes, marks}
-use Rattle.trac_rules.specs.Records.{closing_recorded, comma_recorded, recorded, recorded_at}
+use Rattle.trac_rules.specs.Records.{comma_recorded, deletion, recorded, recorded_at}
 use Rattle.trac_rules.specs.Scanning.{closing_in, deleted, front_of, scan, scan_at}
 use Rattle.trac_rules.specs.State.{Frame, State}
 use Rattle.trac_rules.specs.Stepping.{call_at, name_called}
@@ -19,7 +19,7 @@ comma_within : (frames : List Frame) (s : State) → weight (comma_recorded fram
 comma_within [] s = omega arith
 comma_within (f ∷ fs) s = omega arith
 
-closing_within : (frames : List Frame) (s : State) → name_called (closing_in frames (deleted 1 s)) ≡ None → weight (closing_recorded frames s) ≤ closing_loss frames s
+closing_within : (frames : List Frame) (s : State) → name_called (closing_in frames (deleted 1 s)) ≡ None → weight (deletion s) ≤ closing_loss frames s
 closing_within [] s moves = omega arith
 closing_within (f ∷ fs) s moves = absurd (cc)
 

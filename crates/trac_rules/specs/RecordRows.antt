@@ -1,21 +1,23 @@
 -- Words for the worked rows of records.
-use Rattle.std.specs.Prelude.{◌≡◌, ℕ, ◌+◌, max, List, [], ◌∷◌, map, true, false, None, Some}
+use Rattle.std.specs.Prelude.{◌≡◌, ℕ, ◌+◌, max, List, [], ◌∷◌, true, false, None, Some}
 use Rattle.std.specs.FinMap as finite
-use Rattle.std.specs.List.{flat_map}
-use Rattle.std.specs.Option.{option_to_list}
 use Rattle.trac_rules.specs.declared.kind.Kind.TheVariants.{Active}
 use Rattle.trac_rules.specs.Effect.{argument}
 use Rattle.trac_rules.specs.Performing.{primitive_of}
-use Rattle.trac_rules.specs.Records.{CallRecord, Record, record_of, recorded}
+use Rattle.trac_rules.specs.Records.{CallRecord, Record, records_from}
 use Rattle.trac_rules.specs.Rows.{Named}
 use Rattle.trac_rules.specs.Session.{PlainSession, over}
-use Rattle.trac_rules.specs.State.{Block, State, Storage}
+use Rattle.trac_rules.specs.State.{Block, State, Storage, Tape}
 use Rattle.trac_rules.specs.Undone.{Undone, storage_before, undone_by}
 use Rattle.trac_rules.specs.Weights.{call_loss, losses_from, weight}
 
--- the records of the steps of a session that began with one state, the newest first
+-- the records of the steps of a session that began with one state and was fed before its first step, the newest first
 abbrev pub records_of : PlainSession → List Record
-records_of p = map recorded p.earlier
+records_of p = records_from (over p.tape) p.earlier
+
+-- a tape of no bytes that has not ended
+abbrev pub no_tape : Tape
+no_tape = record { bytes = []; ended = false }
 
 -- what all steps of such a session may lose
 abbrev pub losses_of : PlainSession → ℕ
@@ -35,10 +37,6 @@ abbrev pub most_in : (State → ℕ) → PlainSession → ℕ
 most_in measure p = most_of measure (p.last ∷ p.earlier)
 
 -- ---- records of calls
-
--- the records of the steps of a session that began with one state, by what was destroyed, the newest first
-abbrev pub kept_by : PlainSession → List Record
-kept_by p = flat_map (λ s. option_to_list (record_of (over p.tape) s)) p.earlier
 
 -- what records weigh together
 abbrev pub weights_of : List Record → ℕ

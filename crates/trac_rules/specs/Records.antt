@@ -1,10 +1,11 @@
 -- Records: what a step destroys, and how the state before it is got back from that and the state after it. What a rule of scanning only
 -- moves is not kept: a record says how much it was, counted from the end of the text to which it went. So it says of a call's value, of
 -- what was printed and of what was read how much that was, counted from the ends that grew: no record has a place of the tape or of the
--- output. The machine keeps for a call, for now, the whole state before it.
+-- output.
 use Rattle.std.specs.Prelude.{ℕ, ◌+◌, ◌-◌, ◌==◌, ◌&&◌, nat_le, List, [], ◌∷◌, ◌++◌, length, take, drop, reverse, get_or, if◌then◌else◌, Bool, true, false, Option, None, Some, is_some, option_map, option_and_then, codes}
 use Rattle.std.specs.Bool.{then_some}
-use Rattle.std.specs.Option.{unwrap_or}
+use Rattle.std.specs.List.{flat_map}
+use Rattle.std.specs.Option.{option_to_list, unwrap_or}
 use Rattle.std.specs.Result.{result_ok}
 use Rattle.std.specs.Str.{bytes_eq}
 use Rattle.trac_rules.specs.declared.kind.Kind.{Kind}
@@ -55,10 +56,8 @@ pub data Record : Type 0 where
   Idle : List ℕ → List Frame → Record
   -- a function was performed, and this destroyed
   Called : CallRecord → Record
-  -- a function was performed, in this state
-  Whole : State → Record
 
--- ---- the record of a step, that of a call being the whole state
+-- ---- the record of a rule of scanning that moves on
 
 -- a byte that is deleted, the first of the active text
 abbrev pub deletion : State → Record
@@ -69,11 +68,7 @@ abbrev pub comma_recorded : List Frame → State → Record
 comma_recorded [] s = deletion s
 comma_recorded (f ∷ fs) s = Comma
 
--- of a `)`, the first argument being the state's frames: outside any function it is deleted, and else a function is performed
-abbrev pub closing_recorded : List Frame → State → Record
-closing_recorded [] s = deletion s
-closing_recorded (f ∷ fs) s = Whole s
-
+-- by what is at the front; a `)` is deleted, outside any function, and inside one it is no rule that moves on but a call
 abbrev pub recorded_at : Front → State → Record
 recorded_at front.Nothing s = Idle s.base s.frames
 recorded_at front.Opening s = Quoted (length (protected (drop 1 s.active)).inner) (is_some (match_of (drop 1 s.active)))
@@ -82,14 +77,14 @@ recorded_at front.Comma s = comma_recorded s.frames s
 recorded_at front.ActiveCall s = Begun
 recorded_at front.NeutralCall s = Begun
 recorded_at front.Sharp s = Moved
-recorded_at front.Closing s = closing_recorded s.frames s
+recorded_at front.Closing s = deletion s
 recorded_at front.Plain s = Moved
 
--- what the step from a state keeps, where it is accepted
+-- what the rule destroys by which scanning moves on from a state
 abbrev pub recorded : State → Record
 recorded s = recorded_at (front_of s.active) s
 
--- ---- the record of a step, that of a call being what it destroyed
+-- ---- the record of a step
 
 -- whether a value goes before the active text to be scanned: that of an active function, and every forced one
 abbrev pub is_scanned : Kind → Bool → Bool
@@ -127,6 +122,10 @@ record_in environment s (Calls call) = option_map Called (call_record_in environ
 -- what the step from a state destroys; none where a call is refused
 abbrev pub record_of : Environment → State → Option Record
 record_of environment s = record_in environment s (scan s)
+
+-- the records of the steps from these states over one tape
+abbrev pub records_from : Environment → List State → List Record
+records_from environment states = flat_map (λ s. option_to_list (record_of environment s)) states
 
 -- ---- the state before a step of scanning
 
@@ -278,7 +277,6 @@ restored (Quoted inner closed) t = option_map (put_before (codes "(")) (moved_ba
 restored (Deleted b) t = Some (put_before (b ∷ []) t)
 restored (Idle base frames) t = then_some (is_idle t) (record t { active = []; base = base; frames = frames })
 restored (Called call) t = restored_call call t
-restored (Whole s) t = Some s
 
 -- the state before; none also where that is no proper state
 unfoldable pub state_before : Record → State → Option State
@@ -292,13 +290,7 @@ led_back (r ∷ records) t = option_and_then (led_back records) (state_before r 
 -- a record is one of scanning, and not of a call
 abbrev pub IsOfScanning : Record → Type 0
 IsOfScanning (Called call) = ⊥
-IsOfScanning (Whole s) = ⊥
 IsOfScanning r = Unit {0}
-
--- a record keeps what a step destroyed, and not the whole state
-abbrev pub IsOfParts : Record → Type 0
-IsOfParts (Whole s) = ⊥
-IsOfParts r = Unit {0}
 
 -- a state at a position that is k further on, with an output that has a text before it
 abbrev pub further_on : ℕ → List ℕ → State → State

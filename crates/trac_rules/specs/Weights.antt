@@ -19,10 +19,10 @@ use Rattle.trac_rules.specs.Form.{Form, all_items}
 use Rattle.trac_rules.specs.Handling.{named_form, without}
 use Rattle.trac_rules.specs.Limits.{argument_bytes, marks, total_length}
 use Rattle.trac_rules.specs.Performing.{primitive_of}
-use Rattle.trac_rules.specs.Records.{CallRecord, Record, Moved, Comma, Begun, Quoted, Deleted, Idle, Called, Whole, recorded}
+use Rattle.trac_rules.specs.Records.{CallRecord, Record, Moved, Comma, Begun, Quoted, Deleted, Idle, Called, recorded}
 use Rattle.trac_rules.specs.Scanning.{Scanned, Moves, Calls, front_of, scan}
 use Rattle.trac_rules.specs.Segmenting.{segmented}
-use Rattle.trac_rules.specs.State.{Block, Forms, Frame, Held, State, Storage, storage_of}
+use Rattle.trac_rules.specs.State.{Forms, Frame, Held, State, Storage, storage_of}
 use Rattle.trac_rules.specs.Undone.{Undone, Nothing, Point, Join, Swap, Restore, MoveOut, Unbring, Unerase, undone_by}
 
 -- ---- what is kept
@@ -36,17 +36,6 @@ frames_weight (f ∷ fs) = 1 + total_length f.arguments + length f.arguments + l
 abbrev pub held_weight : Held → ℕ
 held_weight [] = 0
 held_weight (entry ∷ held) = length (all_items entry.1) + length entry.0 + 1 + held_weight held
-
--- blocks: the forms that they hold
-abbrev pub blocks_weight : List Block → ℕ
-blocks_weight [] = 0
-blocks_weight (block ∷ blocks) = held_weight (forms_in block) + blocks_weight blocks
-
--- a state: its texts, one for the meta character, its frames, forms and blocks
-abbrev pub state_weight : State → ℕ
-state_weight s =
-    length s.active + length s.base + frames_weight s.frames + length s.output + 1
-    + held_weight (finite.entries s.forms) + blocks_weight s.blocks
 
 -- a form without its name, where there is one: its items
 abbrev pub form_weight : Option Form → ℕ
@@ -82,7 +71,6 @@ weight (Quoted inner closed) = 0
 weight (Deleted b) = 1
 weight (Idle base frames) = length base + frames_weight frames
 weight (Called call) = call_weight call
-weight (Whole s) = state_weight s
 
 -- ---- what the record of a step weighs, by the state before the step: it does not depend on the input
 

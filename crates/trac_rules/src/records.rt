@@ -1,15 +1,15 @@
 //! Records of what a step destroys: laws, and worked rows.
 ghost use Rattle.std.specs.List.{All};
-ghost use Rattle.std.specs.Prelude.{◌≡◌, ◌≤◌, ◌*◌, ◌^◌, ◌++◌, ◌∷◌, [], codes, length, map, is_some, option_map, replicate, take, List, None, Ok, Some, false, true, ℕ};
+ghost use Rattle.std.specs.Prelude.{◌≡◌, ◌≤◌, ◌*◌, ◌^◌, ◌++◌, ◌∷◌, [], codes, length, is_some, option_map, replicate, take, List, None, Ok, Some, false, true, ℕ};
 ghost use Rattle.trac_rules.specs.Form.{defined, pointed_at};
 ghost use Rattle.trac_rules.specs.Limits.{marks, text_bytes};
 ghost use Rattle.trac_rules.specs.Proper.{IsProper};
-ghost use Rattle.trac_rules.specs.Records.{Begun, CallRecord, Called, Comma, Deleted, Idle, IsOfParts, IsOfScanning, Moved, Quoted, Record, call_record_of, further_on, led_back, record_of, recorded, rest_before, rest_of, restored, state_before, texts_before, texts_in};
-ghost use Rattle.trac_rules.specs.RecordRows.{Costs, losses_of, most_in, records_of};
+ghost use Rattle.trac_rules.specs.Records.{Begun, CallRecord, Called, Comma, Deleted, Idle, IsOfScanning, Moved, Quoted, Record, call_record_of, further_on, led_back, record_of, records_from, rest_before, rest_of, restored, state_before, texts_before, texts_in};
+ghost use Rattle.trac_rules.specs.RecordRows.{Costs, losses_of, most_in, no_tape, records_of};
 ghost use Rattle.trac_rules.specs.Rows.{replies_to, session_after, state_after, texts_of};
-ghost use Rattle.trac_rules.specs.Session.{Feed, PlainSession, Step, new_session, repeated};
+ghost use Rattle.trac_rules.specs.Session.{Feed, PlainSession, Step, new_session, over, repeated};
 ghost use Rattle.trac_rules.specs.State.{Environment, State, initial, storage_of};
-ghost use Rattle.trac_rules.specs.Stepping.{call_at, step};
+ghost use Rattle.trac_rules.specs.Stepping.{step};
 ghost use Rattle.trac_rules.specs.Undone.{storage_before};
 ghost use Rattle.trac_rules.specs.Weights.{loss, losses_from, step_weight, weight, weights_from};
 ghost use Rattle.trac_rules.specs.declared.byte.TheConstants.{CLOSING, COMMA, TAB};
@@ -18,16 +18,16 @@ ghost use Rattle.trac_rules.specs.declared.kind.Kind.TheVariants.{Active, Neutra
 ghost use Rattle.trac_rules.specs.declared.refusal.Refusal.TheVariants.{NeedInput};
 ghost use Rattle.trac_rules.specs.declared.reply.Reply.TheVariants.{Done, Refused};
 
-/// A record, with the state after its step from a proper state, gives back the state before: nothing else holds what was lost.
-/// The state before is always a proper one. Where a session takes so many steps one after another, as many records lead back
-/// over all of them. A record of scanning knows no place of the tape and nothing of the output: what it restores stands where
-/// the state after stands.
+/// Each accepted step, of scanning or a call, has a record. With the state after the step it gives back the state before, where that is
+/// a proper one: nothing else holds what was lost. The state before is always a proper one. Where a session takes so many steps one
+/// after another, as many records lead back over all of them.
 pub fn records_lead_back()
-    ensures each_step { (environment : Environment) (s t : State) → IsProper s → step environment s ≡ Ok t → state_before (recorded s) t ≡ Some s }
+    ensures is_there { (environment : Environment) (s t : State) → step environment s ≡ Ok t → is_some (record_of environment s) ≡ true }
+    ensures each_step { (environment : Environment) (s t : State) (r : Record) → IsProper s → step environment s ≡ Ok t → record_of environment s ≡ Some r →
+        state_before r t ≡ Some s }
     ensures only_proper { (r : Record) (s t : State) → state_before r t ≡ Some s → IsProper s }
-    ensures all_steps { (n : ℕ) (old new : PlainSession) → IsProper old.last → repeated Step n old ≡ Some new → led_back (take n (map recorded new.earlier)) new.last ≡ Some old.last }
-    ensures elsewhere { (r : Record) (t : State) (position : ℕ) (output : List ℕ) → IsOfScanning r →
-        restored r (record t { position = position; output = output }) ≡ option_map (λ (s : State). record s { position = position; output = output }) (restored r t) }
+    ensures all_steps { (n : ℕ) (old new : PlainSession) → IsProper old.last → repeated Step n old ≡ Some new →
+        led_back (records_from (over new.tape) (take n new.earlier)) new.last ≡ Some old.last }
 {}
 
 /// The record of a call keeps what the call destroyed, and with that the state after it gives back the state before. Each of the
@@ -44,28 +44,17 @@ pub fn records_of_calls_lead_back()
         restored (Called call) t ≡ Some s }
 {}
 
-/// Each accepted step, of scanning or a call, has a record that keeps what it destroyed and not the whole state. With the state after
-/// the step it gives back the state before, where that is a proper one.
-pub fn records_of_parts_lead_back()
-    ensures is_there { (environment : Environment) (s t : State) → step environment s ≡ Ok t → is_some (record_of environment s) ≡ true }
-    ensures of_parts { (environment : Environment) (s : State) (r : Record) → record_of environment s ≡ Some r → IsOfParts r }
-    ensures each_step { (environment : Environment) (s t : State) (r : Record) → IsProper s → step environment s ≡ Ok t → record_of environment s ≡ Some r →
-        state_before r t ≡ Some s }
-{}
-
-/// A record that keeps what a step destroyed names no absolute place of the tape or of the output: where the state after stands so many
-/// bytes further on, and its output has a text before it, so has the state before.
+/// A record names no absolute place of the tape or of the output. One of scanning knows nothing of either: what it restores stands where
+/// the state after stands, with its output. Of any record: where the state after stands so many bytes further on, and its output has a
+/// text before it, so has the state before.
 pub fn records_name_no_place()
-    ensures { (r : Record) (s t : State) (k : ℕ) (text : List ℕ) → IsOfParts r → restored r t ≡ Some s → restored r (further_on k text t) ≡ Some (further_on k text s) }
+    ensures elsewhere { (r : Record) (t : State) (position : ℕ) (output : List ℕ) → IsOfScanning r →
+        restored r (record t { position = position; output = output }) ≡ option_map (λ (s : State). record s { position = position; output = output }) (restored r t) }
+    ensures further { (r : Record) (s t : State) (k : ℕ) (text : List ℕ) → restored r t ≡ Some s → restored r (further_on k text t) ≡ Some (further_on k text s) }
 {}
 
-/// The record of a step of scanning weighs no more than the step may lose.
+/// The record of a step weighs no more than the step may lose.
 pub fn records_weigh_no_more()
-    ensures { (s : State) → call_at s ≡ None → weight (recorded s) ≤ loss s }
-{}
-
-/// The record of a step, of scanning or a call, weighs no more than the step may lose.
-pub fn records_of_parts_weigh_no_more()
     ensures { (environment : Environment) (s : State) (r : Record) → record_of environment s ≡ Some r → weight r ≤ loss s }
 {}
 
@@ -88,18 +77,18 @@ pub fn worked_records()
     ensures eleventh_to_fifteenth { take 5 (records_of (session_after (Feed (codes "a)b,c'") ∷ replicate 15 Step) (new_session 64))) ≡ Idle (codes "bc") [] ∷ Deleted CLOSING ∷ Moved ∷ Deleted COMMA ∷ Moved ∷ [] }
     ensures all_back { led_back (records_of (session_after (Feed (codes "a)b,c'") ∷ replicate 22 Step) (new_session 64))) (state_after (Feed (codes "a)b,c'") ∷ replicate 22 Step) (new_session 64)) ≡ Some initial }
     // Functions that are begun and never ended are emptied with the base text.
-    ensures begun_functions { recorded (state_after (Feed (codes ")x##(a,b#(c,d#(e'") ∷ replicate 21 Step) (new_session 64)) ≡ Idle (codes "x") (record { kind = Active; arguments = codes "c" ∷ []; gathered = codes "d" } ∷ record { kind = Neutral; arguments = codes "a" ∷ []; gathered = codes "b" } ∷ []) }
+    ensures begun_functions { record_of (over no_tape) (state_after (Feed (codes ")x##(a,b#(c,d#(e'") ∷ replicate 21 Step) (new_session 64)) ≡ Some (Idle (codes "x") (record { kind = Active; arguments = codes "c" ∷ []; gathered = codes "d" } ∷ record { kind = Neutral; arguments = codes "a" ∷ []; gathered = codes "b" } ∷ [])) }
     ensures begun_functions_weight { weight (Idle (codes "x") (record { kind = Active; arguments = codes "c" ∷ []; gathered = codes "d" } ∷ record { kind = Neutral; arguments = codes "a" ∷ []; gathered = codes "b" } ∷ [])) ≡ 9 }
     // The room that a machine needs for the first eleven steps over `AB'`, and back.
     ensures text_room { most_in text_bytes (session_after (Feed (codes "AB'") ∷ replicate 11 Step) (new_session 64)) ≡ 11 }
     ensures mark_room { most_in (λ s. marks s.frames) (session_after (Feed (codes "AB'") ∷ replicate 11 Step) (new_session 64)) ≡ 3 }
     ensures output_room { most_in (λ s. length s.output) (session_after (Feed (codes "AB'") ∷ replicate 11 Step) (new_session 64)) ≡ 2 }
     // A protected text, with a match and without one.
-    ensures matched { recorded (record initial { active = codes "(a,(b))c"; base = codes "x" }) ≡ Quoted 5 true }
+    ensures matched { record_of (over no_tape) (record initial { active = codes "(a,(b))c"; base = codes "x" }) ≡ Some (Quoted 5 true) }
     ensures matched_back { restored (Quoted 5 true) (record initial { active = codes "c"; base = codes "xa,(b)" }) ≡ Some (record initial { active = codes "(a,(b))c"; base = codes "x" }) }
-    ensures unmatched { recorded (record initial { active = codes "((a)"; base = codes "x" }) ≡ Quoted 3 false }
+    ensures unmatched { record_of (over no_tape) (record initial { active = codes "((a)"; base = codes "x" }) ≡ Some (Quoted 3 false) }
     ensures unmatched_back { restored (Quoted 3 false) (record initial { active = []; base = codes "x(a)" }) ≡ Some (record initial { active = codes "((a)"; base = codes "x" }) }
-    ensures layout { recorded (record initial { active = TAB ∷ codes "a" }) ≡ Deleted TAB }
+    ensures layout { record_of (over no_tape) (record initial { active = TAB ∷ codes "a" }) ≡ Some (Deleted TAB) }
     ensures layout_weight { weight (Deleted TAB) ≡ 1 }
     // An argument that is gathered again, and a neutral function that is no longer begun.
     ensures argument_back { restored Comma (record initial { active = codes "b"; frames = record { kind = Neutral; arguments = codes "x" ∷ codes "a" ∷ []; gathered = [] } ∷ [] }) ≡ Some (record initial { active = codes ",b"; frames = record { kind = Neutral; arguments = codes "x" ∷ []; gathered = codes "a" } ∷ [] }) }

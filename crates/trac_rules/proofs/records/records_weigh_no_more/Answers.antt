@@ -1,6 +1,6 @@
--- The law is that of `Weighed`.
-use Rattle.trac_rules.proofs.Weighed.{weight_within}
+-- The law is that of `CallsWeighed`.
+use Rattle.trac_rules.proofs.CallsWeighed.{record_within}
 use Rattle.trac_rules.proofs.records.records_weigh_no_more.Goals as goal
 
 pub returns : goal.returns
-returns c = weight_within
+returns c = record_within

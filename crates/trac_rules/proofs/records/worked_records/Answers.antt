@@ -12,7 +12,7 @@ use Rattle.trac_rules.specs.Session.{Feed, PlainSession, Step, answer, new_sessi
 use Rattle.trac_rules.specs.State.{initial}
 use Rattle.trac_rules.specs.Stepping.{step}
 use Rattle.trac_rules.proofs.ProperStates.{initial_proper}
-use Rattle.trac_rules.proofs.Restored.{all_go_back}
+use Rattle.trac_rules.proofs.StepsBack.{all_go_back}
 use Rattle.trac_rules.proofs.records.worked_records.Goals as goal
 
 pub returns-clause-steps : goal.returns-clause-steps
@@ -69,21 +69,21 @@ unfolding match_of scan texts_fit performed step answer
 returns-clause-output_room c = refl
 
 pub returns-clause-matched : goal.returns-clause-matched
-unfolding match_of
+unfolding match_of scan
 returns-clause-matched c = refl
 
 pub returns-clause-matched_back : goal.returns-clause-matched_back
 returns-clause-matched_back c = refl
 
 pub returns-clause-unmatched : goal.returns-clause-unmatched
-unfolding match_of
+unfolding match_of scan
 returns-clause-unmatched c = refl
 
 pub returns-clause-unmatched_back : goal.returns-clause-unmatched_back
 returns-clause-unmatched_back c = refl
 
 pub returns-clause-layout : goal.returns-clause-layout
-unfolding match_of
+unfolding match_of scan
 returns-clause-layout c = refl
 
 pub returns-clause-layout_weight : goal.returns-clause-layout_weight
