@@ -12,8 +12,8 @@ use Rattle.trac_rules.specs.declared.primitive.TheConstants.{NAMES}
 use Rattle.trac_rules.specs.Effect.{Effect, argument}
 use Rattle.trac_rules.specs.Performing.{effect_of, looked_up, named_primitive, primitive_of}
 use Rattle.trac_rules.specs.State.{Environment, State}
-use Rattle.trac_rules.specs.Weights.{meta_weight}
-use Rattle.trac_rules.proofs.StorageBack.{effect_kept, meta_kept}
+use Rattle.trac_rules.specs.Weights.{meta_kept, meta_weight}
+use Rattle.trac_rules.proofs.StorageBack.{effect_kept}
 
 -- ---- the name
 
