@@ -99,3 +99,16 @@ module _ (old new : Ends Item) (text : List ℕ) (i : ℕ) (all : length text �
 -- wide items are no more than the bytes that they stand for
 pub count_within : (before after : List Item) (bytes : ℕ) → bytes ≡ extent (before ++ after) → All IsWide (before ++ after) → length before + length after ≤ bytes
 count_within before after bytes e wide = omega (arith, e, count_within_extent (before ++ after) wide, length-append before after)
+
+-- items that are put on both sides of nothing, where there is room for as many as they stand for bytes
+pub kept_put : (start out : Ends Item) (before after : List Item) (bytes : ℕ) → out ≡ record start { left = start.left ++ before; right = after ++ start.right } →
+    start.left ≡ [] → start.right ≡ [] → bytes ≡ extent (before ++ after) → bytes ≤ FORM_LIMIT → All IsWide (before ++ after) → bytes ≤ start.capacity → IsKept out
+kept_put start out before after bytes put no_left no_right is fits wide room =
+    let left : out.left ≡ before = ap (λ (e : Ends Item). e.left) put ∙ ap (λ (xs : List Item). xs ++ before) no_left in
+    let right : out.right ≡ after = ap (λ (e : Ends Item). e.right) put ∙ ap (λ (xs : List Item). after ++ xs) no_right ∙ append-nil after in
+    let same : out.left ++ out.right ≡ before ++ after = (λ i. left i ++ right i) in
+    record {
+      within = omega (arith, ap extent same, is, fits);
+      wide = subst (λ (xs : List Item). All IsWide xs) (sym same) wide;
+      room = omega (arith, ap extent same, is, room, ap (λ (e : Ends Item). e.capacity) put);
+    }

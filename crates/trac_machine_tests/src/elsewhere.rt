@@ -35,7 +35,7 @@ fn take_step<E: TwoEnds<u8, A>, M: TwoEnds<Mark, A>, A: Allocator + Copy>(
     walk: &Walk<'_>,
     machine: &mut Core<E, M, A>,
     number: u64,
-) -> Record<Core<E, M, A>, A>
+) -> Record<A>
     ensures taken { step (over_whole walk.now.input.now) machine.old.state ≡ Ok machine.new.state }
     ensures back { before result machine.new.state ≡ Some machine.old.state }
 {
@@ -56,7 +56,7 @@ fn go_back<E: TwoEnds<u8, A>, M: TwoEnds<Mark, A>, A: Allocator + Copy>(
     rt: &impl Abort,
     walk: &Walk<'_>,
     machine: &mut Core<E, M, A>,
-    taken: Record<Core<E, M, A>, A>,
+    taken: Record<A>,
 )
     requires { IsSomeAnd (before taken machine.old.state) (λ s. HasRoom machine.old s) }
     ensures state { before taken machine.old.state ≡ Some machine.new.state }

@@ -63,7 +63,7 @@ pub(crate) fn step<E: TwoEnds<u8, A>, M: TwoEnds<Mark, A>, A: Allocator + Copy>(
     rt: &impl Abort,
     machine: &mut Core<E, M, A>,
     input: &[u8],
-) -> Result<Record<Core<E, M, A>, A>, Refusal> {
+) -> Result<Record<A>, Refusal> {
     assert!(rt; machine.position() <= input.len());
     machine.step(Tape {
         bytes: input,
@@ -240,7 +240,7 @@ fn expect_settled<E: TwoEnds<u8, A>, M: TwoEnds<Mark, A>, A: Allocator + Copy>(
     assert!(rt; machine.position() == 0 && machine.output().is_empty());
 }
 
-// Lets a machine go. A function that owns one ends with this call, since its own proof would else carry all that is freed.
+/// Lets a machine go. A function that owns one ends with this call, since its own proof would else carry all that is freed.
 pub(crate) fn let_go<E: TwoEnds<u8, A>, M: TwoEnds<Mark, A>, A: Allocator + Copy>(
     machine: Core<E, M, A>,
 ) {
@@ -292,28 +292,30 @@ fn run_both<
     outcome
 }
 
-#[test]
-fn each_request_for_a_machine(rt: HostRuntime) {
-    let memory = Refusing::new(rt.alloc());
-    expect_refusals_at_start::<GapBuf<u8, Memory<'_>>, GapBuf<Mark, Memory<'_>>, Memory<'_>>(
-        &rt, &memory, &memory,
-    );
-    expect_refusals_at_start::<PlainEnds<u8, Memory<'_>>, PlainEnds<Mark, Memory<'_>>, Memory<'_>>(
-        &rt, &memory, &memory,
-    );
+// All programs on a machine over the first two lists, beside one over the other two, and each request for either machine.
+fn run_all<
+    E: TwoEnds<u8, A>,
+    M: TwoEnds<Mark, A>,
+    F: TwoEnds<u8, A>,
+    N: TwoEnds<Mark, A>,
+    A: Allocator + Copy,
+>(rt: &impl Abort, plain: Global, memory: Memory<'_>, alloc: A) -> Result<(), Fail> {
+    expect_refusals_at_start::<E, M, A>(rt, memory, alloc);
+    expect_refusals_at_start::<F, N, A>(rt, memory, alloc);
+    for (input, output) in PROGRAMS.iter() {
+        run_both::<E, M, F, N, A>(rt, plain, memory, alloc, input, output)?;
+    }
+    Ok(())
 }
 
 #[test]
 fn both_representations(rt: HostRuntime) -> Result<(), Fail> {
     let memory = Refusing::new(rt.alloc());
-    for (input, output) in PROGRAMS.iter() {
-        run_both::<
-            GapBuf<u8, Memory<'_>>,
-            GapBuf<Mark, Memory<'_>>,
-            PlainEnds<u8, Memory<'_>>,
-            PlainEnds<Mark, Memory<'_>>,
-            Memory<'_>,
-        >(&rt, rt.alloc(), &memory, &memory, input, output)?;
-    }
-    Ok(())
+    run_all::<
+        GapBuf<u8, Memory<'_>>,
+        GapBuf<Mark, Memory<'_>>,
+        PlainEnds<u8, Memory<'_>>,
+        PlainEnds<Mark, Memory<'_>>,
+        Memory<'_>,
+    >(&rt, rt.alloc(), &memory, &memory)
 }

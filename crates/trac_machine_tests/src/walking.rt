@@ -2,7 +2,7 @@
 ghost use Rattle.std.specs.Prelude.{◌≡◌};
 ghost use Rattle.trac_step.specs.Room.{IsNoLess};
 
-use crate::elsewhere::{After, loaded_after};
+use crate::loading::nothing;
 use crate::machines::{Memory, let_go, made, step};
 use crate::shown::state_shown;
 use std::alloc::{AllocError, Allocator, Global};
@@ -11,7 +11,7 @@ use std::test::Fail;
 use trac_faults::Refusing;
 use trac_gap::{GapBuf, PlainEnds, TwoEnds};
 use trac_rules::refusal::Refusal;
-use trac_step::{Core, Kind, Machine, Mark, Pieces, Record, Tape};
+use trac_step::{Core, Kind, Mark, Pieces, Record, Tape};
 
 /// A begun function that a record keeps: its kind, the bytes of its arguments, and how many of these each `,` ended.
 type Kept = (Kind, &'static [u8], &'static [usize]);
@@ -45,7 +45,10 @@ const SCANNED: &[(&[u8], u64)] = &[
     (b"x)y#(a,b,c##(d,e#(f'", 32),
 ];
 
-/// `AB` is printed in eleven steps. These scan: all but the calls of `rs` and `ps`.
+/// `AB` is printed in eleven steps. These only move, on a machine that has had a mark.
+const STEPS_THAT_MOVE: &[u64] = &[2, 3, 6, 7, 9, 10];
+
+/// These scan: all but the calls of `rs` and `ps`.
 const STEPS_THAT_SCAN: &[u64] = &[1, 2, 3, 4, 5, 6, 7, 9, 10];
 
 /// More steps than any walk here takes.
@@ -64,7 +67,7 @@ pub(crate) struct Walk<'a> {
     pub(crate) scarce: &'a [u64],
 }
 
-// Whether the number is among these.
+/// Whether the number is among these.
 pub(crate) fn is_among(numbers: &[u64], number: u64) -> bool {
     for it in numbers {
         if *it == number {
@@ -74,7 +77,7 @@ pub(crate) fn is_among(numbers: &[u64], number: u64) -> bool {
     false
 }
 
-// A machine shows what it showed before.
+/// A machine shows what it showed before.
 pub(crate) fn expect_shown<E: TwoEnds<u8, A>, M: TwoEnds<Mark, A>, A: Allocator + Copy>(
     rt: &impl Abort,
     walk: &Walk<'_>,
@@ -137,22 +140,34 @@ fn there_and_back<E: TwoEnds<u8, A>, M: TwoEnds<Mark, A>, A: Allocator + Copy>(
     }
 }
 
-// A new machine, of which this request for memory is refused, takes up to so many steps and goes back over them. They have to be as
-// many as are wanted.
+// A machine takes up to so many steps and goes back over them. They have to be as many as are wanted.
+fn expect_steps<E: TwoEnds<u8, A>, M: TwoEnds<Mark, A>, A: Allocator + Copy>(
+    rt: &impl Abort,
+    walk: &Walk<'_>,
+    machine: &mut Core<E, M, A>,
+    most: u64,
+    wanted: u64,
+) -> Result<(), Fail> {
+    let done = there_and_back(rt, walk, machine, 0, most)?;
+    assert!(rt; done == wanted, "steps over {:?}", walk.input);
+    Ok(())
+}
+
+// A new machine, of which this request for memory is refused, takes up to so many steps and goes back over them.
 fn expect_walk<E: TwoEnds<u8, A>, M: TwoEnds<Mark, A>, A: Allocator + Copy>(
     rt: &impl Abort,
     walk: &Walk<'_>,
     alloc: A,
     nth: u64,
+    most: u64,
     wanted: u64,
-) {
-    let mut machine = made::<E, M, A>(alloc).expect(rt, "there was no memory");
+) -> Result<(), Fail> {
+    let mut machine = made::<E, M, A>(alloc)?;
     walk.memory.refuse_nth(nth);
-    let outcome = there_and_back(rt, walk, &mut machine, 0, MOST_STEPS);
-    let_go(machine);
+    let outcome = expect_steps(rt, walk, &mut machine, most, wanted);
     walk.memory.accept_all();
-    let done = outcome.expect(rt, "there was no memory");
-    assert_eq!(rt; done, wanted, "steps over {:?}", walk.input);
+    let_go(machine);
+    outcome
 }
 
 // Walks over a whole input, with each request for memory refused in turn.
@@ -161,57 +176,87 @@ fn expect_walks<E: TwoEnds<u8, A>, M: TwoEnds<Mark, A>, A: Allocator + Copy>(
     walk: &Walk<'_>,
     alloc: A,
     wanted: u64,
-) {
+) -> Result<(), Fail> {
     for nth in 1..MOST_REQUESTS {
         let refusals = walk.memory.refusals();
-        expect_walk::<E, M, A>(rt, walk, alloc, nth, wanted);
+        expect_walk::<E, M, A>(rt, walk, alloc, nth, MOST_STEPS, wanted)?;
         if walk.memory.refusals() == refusals {
-            return;
+            return Ok(());
         }
     }
     assert!(rt; false);
+    Ok(())
 }
 
-#[test]
-fn there_and_back_without_memory(rt: HostRuntime) {
-    let memory = Refusing::new(rt.alloc());
-    for (input, steps) in SCANNED.iter() {
-        let walk = Walk {
-            plain: rt.alloc(),
-            memory: &memory,
-            input: *input,
-            scarce: &[],
-        };
-        expect_walks::<GapBuf<u8, Memory<'_>>, GapBuf<Mark, Memory<'_>>, Memory<'_>>(
-            &rt, &walk, &memory, *steps,
-        );
-        expect_walks::<PlainEnds<u8, Memory<'_>>, PlainEnds<Mark, Memory<'_>>, Memory<'_>>(
-            &rt, &walk, &memory, *steps,
-        );
-    }
+// A machine in the state in which a processor begins, with the room that eleven steps over `AB'` need, and no more.
+fn loaded_at_start<E: TwoEnds<u8, A>, M: TwoEnds<Mark, A>, A: Allocator + Copy>(
+    rt: &impl Abort,
+    alloc: A,
+) -> Result<Core<E, M, A>, Refusal> {
+    let mut parts = nothing(alloc);
+    parts.active = Vec::from_slice(alloc, b"#(ps,#(rs))")?;
+    parts.meta = b'\'';
+    parts.trace = false;
+    parts.position = 0;
+    parts.text_room = 11;
+    parts.mark_room = 3;
+    parts.output_room = 2;
+    assert!(rt; parts.each_gathers());
+    Core::load(alloc, &parts)
 }
 
-#[test]
-fn eleven_steps_in_the_room_that_was_asked_for(rt: HostRuntime) {
-    let memory = Refusing::new(rt.alloc());
-    let walk = Walk {
-        plain: rt.alloc(),
-        memory: &memory,
-        input: b"AB'",
-        scarce: STEPS_THAT_SCAN,
-    };
-    let start = After {
-        active: b"#(ps,#(rs))",
-        output: b"",
-        position: 0,
-        text_room: 11,
-        mark_room: 3,
-        output_room: 2,
-    };
-    let mut machine = loaded_after(&rt, &memory, start).expect(&rt, "the parts were refused");
-    let outcome = there_and_back(&rt, &walk, &mut machine, 0, 11);
+// Such a machine takes eleven steps and goes back over them.
+fn expect_walk_in_room<E: TwoEnds<u8, A>, M: TwoEnds<Mark, A>, A: Allocator + Copy>(
+    rt: &impl Abort,
+    walk: &Walk<'_>,
+    alloc: A,
+) -> Result<(), Fail> {
+    let mut machine = loaded_at_start::<E, M, A>(rt, alloc)?;
+    let outcome = expect_steps(rt, walk, &mut machine, 11, 11);
     let_go(machine);
-    assert!(rt; outcome == Ok(11));
+    outcome
+}
+
+// All walks on machines over such lists: over each whole input; eleven steps, where those that only move get no memory; and the same in
+// the room that was asked for, where those that scan get none.
+fn expect_all_walks<E: TwoEnds<u8, A>, M: TwoEnds<Mark, A>, A: Allocator + Copy>(
+    rt: &impl Abort,
+    plain: Global,
+    memory: Memory<'_>,
+    alloc: A,
+) -> Result<(), Fail> {
+    let mut walk = Walk {
+        plain,
+        memory,
+        input: b"AB'",
+        scarce: STEPS_THAT_MOVE,
+    };
+    expect_walk::<E, M, A>(rt, &walk, alloc, 0, 11, 11)?;
+    walk.scarce = STEPS_THAT_SCAN;
+    expect_walk_in_room::<E, M, A>(rt, &walk, alloc)?;
+    walk.scarce = &[];
+    for (input, steps) in SCANNED.iter() {
+        walk.input = *input;
+        expect_walks::<E, M, A>(rt, &walk, alloc, *steps)?;
+    }
+    Ok(())
+}
+
+#[test]
+fn there_and_back_without_memory(rt: HostRuntime) -> Result<(), Fail> {
+    let memory = Refusing::new(rt.alloc());
+    expect_all_walks::<GapBuf<u8, Memory<'_>>, GapBuf<Mark, Memory<'_>>, Memory<'_>>(
+        &rt,
+        rt.alloc(),
+        &memory,
+        &memory,
+    )?;
+    expect_all_walks::<PlainEnds<u8, Memory<'_>>, PlainEnds<Mark, Memory<'_>>, Memory<'_>>(
+        &rt,
+        rt.alloc(),
+        &memory,
+        &memory,
+    )
 }
 
 // Whether a begun function is kept so.
@@ -233,7 +278,11 @@ fn are_kept<A: Allocator + Copy>(functions: &[(Kind, Pieces<A>)], wanted: &[Kept
 }
 
 // Whether a record keeps this base text and these begun functions.
-fn empties<C, A: Allocator + Copy>(record: &Record<C, A>, base: &[u8], functions: &[Kept]) -> bool {
+fn empties<A: Allocator + Copy>(
+    record: &Record<A>,
+    base: &[u8],
+    functions: &[Kept],
+) -> bool {
     match record {
         Record::Idle { base: kept, frames } => {
             kept.as_slice() == base && are_kept(frames.as_slice(), functions)
@@ -258,30 +307,31 @@ fn go<E: TwoEnds<u8, A>, M: TwoEnds<Mark, A>, A: Allocator + Copy>(
 // The step of this number empties all texts, and its record keeps these.
 fn expect_emptied<E: TwoEnds<u8, A>, M: TwoEnds<Mark, A>, A: Allocator + Copy>(
     rt: &impl Abort,
-    alloc: A,
-    input: &[u8],
-    number: u64,
-    base: &[u8],
-    functions: &[Kept],
+    machine: &mut Core<E, M, A>,
+    (input, number, base, functions): &(&[u8], u64, &[u8], &[Kept]),
 ) -> Result<(), Refusal> {
-    let mut machine = made::<E, M, A>(alloc)?;
-    go(rt, &mut machine, input, number.saturating_sub(1))?;
-    let record = step(rt, &mut machine, input)?;
+    go(rt, machine, input, number.saturating_sub(1))?;
+    let record = step(rt, machine, input)?;
     assert!(rt; empties(&record, base, functions));
+    Ok(())
+}
+
+// That is so of each row, on a new machine.
+fn expect_each_emptied<E: TwoEnds<u8, A>, M: TwoEnds<Mark, A>, A: Allocator + Copy>(
+    rt: &impl Abort,
+    alloc: A,
+) -> Result<(), Refusal> {
+    for row in EMPTIED.iter() {
+        let mut machine = made::<E, M, A>(alloc)?;
+        let outcome = expect_emptied(rt, &mut machine, row);
+        let_go(machine);
+        outcome?;
+    }
     Ok(())
 }
 
 #[test]
 fn emptied_texts_are_kept(rt: HostRuntime) -> Result<(), Fail> {
-    for (input, number, base, functions) in EMPTIED.iter() {
-        expect_emptied::<GapBuf<u8>, GapBuf<Mark>, Global>(
-            &rt,
-            rt.alloc(),
-            *input,
-            *number,
-            *base,
-            *functions,
-        )?;
-    }
+    expect_each_emptied::<GapBuf<u8>, GapBuf<Mark>, Global>(&rt, rt.alloc())?;
     Ok(())
 }

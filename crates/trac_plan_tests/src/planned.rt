@@ -5,7 +5,7 @@ ghost use Rattle.std.specs.Prelude.{◌≡◌, ◌≤◌, length, None};
 use std::alloc::{AllocError, Allocator, Global};
 use std::process::Abort;
 use trac_forms::{Cut, Form, FormError, Store};
-use trac_prims::{Args, Change, Effect, Kind, Mark, Now, Tape, plan};
+use trac_prims::{Args, Change, Effect, Kind, Mark, Now, Tape, plan, sets_meta};
 use trac_rules::limit::MARK_LIMIT;
 use trac_rules::refusal::Refusal;
 
@@ -261,5 +261,28 @@ fn arguments_lie_one_behind_another(rt: HostRuntime) {
     assert!(rt; args.count() == 3);
     for (number, wanted) in ARGUMENTS.iter() {
         expect_argument(&rt, &args, *number, wanted);
+    }
+}
+
+// A call of two arguments, the place where the second begins, and whether it sets the meta character.
+const SETTINGS: &[(&[u8], usize, bool)] = &[
+    (b"cm;x", 2, true),
+    (b"CM'", 2, true),
+    (b"cm", 2, false),
+    (b"cr;", 2, false),
+    (b"cmx;", 3, false),
+];
+
+fn expect_setting(rt: &impl Abort, text: &[u8], place: usize, wanted: bool) {
+    assert!(rt; place <= text.len());
+    let marks = [behind(place)];
+    let args = Args::new(text, &marks, 0);
+    assert!(rt; sets_meta(&args) == wanted);
+}
+
+#[test]
+fn meta_character_is_set(rt: HostRuntime) {
+    for (text, place, wanted) in SETTINGS.iter() {
+        expect_setting(&rt, text, *place, *wanted);
     }
 }

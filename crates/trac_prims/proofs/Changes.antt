@@ -1,6 +1,6 @@
 -- Changes of the forms and blocks, as those of calls.
 use Rattle.std.proofs.Common.{◌≡◌, ℕ, List, length, drop, refl, sym, ap, subst, ◌∙◌, ⊎_elim, true, false}
-use Rattle.std.specs.Prelude.{Option, None, Some, Vec, bytes_eq, cond, is_some, IfSome, IsTrue}
+use Rattle.std.specs.Prelude.{Option, Some, Vec, bytes_eq, cond, is_some, IfSome, IsTrue}
 use Rattle.std.specs.Cmp.Lexicographic.{nat_list_cmp_total}
 use Rattle.std.specs.FinMap as finite
 use Rattle.std.proofs.lemmas.Bool.{cases_Bool}
@@ -20,7 +20,7 @@ use Rattle.trac_rules.specs.Handling.{keeping, named_form, without}
 use Rattle.trac_rules.specs.State.{Forms, Held, Storage}
 use Rattle.trac_rules.specs.Undone.{Join, Swap, Restore, MoveOut, Unbring, block_lost, bytes_lost, pointer_lost, replaced_lost, names_in}
 use Rattle.trac_rules.proofs.NamedForms.{only_equal_tie}
-use Rattle.trac_prims.specs.declared.change.Change.TheVariants.{Keep, Put, Cut, Remove, Point, MoveIn, Bring, Erase}
+use Rattle.trac_prims.specs.declared.change.Change.TheVariants.{Put, Cut, Remove, Point, MoveIn, Bring, Erase}
 use Rattle.trac_prims.specs.Changes.{IsChangeOf, cut_lost}
 use Rattle.trac_prims.specs.Effects.{named_forms, pointed, texts_of}
 use Rattle.trac_prims.proofs.MovedOut.{without-again}
@@ -52,16 +52,6 @@ pointer_stays name form storage there =
 -- ---- forms
 
 module _ {A : Type 0} (arguments : List (List ℕ)) (storage : Storage) where
-  -- no form is there
-  pub keeps_unsegmented : named_form arguments storage ≡ None → IsChangeOf {A = A} (Handle action.Segment) arguments storage Keep
-  keeps_unsegmented none = record { undone_is = ap (bytes_lost (drop 2 arguments)) (sym none); names_are = tt }
-
-  pub keeps_unrestored : named_form arguments storage ≡ None → IsChangeOf {A = A} (Handle action.Restore) arguments storage Keep
-  keeps_unrestored none = record { undone_is = ap pointer_lost (sym none); names_are = tt }
-
-  pub keeps_unread : (reading : FormReading) → named_form arguments storage ≡ None → IsChangeOf {A = A} (Handle (action.Read reading)) arguments storage Keep
-  keeps_unread reading none = record { undone_is = ap pointer_lost (sym none); names_are = tt }
-
   -- a form is there, or may be
   module _ (name : Vec ℕ A) (named : name.items ≡ argument 1 arguments) where
     found_so : finite.get storage.forms name.items ≡ named_form arguments storage
@@ -87,12 +77,6 @@ module _ {A : Type 0} (arguments : List (List ℕ)) (storage : Storage) where
   removes names are = record { undone_is = ap (λ (ns : List (List ℕ)). Restore (moved_out ns storage.forms)) are; names_are = tt }
 
   -- ---- blocks
-
-  pub keeps_unfetched : named_block_number arguments storage ≡ None → IsChangeOf {A = A} (HandleBlock FetchBlock) arguments storage Keep
-  keeps_unfetched none = record { undone_is = ap (λ number. replaced_lost number storage) (sym none); names_are = tt }
-
-  pub keeps_unerased : named_block_number arguments storage ≡ None → IsChangeOf {A = A} (HandleBlock EraseBlock) arguments storage Keep
-  keeps_unerased none = record { undone_is = ap (λ number. block_lost number (named_form arguments storage) storage.blocks) (sym none); names_are = tt }
 
   pub moves_in : (held : Vec (Vec ℕ A) A) (name : Vec ℕ A) (address : Form) → name.items ≡ argument 1 arguments →
       texts_of held.items ≡ names_in (moved_out (drop 2 arguments) storage.forms) → IsChangeOf (HandleBlock StoreBlock) arguments storage (MoveIn held name address)

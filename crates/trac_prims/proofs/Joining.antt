@@ -8,6 +8,11 @@ join-push : (b : ℕ) (text : List ℕ) (texts : List (List ℕ)) (last : List �
 join-push b text [] last = refl
 join-push b text (next ∷ texts) last = ap (λ rest. text ++ (b ∷ rest)) (join-push b next texts last) ∙ sym (append_assoc text (b ∷ join_with_byte b (next ∷ texts)) (b ∷ last))
 
+-- of the first text alone nothing is joined
+pub join-first : (b : ℕ) (texts : List (List ℕ)) → join_with_byte b (take 1 texts) ≡ get_or texts 0 []
+join-first b [] = refl
+join-first b (text ∷ texts) = refl
+
 pub join-take : (b : ℕ) (texts : List (List ℕ)) (i : ℕ) → 0 < i → i < length texts →
     join_with_byte b (take (i + 1) texts) ≡ (join_with_byte b (take i texts) ++ b ∷ []) ++ get_or texts i []
 join-take b texts i some l =

@@ -1,10 +1,12 @@
 -- Effects that differ by a piece from one that keeps all.
-use Rattle.std.proofs.Common.{◌≡◌, ℕ, ◌<◌, List, length, sym, ap, ◌∙◌}
-use Rattle.std.specs.Prelude.{Ok, Err, Vec, true, nat_le}
+use Rattle.std.proofs.Common.{◌≡◌, ℕ, ◌<◌, List, [], ◌∷◌, length, take, Bool, refl, sym, ap, ◌∙◌}
+use Rattle.std.specs.Prelude.{Ok, Err, Option, None, Some, Vec, true, nat_le, slice_get}
 use Rattle.std.proofs.lemmas.Bool.{and_left, lt-leb}
 use Rattle.trac_rules.specs.declared.limit.TheConstants.{OUTPUT_LIMIT, TEXT_LIMIT}
 use Rattle.trac_rules.specs.declared.refusal.Refusal.TheVariants.{TooLong}
 use Rattle.trac_rules.specs.Effect.{Effect, forces, gives, leaves, prints, reads}
+use Rattle.trac_rules.specs.Performing.{meta_set}
+use Rattle.trac_rules.specs.Reading.{byte_read}
 use Rattle.trac_rules.specs.State.{Storage}
 use Rattle.trac_rules.specs.Outcomes.{limited}
 use Rattle.trac_rules.proofs.Outcomes.{limited_beyond}
@@ -27,6 +29,20 @@ module _ {A : Type 0} (kept : code.Made A) (storage : Storage) (keeps : effect_o
   -- a value that is read
   pub read : (n : ℕ) → IsMade storage (Ok (reads text n storage)) (Ok (record kept { value = piece; read = n }))
   read n = ap (λ (v : List ℕ). Ok (reads v n storage)) (sym is) ∙ ap (λ (e : Effect). Ok (record e { value = piece.items; read = n })) (sym keeps)
+
+-- the first byte of what is left to read
+pub byte_given : {A : Type 0} (kept : code.Made A) (storage : Storage) → effect_on storage kept ≡ leaves storage → (piece : Vec ℕ A) (text : List ℕ) (ended : Bool) →
+    (length text ≡ 0 → ⊥) → piece.items ≡ take 1 text → IsMade storage (byte_read text ended storage) (Ok (record kept { value = piece; read = 1 }))
+byte_given kept storage keeps piece [] ended some is = absurd (some refl)
+byte_given kept storage keeps piece (b ∷ rest) ended some is = read kept storage keeps piece (b ∷ []) is 1
+
+-- the first byte of a text as meta character
+pub meta_given : {A : Type 0} (kept : code.Made A) (storage : Storage) → effect_on storage kept ≡ leaves storage → (meta : Option ℕ) (text : List ℕ) →
+    meta ≡ slice_get text 0 → effect_on storage (record kept { meta = meta }) ≡ meta_set text storage
+meta_given kept storage keeps meta [] is =
+    ap (λ (m : Option ℕ). effect_on storage (record kept { meta = m })) is ∙ ap (λ (e : Effect). record e { meta = None }) keeps
+meta_given kept storage keeps meta (b ∷ bytes) is =
+    ap (λ (m : Option ℕ). effect_on storage (record kept { meta = m })) is ∙ ap (λ (e : Effect). record e { meta = Some b }) keeps
 
 -- ---- pieces that are too long
 

@@ -1,9 +1,10 @@
 -- Which calls set the meta character: those of `cm` that are given a text.
-use Rattle.std.proofs.Common.{◌≡◌, ℕ, List, [], ◌∷◌, Bool, true, false, ◌&&◌, ◌||◌, not, length, take, refl, sym, ap, ◌∙◌, arith}
-use Rattle.std.specs.Prelude.{Option, None, Some, Ok, cond, bytes_eq, codes, find, is_some, nat_lt}
+use Rattle.std.proofs.Common.{◌≡◌, ℕ, List, [], ◌∷◌, Bool, true, false, ◌&&◌, ◌||◌, not, length, take, refl, sym, ap, ◌∙◌}
+use Rattle.std.specs.Prelude.{Option, None, Some, Ok, cond, bytes_eq, ◌==◌, codes, find, is_some}
 use Rattle.std.specs.Cmp.Lexicographic.{nat_list_eq_equiv}
 use Rattle.std.specs.Str.{str_eq_ignore_ascii_case, str_to_ascii_lowercase}
-use Rattle.std.proofs.lemmas.Bool.{false_from_ne_true, le-leb}
+use Rattle.std.proofs.lemmas.Bool.{false_from_ne_true}
+use Rattle.std.proofs.Math.Dec.{eqb-suc-zero}
 use Rattle.std.proofs.lemmas.Slice.Eq.{bytes_eq-Decides}
 use Rattle.trac_rules.specs.declared.primitive.NamedPrimitive.{NamedPrimitive}
 use Rattle.trac_rules.specs.declared.primitive.Primitive.{Primitive}
@@ -101,7 +102,7 @@ and_true true b h = h
 and_true false b h = refl
 
 -- another name is not alike
-pub not_alike : (name : List ℕ) → (str_to_ascii_lowercase name ≡ str_to_ascii_lowercase its_name → ⊥) → alike name its_name ≡ false
+not_alike : (name : List ℕ) → (str_to_ascii_lowercase name ≡ str_to_ascii_lowercase its_name → ⊥) → alike name its_name ≡ false
 not_alike name other = false_from_ne_true (alike name its_name) (λ t. other ((bytes_eq-Decides (str_to_ascii_lowercase name) (str_to_ascii_lowercase its_name)).0 t))
 
 named_so : (name : List ℕ) → sets (primitive_of name) ≡ alike name its_name
@@ -109,24 +110,40 @@ named_so name = found_so name NAMES all_agree ∙ and_true (alike name its_name)
 
 -- ---- the effect
 
-kept_so : (primitive : Primitive) (arguments : List (List ℕ)) → nat_lt 0 (meta_kept primitive arguments) ≡ (sets primitive && nat_lt 0 (length (argument 1 arguments)))
+-- whether a text has a byte
+abbrev some_byte : List ℕ → Bool
+some_byte text = not (length text == 0)
+
+kept_so : (primitive : Primitive) (arguments : List (List ℕ)) → not (meta_kept primitive arguments == 0) ≡ (sets primitive && some_byte (argument 1 arguments))
 kept_so SetMeta arguments = one_of (argument 1 arguments)
   where
-    one_of : (text : List ℕ) → nat_lt 0 (length (take 1 text)) ≡ nat_lt 0 (length text)
+    one_of : (text : List ℕ) → some_byte (take 1 text) ≡ some_byte text
     one_of [] = refl
-    one_of (b ∷ text) = sym (le-leb 1 (length (b ∷ text)) (omega arith))
+    one_of (b ∷ text) = ap not (sym (eqb-suc-zero (length text)))
 kept_so primitive arguments = refl
 
-weighed_so : (meta : Option ℕ) → is_some meta ≡ nat_lt 0 (meta_weight meta)
+weighed_so : (meta : Option ℕ) → is_some meta ≡ not (meta_weight meta == 0)
 weighed_so None = refl
 weighed_so (Some b) = refl
 
--- of each call that is not refused
-pub meta_is_set : (environment : Environment) (arguments : List (List ℕ)) (s : State) (e : Effect) → effect_of (primitive_of (argument 0 arguments)) environment arguments s ≡ Ok e →
-    is_some e.meta ≡ (alike (argument 0 arguments) its_name && nat_lt 0 (length (argument 1 arguments)))
-meta_is_set environment arguments s e is =
-    let primitive = primitive_of (argument 0 arguments) in
-    weighed_so e.meta
-    ∙ ap (nat_lt 0) (effect_kept primitive environment arguments s e is).meta
-    ∙ kept_so primitive arguments
-    ∙ ap (λ b. b && nat_lt 0 (length (argument 1 arguments))) (named_so (argument 0 arguments))
+-- of each call that is not refused, by whether its name is alike and what follows has a byte
+module _ (arguments : List (List ℕ)) (s : State) (environment : Environment) (e : Effect) (is : effect_of (primitive_of (argument 0 arguments)) environment arguments s ≡ Ok e) where
+  meta_is_set : is_some e.meta ≡ (alike (argument 0 arguments) its_name && some_byte (argument 1 arguments))
+  meta_is_set =
+      weighed_so e.meta
+      ∙ ap (λ n. not (n == 0)) (effect_kept (primitive_of (argument 0 arguments)) environment arguments s e is).meta
+      ∙ kept_so (primitive_of (argument 0 arguments)) arguments
+      ∙ ap (λ b. b && some_byte (argument 1 arguments)) (named_so (argument 0 arguments))
+
+  pub set_by : (name text : List ℕ) (is_null : Bool) → name ≡ argument 0 arguments → text ≡ argument 1 arguments → str_to_ascii_lowercase name ≡ str_to_ascii_lowercase its_name →
+      is_null ≡ (length text == 0) → is_some e.meta ≡ not is_null
+  set_by name text is_null called given named null =
+      meta_is_set
+      ∙ ap (λ b. b && some_byte (argument 1 arguments)) ((bytes_eq-Decides (str_to_ascii_lowercase (argument 0 arguments)) (str_to_ascii_lowercase its_name)).1 (sym (ap str_to_ascii_lowercase called) ∙ named))
+      ∙ ap some_byte (sym given)
+      ∙ ap not (sym null)
+
+  pub not_set_by : (name : List ℕ) → name ≡ argument 0 arguments → (str_to_ascii_lowercase name ≡ str_to_ascii_lowercase its_name → ⊥) → is_some e.meta ≡ false
+  not_set_by name called other =
+      meta_is_set
+      ∙ ap (λ b. b && some_byte (argument 1 arguments)) (not_alike (argument 0 arguments) (λ named. other (ap str_to_ascii_lowercase called ∙ named)))

@@ -13,11 +13,12 @@ use Rattle.trac_rules.specs.Limits.{marks, text_bytes, texts_fit}
 use Rattle.trac_rules.specs.Outcomes.{limited}
 use Rattle.trac_rules.specs.PlainRuns.{BeginsPlain, is_plain, moved_on, on_the_way}
 use Rattle.trac_rules.specs.Proper.{IsProper, IsProperStorage}
-use Rattle.trac_rules.specs.Records.{Moved, led_back, state_before}
+use Rattle.trac_rules.specs.Records.{Moved, led_back, recorded_at, state_before}
 use Rattle.trac_rules.specs.Scanning.{deleted, front_of, gather_first, gathered_in, is_layout, scan, scan_at, sharp_before}
 use Rattle.trac_rules.specs.Session.{PlainSession, Step, accepted_by, answer, over, refused, repeated, stepped_to}
 use Rattle.trac_rules.specs.State.{Environment, Frame, State, storage_of}
 use Rattle.trac_rules.specs.Stepping.{carried_out, step}
+use Rattle.trac_rules.specs.Weights.{step_weight, step_weight_in, weight}
 use Rattle.trac_rules.proofs.Outcomes.{limited_within}
 use Rattle.trac_rules.proofs.Restored.{before_of_restored, first_goes_back}
 use Rattle.trac_rules.proofs.Scans.{gathered_in_shows}
@@ -170,3 +171,11 @@ moved_bytes_back zero s proper within = ap Some (moved_on-zero s)
 moved_bytes_back (suc n) s proper within =
     ap (option_and_then (led_back (replicate n Moved))) (moved_byte_back n s proper (omega arith))
     ∙ moved_bytes_back n s proper (omega arith)
+
+-- which weighs nothing
+pub moved_byte_weighs : (n : ℕ) (s : State) → n < length s.active → is_plain (get_or s.active n 0) ≡ true → step_weight (moved_on n s) ≡ 0
+unfolding scan
+moved_byte_weighs n s within plain =
+    let u : State = moved_on n s in
+    let at_plain : front_of u.active ≡ front.Plain = ap front_of (moved_on-active n s within) ∙ plain_front (get_or s.active n 0) (drop (n + 1) s.active) plain in
+    ap (λ (at : Front). step_weight_in u (scan_at at u)) at_plain ∙ ap (λ (at : Front). weight (recorded_at at u)) at_plain

@@ -1,14 +1,13 @@
 -- Journals that count moved bytes.
 use Rattle.std.proofs.Common.{◌≡◌, ℕ, ◌+◌, ◌-◌, ◌≤◌, List, [], ◌∷◌, ◌++◌, length, refl, sym, ap, ◌∙◌, arith}
 use Rattle.std.proofs.lemmas.List.{append_assoc, length-append, length-replicate, replicate-append-replicate}
-use Rattle.trac_step.specs.Layout.{Shown}
 use Rattle.trac_step.specs.declared.record.Record.{Record}
 use Rattle.trac_step.specs.declared.record.Record.TheVariants.{Moved}
 use Rattle.trac_session.specs.declared.journal.Entry.{Entry}
 use Rattle.trac_session.specs.Counted.{all_moved, unrolled}
 
 -- behind the first entry there are these records more where there are so in all
-more_behind : {A : Type 0} → (entry : Entry A) (old new more : List (Record Shown A)) → new ≡ old ++ more →
+more_behind : {A : Type 0} → (entry : Entry A) (old new more : List (Record A)) → new ≡ old ++ more →
     all_moved entry.moved ++ entry.kept ∷ new ≡ (all_moved entry.moved ++ entry.kept ∷ old) ++ more
 more_behind entry old new more e =
     ap (λ records. all_moved entry.moved ++ entry.kept ∷ records) e
@@ -36,7 +35,7 @@ length-all_moved : (A : Type 0) (n : ℕ) → length (all_moved {A = A} n) ≡ n
 length-all_moved A n = length-replicate n Moved
 
 -- with so many more the length is more by as many
-pub length_of_moved : {A : Type 0} → (old new : List (Record Shown A)) (n : ℕ) → new ≡ old ++ all_moved n → length new ≡ length old + n
+pub length_of_moved : {A : Type 0} → (old new : List (Record A)) (n : ℕ) → new ≡ old ++ all_moved n → length new ≡ length old + n
 length_of_moved {A} old new n more = omega (arith, ap length more, length-append old (all_moved n), length-all_moved A n)
 
 -- there is a record for each moved byte that is counted

@@ -17,7 +17,7 @@ use Rattle.trac_step.proofs.Rules.{reverse_push}
 use Rattle.trac_step.specs.Layout.{Shown}
 use Rattle.trac_step.specs.Room.{HasRoom, IsNoLess}
 use Rattle.trac_step.proofs.Rooms.{HasRoom-kept}
-use Rattle.trac_session.specs.Journal.{led_on, earlier_of, AreRecords, Remembers, plain_of, IsWithinReach, IsSound}
+use Rattle.trac_session.specs.Journal.{led_on, earlier_of, IsOfStep, AreRecords, Remembers, plain_of, IsWithinReach, IsSound}
 use Rattle.trac_session.specs.Replies.{reply_of}
 
 -- ---- lists of records
@@ -27,32 +27,32 @@ pub led_on-Some : (x : Option State) (s : State) (rest : State → List State) �
 led_on-Some x s rest e = ap (λ y. led_on y rest) e
 
 -- there are as many earlier states as records
-pub length-earlier_of : {R : Type 0} → (before : R → State → Option State) (Holds : State → Type 0) (records : List R) (t : State) → AreRecords before Holds records t →
+pub length-earlier_of : {R : Type 0} → (before : R → State → Option State) (weigh : R → ℕ) (Holds : State → Type 0) (records : List R) (t : State) → AreRecords before weigh Holds records t →
     length (earlier_of before records t) ≡ length records
-length-earlier_of before Holds [] t all = refl
-length-earlier_of before Holds (r ∷ records) t all =
-    ap length (led_on-Some (before r t) all.0 (λ s. earlier_of before records s) all.1)
-    ∙ ap (λ (k : ℕ). suc k) (length-earlier_of before Holds records all.0 all.3)
+length-earlier_of before weigh Holds [] t all = refl
+length-earlier_of before weigh Holds (r ∷ records) t all =
+    ap length (led_on-Some (before r t) all.0 (λ s. earlier_of before records s) all.1.says)
+    ∙ ap (λ (k : ℕ). suc k) (length-earlier_of before weigh Holds records all.0 all.3)
 
 -- with one record more there is one earlier state more
-pub earlier_of-more : {R : Type 0} → (before : R → State → Option State) (old new : List R) (s t : State) → Remembers before old new s t →
+pub earlier_of-more : {R : Type 0} → (before : R → State → Option State) (old new : List R) (r : R) (s t : State) → new ≡ old ++ r ∷ [] → before r t ≡ Some s →
     earlier_of before (reverse new) t ≡ s ∷ earlier_of before (reverse old) s
-earlier_of-more before old new s t kept =
-    ap (λ records. earlier_of before (reverse records) t) kept.1
-    ∙ ap (λ records. earlier_of before records t) (reverse_push old kept.0)
-    ∙ led_on-Some (before kept.0 t) s (λ u. earlier_of before (reverse old) u) kept.2
+earlier_of-more before old new r s t with_r says =
+    ap (λ records. earlier_of before (reverse records) t) with_r
+    ∙ ap (λ records. earlier_of before records t) (reverse_push old r)
+    ∙ led_on-Some (before r t) s (λ u. earlier_of before (reverse old) u) says
 
 -- and each record still says a state before
-pub AreRecords-more : {R : Type 0} → (before : R → State → Option State) (Holds : State → Type 0) (old new : List R) (s t : State) → Remembers before old new s t → Holds s →
-    AreRecords before Holds (reverse old) s → AreRecords before Holds (reverse new) t
-AreRecords-more before Holds old new s t kept holds all =
-    subst (λ records. AreRecords before Holds records t) (sym (ap reverse kept.1 ∙ reverse_push old kept.0)) (s, kept.2, holds, all)
+pub AreRecords-more : {R : Type 0} → (before : R → State → Option State) (weigh : R → ℕ) (Holds : State → Type 0) (old new : List R) (s t : State) → Remembers before weigh old new s t → Holds s →
+    AreRecords before weigh Holds (reverse old) s → AreRecords before weigh Holds (reverse new) t
+AreRecords-more before weigh Holds old new s t kept holds all =
+    subst (λ records. AreRecords before weigh Holds records t) (sym (ap reverse kept.1 ∙ reverse_push old kept.0)) (s, kept.2, holds, all)
 
 -- something else holds of each state before, where it follows from what holds
-pub AreRecords-weaker : {R : Type 0} → (before : R → State → Option State) (Holds Still : State → Type 0) (records : List R) (t : State) → ((s : State) → Holds s → Still s) →
-    AreRecords before Holds records t → AreRecords before Still records t
-AreRecords-weaker before Holds Still [] t so all = tt
-AreRecords-weaker before Holds Still (r ∷ records) t so all = (all.0, all.1, so all.0 all.2, AreRecords-weaker before Holds Still records all.0 so all.3)
+pub AreRecords-weaker : {R : Type 0} → (before : R → State → Option State) (weigh : R → ℕ) (Holds Still : State → Type 0) (records : List R) (t : State) → ((s : State) → Holds s → Still s) →
+    AreRecords before weigh Holds records t → AreRecords before weigh Still records t
+AreRecords-weaker before weigh Holds Still [] t so all = tt
+AreRecords-weaker before weigh Holds Still (r ∷ records) t so all = (all.0, all.1, so all.0 all.2, AreRecords-weaker before weigh Holds Still records all.0 so all.3)
 
 -- what is within reach stays so on a tape that is no shorter, and with no less room
 pub IsWithinReach-more : (old new : Shown) (n k : ℕ) → IsNoLess old new → n ≤ k → (s : State) → IsWithinReach old n s → IsWithinReach new k s
@@ -62,30 +62,31 @@ IsWithinReach-more old new n k more l s reach = record {
 }
 
 -- a journal with one record more is longer by one
-pub length-more : {R : Type 0} → (before : R → State → Option State) (old new : List R) (s t : State) → Remembers before old new s t → length new ≡ length old + 1
-length-more before old new s t kept = ap length kept.1 ∙ length-append old (kept.0 ∷ [])
+pub length-more : {R : Type 0} → (before : R → State → Option State) (weigh : R → ℕ) (old new : List R) (s t : State) → Remembers before weigh old new s t → length new ≡ length old + 1
+length-more before weigh old new s t kept = ap length kept.1 ∙ length-append old (kept.0 ∷ [])
 
 -- the newest record says a state before, and the others go on from it
-pub newest_says : {R : Type 0} → (before : R → State → Option State) (Holds : State → Type 0) (old new : List R) (r : R) (t : State) → old ≡ new ++ r ∷ [] →
-    AreRecords before Holds (reverse old) t → (s : State) × (before r t ≡ Some s) × Holds s × AreRecords before Holds (reverse new) s
-newest_says before Holds old new r t e all =
-    subst (λ records. AreRecords before Holds records t) (ap reverse e ∙ reverse_push new r) all
+pub newest_says : {R : Type 0} → (before : R → State → Option State) (weigh : R → ℕ) (Holds : State → Type 0) (old new : List R) (r : R) (t : State) → old ≡ new ++ r ∷ [] →
+    AreRecords before weigh Holds (reverse old) t → (s : State) × IsOfStep before weigh r s t × Holds s × AreRecords before weigh Holds (reverse new) s
+newest_says before weigh Holds old new r t e all =
+    subst (λ records. AreRecords before weigh Holds records t) (ap reverse e ∙ reverse_push new r) all
 
 -- of that state it holds, and the others go on from it
-pub newest_says_this : {R : Type 0} → (before : R → State → Option State) (Holds : State → Type 0) (old new : List R) (r : R) (t u : State) → old ≡ new ++ r ∷ [] →
-    AreRecords before Holds (reverse old) t → before r t ≡ Some u → Holds u × AreRecords before Holds (reverse new) u
-newest_says_this before Holds old new r t u e all says =
-    let said = newest_says before Holds old new r t e all in
+pub newest_says_this : {R : Type 0} → (before : R → State → Option State) (weigh : R → ℕ) (Holds : State → Type 0) (old new : List R) (r : R) (t u : State) → old ≡ new ++ r ∷ [] →
+    AreRecords before weigh Holds (reverse old) t → before r t ≡ Some u → Holds u × AreRecords before weigh Holds (reverse new) u
+newest_says_this before weigh Holds old new r t u e all says =
+    let said = newest_says before weigh Holds old new r t e all in
+    let known : before r t ≡ Some said.0 = said.1.says in
     let same : said.0 ≡ u = cc in
-    subst (λ (s : State). Holds s × AreRecords before Holds (reverse new) s) same (said.2, said.3)
+    subst (λ (s : State). Holds s × AreRecords before weigh Holds (reverse new) s) same (said.2, said.3)
 
 -- ---- what calls make of the fields
 
 -- there are as many earlier states as the journal has records
-pub length-earlier : {R : Type 0} → (before : R → State → Option State) (Holds : State → Type 0) (limit : ℕ) (bytes : List ℕ) (ended : Bool) (journal : List R) (last : State) (p : PlainSession) →
-    plain_of before limit bytes ended journal last ≡ p → AreRecords before Holds (reverse journal) last → length p.earlier ≡ length journal
-length-earlier before Holds limit bytes ended journal last p view all =
-    sym (ap (λ (q : PlainSession). length q.earlier) view) ∙ length-earlier_of before Holds (reverse journal) last all ∙ length-reverse journal
+pub length-earlier : {R : Type 0} → (before : R → State → Option State) (weigh : R → ℕ) (Holds : State → Type 0) (limit : ℕ) (bytes : List ℕ) (ended : Bool) (journal : List R) (last : State) (p : PlainSession) →
+    plain_of before limit bytes ended journal last ≡ p → AreRecords before weigh Holds (reverse journal) last → length p.earlier ≡ length journal
+length-earlier before weigh Holds limit bytes ended journal last p view all =
+    sym (ap (λ (q : PlainSession). length q.earlier) view) ∙ length-earlier_of before weigh Holds (reverse journal) last all ∙ length-reverse journal
 
 -- the end of the input
 pub End_of_fields : {R : Type 0} → (before : R → State → Option State) (limit : ℕ) (bytes : List ℕ) (ended : Bool) (journal : List R) (last : State) (p : PlainSession) →
@@ -162,55 +163,55 @@ Step_refused_as p q Closed l may same = rw same (answer_Step_Err p Closed l may)
 Step_refused_as p q NotMet l may same = rw same (answer_Step_Err p NotMet l may)
 
 -- a step that was taken, or refused, with a place in the journal
-pub Step_of_fields : {R : Type 0} → (before : R → State → Option State) (Holds : State → Type 0) (limit : ℕ) (bytes : List ℕ) (ended : Bool) (old new : List R) (s t : State) (r : Result (Unit {0}) Refusal) →
-    length old < limit → AreRecords before Holds (reverse old) s →
-    OnOk r (step (over (record { bytes = bytes; ended = ended })) s ≡ Ok t) → OnOk r (Remembers before old new s t) →
+pub Step_of_fields : {R : Type 0} → (before : R → State → Option State) (weigh : R → ℕ) (Holds : State → Type 0) (limit : ℕ) (bytes : List ℕ) (ended : Bool) (old new : List R) (s t : State) (r : Result (Unit {0}) Refusal) →
+    length old < limit → AreRecords before weigh Holds (reverse old) s →
+    OnOk r (step (over (record { bytes = bytes; ended = ended })) s ≡ Ok t) → OnOk r (Remembers before weigh old new s t) →
     IfErr r (MayRefuse (step (over (record { bytes = bytes; ended = ended })) s)) → IfErr r (λ _. (t ≡ s) × (new ≡ old)) →
     Answers Step (plain_of before limit bytes ended old s) (reply_of r) (plain_of before limit bytes ended new t)
-Step_of_fields before Holds limit bytes ended old new s t (Ok done_) room all taken kept may same =
+Step_of_fields before weigh Holds limit bytes ended old new s t (Ok done_) room all taken kept may same =
     let p : PlainSession = plain_of before limit bytes ended old s in
-    let l : length p.earlier < p.limit = omega (arith, length-earlier before Holds limit bytes ended old s p refl all) in
+    let l : length p.earlier < p.limit = omega (arith, length-earlier before weigh Holds limit bytes ended old s p refl all) in
     answer_Step_Ok p t l taken
-    ∙ ap (λ (earlier : List State). done (record p { earlier = earlier; last = t })) (sym (earlier_of-more before old new s t kept))
-Step_of_fields before Holds limit bytes ended old new s t (Err refusal) room all taken kept may same =
+    ∙ ap (λ (earlier : List State). done (record p { earlier = earlier; last = t })) (sym (earlier_of-more before old new kept.0 s t kept.1 kept.2.says))
+Step_of_fields before weigh Holds limit bytes ended old new s t (Err refusal) room all taken kept may same =
     let p : PlainSession = plain_of before limit bytes ended old s in
-    let l : length p.earlier < p.limit = omega (arith, length-earlier before Holds limit bytes ended old s p refl all) in
+    let l : length p.earlier < p.limit = omega (arith, length-earlier before weigh Holds limit bytes ended old s p refl all) in
     Step_refused_as p (plain_of before limit bytes ended new t) refusal l may (rw (same.0, same.1) refl)
 
 -- the fields stay sound
-pub IsSound-step : {R : Type 0} → (before : R → State → Option State) (limit : ℕ) (bytes : List ℕ) (ended : Bool) (old new : List R) (m k : Shown) (r : Result (Unit {0}) Refusal) →
-    length old < limit → IsSound before limit bytes old m → IsNoLess m k → OnOk r (HasRoom k m.state) →
-    OnOk r (step (over (record { bytes = bytes; ended = ended })) m.state ≡ Ok k.state) → OnOk r (Remembers before old new m.state k.state) →
-    IfErr r (λ _. (k.state ≡ m.state) × (new ≡ old)) → IsSound before limit bytes new k
-IsSound-step before limit bytes ended old new m k (Ok done_) room sound more back taken kept same = record {
+pub IsSound-step : {R : Type 0} → (before : R → State → Option State) (weigh : R → ℕ) (limit : ℕ) (bytes : List ℕ) (ended : Bool) (old new : List R) (m k : Shown) (r : Result (Unit {0}) Refusal) →
+    length old < limit → IsSound before weigh limit bytes old m → IsNoLess m k → OnOk r (HasRoom k m.state) →
+    OnOk r (step (over (record { bytes = bytes; ended = ended })) m.state ≡ Ok k.state) → OnOk r (Remembers before weigh old new m.state k.state) →
+    IfErr r (λ _. (k.state ≡ m.state) × (new ≡ old)) → IsSound before weigh limit bytes new k
+IsSound-step before weigh limit bytes ended old new m k (Ok done_) room sound more back taken kept same = record {
   some_records = sound.some_records;
   not_too_many = sound.not_too_many;
-  within_limit = omega (arith, length-more before old new m.state k.state kept);
+  within_limit = omega (arith, length-more before weigh old new m.state k.state kept);
   tape_limit = sound.tape_limit;
   on_tape = step_within (over (record { bytes = bytes; ended = ended })) m.state k.state taken sound.on_tape;
   records =
-      AreRecords-more before (IsWithinReach k (length bytes)) old new m.state k.state kept (record { on_tape = sound.on_tape; room = back })
-      (AreRecords-weaker before (IsWithinReach m (length bytes)) (IsWithinReach k (length bytes)) (reverse old) m.state
+      AreRecords-more before weigh (IsWithinReach k (length bytes)) old new m.state k.state kept (record { on_tape = sound.on_tape; room = back })
+      (AreRecords-weaker before weigh (IsWithinReach m (length bytes)) (IsWithinReach k (length bytes)) (reverse old) m.state
       (IsWithinReach-more m k (length bytes) (length bytes) more (omega arith)) sound.records);
 }
-IsSound-step {R} before limit bytes ended old new m k (Err refusal) room sound more back taken kept same = record {
+IsSound-step {R} before weigh limit bytes ended old new m k (Err refusal) room sound more back taken kept same = record {
   some_records = sound.some_records;
   not_too_many = sound.not_too_many;
   within_limit = omega (arith, ap length same.1, sound.within_limit);
   tape_limit = sound.tape_limit;
   on_tape = omega (arith, ap (λ (s : State). s.position) same.0, sound.on_tape);
   records =
-      subst (λ (s : State). AreRecords before (IsWithinReach k (length bytes)) (reverse new) s) (sym same.0)
-      (subst (λ (journal : List R). AreRecords before (IsWithinReach k (length bytes)) (reverse journal) m.state) (sym same.1)
-      (AreRecords-weaker before (IsWithinReach m (length bytes)) (IsWithinReach k (length bytes)) (reverse old) m.state
+      subst (λ (s : State). AreRecords before weigh (IsWithinReach k (length bytes)) (reverse new) s) (sym same.0)
+      (subst (λ (journal : List R). AreRecords before weigh (IsWithinReach k (length bytes)) (reverse journal) m.state) (sym same.1)
+      (AreRecords-weaker before weigh (IsWithinReach m (length bytes)) (IsWithinReach k (length bytes)) (reverse old) m.state
       (IsWithinReach-more m k (length bytes) (length bytes) more (omega arith)) sound.records));
 }
 
 -- a step with a full journal
-pub Step_full_of_fields : {R : Type 0} → (before : R → State → Option State) (Holds : State → Type 0) (limit : ℕ) (bytes : List ℕ) (ended : Bool) (journal : List R) (last : State) (p : PlainSession) →
-    plain_of before limit bytes ended journal last ≡ p → AreRecords before Holds (reverse journal) last → limit ≤ length journal → answer Step p ≡ refused JournalFull p
-Step_full_of_fields before Holds limit bytes ended journal last p view all full =
-    answer_Step_full p (omega (arith, length-earlier before Holds limit bytes ended journal last p view all, ap (λ (q : PlainSession). q.limit) view))
+pub Step_full_of_fields : {R : Type 0} → (before : R → State → Option State) (weigh : R → ℕ) (Holds : State → Type 0) (limit : ℕ) (bytes : List ℕ) (ended : Bool) (journal : List R) (last : State) (p : PlainSession) →
+    plain_of before limit bytes ended journal last ≡ p → AreRecords before weigh Holds (reverse journal) last → limit ≤ length journal → answer Step p ≡ refused JournalFull p
+Step_full_of_fields before weigh Holds limit bytes ended journal last p view all full =
+    answer_Step_full p (omega (arith, length-earlier before weigh Holds limit bytes ended journal last p view all, ap (λ (q : PlainSession). q.limit) view))
 
 -- ---- steps back
 
@@ -228,15 +229,15 @@ pub Back_of_fields : {R : Type 0} → (before : R → State → Option State) (l
     answer Back p ≡ done (plain_of before limit bytes ended new s)
 Back_of_fields before limit bytes ended old new r last s p view with_r says =
     let some : p.earlier ≡ s ∷ earlier_of before (reverse new) s =
-    sym (ap (λ (q : PlainSession). q.earlier) view) ∙ earlier_of-more before new old s last (r, with_r, says) in
+    sym (ap (λ (q : PlainSession). q.earlier) view) ∙ earlier_of-more before new old r s last with_r says in
     answer_Back_from p s (earlier_of before (reverse new) s) some
     ∙ ap (λ (q : PlainSession). done (record q { earlier = earlier_of before (reverse new) s; last = s })) (sym view)
 
 -- the fields stay sound
-pub IsSound-back : {R : Type 0} → (before : R → State → Option State) (limit : ℕ) (bytes : List ℕ) (old new : List R) (r : R) (m k : Shown) →
-    old ≡ new ++ r ∷ [] → before r m.state ≡ Some k.state → IsNoLess m k → IsSound before limit bytes old m → IsSound before limit bytes new k
-IsSound-back before limit bytes old new r m k with_r says more sound =
-    let this = newest_says_this before (IsWithinReach m (length bytes)) old new r m.state k.state with_r sound.records says in
+pub IsSound-back : {R : Type 0} → (before : R → State → Option State) (weigh : R → ℕ) (limit : ℕ) (bytes : List ℕ) (old new : List R) (r : R) (m k : Shown) →
+    old ≡ new ++ r ∷ [] → before r m.state ≡ Some k.state → IsNoLess m k → IsSound before weigh limit bytes old m → IsSound before weigh limit bytes new k
+IsSound-back before weigh limit bytes old new r m k with_r says more sound =
+    let this = newest_says_this before weigh (IsWithinReach m (length bytes)) old new r m.state k.state with_r sound.records says in
     record {
       some_records = sound.some_records;
       not_too_many = sound.not_too_many;
@@ -244,14 +245,14 @@ IsSound-back before limit bytes old new r m k with_r says more sound =
       tape_limit = sound.tape_limit;
       on_tape = this.0.on_tape;
       records =
-          AreRecords-weaker before (IsWithinReach m (length bytes)) (IsWithinReach k (length bytes)) (reverse new) k.state
+          AreRecords-weaker before weigh (IsWithinReach m (length bytes)) (IsWithinReach k (length bytes)) (reverse new) k.state
           (IsWithinReach-more m k (length bytes) (length bytes) more (omega arith)) this.1;
     }
 
 -- and with a longer tape
-pub IsSound-feed : {R : Type 0} → (before : R → State → Option State) (limit : ℕ) (bytes longer more : List ℕ) (journal : List R) (m : Shown) →
-    longer ≡ bytes ++ more → length bytes + length more ≤ TAPE_LIMIT → IsSound before limit bytes journal m → IsSound before limit longer journal m
-IsSound-feed before limit bytes longer more journal m longer_is room sound =
+pub IsSound-feed : {R : Type 0} → (before : R → State → Option State) (weigh : R → ℕ) (limit : ℕ) (bytes longer more : List ℕ) (journal : List R) (m : Shown) →
+    longer ≡ bytes ++ more → length bytes + length more ≤ TAPE_LIMIT → IsSound before weigh limit bytes journal m → IsSound before weigh limit longer journal m
+IsSound-feed before weigh limit bytes longer more journal m longer_is room sound =
     let n : length longer ≡ length bytes + length more = ap length longer_is ∙ length-append bytes more in
     record {
       some_records = sound.some_records;
@@ -260,6 +261,6 @@ IsSound-feed before limit bytes longer more journal m longer_is room sound =
       tape_limit = omega arith;
       on_tape = omega (arith, sound.on_tape);
       records =
-          AreRecords-weaker before (IsWithinReach m (length bytes)) (IsWithinReach m (length longer)) (reverse journal) m.state
+          AreRecords-weaker before weigh (IsWithinReach m (length bytes)) (IsWithinReach m (length longer)) (reverse journal) m.state
           (λ s reach. record { on_tape = omega (arith, reach.on_tape); room = reach.room }) sound.records;
     }

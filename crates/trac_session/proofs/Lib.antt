@@ -1,5 +1,6 @@
 pub mod Counted
 pub mod Journaled
+pub mod Summed
 pub mod Walked
 pub mod Passed
 pub mod Performed

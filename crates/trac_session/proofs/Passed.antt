@@ -11,7 +11,7 @@ use Rattle.trac_rules.specs.Records.{all_before_last, last_of, moved_back, moved
 use Rattle.trac_rules.specs.Scanning.{deleted, gather_first}
 use Rattle.trac_rules.specs.Session.{PlainSession, Back, Step, accepted_by, repeated}
 use Rattle.trac_rules.specs.State.{Frame, State}
-use Rattle.trac_rules.proofs.MovedOn.{active-gathered, moved_byte_back, moved_on-suc, moved_on-zero, plain_bytes_there}
+use Rattle.trac_rules.proofs.MovedOn.{active-gathered, moved_byte_back, moved_byte_weighs, moved_on-suc, moved_on-zero, plain_bytes_there}
 use Rattle.trac_rules.proofs.Replies.{answer_Back_from}
 use Rattle.trac_rules.proofs.Restored.{moved_back-gather, restored_of_before}
 use Rattle.trac_rules.proofs.Scans.{gathered_in_shows}
@@ -23,6 +23,7 @@ use Rattle.trac_step.specs.Room.{HasRoom, IsNoLess}
 use Rattle.trac_step.specs.declared.record.Record.{Record}
 use Rattle.trac_step.specs.declared.record.Record.TheVariants.{Moved}
 use Rattle.trac_session.specs.Counted.{all_moved}
+use Rattle.trac_session.specs.Weighed.{weighed}
 use Rattle.trac_session.specs.Journal.{earlier_of, AreRecords, plain_of, IsWithinReach, IsSound}
 use Rattle.trac_session.proofs.Counted.{length_of_moved}
 use Rattle.trac_session.proofs.Journaled.{led_on-Some, length-earlier, AreRecords-weaker, IsWithinReach-more}
@@ -31,7 +32,7 @@ use Rattle.trac_session.proofs.Walked.{repeated-from}
 -- ---- records of moved bytes
 
 -- turned round, they are first
-pub moved_first : {A : Type 0} → (n : ℕ) (journal : List (Record Shown A)) → reverse (journal ++ all_moved n) ≡ all_moved n ++ reverse journal
+pub moved_first : {A : Type 0} → (n : ℕ) (journal : List (Record A)) → reverse (journal ++ all_moved n) ≡ all_moved n ++ reverse journal
 moved_first zero journal = ap reverse (append-nil journal)
 moved_first (suc n) journal =
     let next : suc n ≡ n + 1 = omega arith in
@@ -42,7 +43,7 @@ moved_first (suc n) journal =
     ∙ ap (λ records. Moved ∷ records) (moved_first n journal)
 
 -- they say the states on the way
-earlier_of-moved : {A : Type 0} → (n : ℕ) (rest : List (Record Shown A)) (s : State) → IsProper s → n ≤ length s.active →
+earlier_of-moved : {A : Type 0} → (n : ℕ) (rest : List (Record A)) (s : State) → IsProper s → n ≤ length s.active →
     earlier_of before (all_moved n ++ rest) (moved_on n s) ≡ on_the_way n s ++ earlier_of before rest s
 earlier_of-moved zero rest s proper within = ap (λ (t : State). earlier_of before rest t) (moved_on-zero s)
 earlier_of-moved {A} (suc n) rest s proper within =
@@ -50,14 +51,17 @@ earlier_of-moved {A} (suc n) rest s proper within =
     ∙ ap (λ (states : List State). moved_on n s ∷ states) (earlier_of-moved n rest s proper (omega arith))
 
 -- of which something holds
-AreRecords-moved : {A : Type 0} → (Holds : State → Type 0) (n : ℕ) (rest : List (Record Shown A)) (s : State) → IsProper s → n ≤ length s.active →
-    ((k : ℕ) → k < n → Holds (moved_on k s)) → AreRecords before Holds rest s → AreRecords before Holds (all_moved n ++ rest) (moved_on n s)
-AreRecords-moved Holds zero rest s proper within holds all = subst (λ (t : State). AreRecords before Holds rest t) (sym (moved_on-zero s)) all
-AreRecords-moved Holds (suc n) rest s proper within holds all = (
+AreRecords-moved : {A : Type 0} → (Holds : State → Type 0) (n : ℕ) (rest : List (Record A)) (s : State) → IsProper s → BeginsPlain n s →
+    ((k : ℕ) → k < n → Holds (moved_on k s)) → AreRecords before weighed Holds rest s → AreRecords before weighed Holds (all_moved n ++ rest) (moved_on n s)
+AreRecords-moved Holds zero rest s proper plain holds all = subst (λ (t : State). AreRecords before weighed Holds rest t) (sym (moved_on-zero s)) all
+AreRecords-moved Holds (suc n) rest s proper plain holds all = (
   moved_on n s,
-  moved_byte_back n s proper (omega arith),
+  record {
+    says = moved_byte_back n s proper (omega (arith, plain.within));
+    weighs = sym (moved_byte_weighs n s (omega (arith, plain.within)) (plain.each n (omega arith)));
+  },
   holds n (omega arith),
-  AreRecords-moved Holds n rest s proper (omega arith) (λ k less. holds k (omega arith)) all,
+  AreRecords-moved Holds n rest s proper (record { within = omega (arith, plain.within); each = λ k less. plain.each k (omega arith) }) (λ k less. holds k (omega arith)) all,
 )
 
 -- ---- there
@@ -67,31 +71,31 @@ moved_on-position : (n : ℕ) (s : State) → (moved_on n s).position ≡ s.posi
 moved_on-position n s = gathered_in_shows (λ (u : State). u.position) (λ u active base frames. refl) s.frames (take n s.active) (deleted n s)
 
 -- a journal with records of moved bytes says the states on the way before those that it said
-earlier_of-passed : {A : Type 0} → (old new : List (Record Shown A)) (s t : State) (n : ℕ) → IsProper s → n ≤ length s.active → new ≡ old ++ all_moved n → t ≡ moved_on n s →
+earlier_of-passed : {A : Type 0} → (old new : List (Record A)) (s t : State) (n : ℕ) → IsProper s → n ≤ length s.active → new ≡ old ++ all_moved n → t ≡ moved_on n s →
     earlier_of before (reverse new) t ≡ on_the_way n s ++ earlier_of before (reverse old) s
 earlier_of-passed {A} old new s t n proper within kept moved =
-    ap (λ (records : List (Record Shown A)). earlier_of before (reverse records) t) kept
-    ∙ ap (λ (records : List (Record Shown A)). earlier_of before records t) (moved_first n old)
+    ap (λ (records : List (Record A)). earlier_of before (reverse records) t) kept
+    ∙ ap (λ (records : List (Record A)). earlier_of before records t) (moved_first n old)
     ∙ ap (λ (u : State). earlier_of before (all_moved n ++ reverse old) u) moved
     ∙ earlier_of-moved n (reverse old) s proper within
 
 -- plain bytes that are moved at once are as many steps
-pub Step_passed : {A : Type 0} → (Holds : State → Type 0) (limit : ℕ) (bytes : List ℕ) (ended : Bool) (old new : List (Record Shown A)) (m k : Shown) (n : ℕ) (p : PlainSession) →
-    plain_of before limit bytes ended old m.state ≡ p → AreRecords before Holds (reverse old) m.state → IsProper m.state → BeginsPlain n m.state → length old + n ≤ limit →
+pub Step_passed : {A : Type 0} → (Holds : State → Type 0) (limit : ℕ) (bytes : List ℕ) (ended : Bool) (old new : List (Record A)) (m k : Shown) (n : ℕ) (p : PlainSession) →
+    plain_of before limit bytes ended old m.state ≡ p → AreRecords before weighed Holds (reverse old) m.state → IsProper m.state → BeginsPlain n m.state → length old + n ≤ limit →
     new ≡ old ++ all_moved n → k ≡ record m { state = moved_on n m.state } → repeated Step n p ≡ Some (plain_of before limit bytes ended new k.state)
 Step_passed Holds limit bytes ended old new m k n p view all proper plain fits kept moved =
     let q : PlainSession = plain_of before limit bytes ended old m.state in
     let there : k.state ≡ moved_on n m.state = ap (λ (u : Shown). u.state) moved in
     ap (repeated Step n) (sym view)
-    ∙ plain_bytes_there n q proper plain (omega (arith, fits, length-earlier before Holds limit bytes ended old m.state q refl all))
+    ∙ plain_bytes_there n q proper plain (omega (arith, fits, length-earlier before weighed Holds limit bytes ended old m.state q refl all))
     ∙ ap (λ (earlier : List State). Some (record q { earlier = earlier; last = moved_on n m.state })) (sym (earlier_of-passed old new m.state k.state n proper plain.within kept there))
     ∙ ap (λ (u : State). Some (record q { earlier = earlier_of before (reverse new) k.state; last = u })) (sym there)
 
 -- the fields stay sound
-pub IsSound-passed : {A : Type 0} → (limit : ℕ) (bytes : List ℕ) (old new : List (Record Shown A)) (m k : Shown) (n : ℕ) → IsProper m.state → n ≤ length m.state.active →
+pub IsSound-passed : {A : Type 0} → (limit : ℕ) (bytes : List ℕ) (old new : List (Record A)) (m k : Shown) (n : ℕ) → IsProper m.state → BeginsPlain n m.state →
     length old + n ≤ limit → new ≡ old ++ all_moved n → k ≡ record m { state = moved_on n m.state } → ((j : ℕ) → j ≤ n → HasRoom m (moved_on j m.state)) →
-    IsSound before limit bytes old m → IsSound before limit bytes new k
-IsSound-passed {A} limit bytes old new m k n proper within fits kept moved held sound =
+    IsSound before weighed limit bytes old m → IsSound before weighed limit bytes new k
+IsSound-passed {A} limit bytes old new m k n proper plain fits kept moved held sound =
     let more : IsNoLess m k = subst (λ (u : Shown). IsNoLess m u) (sym moved) (no_less_state m (moved_on n m.state)) in
     let there : k.state ≡ moved_on n m.state = ap (λ (u : Shown). u.state) moved in
     let Reach : State → Type 0 = IsWithinReach k (length bytes) in
@@ -106,10 +110,10 @@ IsSound-passed {A} limit bytes old new m k n proper within fits kept moved held 
       tape_limit = sound.tape_limit;
       on_tape = omega (arith, sound.on_tape, ap (λ (u : State). u.position) there, moved_on-position n m.state);
       records =
-          subst (λ (records : List (Record Shown A)). AreRecords before Reach records k.state) (sym (ap reverse kept ∙ moved_first n old))
-          (subst (λ (u : State). AreRecords before Reach (all_moved n ++ reverse old) u) (sym there)
-          (AreRecords-moved Reach n (reverse old) m.state proper within reach
-          (AreRecords-weaker before (IsWithinReach m (length bytes)) Reach (reverse old) m.state
+          subst (λ (records : List (Record A)). AreRecords before weighed Reach records k.state) (sym (ap reverse kept ∙ moved_first n old))
+          (subst (λ (u : State). AreRecords before weighed Reach (all_moved n ++ reverse old) u) (sym there)
+          (AreRecords-moved Reach n (reverse old) m.state proper plain reach
+          (AreRecords-weaker before weighed (IsWithinReach m (length bytes)) Reach (reverse old) m.state
           (IsWithinReach-more m k (length bytes) (length bytes) more (omega arith)) sound.records)));
     }
 
@@ -169,13 +173,13 @@ moved_there-more n r s t last others = (
 )
 
 -- records of moved bytes lead back to a state, as so many steps back do, and the other records go on from it
-pub record GoesBack {A : Type 0} (Holds : State → Type 0) (n : ℕ) (rest : List (Record Shown A)) (t : State) (p : PlainSession) : Type 0 where
+pub record GoesBack {A : Type 0} (Holds : State → Type 0) (n : ℕ) (rest : List (Record A)) (t : State) (p : PlainSession) : Type 0 where
   pub first : State
   pub there : IsThere n first t
-  pub records : AreRecords before Holds rest first
+  pub records : AreRecords before weighed Holds rest first
   pub walked : repeated Back n p ≡ Some (record p { earlier = earlier_of before rest first; last = first })
 
-goes_back : {A : Type 0} → (Holds : State → Type 0) (n : ℕ) (rest : List (Record Shown A)) (t : State) (p : PlainSession) → AreRecords before Holds (all_moved n ++ rest) t →
+goes_back : {A : Type 0} → (Holds : State → Type 0) (n : ℕ) (rest : List (Record A)) (t : State) (p : PlainSession) → AreRecords before weighed Holds (all_moved n ++ rest) t →
     p.earlier ≡ earlier_of before (all_moved n ++ rest) t → p.last ≡ t → GoesBack Holds n rest t p
 goes_back Holds zero rest t p all earlier last = record {
   first = t;
@@ -186,30 +190,30 @@ goes_back Holds zero rest t p all earlier last = record {
 goes_back {A} Holds (suc n) rest t p all earlier last =
     let s : State = all.0 in
     let some : p.earlier ≡ s ∷ earlier_of before (all_moved n ++ rest) s =
-    earlier ∙ led_on-Some (before {A = A} Moved t) s (λ u. earlier_of before (all_moved n ++ rest) u) all.1 in
+    earlier ∙ led_on-Some (before {A = A} Moved t) s (λ u. earlier_of before (all_moved n ++ rest) u) all.1.says in
     let q : PlainSession = record p { earlier = earlier_of before (all_moved n ++ rest) s; last = s } in
     let back : repeated Back 1 p ≡ Some q = ap accepted_by (answer_Back_from p s (earlier_of before (all_moved n ++ rest) s) some) in
     let next : suc n ≡ 1 + n = omega arith in
     let others : GoesBack Holds n rest s q = goes_back Holds n rest s q all.3 refl refl in
     record {
       first = others.first;
-      there = moved_there-more n others.first s t (moved_there 1 s t (restored_of_before rules.Moved s t all.1).0) others.there;
+      there = moved_there-more n others.first s t (moved_there 1 s t (restored_of_before rules.Moved s t all.1.says).0) others.there;
       records = others.records;
       walked = ap (λ k. repeated Back k p) next ∙ repeated-from Back 1 n p q back ∙ others.walked;
     }
 
 -- the same of fields
-went_back : {A : Type 0} → (Holds : State → Type 0) (limit : ℕ) (bytes : List ℕ) (ended : Bool) (old new : List (Record Shown A)) (t : State) (n : ℕ) → old ≡ new ++ all_moved n →
-    AreRecords before Holds (reverse old) t → GoesBack Holds n (reverse new) t (plain_of before limit bytes ended old t)
+went_back : {A : Type 0} → (Holds : State → Type 0) (limit : ℕ) (bytes : List ℕ) (ended : Bool) (old new : List (Record A)) (t : State) (n : ℕ) → old ≡ new ++ all_moved n →
+    AreRecords before weighed Holds (reverse old) t → GoesBack Holds n (reverse new) t (plain_of before limit bytes ended old t)
 went_back {A} Holds limit bytes ended old new t n kept all =
     let turned : reverse old ≡ all_moved n ++ reverse new = ap reverse kept ∙ moved_first n new in
     goes_back Holds n (reverse new) t (plain_of before limit bytes ended old t)
-    (subst (λ (records : List (Record Shown A)). AreRecords before Holds records t) turned all)
-    (ap (λ (records : List (Record Shown A)). earlier_of before records t) turned) refl
+    (subst (λ (records : List (Record A)). AreRecords before weighed Holds records t) turned all)
+    (ap (λ (records : List (Record A)). earlier_of before records t) turned) refl
 
 -- the bytes can go back
-pub moved_back_says : {A : Type 0} → (Holds : State → Type 0) (old new : List (Record Shown A)) (t : State) (n : ℕ) → old ≡ new ++ all_moved n → AreRecords before Holds (reverse old) t →
-    (s : State) × (moved_back n t ≡ Some s) × (s.position ≡ t.position) × AreRecords before Holds (reverse new) s
+pub moved_back_says : {A : Type 0} → (Holds : State → Type 0) (old new : List (Record A)) (t : State) (n : ℕ) → old ≡ new ++ all_moved n → AreRecords before weighed Holds (reverse old) t →
+    (s : State) × (moved_back n t ≡ Some s) × (s.position ≡ t.position) × AreRecords before weighed Holds (reverse new) s
 moved_back_says Holds old new t n kept all =
     let went = went_back Holds 0 [] false old new t n kept all in (
       went.first,
@@ -219,8 +223,8 @@ moved_back_says Holds old new t n kept all =
     )
 
 -- that is as many steps back
-pub Back_passed : {A : Type 0} → (Holds : State → Type 0) (limit : ℕ) (bytes : List ℕ) (ended : Bool) (old new : List (Record Shown A)) (t s : State) (n : ℕ) (p : PlainSession) →
-    plain_of before limit bytes ended old t ≡ p → AreRecords before Holds (reverse old) t → old ≡ new ++ all_moved n → moved_back n t ≡ Some s →
+pub Back_passed : {A : Type 0} → (Holds : State → Type 0) (limit : ℕ) (bytes : List ℕ) (ended : Bool) (old new : List (Record A)) (t s : State) (n : ℕ) (p : PlainSession) →
+    plain_of before limit bytes ended old t ≡ p → AreRecords before weighed Holds (reverse old) t → old ≡ new ++ all_moved n → moved_back n t ≡ Some s →
     repeated Back n p ≡ Some (plain_of before limit bytes ended new s)
 Back_passed Holds limit bytes ended old new t s n p view all kept back =
     let went = went_back Holds limit bytes ended old new t n kept all in
@@ -229,8 +233,8 @@ Back_passed Holds limit bytes ended old new t s n p view all kept back =
     ap (repeated Back n) (sym view) ∙ went.walked ∙ ap (λ (u : State). Some (plain_of before limit bytes ended new u)) same
 
 -- the fields stay sound
-pub IsSound-passed-back : {A : Type 0} → (limit : ℕ) (bytes : List ℕ) (old new : List (Record Shown A)) (m k : Shown) (n : ℕ) → old ≡ new ++ all_moved n →
-    moved_back n m.state ≡ Some k.state → k ≡ record m { state = k.state } → IsSound before limit bytes old m → IsSound before limit bytes new k
+pub IsSound-passed-back : {A : Type 0} → (limit : ℕ) (bytes : List ℕ) (old new : List (Record A)) (m k : Shown) (n : ℕ) → old ≡ new ++ all_moved n →
+    moved_back n m.state ≡ Some k.state → k ≡ record m { state = k.state } → IsSound before weighed limit bytes old m → IsSound before weighed limit bytes new k
 IsSound-passed-back {A} limit bytes old new m k n kept back others sound =
     let Reach : State → Type 0 = IsWithinReach m (length bytes) in
     let says = moved_back_says Reach old new m.state n kept sound.records in
@@ -244,7 +248,7 @@ IsSound-passed-back {A} limit bytes old new m k n kept back others sound =
       tape_limit = sound.tape_limit;
       on_tape = omega (arith, sound.on_tape, says.2, ap (λ (u : State). u.position) same);
       records =
-          AreRecords-weaker before Reach (IsWithinReach k (length bytes)) (reverse new) k.state
+          AreRecords-weaker before weighed Reach (IsWithinReach k (length bytes)) (reverse new) k.state
           (IsWithinReach-more m k (length bytes) (length bytes) more (omega arith))
-          (subst (λ (u : State). AreRecords before Reach (reverse new) u) same says.3);
+          (subst (λ (u : State). AreRecords before weighed Reach (reverse new) u) same says.3);
     }

@@ -1,8 +1,9 @@
 -- A session as its fields show it: the states before the last one are what the records of its journal say.
-use Rattle.std.specs.Prelude.{◌≡◌, ℕ, ◌≤◌, Bool, List, [], ◌∷◌, ◌++◌, length, reverse, Option, None, Some}
+use Rattle.std.specs.Prelude.{◌≡◌, ℕ, ◌+◌, ◌≤◌, Bool, List, [], ◌∷◌, ◌++◌, length, reverse, Option, None, Some}
 use Rattle.trac_rules.specs.declared.limit.TheConstants.{TAPE_LIMIT, JOURNAL_LIMIT}
 use Rattle.trac_rules.specs.State.{State}
 use Rattle.trac_rules.specs.Session.{PlainSession}
+use Rattle.trac_rules.specs.Weights.{step_weight}
 use Rattle.trac_step.specs.Layout.{Shown}
 use Rattle.trac_step.specs.Room.{HasRoom}
 
@@ -18,14 +19,24 @@ abbrev pub earlier_of : {R : Type 0} → (R → State → Option State) → List
 earlier_of before [] t = []
 earlier_of before (r ∷ records) t = led_on (before r t) (λ s. earlier_of before records s)
 
--- each record says a state before, of which something holds
-abbrev pub AreRecords : {R : Type 0} → (R → State → Option State) → (State → Type 0) → List R → State → Type 0
-AreRecords before Holds [] t = Unit {0}
-AreRecords before Holds (r ∷ records) t = (s : State) × (before r t ≡ Some s) × Holds s × AreRecords before Holds records s
+-- a record is that of the step from one state to another: it says the one from the other, and weighs what a record of that step does
+pub record IsOfStep {R : Type 0} (before : R → State → Option State) (weigh : R → ℕ) (r : R) (s t : State) : Type 0 where
+  pub says : before r t ≡ Some s
+  pub weighs : weigh r ≡ step_weight s
+
+-- each record is that of a step, and of the state before something holds
+abbrev pub AreRecords : {R : Type 0} → (R → State → Option State) → (R → ℕ) → (State → Type 0) → List R → State → Type 0
+AreRecords before weigh Holds [] t = Unit {0}
+AreRecords before weigh Holds (r ∷ records) t = (s : State) × IsOfStep before weigh r s t × Holds s × AreRecords before weigh Holds records s
 
 -- a journal, its oldest record first, has one record more: of a step from s to t
-abbrev pub Remembers : {R : Type 0} → (R → State → Option State) → List R → List R → State → State → Type 0
-Remembers {R} before old new s t = (r : R) × (new ≡ old ++ r ∷ []) × (before r t ≡ Some s)
+abbrev pub Remembers : {R : Type 0} → (R → State → Option State) → (R → ℕ) → List R → List R → State → State → Type 0
+Remembers {R} before weigh old new s t = (r : R) × (new ≡ old ++ r ∷ []) × IsOfStep before weigh r s t
+
+-- what records weigh together
+abbrev pub weights_by : {R : Type 0} → (R → ℕ) → List R → ℕ
+weights_by weigh [] = 0
+weights_by weigh (r ∷ records) = weigh r + weights_by weigh records
 
 -- ---- the fields
 
@@ -44,10 +55,10 @@ pub record IsWithinReach (machine : Shown) (n : ℕ) (s : State) : Type 0 where
   pub room : HasRoom machine s
 
 -- what is true of the fields of every session
-pub record IsSound {R : Type 0} (before : R → State → Option State) (limit : ℕ) (bytes : List ℕ) (journal : List R) (machine : Shown) : Type 0 where
+pub record IsSound {R : Type 0} (before : R → State → Option State) (weigh : R → ℕ) (limit : ℕ) (bytes : List ℕ) (journal : List R) (machine : Shown) : Type 0 where
   pub some_records : 1 ≤ limit
   pub not_too_many : limit ≤ JOURNAL_LIMIT
   pub within_limit : length journal ≤ limit
   pub tape_limit : length bytes ≤ TAPE_LIMIT
   pub on_tape : machine.state.position ≤ length bytes
-  pub records : AreRecords before (IsWithinReach machine (length bytes)) (reverse journal) machine.state
+  pub records : AreRecords before weigh (IsWithinReach machine (length bytes)) (reverse journal) machine.state

@@ -3,6 +3,7 @@ pub mod Replies
 pub mod Commands
 pub mod Journal
 pub mod Counted
+pub mod Weighed
 pub mod Goals
 pub mod Directions
 -- How proofs store these values.

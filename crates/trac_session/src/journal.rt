@@ -1,15 +1,14 @@
 //! The journal of a session: what its steps destroyed.
-ghost use Rattle.std.specs.Prelude.{◌≡◌, ◌<◌, ◌≤◌, ◌+◌, ◌++◌, ◌∷◌, [], length, IfErr, OnErr, OnOk, IsOk, MatchOption};
+ghost use Rattle.std.specs.Prelude.{◌≡◌, ◌<◌, ◌≤◌, ◌+◌, ◌^◌, ◌++◌, ◌∷◌, [], length, IfErr, OnErr, OnOk, IsOk, MatchOption};
 ghost use Rattle.trac_rules.specs.declared.limit.TheConstants.{JOURNAL_LIMIT};
 ghost use Rattle.trac_step.specs.declared.record.Record.TheVariants.{Moved};
 ghost use Rattle.trac_session.specs.Counted.{all_moved};
+ghost use Rattle.trac_session.specs.Journal.{weights_by};
+ghost use Rattle.trac_session.specs.Weighed.{entries_weight, weighed};
 
 use std::alloc::Allocator;
 use std::marker::Model;
-use trac_step::{Machine, Record};
-
-/// What the journal keeps of a step.
-pub(crate) type Kept<A> = Record<Machine<A>, A>;
+use trac_step::Record;
 
 /// What the steps of a session destroyed, a record for each, seen as the list of these, the oldest first. Bytes that were moved one
 /// after another are kept as their number: so a step over a plain byte takes no memory (this project's profile).
@@ -27,18 +26,17 @@ pub(crate) struct Journal<A: Allocator + Copy> {
 #[derive(Drop)]
 struct Entry<A: Allocator + Copy> {
     moved: usize,
-    kept: Kept<A>,
+    kept: Record<A>,
 }
 
 impl<A: Allocator + Copy> Model for Journal<A> {
     ghost use Rattle.std.specs.Prelude.{◌≡◌, List, length};
     ghost use Rattle.std.specs.Coded.{codes};
-    ghost use Rattle.trac_step.specs.Layout.{Shown, shown_code};
     ghost use Rattle.trac_step.specs.declared.record.Record.{Record};
 
-    ghost Value = { List (Record Shown A) };
+    ghost Value = { List (Record A) };
 
-    ghost coded = { Prim.hlevel (codes, shown_code) };
+    ghost coded = { Prim.hlevel codes };
 
     ghost use Rattle.trac_session.specs.Counted.{unrolled};
 
@@ -66,9 +64,17 @@ impl<A: Allocator + Copy> Journal<A> {
         self.len
     }
 
+    /// What the records weigh together, by what they keep of what their steps destroyed. It takes no memory, and a record of a moved byte no time.
+    pub(crate) fn weight(&self) -> u64
+        requires { weights_by weighed self.now < 2 ^ 64 }
+        ensures { result ≡ weights_by weighed self.now }
+    {
+        weigh(self.entries.as_slice())
+    }
+
     /// Keeps one record more, the newest. That of a moved byte takes no memory and is never refused.
     /// Where there is no memory for any other, the journal stays as it was, and the record is given back.
-    pub(crate) fn push(&mut self, newest: Kept<A>) -> Result<(), Kept<A>>
+    pub(crate) fn push(&mut self, newest: Record<A>) -> Result<(), Record<A>>
         requires { length self.old < JOURNAL_LIMIT }
         ensures kept { OnOk result (self.new ≡ self.old ++ newest ∷ []) }
         ensures same { OnErr result (self.new ≡ self.old) }
@@ -94,7 +100,7 @@ impl<A: Allocator + Copy> Journal<A> {
     }
 
     // Keeps one record more in an entry of its own, behind the bytes that were moved before its step.
-    fn push_entry(&mut self, newest: Kept<A>) -> Result<(), Kept<A>>
+    fn push_entry(&mut self, newest: Record<A>) -> Result<(), Record<A>>
         requires { length self.old < JOURNAL_LIMIT }
         ensures kept { OnOk result (self.new ≡ self.old ++ newest ∷ []) }
         ensures same { OnErr result (self.new ≡ self.old) }
@@ -113,7 +119,7 @@ impl<A: Allocator + Copy> Journal<A> {
     }
 
     /// Takes out the newest record, where there is one. It takes no memory.
-    pub(crate) fn pop(&mut self) -> Option<Kept<A>>
+    pub(crate) fn pop(&mut self) -> Option<Record<A>>
         ensures { MatchOption result ((self.old ≡ []) × (self.new ≡ [])) (λ r. self.old ≡ self.new ++ r ∷ []) }
     {
         if self.moved > 0 {
@@ -148,4 +154,16 @@ impl<A: Allocator + Copy> Journal<A> {
         self.moved = 0;
         self.len = 0;
     }
+}
+
+// What the records of entries weigh together. Those of moved bytes, which are kept as their number, weigh nothing.
+fn weigh<A: Allocator + Copy>(entries: &[Entry<A>]) -> u64
+    requires { entries_weight entries.now < 2 ^ 64 }
+    ensures { result ≡ entries_weight entries.now }
+{
+    let mut weight: u64 = 0;
+    for entry in entries {
+        weight += entry.kept.weight() as u64;
+    }
+    weight
 }

@@ -8,6 +8,7 @@ ghost use Rattle.trac_step.specs.Record.{before};
 ghost use Rattle.trac_step.specs.Room.{HasRoom, IsNoLess};
 ghost use Rattle.trac_prims.specs.Tape.{tape_of};
 ghost use Rattle.trac_session.specs.Journal.{Remembers};
+ghost use Rattle.trac_session.specs.Weighed.{weighed};
 
 use crate::journal::Journal;
 use std::alloc::Allocator;
@@ -24,7 +25,7 @@ pub(crate) fn step_kept<A: Allocator + Copy>(
     requires position { machine.old.state.position ≤ length tape.bytes.now }
     requires not_full { length journal.old < JOURNAL_LIMIT }
     ensures taken { OnOk result (step (over (tape_of tape.entry)) machine.old.state ≡ Ok machine.new.state) }
-    ensures kept { OnOk result (Remembers before journal.old journal.new machine.old.state machine.new.state) }
+    ensures kept { OnOk result (Remembers before weighed journal.old journal.new machine.old.state machine.new.state) }
     ensures refused { IfErr result (MayRefuse (step (over (tape_of tape.entry)) machine.old.state)) }
     ensures back { OnOk result (HasRoom machine.new machine.old.state) }
     ensures no_less { IsNoLess machine.old machine.new }

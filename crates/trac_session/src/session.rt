@@ -2,7 +2,8 @@
 ghost use Rattle.std.specs.Prelude.{◌≡◌, ◌==◌, ◌≤◌, ◌-◌, drop, length, IfOk, IsOkUnless};
 ghost use Rattle.trac_rules.specs.declared.reply.Reply.TheVariants.{Done};
 ghost use Rattle.trac_rules.specs.Reading.{unread};
-ghost use Rattle.trac_rules.specs.Session.{new_session, Feed, End, Step, Back, Commit, answer, Answers, IsWalk, no_goal};
+ghost use Rattle.trac_rules.specs.Session.{new_session, Feed, End, Step, Back, Commit, answer, Answers, IsWalk, no_goal, settled};
+ghost use Rattle.trac_rules.specs.Weights.{losses_from, weights_from};
 ghost use Rattle.trac_session.specs.Replies.{reply_of};
 
 use crate::journal::Journal;
@@ -10,9 +11,10 @@ use crate::keeping::step_kept;
 use crate::walk::Walk;
 use std::alloc::{Allocator, Global};
 use std::marker::Model;
+use trac_gap::TwoEnds;
 use trac_rules::limit::{JOURNAL_LIMIT, TAPE_LIMIT};
 use trac_rules::refusal::Refusal;
-use trac_step::{Machine, Tape};
+use trac_step::{Core, Machine, Mark, Tape};
 
 /// A processor with its input and a journal of its steps. It is seen as a tape and the list of states
 /// from the last commit on, the last of which is the machine's.
@@ -30,6 +32,7 @@ impl<A: Allocator + Copy> Model for Session<A> {
     ghost use Rattle.trac_rules.specs.Session.{PlainSession};
     ghost use Rattle.trac_session.specs.Codes.{session_code};
     ghost use Rattle.trac_session.specs.Journal.{plain_of, IsSound};
+    ghost use Rattle.trac_session.specs.Weighed.{weighed};
 
     ghost Value = { PlainSession };
 
@@ -37,7 +40,7 @@ impl<A: Allocator + Copy> Model for Session<A> {
 
     ghost view = { λ s. plain_of before s.limit s.tape.items s.ended s.journal s.machine.state };
 
-    ghost invariant = { λ s. IsSound before s.limit s.tape.items s.journal s.machine };
+    ghost invariant = { λ s. IsSound before weighed s.limit s.tape.items s.journal s.machine };
 }
 
 impl<A: Allocator + Copy> Session<A> {
@@ -132,10 +135,8 @@ impl<A: Allocator + Copy> Session<A> {
     pub fn commit(&mut self)
         ensures { answer Commit self.old ≡ record { reply = Done; session = self.new } }
     {
-        let read = self.machine.position();
-        drop_front(&mut self.tape, read);
+        settle(&mut self.machine, &mut self.tape);
         self.journal.clear();
-        self.machine.settle();
     }
 
     /// How many steps can be gone back over. It takes no memory (this project's profile).
@@ -152,6 +153,16 @@ impl<A: Allocator + Copy> Session<A> {
         self.len() == 0
     }
 
+    /// What the records of the steps that can be gone back over weigh together: of what was destroyed bytes, items of forms and places
+    /// of gaps, and one for each comma, begun function, name and meta character. Lengths, places and flags are not weighed (this project's
+    /// profile). It takes no memory, and time for the records but those of moved bytes.
+    pub fn weight(&self) -> u64
+        ensures together { result ≡ weights_from self.now.earlier }
+        ensures within { result ≤ losses_from self.now.earlier }
+    {
+        self.journal.weight()
+    }
+
     /// The machine, which shows the last state. It takes no memory (this project's profile).
     pub fn machine(&self) -> &Machine<A>
         ensures last { result.now.state ≡ self.now.last }
@@ -159,6 +170,21 @@ impl<A: Allocator + Copy> Session<A> {
     {
         &self.machine
     }
+}
+
+// Releases what is printed, and takes what is read off the front of the tape. The machine may be of any representation: a proof for a
+// certain one shows anew, at each call, what its lists are.
+fn settle<E: TwoEnds<u8, A>, M: TwoEnds<Mark, A>, A: Allocator + Copy>(
+    machine: &mut Core<E, M, A>,
+    tape: &mut Vec<u8, A>,
+)
+    requires { machine.old.state.position ≤ length tape.old.items }
+    ensures state { machine.new.state ≡ settled machine.old.state }
+    ensures tape { tape.new.items ≡ drop machine.old.state.position tape.old.items }
+{
+    let read = machine.position();
+    drop_front(tape, read);
+    machine.settle();
 }
 
 // Takes so many bytes off the front. Where there are none to take, the length of the text costs nothing.

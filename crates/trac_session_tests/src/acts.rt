@@ -2,13 +2,15 @@
 ghost use Rattle.std.specs.Prelude.{◌≤◌};
 
 use crate::sessions::let_go;
-use std::alloc::{AllocError, Global};
+use std::alloc::{AllocError, Allocator, Global};
 use std::process::Abort;
 use std::test::Fail;
+use trac_gap::TwoEnds;
 use trac_machine_tests::shown::texts_shown;
 use trac_rules::limit::JOURNAL_LIMIT;
 use trac_rules::refusal::Refusal;
 use trac_session::Session;
+use trac_step::{Core, Mark};
 
 /// One act on a session with what it answers, or one part of what it shows then.
 pub(crate) enum Act {
@@ -39,6 +41,8 @@ pub(crate) enum Act {
     Forms(usize),
     /// So many steps can be gone back over.
     Records(usize),
+    /// The records of these weigh so much together.
+    Weighs(u64),
     /// The state is the one in which a processor begins.
     Initial,
 }
@@ -104,55 +108,59 @@ fn carry_out(alloc: Global, session: &mut Session, act: &Act) -> bool {
 }
 
 // Whether the texts are these.
-fn shows(alloc: Global, session: &Session, text: &[u8]) -> Result<bool, AllocError> {
-    Ok(texts_shown(alloc, session.machine())?.as_slice() == text)
+fn shows<E: TwoEnds<u8, A>, M: TwoEnds<Mark, A>, A: Allocator + Copy>(
+    alloc: Global,
+    machine: &Core<E, M, A>,
+    text: &[u8],
+) -> Result<bool, AllocError> {
+    Ok(texts_shown(alloc, machine)?.as_slice() == text)
 }
 
-fn has_active(session: &Session, text: &[u8]) -> bool {
-    session.machine().active() == text
+// Whether all parts but the texts are those in which a processor begins.
+fn has_initial_parts<E: TwoEnds<u8, A>, M: TwoEnds<Mark, A>, A: Allocator + Copy>(
+    machine: &Core<E, M, A>,
+) -> bool {
+    machine.output().is_empty()
+        && machine.position() == 0
+        && machine.store().form_count() == 0
+        && machine.meta() == b'\''
+        && !machine.trace()
 }
 
-fn has_pending(session: &Session, text: &[u8]) -> bool {
-    session.pending() == text
-}
-
-fn has_position(session: &Session, count: usize) -> bool {
-    session.machine().position() == count
-}
-
-fn has_forms(session: &Session, count: usize) -> bool {
-    session.machine().store().form_count() == count
+// Whether the part of a machine that an act speaks of is so. It is any machine: a proof for a certain one would show anew, at each
+// call, what its lists are.
+fn look_at<E: TwoEnds<u8, A>, M: TwoEnds<Mark, A>, A: Allocator + Copy>(
+    alloc: Global,
+    machine: &Core<E, M, A>,
+    act: &Act,
+) -> Result<bool, AllocError> {
+    match *act {
+        Act::Shows(text) => shows(alloc, machine, text),
+        Act::Active(text) => Ok(machine.active() == text),
+        Act::Position(count) => Ok(machine.position() == count),
+        Act::Forms(count) => Ok(machine.store().form_count() == count),
+        Act::Initial => {
+            Ok(has_initial_parts(machine) && shows(alloc, machine, b"^#(ps,#(rs))")?)
+        }
+        _ => Ok(true),
+    }
 }
 
 fn has_records(session: &Session, count: usize) -> bool {
     session.len() == count && session.is_empty() == (count == 0)
 }
 
-fn has_no_trace(session: &Session, meta: u8) -> bool {
-    session.machine().meta() == meta && !session.machine().trace()
-}
-
-// Whether all parts but the texts are those in which a processor begins.
-fn has_initial_parts(session: &Session) -> bool {
-    has_pending(session, b"")
-        && has_position(session, 0)
-        && has_forms(session, 0)
-        && has_no_trace(session, b'\'')
+fn weighs(session: &Session, weight: u64) -> bool {
+    session.weight() == weight
 }
 
 // Whether the part that an act speaks of is so.
 fn look(alloc: Global, session: &Session, act: &Act) -> Result<bool, AllocError> {
     match *act {
-        Act::Shows(text) => shows(alloc, session, text),
-        Act::Active(text) => Ok(has_active(session, text)),
-        Act::Pending(text) => Ok(has_pending(session, text)),
-        Act::Position(count) => Ok(has_position(session, count)),
-        Act::Forms(count) => Ok(has_forms(session, count)),
         Act::Records(count) => Ok(has_records(session, count)),
-        Act::Initial => {
-            Ok(has_initial_parts(session) && shows(alloc, session, b"^#(ps,#(rs))")?)
-        }
-        _ => Ok(true),
+        Act::Weighs(weight) => Ok(weighs(session, weight)),
+        Act::Pending(text) => Ok(session.pending() == text),
+        _ => look_at(alloc, session.machine(), act),
     }
 }
 

@@ -183,6 +183,66 @@ fn forwards_and_backwards(rt: HostRuntime) -> Result<(), Fail> {
     Ok(())
 }
 
+// `rs` weighs 2, and `ps` with its argument `AB` 5. What is gone back over is not weighed any more.
+const A_TEXT_WEIGHS: &[Act] = &[
+    Weighs(0),
+    Feed(b"AB'"),
+    Forward(7),
+    Weighs(0),
+    Forward(1),
+    Weighs(2),
+    Forward(3),
+    Weighs(7),
+    ForwardRefused(99, 8, NeedInput),
+    Weighs(7),
+    Back(9),
+    Weighs(2),
+    Commit,
+    Weighs(0),
+];
+
+// A stray `)` ends the idle program's `ps`, which weighs 4. Each deleted byte weighs 1, and the base text that is emptied 2.
+const A_STRAY_CLOSING_WEIGHS: &[Act] = &[
+    Feed(b"a)b,c'"),
+    ForwardRefused(99, 22, NeedInput),
+    Weighs(10),
+    Back(8),
+    Weighs(8),
+    BackToStart(99, 14),
+    Weighs(0),
+];
+
+// Each `rs` weighs 2 and each `ps` 3, `ds` 6, and `dd` 7 with the form that it deletes.
+const A_DELETED_FORM_WEIGHS: &[Act] = &[
+    Feed(b"#(ds,a,1)'#(dd,a)'"),
+    Forward(8),
+    Weighs(2),
+    Forward(8),
+    Weighs(8),
+    Forward(1),
+    Weighs(11),
+    Forward(9),
+    Weighs(13),
+    Forward(6),
+    Weighs(20),
+    Forward(1),
+    Weighs(23),
+    ForwardRefused(99, 8, NeedInput),
+    Weighs(23),
+    Records(41),
+    Back(10),
+    Weighs(13),
+    Forms(1),
+];
+
+#[test]
+fn weights(rt: HostRuntime) -> Result<(), Fail> {
+    for acts in [A_TEXT_WEIGHS, A_STRAY_CLOSING_WEIGHS, A_DELETED_FORM_WEIGHS] {
+        play(&rt, rt.alloc(), JOURNAL_LIMIT, acts)?;
+    }
+    Ok(())
+}
+
 // Ten plain bytes behind eight steps, over which walks of each length go: to the end of the run, to within it, and past it.
 const A_RUN_OF_PLAIN_BYTES: &[Act] = &[
     Feed(b"ABCDEFGHIJ'"),

@@ -1,5 +1,5 @@
 //! Whole runs of a session: to the end, and all the way back, where each state is the one on the way out. Each request for
-//! memory is refused in turn, and then all of them on the way back.
+//! memory is refused in turn, and all of them on the way back.
 use crate::sessions::{Memory, let_go, made};
 use std::alloc::{AllocError, Global};
 use std::process::Abort;
@@ -92,14 +92,17 @@ fn to_end(
     Ok(())
 }
 
-// All the way back, step by step.
+// All the way back, step by step, while every request for memory is refused: none is made.
 fn to_start(
     rt: &impl Abort,
     plain: Global,
+    memory: Memory<'_>,
     session: &mut Session<Memory<'_>>,
     states: &[Vec<u8>],
     input: &[u8],
 ) -> Result<(), AllocError> {
+    let requests = memory.requests();
+    memory.refuse_all();
     for state in states.iter().rev() {
         expect_text(
             rt,
@@ -110,6 +113,8 @@ fn to_start(
         back(session, 1);
     }
     expect_walk(rt, back(session, 1), 0, Refusal::AtStart);
+    assert!(rt; memory.requests() == requests);
+    memory.accept_all();
     Ok(())
 }
 
@@ -117,6 +122,7 @@ fn to_start(
 fn there_and_back(
     rt: &impl Abort,
     plain: Global,
+    memory: Memory<'_>,
     session: &mut Session<Memory<'_>>,
     input: &[u8],
     output: &[u8],
@@ -125,7 +131,7 @@ fn there_and_back(
     feed_all(session, input)?;
     to_end(rt, plain, session, states)?;
     expect_text(rt, session.pending(), output, input);
-    to_start(rt, plain, session, states.as_slice(), input)?;
+    to_start(rt, plain, memory, session, states.as_slice(), input)?;
     Ok(())
 }
 
@@ -139,7 +145,7 @@ fn states_of(
 ) -> Result<Vec<Vec<u8>>, Fail> {
     let mut session = made(memory, JOURNAL_LIMIT)?;
     let mut states = Vec::new(plain);
-    let outcome = there_and_back(rt, plain, &mut session, input, output, &mut states);
+    let outcome = there_and_back(rt, plain, memory, &mut session, input, output, &mut states);
     let_go(session);
     outcome?;
     Ok(states)

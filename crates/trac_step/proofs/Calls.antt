@@ -38,9 +38,10 @@ module _ (environment : Environment) (s : State) (f : Frame) (fs : List Frame) (
   wanted = seen_as (planned_from now) (limited (fits_after (call_of s f fs)) (performed environment (call_of s f fs)))
 
   -- the state after the step is the one after the planned call
-  pub step_planned : {A : Type 0} (e : code.Effect A) → wanted ≡ Ok (planned_on (storage_of (call_of s f fs).state) e) → step environment s ≡ Ok (state_after e (scan s))
+  pub step_planned : {A : Type 0} (e : code.Effect A) → wanted ≡ Ok (planned_on arguments (storage_of (call_of s f fs).state) e) → step environment s ≡ Ok (state_after e (scan s))
   step_planned {A} e h =
-      planned_step environment s (call_of s f fs) kind arguments stored now given (planned_on {A = A} (storage_of (call_of s f fs).state)) (Ok e) (scan_call s f fs front is) h
+      planned_step environment s (call_of s f fs) kind arguments stored now given (planned_on {A = A} (call_of s f fs).arguments (storage_of (call_of s f fs).state)) (Ok e) (scan_call s f fs front is)
+      (h ∙ ap (λ (ts : List (List ℕ)). let o : Result Planned Refusal = Ok (planned_on ts (storage_of (call_of s f fs).state) e) in o) (sym given.arguments_are))
       ∙ ap (λ x. Ok (state_after e x)) (sym (scan_call s f fs front is))
 
   -- and where no call is planned, the step is refused for that

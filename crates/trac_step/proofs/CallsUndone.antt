@@ -1,13 +1,12 @@
 -- Going back over a call: the parts before it, which show the state that its record restores.
-use Rattle.std.proofs.Common.{◌≡◌, ℕ, ◌+◌, ◌-◌, ◌<◌, ◌≤◌, Bool, true, false, List, [], ◌∷◌, ◌++◌, length, map, take, drop, reverse, refl, sym, ap, ◌∙◌, subst, arith}
-use Rattle.std.specs.Prelude.{Option, Some, None, IsSome, IsSomeAnd, codes, nat_le, ◌&&◌, option_map, option_and_then, Vec, vec_capacity}
+use Rattle.std.proofs.Common.{◌≡◌, ℕ, ◌+◌, ◌-◌, ◌≤◌, Bool, true, false, List, [], ◌∷◌, ◌++◌, length, map, take, drop, reverse, refl, sym, ap, ◌∙◌, subst, arith}
+use Rattle.std.specs.Prelude.{Option, Some, None, IsSome, codes, nat_le, ◌&&◌, option_map, option_and_then, Vec, vec_capacity}
 use Rattle.std.specs.Bool.{then_some}
-use Rattle.std.specs.List.{concat}
 use Rattle.std.specs.Option.{unwrap_or}
 use Rattle.std.proofs.lemmas.Bool.{and_parts, leb-true}
 use Rattle.trac_gap.specs.Ends.{Ends, item_count}
 use Rattle.trac_rules.specs.declared.kind.Kind.{Kind}
-use Rattle.trac_rules.specs.Limits.{argument_bytes, marks, text_bytes}
+use Rattle.trac_rules.specs.Limits.{argument_bytes, marks}
 use Rattle.trac_rules.specs.Proper.{IsProper}
 use Rattle.trac_rules.specs.Records.{CallRecord, Rest, Texts, all_before_last, begun_again, end_taken_in, last_of, moved_back, moved_back_in, put_before, put_together, rest_before, rest_of, restored_call, texts_before, texts_in, value_taken}
 use Rattle.trac_rules.specs.Records as rules
@@ -28,7 +27,7 @@ use Rattle.trac_step.specs.Undone.{undone_in}
 use Rattle.trac_step.specs.Undoing.{CanShow}
 use Rattle.trac_step.proofs.Limited.{sound_if_proper}
 use Rattle.trac_step.proofs.NeutralAgain.{Shows, mark_size, shows_function, text_size}
-use Rattle.trac_step.proofs.ScanningBack.{IsMovedBack, is_moved_back, moved_parts}
+use Rattle.trac_step.proofs.ScanningBack.{is_moved_back, moved_parts}
 
 -- ---- options
 

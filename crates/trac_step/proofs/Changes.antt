@@ -1,7 +1,7 @@
 -- What each rule does to the parts of a machine: they stay sound, and show the state that the rule names.
-use Rattle.std.proofs.Common.{◌≡◌, ℕ, zero, suc, ◌+◌, ◌<◌, ◌≤◌, List, [], ◌∷◌, ◌++◌, length, take, drop, reverse, refl, sym, ap, ◌∙◌, subst, arith, true, false, Bool}
+use Rattle.std.proofs.Common.{◌≡◌, ℕ, zero, suc, ◌+◌, ◌-◌, ◌<◌, ◌≤◌, List, [], ◌∷◌, ◌++◌, length, take, drop, reverse, refl, sym, ap, ◌∙◌, subst, arith, true, false, Bool}
 use Rattle.std.specs.Prelude.{Option, Some, None, ◌==◌, Vec, vec_capacity}
-use Rattle.std.proofs.lemmas.List.{length-append, length-drop, length-take, drop-drop, take_all, drop_all}
+use Rattle.std.proofs.lemmas.List.{append-nil, length-append, length-drop, length-take, drop-drop, take_all, drop_all}
 use Rattle.std.specs.FinSet as set
 use Rattle.trac_gap.specs.Ends.{Ends, item_count}
 use Rattle.trac_rules.specs.declared.kind.Kind.{Kind}
@@ -12,10 +12,11 @@ use Rattle.trac_rules.specs.State.{Frame, State, initial, storage_of}
 use Rattle.trac_rules.proofs.ProperStates.{initial_proper}
 use Rattle.trac_rules.specs.Matching.{match_of, protected, protected_up_to}
 use Rattle.trac_rules.specs.Scanning.{gather}
+use Rattle.trac_rules.specs.Session.{settled}
 use Rattle.trac_rules.specs.Limits.{marks}
 use Rattle.trac_prims.specs.declared.mark.Mark.{Mark}
 use Rattle.trac_forms.specs.Stored.{Names, Stored, nothing_stored, storage_in}
-use Rattle.trac_step.specs.Layout.{Parts, parts_of, state_of, IsSound}
+use Rattle.trac_step.specs.Layout.{Parts, parts_of, shown_by, state_of, IsSound}
 use Rattle.trac_prims.proofs.Neutral.{AreMarks-longer}
 use Rattle.trac_step.specs.Calling.{mark_at, with_protected}
 use Rattle.trac_step.proofs.Rules.{gathers, ordered_push, marks-parts}
@@ -111,6 +112,10 @@ taken_matched old cut shifted last k c s l found =
     ∙ ap (λ (rest : List ℕ). record old { left = old.left ++ take k (drop 1 old.right); right = rest }) (drop-drop 1 k (drop 1 old.right))
     ∙ ap (λ (o : Option ℕ). with_protected (protected_up_to o (drop 1 old.right)) old) (sym found)
 
+-- how long it is
+pub inner_length : (text : List ℕ) (k : ℕ) → match_of text ≡ Some k → k < length text → k ≡ length (protected text).inner
+inner_length text k found within = omega (arith, ap (λ (o : Option ℕ). length (protected_up_to o text).inner) found, length-take k text)
+
 pub taken_unmatched : (old cut last : Ends ℕ) (n : ℕ) → cut ≡ record old { right = drop 1 old.right } → n ≡ length cut.right →
     last ≡ record cut { left = cut.left ++ take n cut.right; right = drop n cut.right } →
     match_of (drop 1 old.right) ≡ None → last ≡ with_protected (protected (drop 1 old.right)) old
@@ -195,3 +200,29 @@ sound_at_start made reserved filled ms store output made_is left right room fill
     ap (λ (e : Ends ℕ). parts_of e ms store APOSTROPHE false 0 output) filled_is
     ∙ (λ i. record (parts_of (record { left = none_left i; right = idle_program ++ none_right i; capacity = reserved.capacity }) (ms_is i) (store_is i) APOSTROPHE false 0 output) { output = items i })
     )) (sound_first reserved.capacity (vec_capacity output) (omega (arith, room)))
+
+-- ---- a released output
+
+-- nothing is printed and nothing read
+pub settled_parts : (p : Parts) (items : List ℕ) (room : ℕ) → items ≡ [] → room ≡ p.output_room →
+    shown_by (record p { position = 0; output = items; output_room = room }) ≡ record (shown_by p) { state = settled (state_of p) }
+settled_parts p items room none same =
+    let gone : items ≡ drop (length p.output) p.output = none ∙ sym (drop_all (length p.output) p.output (omega arith)) in
+    let start : 0 ≡ p.position - p.position = omega arith in
+    ap (λ (xs : List ℕ). shown_by (record p { position = 0; output = xs; output_room = room })) gone
+    ∙ ap (λ (n : ℕ). shown_by (record p { position = 0; output = drop (length p.output) p.output; output_room = n })) same
+    ∙ ap (λ (n : ℕ). shown_by (record p { position = n; output = drop (length p.output) p.output })) start
+
+-- ---- other items in the place of all
+
+pub refilled : {T : Type 0} (old a b c d : Ends T) (left right : List T) (n m : ℕ) → n ≡ length old.left → m ≡ length a.right → a ≡ record old { left = take (length old.left - n) old.left } →
+    b ≡ record a { right = drop m a.right } → c ≡ record b { left = b.left ++ left } → d ≡ record c { right = right ++ c.right } → d ≡ record old { left = left; right = right }
+refilled {T} old a b c d left right n m all rest cut gone put last =
+    let none : length old.left - n ≡ 0 = omega (arith, all) in
+    last
+    ∙ ap (λ (e : Ends T). record e { right = right ++ e.right }) put
+    ∙ ap (λ (e : Ends T). record e { left = e.left ++ left; right = right ++ e.right }) gone
+    ∙ ap (λ (xs : List T). record a { left = a.left ++ left; right = right ++ xs }) (drop_all m a.right (omega (arith, rest)))
+    ∙ ap (λ (e : Ends T). record e { left = e.left ++ left; right = right ++ [] }) cut
+    ∙ ap (λ (k : ℕ). record old { left = take k old.left ++ left; right = right ++ [] }) none
+    ∙ ap (λ (xs : List T). record old { left = left; right = xs }) (append-nil right)

@@ -14,7 +14,7 @@ use Rattle.trac_forms.specs.Stored.{Stored, storage_in}
 use Rattle.trac_prims.specs.declared.mark.Mark.{Mark}
 use Rattle.trac_prims.specs.declared.effect.Effect as code
 use Rattle.trac_prims.specs.Effects.{Planned, planned_on}
-use Rattle.trac_prims.specs.Frames.{IsInnermost}
+use Rattle.trac_prims.specs.Frames.{all_arguments, IsInnermost}
 use Rattle.trac_prims.specs.Neutral.{AreMarks, cut_back, neutral_of}
 use Rattle.trac_prims.proofs.Neutral.{AreMarks-longer}
 use Rattle.trac_step.specs.Calling.{state_after, with_value}
@@ -100,10 +100,12 @@ module _ (p : Parts) (number place : ℕ) (kind : Kind) (texts : List (List ℕ)
   scanned = scan_call (state_of p) inner.frame rest front inner.frames_are
 
   -- the parts after the call show the state that the rules say
-  pub ended_shows : {A : Type 0} (e : code.Effect A) → state_of (ended_parts p number place kind (planned_on p.storage e)) ≡ state_after e (scan (state_of p))
-  ended_shows e =
-      let plan = planned_on p.storage e in
-      value_placed kind plan.forced plan.value (parts_changed plan (parts_without p number place)) inner.ordered
+  pub ended_shows : {A : Type 0} (e : code.Effect A) (arguments : List (List ℕ)) → arguments ≡ texts →
+      state_of (ended_parts p number place kind (planned_on arguments p.storage e)) ≡ state_after e (scan (state_of p))
+  ended_shows e arguments are =
+      let plan = planned_on (all_arguments inner.frame) p.storage e in
+      ap (λ (ts : List (List ℕ)). state_of (ended_parts p number place kind (planned_on ts p.storage e))) (are ∙ sym inner.arguments_are)
+      ∙ value_placed kind plan.forced plan.value (parts_changed plan (parts_without p number place)) inner.ordered
       ∙ ap (λ (s : State). placed kind plan.forced plan.value (with_planned plan s)) without_shows
       ∙ ap (λ (k : Kind). placed k plan.forced plan.value (with_planned plan (call_of (state_of p) inner.frame rest).state)) (sym inner.kind_is)
       ∙ ap (state_after e) (sym scanned)

@@ -92,7 +92,7 @@ pub mark_size : (text : List ℕ) (ms : List Mark) (n : Neutral) → Shows text 
 mark_size text ms n shown = sym (length-reverse ms) ∙ sym (marks-neutral text (reverse ms) (length text) shown.ordered) ∙ ap (λ (m : Neutral). marks m.frames) shown.same
 
 -- the bytes of a function are those of its arguments
-function_bytes : (finished : List (List ℕ)) (gathered : List ℕ) → length (concat (finished ++ gathered ∷ [])) ≡ total_length finished + length gathered
+pub function_bytes : (finished : List (List ℕ)) (gathered : List ℕ) → length (concat (finished ++ gathered ∷ [])) ≡ total_length finished + length gathered
 function_bytes [] gathered = omega (arith, ap length (append-nil gathered))
 function_bytes (text ∷ finished) gathered = omega (arith, length-append text (concat (finished ++ gathered ∷ [])), function_bytes finished gathered)
 

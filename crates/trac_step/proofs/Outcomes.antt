@@ -1,6 +1,6 @@
 -- The outcome of a step, from what scanning asks for and what is performed.
 use Rattle.std.proofs.Common.{◌≡◌, refl, sym, ap, ◌∙◌, subst, true, false, Bool, ⊎_elim}
-use Rattle.std.specs.Prelude.{Result, Ok, Err, IfErr, IfOk, IsOkUnless, OnErr, OnOk}
+use Rattle.std.specs.Prelude.{Option, Some, Result, Ok, Err, IfErr, IfOk, IsOkUnless, OnErr, OnOk}
 use Rattle.trac_rules.specs.declared.refusal.Refusal.{Refusal}
 use Rattle.trac_rules.specs.declared.refusal.Refusal.TheVariants.{Memory, TooLong}
 use Rattle.trac_rules.specs.State.{Environment, State}
@@ -27,8 +27,8 @@ pub taken_by : {R : Type 0} (r : Result R Refusal) (outcome : Result State Refus
 taken_by (Ok x) outcome s t taken same = taken ∙ ap Ok (sym same)
 taken_by (Err e) outcome s t taken same = tt
 
-pub recorded_as : {R : Type 0} (r : Result R Refusal) (read : R → Record) (kept wanted : Record) → kept ≡ wanted → IfOk r (λ x. read x ≡ kept) → IfOk r (λ x. read x ≡ wanted)
-recorded_as (Ok x) read kept wanted is same = same ∙ is
+pub recorded_as : {R : Type 0} (r : Result R Refusal) (read : R → Record) (kept : Record) (wanted : Option Record) → wanted ≡ Some kept → IfOk r (λ x. read x ≡ kept) → IfOk r (λ x. wanted ≡ Some (read x))
+recorded_as (Ok x) read kept wanted is same = is ∙ ap Some (sym same)
 recorded_as (Err e) read kept wanted is same = tt
 
 -- which it may where a step leads on

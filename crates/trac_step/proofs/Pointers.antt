@@ -10,7 +10,8 @@ use Rattle.trac_rules.specs.State.{Forms}
 use Rattle.trac_rules.specs.Handling.{keeping}
 use Rattle.trac_rules.proofs.NamedForms.{only_equal_tie}
 use Rattle.trac_forms.specs.Stored.{Stored, storage_in}
-use Rattle.trac_prims.specs.Effects.{pointed}
+use Rattle.trac_rules.specs.Segmenting.{segmented}
+use Rattle.trac_prims.specs.Effects.{cut_in, pointed}
 
 -- what is found in place of what was taken away
 again : {X : Type 0} (b : Bool) (found : Option X) (other : Option X) → cond b found (cond b None other) ≡ cond b found other
@@ -40,3 +41,11 @@ put_back store name place n form moved there at is =
     ∙ ap (finite.insert store.forms name) (is ∙ ap (λ k. pointed_at k (all_items form)) at ∙ pointed_within place form)
     )
     ∙ ap (λ held. pointed name place held (storage_in store)) there
+
+-- the form that is there has texts cut out
+pub cut_back : (store : Stored) (name : List ℕ) (given texts : List (List ℕ)) (form cut : Form) → Some form ≡ finite.get store.forms name → cut ≡ segmented given form → given ≡ texts →
+    keeping (finite.insert (finite.remove store.forms name) name cut) (storage_in store) ≡ cut_in name texts (finite.get store.forms name) (storage_in store)
+cut_back store name given texts form cut there is are =
+    ap (λ (forms : Forms). keeping forms (storage_in store))
+    (insert-remove store.forms name cut ∙ ap (finite.insert store.forms name) (is ∙ ap (λ (ts : List (List ℕ)). segmented ts form) are))
+    ∙ ap (λ held. cut_in name texts held (storage_in store)) there

@@ -1,17 +1,20 @@
 -- What a step of scanning keeps, and when it lacks room.
 use Rattle.std.proofs.Common.{◌≡◌, ◌+◌, ◌<◌, ◌≤◌, List, [], ◌∷◌, length, get_or, refl, sym, ap, subst, ◌∙◌, arith}
 use Rattle.std.proofs.lemmas.List.{length-append}
-use Rattle.std.specs.Prelude.{Result, Ok, Err, Some, IfOk, OnOk}
+use Rattle.std.specs.Prelude.{Option, None, Some, Result, Ok, Err, IfOk, OnOk}
 use Rattle.trac_rules.specs.declared.refusal.Refusal.{Refusal}
 use Rattle.trac_rules.specs.declared.scan.Front.{Front}
 use Rattle.trac_rules.specs.declared.scan.Front.TheVariants as front
 use Rattle.trac_rules.specs.Limits.{marks}
-use Rattle.trac_rules.specs.Records.{Record, Deleted, Whole, closing_recorded, recorded, recorded_at, state_before}
-use Rattle.trac_rules.specs.Scanning.{Moves, closing_in, comma_in, deleted, front_of, scan}
-use Rattle.trac_rules.specs.State.{Environment, Frame, State}
+use Rattle.trac_rules.specs.Records.{CallRecord, Record, Called, Deleted, Rest, Texts, closing_recorded, put_together, record_in, record_of, recorded, recorded_at, rest_before, rest_of, state_before, state_of, texts_before, texts_in}
+use Rattle.trac_rules.specs.Scanning.{Scanned, Calls, Moves, closing_in, comma_in, deleted, front_of, scan}
+use Rattle.trac_rules.specs.State.{Environment, Frame, State, Storage, storage_of}
 use Rattle.trac_rules.specs.Stepping.{step}
 use Rattle.trac_rules.specs.Proper.{IsProper}
-use Rattle.trac_rules.proofs.Restored.{step_goes_back}
+use Rattle.trac_rules.specs.Undone.{storage_before}
+use Rattle.trac_rules.specs.Weights.{loss, weight}
+use Rattle.trac_rules.proofs.CallsBack.{record_leads_back, record_restores}
+use Rattle.trac_rules.proofs.CallsWeighed.{record_within}
 use Rattle.trac_step.specs.Calling.{IfMoves, IsMove}
 use Rattle.trac_step.specs.Layout.{Shown}
 use Rattle.trac_step.specs.Room.{HasRoom, LacksRoomAhead}
@@ -31,19 +34,62 @@ closing_kept s is moves = recorded_front s front.Closing is ∙ by_frames s.fram
     by_frames [] h = refl
     by_frames (f ∷ fs) h = absurd h
 
--- a `)` inside a function performs it, and the whole state is kept
-pub call_recorded : (s : State) → front_of s.active ≡ front.Closing → 0 < length s.frames → recorded s ≡ Whole s
-call_recorded s is inside = recorded_front s front.Closing is ∙ by_frames s.frames inside
+-- the record of a rule that moves on is that of the rules
+pub move_recorded : (e : Environment) (s : State) → IsMove (scan s) → record_of e s ≡ Some (recorded s)
+move_recorded e s moves = by_scanned (scan s) moves
   where
-    by_frames : (fs : List Frame) → 0 < length fs → closing_recorded fs s ≡ Whole s
-    by_frames [] h = absurd (omega arith)
-    by_frames (f ∷ fs) h = refl
+    by_scanned : (x : Scanned) → IsMove x → record_in e s x ≡ Some (recorded s)
+    by_scanned (Moves t) h = refl
+    by_scanned (Calls call) h = absurd h
 
 -- an accepted step whose record is that of the rules: its record and the state after it give back the state before
-pub taken_and_before : {R : Type 0} (r : Result R Refusal) (read : R → Record) (e : Environment) (s t : State) → IsProper s → OnOk r (step e s ≡ Ok t) → IfOk r (λ x. read x ≡ recorded s) →
+pub taken_and_before : {R : Type 0} (r : Result R Refusal) (read : R → Record) (e : Environment) (s t : State) → IsProper s → OnOk r (step e s ≡ Ok t) → IfOk r (λ x. record_of e s ≡ Some (read x)) →
     IfOk r (λ x. (step e s ≡ Ok t) × (state_before (read x) t ≡ Some s))
-taken_and_before (Ok x) read e s t proper taken is = (taken, ap (λ y. state_before y t) is ∙ step_goes_back e s t proper taken)
+taken_and_before (Ok x) read e s t proper taken is = (taken, record_leads_back e s t (read x) proper taken is)
 taken_and_before (Err refusal) read e s t proper taken is = tt
+
+-- it weighs no more than the step may lose
+pub weighs_within : {R : Type 0} (r : Result R Refusal) (read : R → Record) (e : Environment) (s : State) → IfOk r (λ x. record_of e s ≡ Some (read x)) → IfOk r (λ x. weight (read x) ≤ loss s)
+weighs_within (Ok x) read e s is = record_within e s (read x) is
+weighs_within (Err refusal) read e s is = tt
+
+-- ---- the three parts of the state before a call
+
+-- parts that are together a state are each that of the state
+parts_of_state : (texts : Option Texts) (storage : Option Storage) (rest : Option Rest) (s : State) → put_together texts storage rest ≡ Some s →
+    (texts ≡ Some (texts_in s)) × (storage ≡ Some (storage_of s)) × (rest ≡ Some (rest_of s))
+parts_of_state (Some texts) (Some storage) (Some rest) s is =
+    let same : state_of texts storage rest ≡ s = cc in
+    (ap (λ (t : State). Some (texts_in t)) same, ap (λ (t : State). Some (storage_of t)) same, ap (λ (t : State). Some (rest_of t)) same)
+parts_of_state (Some texts) (Some storage) None s is = absurd (cc)
+parts_of_state (Some texts) None rest s is = absurd (cc)
+parts_of_state None storage rest s is = absurd (cc)
+
+abbrev AreBack : CallRecord → State → State → Type 0
+AreBack c s t =
+    (texts_before c (texts_in t) ≡ Some (texts_in s)) × (storage_before c.arguments c.undone (storage_of t) ≡ Some (storage_of s)) × (rest_before c (rest_of t) ≡ Some (rest_of s))
+
+-- where a call was performed, each is got back from its record and the state after
+call_parts : (e : Environment) (s t : State) (r : Record) (c : CallRecord) → step e s ≡ Ok t → record_of e s ≡ Some r → r ≡ Called c → AreBack c s t
+call_parts e s t r c taken is called =
+    parts_of_state (texts_before c (texts_in t)) (storage_before c.arguments c.undone (storage_of t)) (rest_before c (rest_of t)) s
+    (record_restores e s t (Called c) taken (is ∙ ap Some called))
+
+module _ {R : Type 0} (read : R → Record) (e : Environment) (s t : State) where
+  pub texts_are_back : (r : Result R Refusal) → OnOk r (step e s ≡ Ok t) → IfOk r (λ x. record_of e s ≡ Some (read x)) →
+      IfOk r (λ x. (c : CallRecord) → read x ≡ Called c → texts_before c (texts_in t) ≡ Some (texts_in s))
+  texts_are_back (Ok x) taken is = λ c called. (call_parts e s t (read x) c taken is called).0
+  texts_are_back (Err refusal) taken is = tt
+
+  pub storage_is_back : (r : Result R Refusal) → OnOk r (step e s ≡ Ok t) → IfOk r (λ x. record_of e s ≡ Some (read x)) →
+      IfOk r (λ x. (c : CallRecord) → read x ≡ Called c → storage_before c.arguments c.undone (storage_of t) ≡ Some (storage_of s))
+  storage_is_back (Ok x) taken is = λ c called. (call_parts e s t (read x) c taken is called).1
+  storage_is_back (Err refusal) taken is = tt
+
+  pub rest_is_back : (r : Result R Refusal) → OnOk r (step e s ≡ Ok t) → IfOk r (λ x. record_of e s ≡ Some (read x)) →
+      IfOk r (λ x. (c : CallRecord) → read x ≡ Called c → rest_before c (rest_of t) ≡ Some (rest_of s))
+  rest_is_back (Ok x) taken is = λ c called. (call_parts e s t (read x) c taken is called).2
+  rest_is_back (Err refusal) taken is = tt
 
 -- ---- room
 

@@ -1,17 +1,20 @@
 -- Forms that are put one after another, and those that they replace.
-use Rattle.std.proofs.Common.{◌≡◌, ℕ, Bool, true, false, cond, List, [], ◌∷◌, ◌++◌, map, refl, sym, ap, subst, ◌∙◌, append_assoc}
+use Rattle.std.proofs.Common.{◌≡◌, ℕ, zero, suc, Bool, true, false, cond, All, List, [], ◌∷◌, ◌++◌, map, refl, sym, ap, subst, ◌∙◌, append_assoc}
 use Rattle.std.specs.Prelude.{Option, None, Some, Vec, bytes_eq}
 use Rattle.std.specs.Cmp.Lexicographic.{nat_list_cmp_total, nat_list_eq_equiv}
 use Rattle.std.specs.FinMap as finite
 use Rattle.std.specs.List.{AllByRecursion}
 use Rattle.std.proofs.lemmas.List.{append-nil, map-append}
+use Rattle.std.proofs.lemmas.List.Elements.{All-head, All-tail}
 use Rattle.std.proofs.lemmas.Map.Keys.{IsDistinct-head, IsDistinct-tail}
 use Rattle.std.proofs.lemmas.Map.Text.{is_eq-slice_cmp}
 use Rattle.trac_forms.specs.Stored.{AreApart, Stored}
-use Rattle.trac_prims.specs.Effects.{named_forms, names_in}
-use Rattle.trac_rules.specs.Blocks.{moved_out, with_all, with_name}
+use Rattle.trac_prims.specs.Effects.{named_forms}
+use Rattle.trac_rules.specs.Undone.{names_in}
+use Rattle.trac_rules.specs.Blocks.{block_at, moved_out, with_all, with_name}
 use Rattle.trac_rules.specs.Form.{Form}
-use Rattle.trac_rules.specs.State.{Forms, Held}
+use Rattle.trac_rules.specs.Proper.{IsProperBlock}
+use Rattle.trac_rules.specs.State.{Block, Forms, Held}
 use Rattle.trac_step.specs.Changing.{KnowsNamed}
 
 -- two maps of forms are alike under each name but one
@@ -110,3 +113,9 @@ module _ {A : Type 0} (store new : Stored) (items rest : List (Vec ℕ A × Form
 pub still_apart : {A : Type 0} (items rest : List (Vec ℕ A × Form)) (name : Vec ℕ A) (form : Form) → items ≡ (name, form) ∷ rest → AreApart (named_forms items) → AreApart (named_forms rest)
 still_apart {A} items rest name form steps apart =
     apart_next name.items form (named_forms rest) (subst (λ (es : List (Vec ℕ A × Form)). AreApart (named_forms es)) steps apart)
+
+-- the names in a block are apart
+pub block_apart : (number : ℕ) (blocks : List Block) (held : Held) → All IsProperBlock blocks → block_at number blocks ≡ Some held → AreApart held
+block_apart number [] held all is = absurd (cc)
+block_apart zero (block ∷ blocks) held all is = (subst IsProperBlock is (All-head IsProperBlock block blocks all)).distinct
+block_apart (suc number) (block ∷ blocks) held all is = block_apart number blocks held (All-tail IsProperBlock block blocks all) is

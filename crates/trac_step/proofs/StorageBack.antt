@@ -1,5 +1,5 @@
 -- Forms and blocks that are put back: the names of the forms are known, and the order in which they come does not matter.
-use Rattle.std.proofs.Common.{◌≡◌, ℕ, zero, suc, ◌+◌, ◌-◌, ◌<◌, ◌≤◌, ◌&&◌, Bool, true, false, cond, List, [], ◌∷◌, ◌++◌, length, take, drop, refl, sym, ap, subst, ◌∙◌, arith, is_some, IsTrue}
+use Rattle.std.proofs.Common.{◌≡◌, ℕ, zero, suc, ◌+◌, ◌-◌, ◌≤◌, Bool, true, false, cond, List, [], ◌∷◌, ◌++◌, length, take, drop, refl, sym, ap, subst, ◌∙◌, arith, is_some, IsTrue}
 use Rattle.std.specs.Prelude.{Option, Some, None, bytes_eq, nat_le, nat_lt, not, slice_get, slice_set, option_and_then, option_map}
 use Rattle.std.specs.Bool.{then_some}
 use Rattle.std.specs.FinMap as finite
@@ -14,12 +14,12 @@ use Rattle.trac_rules.specs.declared.item.CutGap.{CutGap}
 use Rattle.trac_rules.specs.declared.item.Item.{Item}
 use Rattle.trac_rules.specs.Cuts.{joined}
 use Rattle.trac_rules.specs.Form.{Form, all_items, at_start, pointed_at}
-use Rattle.trac_rules.specs.Handling.{keeping, without}
+use Rattle.trac_rules.specs.Handling.{keeping, pointing, without}
 use Rattle.trac_rules.specs.State.{Block, Forms, Held, Storage}
-use Rattle.trac_rules.specs.Undone.{is_erased, joined_back, last_block, moved_out_again, names_in, pointed_back, swapped_back, unbrought}
+use Rattle.trac_rules.specs.Undone.{is_erased, joined_back, last_block, moved_out_again, names_in, pointed_back, pointer_back, swapped_back, unbrought}
 use Rattle.trac_rules.proofs.NamedForms.{get-put, one_name, only_equal_tie}
 use Rattle.trac_forms.specs.Stored.{AreApart, KnowsAll, Names, Stored}
-use Rattle.trac_forms.proofs.BlockLists.{apart_front}
+use Rattle.trac_prims.specs.Effects.{pointed}
 use Rattle.trac_step.specs.Changing.{KnowsNamed}
 use Rattle.trac_step.specs.Returning.{KnowsBefore}
 
@@ -132,6 +132,12 @@ pub tested : (b : Bool) (known : Names) (storage : Storage) → KnowsBefore know
     (b ≡ true) × KnowsAll known storage.forms × (then_some b storage ≡ Some storage)
 tested true known storage knows = (refl, knows, refl)
 tested false known storage knows = absurd knows
+
+-- a pointer that is got back is set
+pub pointed_again : (known : Names) (name : List ℕ) (place : ℕ) (storage : Storage) (found : Option Form) → KnowsBefore known (pointer_back name place found storage) →
+    pointer_back name place found storage ≡ Some (pointed name place found storage)
+pointed_again known name place storage None knows = absurd knows
+pointed_again known name place storage (Some form) knows = (tested (nat_le place (length (all_items form))) known (pointing name place form storage) knows).2
 
 pub erased_there : (number : ℕ) (blocks : List Block) → is_erased number blocks ≡ true → slice_get blocks number ≡ Some None
 erased_there number blocks is =

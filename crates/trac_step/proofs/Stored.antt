@@ -10,11 +10,12 @@ use Rattle.std.proofs.lemmas.List.Folds.{list_all-map}
 use Rattle.trac_rules.specs.Form.{Form}
 use Rattle.trac_rules.specs.declared.limit.TheConstants.{FORM_COUNT_LIMIT}
 use Rattle.trac_rules.specs.Blocks.{with_all}
+use Rattle.trac_rules.specs.Handling.{without}
 use Rattle.trac_rules.specs.State.{Block, Forms, Held, Storage, storage_of}
 use Rattle.trac_rules.specs.Outcomes.{limited}
 use Rattle.trac_rules.proofs.Outcomes.{limited_Ok}
 use Rattle.trac_forms.specs.Stored.{Names, Stored, storage_in}
-use Rattle.trac_prims.specs.Effects.{named_forms}
+use Rattle.trac_prims.specs.Effects.{named_forms, texts_of}
 use Rattle.trac_step.specs.declared.loading.Parts as code
 use Rattle.trac_step.specs.Changing.{KnowsNamed}
 use Rattle.trac_step.specs.Loading.{block_few, block_of, counts_fit, forms_few, forms_of, state_in}
@@ -39,6 +40,32 @@ module _ {A : Type 0} (forms : List (Vec ℕ A × Form)) (i : ℕ) (entry : Vec 
       ∙ ap (λ (e : List ℕ × Form). with_more (e ∷ named_forms (drop (i + 1) forms)) old) (let both : (name, form) ≡ (entry.0.items, entry.1) = cc in both)
       ∙ ap (λ (held : Held). with_more held old) (sym (map_rest (λ (e : Vec ℕ A × Form). (e.0.items, e.1)) forms i entry within is))
       ∙ so_far
+
+module _ {A : Type 0} (items rest : List (Vec ℕ A × Form)) (name : Vec ℕ A) (form : Form) (steps : items ≡ (name, form) ∷ rest) where
+  -- the same where the forms are taken one after another
+  pub known_first : (known : Names) → KnowsNamed (named_forms items) known → IsTrue (set.contains known name.items) × KnowsNamed (named_forms rest) known
+  known_first known knows = subst (λ (es : List (Vec ℕ A × Form)). KnowsNamed (named_forms es) known) steps knows
+
+  pub form_put_first : (first old new : Stored) (now : List ℕ) → now ≡ name.items → new ≡ record old { forms = finite.insert old.forms now form } →
+      with_more (named_forms items) old ≡ first → with_more (named_forms rest) new ≡ first
+  form_put_first first old new now is put so_far =
+      ap (with_more (named_forms rest)) put
+      ∙ ap (λ (n : List ℕ). with_more ((n, form) ∷ named_forms rest) old) is
+      ∙ ap (λ (es : List (Vec ℕ A × Form)). with_more (named_forms es) old) (sym steps)
+      ∙ so_far
+
+-- a store without the forms of these names
+abbrev pub with_less : List (List ℕ) → Stored → Stored
+with_less names store = record store { forms = without names store.forms }
+
+-- the next form is gone, and those behind it are still to go
+pub form_gone : {A : Type 0} (names : List (Vec ℕ A)) (i : ℕ) (name : Vec ℕ A) → i < length names → name ≡ get_or names i name → (first old new : Stored) (now : List ℕ) → now ≡ name.items →
+    new ≡ record old { forms = finite.remove old.forms now } → with_less (texts_of (drop i names)) old ≡ first → with_less (texts_of (drop (i + 1) names)) new ≡ first
+form_gone {A} names i name within is first old new now named gone so_far =
+    ap (with_less (texts_of (drop (i + 1) names))) gone
+    ∙ ap (λ (n : List ℕ). with_less (n ∷ texts_of (drop (i + 1) names)) old) named
+    ∙ ap (λ (ns : List (List ℕ)). with_less ns old) (sym (map_rest (λ (n : Vec ℕ A). n.items) names i name within is))
+    ∙ so_far
 
 -- ---- blocks
 

@@ -1,5 +1,5 @@
 -- Going back over a call.
-use Rattle.std.specs.Prelude.{◌≡◌, ℕ, ◌-◌, ◌≤◌, ◌++◌, List, length, take, drop, Bool, true, false, Option, IsSomeAnd, codes}
+use Rattle.std.specs.Prelude.{ℕ, ◌-◌, ◌≤◌, ◌++◌, List, length, take, drop, Bool, true, false, Option, IsSomeAnd, codes}
 use Rattle.std.specs.List.{concat}
 use Rattle.trac_gap.specs.Ends.{Ends}
 use Rattle.trac_forms.specs.Stored.{KnowsAll, Names}

@@ -3,7 +3,8 @@ ghost use Rattle.std.specs.Prelude.{◌≡◌, ◌<◌, ◌≤◌, ◌+◌, ◌-
 ghost use Rattle.trac_gap.specs.Ends.{item_count};
 ghost use Rattle.trac_rules.specs.Outcomes.{MayAnswer, MayRefuse};
 ghost use Rattle.trac_rules.specs.Proper.{IsProper};
-ghost use Rattle.trac_rules.specs.Effect.{Effect, argument};
+ghost use Rattle.trac_rules.specs.Effect as acting;
+ghost use Rattle.trac_rules.specs.Effect.{argument};
 ghost use Rattle.trac_rules.specs.Performing.{effect_of, primitive_of};
 ghost use Rattle.trac_rules.specs.Records as rules;
 ghost use Rattle.trac_rules.specs.Records.{is_scanned, record_of};
@@ -64,7 +65,7 @@ fn called_by<A: Allocator + Copy>(
     ensures scanned { result.scanned ≡ is_scanned kind effect.now.forced }
     ensures printed { result.printed ≡ length effect.now.print.items }
     ensures read { result.read ≡ effect.now.position - now.position }
-    ensures meta { (environment : Environment) (s : State) (e : Effect) → effect_of (primitive_of (argument 0 arguments.now)) environment arguments.now s ≡ Ok e → result.meta ≡ option_map (λ _. now.meta) e.meta }
+    ensures meta { (environment : Environment) (s : State) (e : acting.Effect) → effect_of (primitive_of (argument 0 arguments.now)) environment arguments.now s ≡ Ok e → result.meta ≡ option_map (λ _. now.meta) e.meta }
     ensures trace { result.trace ≡ now.trace }
 {
     Called {

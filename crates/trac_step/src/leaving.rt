@@ -3,7 +3,8 @@ ghost use Rattle.std.specs.Prelude.{◌≡◌, ◌≤◌, [], length, vec_capaci
 ghost use Rattle.trac_rules.specs.Blocks.{moved_out, with_all};
 ghost use Rattle.trac_rules.specs.Handling.{without};
 ghost use Rattle.trac_forms.specs.Stored.{AreApart};
-ghost use Rattle.trac_prims.specs.Effects.{named_forms, names_in, texts_of};
+ghost use Rattle.trac_prims.specs.Effects.{named_forms, texts_of};
+ghost use Rattle.trac_rules.specs.Undone.{names_in};
 ghost use Rattle.trac_step.specs.Changing.{KnowsNamed};
 
 use crate::blocking::Named;

@@ -26,6 +26,7 @@ mod texts;
 mod texts_back;
 mod undoing;
 pub mod undone;
+mod weighing;
 
 pub use engine::{Core, Machine};
 pub use loading::Parts;

@@ -169,7 +169,7 @@ fn lengths_within<A: Allocator + Copy>(parts: &Parts<A>) -> bool
     let names = names_within(parts.names.as_slice());
     let forms = entries_within(parts.forms.as_slice());
     let blocks = blocks_within(parts.blocks.as_slice());
-    texts && rooms && names && forms && blocks
+    texts & rooms & names & forms & blocks
 }
 
 // The output of parts, with no less room than is asked for.

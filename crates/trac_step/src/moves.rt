@@ -74,10 +74,7 @@ impl<E: TwoEnds<u8, A>, M: TwoEnds<Mark, A>, A: Allocator + Copy> Core<E, M, A> 
                 self.mark(3, Some(Kind::Neutral))?;
                 Ok(Record::Begun)
             }
-            Front::Sharp | Front::Plain => {
-                self.gather_first();
-                Ok(Record::Moved)
-            }
+            Front::Sharp | Front::Plain => Ok(self.gather_first()),
         }
     }
 

@@ -1,5 +1,6 @@
 //! The way back over the rules of scanning, each on the machine's own parts.
 ghost use Rattle.std.specs.Prelude.{◌≡◌, IsSome, Some};
+ghost use Rattle.std.specs.Option.{unwrap_or};
 ghost use Rattle.trac_rules.specs.Records as rules;
 ghost use Rattle.trac_rules.specs.Records.{Begun, Comma, Deleted, Quoted, moved_back, restored};
 ghost use Rattle.trac_step.specs.Returning.{call_record};
@@ -26,6 +27,18 @@ pub(crate) struct Called {
     pub(crate) read: usize,
     pub(crate) meta: Option<u8>,
     pub(crate) trace: bool,
+}
+
+impl Called {
+    // The meta character before the call, from the one after it.
+    fn meta_before(&self, after: u8) -> u8
+        ensures { result ≡ unwrap_or self.now.meta after }
+    {
+        match self.meta {
+            Some(before) => before,
+            None => after,
+        }
+    }
 }
 
 impl<E: TwoEnds<u8, A>, M: TwoEnds<Mark, A>, A: Allocator + Copy> Core<E, M, A> {
@@ -97,7 +110,7 @@ impl<E: TwoEnds<u8, A>, M: TwoEnds<Mark, A>, A: Allocator + Copy> Core<E, M, A> 
         put_storage(&mut self.store, &function.arguments, change);
         self.output.truncate(self.output.len() - called.printed);
         self.position -= called.read;
-        self.meta = called.meta.unwrap_or(self.meta);
+        self.meta = called.meta_before(self.meta);
         self.trace = called.trace;
     }
 }

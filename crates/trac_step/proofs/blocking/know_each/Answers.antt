@@ -3,6 +3,11 @@ use Rattle.std.proofs.Common.{List, ℕ, ap, ◌∙◌, subst, arith, IsTrue}
 use Rattle.std.specs.FinSet as set
 use Rattle.trac_forms.specs.Stored.{Stored, storage_in}
 use Rattle.trac_forms.proofs.Tables.{known_then}
+use Rattle.std.specs.Prelude.{Vec}
+use Rattle.std.proofs.lemmas.List.{take_all}
+use Rattle.trac_rules.specs.Form.{Form}
+use Rattle.trac_prims.specs.Effects.{named_forms}
+use Rattle.trac_step.specs.Changing.{KnowsNamed}
 use Rattle.trac_step.proofs.MovedForms.{knows_next}
 use Rattle.trac_step.proofs.Rooms.{among_more}
 use Rattle.trac_step.proofs.blocking.know_each.Goals as goal
@@ -19,3 +24,8 @@ loop-name-preserved g c =
       ap storage_in more ∙ c.loop-name.invariant.1,
       λ q h. among q (c.loop-name.invariant.2 q h),
     )
+
+pub returns-clause-known : goal.returns-clause-known
+returns-clause-known g c =
+    subst (λ (forms : List (Vec ℕ g.row.A.Denot × Form)). KnowsNamed (named_forms forms) c.loop-name.store.known) (take_all c.loop-name.name-index c.args.forms.now c.loop-name-test.false)
+    c.loop-name.invariant.0

@@ -9,6 +9,6 @@ use Rattle.trac_step.proofs.changing.point.Goals as goal
 pub returns-clause-storage : goal.returns-clause-storage
 returns-clause-storage g c =
     ap storage_in c.put.ensures.put
-    ∙ ap (λ (s : Stored). keeping (finite.insert s.forms c.args.name.now c.set_pointer.new.self) (storage_in s)) c.take.ensures.gone
-    ∙ put_back c.args.store.now c.args.name.now c.args.place c.min.result c.in-Some.form c.set_pointer.new.self c.in-Some.ensures.taken
-    (c.min.ensures ∙ ap (min c.args.place) c.len.ensures.len) c.set_pointer.ensures.moved
+    ∙ ap (λ (s : Stored). keeping (finite.insert s.forms c.args.name.now c.set_pointer-old.new.self) (storage_in s)) c.take.ensures.gone
+    ∙ put_back c.args.store.now c.args.name.now c.args.place c.min.result c.in_ok-form.form c.set_pointer-old.new.self c.in_ok-form.ensures.taken
+    (c.min.ensures ∙ ap (min c.args.place) c.len.ensures.len) c.set_pointer-old.ensures.moved

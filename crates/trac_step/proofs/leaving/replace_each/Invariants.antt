@@ -4,7 +4,8 @@ use Rattle.std.specs.Prelude.{vec_capacity}
 use Rattle.std.specs.Vec.Iter.{into_iter_items}
 use Rattle.trac_forms.specs.Stored.{AreApart}
 use Rattle.trac_rules.specs.Blocks.{moved_out, with_all}
-use Rattle.trac_prims.specs.Effects.{named_forms, names_in}
+use Rattle.trac_prims.specs.Effects.{named_forms}
+use Rattle.trac_rules.specs.Undone.{names_in}
 use Rattle.trac_step.specs.Changing.{KnowsNamed}
 use Rattle.trac_step.proofs.leaving.replace_each.Given as goal
 

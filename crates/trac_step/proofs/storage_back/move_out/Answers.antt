@@ -5,7 +5,7 @@ use Rattle.trac_rules.specs.Blocks.{with_all}
 use Rattle.trac_rules.specs.Undone.{swapped_back}
 use Rattle.trac_forms.specs.Stored.{KnowsAll, Names, Stored, storage_in}
 use Rattle.trac_step.specs.Changing.{KnowsNamed}
-use Rattle.trac_step.proofs.StorageBack.{is_moved_out, knows_each, knows_fewer, never_none}
+use Rattle.trac_step.proofs.StorageBack.{is_moved_out, knows_each, knows_fewer}
 use Rattle.trac_step.proofs.storage_back.move_out.Goals as goal
 
 pub swap-requires : goal.swap-requires

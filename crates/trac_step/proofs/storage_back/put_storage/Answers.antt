@@ -1,11 +1,15 @@
--- The forms that were deleted have known names.
-use Rattle.std.proofs.Common.{subst}
-use Rattle.trac_rules.specs.Undone.{storage_before}
+-- The names of the forms that come back are known, and each part puts back what the rules say.
+use Rattle.std.proofs.Common.{List, ℕ, ap, sym, subst, ◌∙◌}
+use Rattle.std.specs.Prelude.{Some}
+use Rattle.std.specs.FinMap as finite
+use Rattle.trac_rules.specs.Effect.{argument}
+use Rattle.trac_rules.specs.Handling.{keeping}
+use Rattle.trac_rules.specs.Undone.{storage_before, swapped_back}
 use Rattle.trac_forms.specs.Stored.{storage_in}
-use Rattle.trac_prims.specs.Effects.{named_forms}
+use Rattle.trac_prims.specs.Effects.{named_forms, pointed}
 use Rattle.trac_step.specs.Returning.{KnowsBefore}
 use Rattle.trac_step.specs.Undone.{undone_in}
-use Rattle.trac_step.proofs.StorageBack.{knows_each}
+use Rattle.trac_step.proofs.StorageBack.{knows_each, pointed_again}
 use Rattle.trac_step.proofs.storage_back.put_storage.Goals as goal
 
 pub put_each-requires : goal.put_each-requires
@@ -13,3 +17,28 @@ put_each-requires g c =
     let store = c.args.store.now in
     knows_each (named_forms c.in-Restore.forms.items) store.known store.forms
     (subst (λ change. KnowsBefore store.known (storage_before c.args.arguments.now (undone_in change) (storage_in store))) c.in-Restore.is c.requires)
+
+pub returns-in-Point-clause-storage : goal.returns-in-Point-clause-storage
+returns-in-Point-clause-storage g c =
+    let store = c.args.store.now in
+    let arguments = c.args.arguments.now in
+    let name = argument 1 arguments in
+    ap (λ change. storage_before arguments (undone_in change) (storage_in store)) c.in-Point.is
+    ∙ pointed_again store.known name c.in-Point.place (storage_in store) (finite.get store.forms name)
+    (subst (λ change. KnowsBefore store.known (storage_before arguments (undone_in change) (storage_in store))) c.in-Point.is c.requires)
+    ∙ ap (λ (n : List ℕ). Some (pointed n c.in-Point.place (finite.get store.forms n) (storage_in store))) (sym c.get-name.ensures)
+    ∙ ap Some (sym c.point.ensures.storage)
+
+pub swap-requires : goal.swap-requires
+swap-requires g c =
+    let store = c.args.store.now in
+    subst (λ (n : List ℕ). KnowsBefore store.known (Some (keeping (swapped_back n c.in-Swap.old store.forms) (storage_in store)))) (sym c.get-name.ensures)
+    (subst (λ change. KnowsBefore store.known (storage_before c.args.arguments.now (undone_in change) (storage_in store))) c.in-Swap.is c.requires)
+
+pub returns-in-Swap-clause-storage : goal.returns-in-Swap-clause-storage
+returns-in-Swap-clause-storage g c =
+    let store = c.args.store.now in
+    let arguments = c.args.arguments.now in
+    ap (λ change. storage_before arguments (undone_in change) (storage_in store)) c.in-Swap.is
+    ∙ ap (λ (n : List ℕ). Some (keeping (swapped_back n c.in-Swap.old store.forms) (storage_in store))) (sym c.get-name.ensures)
+    ∙ ap (λ s. Some (storage_in s)) (sym c.swap.ensures)

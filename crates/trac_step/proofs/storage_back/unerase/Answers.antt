@@ -1,6 +1,6 @@
 -- The erased block is there, and its address has a known name.
 use Rattle.std.proofs.Common.{ap, sym, subst, ◌∙◌, IsTrue}
-use Rattle.std.specs.Prelude.{Some, slice_set}
+use Rattle.std.specs.Prelude.{Some}
 use Rattle.std.specs.FinMap as finite
 use Rattle.std.specs.FinSet as set
 use Rattle.trac_forms.specs.Stored.{Stored, storage_in}

@@ -1,4 +1,4 @@
-use Rattle.std.proofs.Common.{◌≤◌, ◌+◌, ◌≡◌, sym, ap, ◌∙◌, subst, length, arith}
+use Rattle.std.proofs.Common.{length, ap, arith}
 use Rattle.trac_gap.specs.Ends.{Ends}
 use Rattle.trac_gap.proofs.gap_buf.GapBufTwoEnds.copy.Goals as goal
 

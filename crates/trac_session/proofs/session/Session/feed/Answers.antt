@@ -1,5 +1,6 @@
 use Rattle.std.proofs.Common.{◌≡◌, ◌∙◌, length, arith}
 use Rattle.trac_step.specs.Record.{before}
+use Rattle.trac_session.specs.Weighed.{weighed}
 use Rattle.trac_session.proofs.Journaled.{Feed_closed_of_fields, Feed_long_of_fields, Feed_room_of_fields, Feed_memory_of_fields, IsSound-feed}
 use Rattle.trac_session.proofs.session.Session.feed.Goals as goal
 
@@ -24,4 +25,4 @@ returns g c =
 pub invariant_of-self-2 : goal.invariant_of-self-2
 invariant_of-self-2 g c =
     let count : c.len.result ≡ length c.self.inside.tape.items = c.len.ensures ∙ c.self.inside.tape.ok.0 in
-    IsSound-feed before _ _ _ c.args.bytes.now c.self.inside.journal _ c.in-Ok.ensures.items (omega (arith, c.self.invariant.tape_limit)) c.self.invariant
+    IsSound-feed before weighed _ _ _ c.args.bytes.now c.self.inside.journal _ c.in-Ok.ensures.items (omega (arith, c.self.invariant.tape_limit)) c.self.invariant

@@ -6,18 +6,19 @@ use Rattle.trac_rules.specs.Session.{new_session}
 use Rattle.trac_step.specs.Layout.{Shown}
 use Rattle.trac_step.specs.Record.{before}
 use Rattle.trac_session.specs.Journal.{AreRecords, IsSound, IsWithinReach, plain_of}
+use Rattle.trac_session.specs.Weighed.{weighed}
 use Rattle.trac_session.proofs.session.Session.new.Goals as goal
 
 -- fields without a record and without input
-sound_at_first : {R : Type 0} → (before : R → State → Option State) (limit : ℕ) (bytes : List ℕ) (journal : List R) (m : Shown) → 1 ≤ limit → limit ≤ JOURNAL_LIMIT → bytes ≡ [] → journal ≡ [] →
-    m.state ≡ initial → IsSound before limit bytes journal m
-sound_at_first {R} before limit bytes journal m some most none first at = record {
+sound_at_first : {R : Type 0} → (before : R → State → Option State) (weigh : R → ℕ) (limit : ℕ) (bytes : List ℕ) (journal : List R) (m : Shown) → 1 ≤ limit → limit ≤ JOURNAL_LIMIT → bytes ≡ [] → journal ≡ [] →
+    m.state ≡ initial → IsSound before weigh limit bytes journal m
+sound_at_first {R} before weigh limit bytes journal m some most none first at = record {
   some_records = some;
   not_too_many = most;
   within_limit = omega (arith, ap (λ (records : List R). length records) first);
   tape_limit = omega (arith, ap (λ (xs : List ℕ). length xs) none);
   on_tape = omega (arith, ap (λ (s : State). s.position) at);
-  records = subst (λ (records : List R). AreRecords before (IsWithinReach m (length bytes)) (reverse records) m.state) (sym first) tt;
+  records = subst (λ (records : List R). AreRecords before weigh (IsWithinReach m (length bytes)) (reverse records) m.state) (sym first) tt;
 }
 
 plain_at_first : {R : Type 0} → (before : R → State → Option State) (limit : ℕ) (bytes : List ℕ) (journal : List R) (last : State) → bytes ≡ [] → journal ≡ [] → last ≡ initial →
@@ -26,7 +27,7 @@ plain_at_first before limit bytes journal last none first at i = plain_of before
 
 pub invariant_of-result : goal.invariant_of-result
 invariant_of-result g c =
-    sound_at_first before c.args.limit c.new.result.items c.new-3.result c.in_ok-new.field-0 c.requires.some c.requires.most c.new.ensures.items c.new-3.ensures c.in_ok-new.ensures.made
+    sound_at_first before weighed c.args.limit c.new.result.items c.new-3.result c.in_ok-new.field-0 c.requires.some c.requires.most c.new.ensures.items c.new-3.ensures c.in_ok-new.ensures.made
 
 pub returns-clause-made : goal.returns-clause-made
 returns-clause-made g c =

@@ -8,7 +8,7 @@ invariant_of-self g c =
     let count : c.len.result ≡ length c.self.inside.journal = c.len.ensures in
     let fits : length c.self.inside.journal + c.move_plain-count.result ≤ c.self.inside.limit = omega (arith, c.self.invariant.within_limit) in
     IsSound-passed _ _ c.self.inside.journal c.push_moved.new.self c.self.inside.machine _ c.move_plain-count.result
-    c.move_plain-count.ensures.proper c.move_plain-count.ensures.plain.within fits c.push_moved.ensures c.move_plain-count.ensures.moved c.move_plain-count.ensures.held c.self.invariant
+    c.move_plain-count.ensures.proper c.move_plain-count.ensures.plain fits c.push_moved.ensures c.move_plain-count.ensures.moved c.move_plain-count.ensures.held c.self.invariant
 
 pub returns-clause-passed : goal.returns-clause-passed
 returns-clause-passed g c =

@@ -1,12 +1,8 @@
-use Rattle.std.proofs.Common.{◌≡◌, ◌≤◌, sym, subst}
-use Rattle.std.proofs.lemmas.Result.{IfOk-weaker, on_ok_weaker}
-use Rattle.trac_rules.specs.Records.{recorded}
-use Rattle.trac_rules.specs.Weights.{loss, weight}
+use Rattle.std.proofs.lemmas.Result.{on_ok_weaker}
 use Rattle.trac_rules.proofs.ProperStates.{step_proper}
-use Rattle.trac_rules.proofs.Weighed.{weight_within}
 use Rattle.trac_prims.specs.Tape.{environment_of}
 use Rattle.trac_step.specs.Record.{recorded_by}
-use Rattle.trac_step.proofs.Recorded.{taken_and_before}
+use Rattle.trac_step.proofs.Recorded.{rest_is_back, storage_is_back, taken_and_before, texts_are_back, weighs_within}
 use Rattle.trac_step.proofs.Rooms.{HasRoom-kept}
 use Rattle.trac_step.proofs.engine.Core.step.Goals as goal
 
@@ -16,10 +12,19 @@ returns-clause-taken g c =
     c.is_in_its_room.ensures.proper c.next_step.ensures.taken c.next_step.ensures.recorded
 
 pub returns-clause-weighs : goal.returns-clause-weighs
-returns-clause-weighs g c =
-    IfOk-weaker c.next_step.result (λ r. recorded_by r ≡ recorded c.args.self.now.state) _
-    (λ r is none. subst (λ x. weight x ≤ loss c.args.self.now.state) (sym is) (weight_within c.args.self.now.state none))
-    c.next_step.ensures.recorded
+returns-clause-weighs g c = weighs_within c.next_step.result recorded_by (environment_of c.args.tape) c.args.self.now.state c.next_step.ensures.recorded
+
+pub returns-clause-texts : goal.returns-clause-texts
+returns-clause-texts g c =
+    texts_are_back recorded_by (environment_of c.args.tape) c.args.self.now.state c.next_step.new.self.state c.next_step.result c.next_step.ensures.taken c.next_step.ensures.recorded
+
+pub returns-clause-storage : goal.returns-clause-storage
+returns-clause-storage g c =
+    storage_is_back recorded_by (environment_of c.args.tape) c.args.self.now.state c.next_step.new.self.state c.next_step.result c.next_step.ensures.taken c.next_step.ensures.recorded
+
+pub returns-clause-rest : goal.returns-clause-rest
+returns-clause-rest g c =
+    rest_is_back recorded_by (environment_of c.args.tape) c.args.self.now.state c.next_step.new.self.state c.next_step.result c.next_step.ensures.taken c.next_step.ensures.recorded
 
 pub returns-clause-proper : goal.returns-clause-proper
 returns-clause-proper g c =

@@ -1,16 +1,11 @@
 -- The parts before the call are there: the lemmas of CallsUndone, at the machine's own lists.
-use Rattle.std.proofs.Common.{List, ℕ, ◌-◌, length, map, reverse, sym, ap, ◌∙◌, subst, arith, refl}
-use Rattle.std.specs.Prelude.{Some, take, vec_capacity}
+use Rattle.std.proofs.Common.{ℕ, ◌-◌, length, reverse, sym, ap, ◌∙◌, subst}
+use Rattle.std.specs.Prelude.{Some, take}
 use Rattle.trac_gap.specs.Ends.{Ends}
-use Rattle.trac_rules.specs.State.{Frame, State, Storage}
-use Rattle.trac_rules.specs.Undone.{storage_before}
 use Rattle.trac_forms.specs.Stored.{storage_in}
-use Rattle.trac_prims.specs.declared.mark.Mark.{Mark}
 use Rattle.trac_prims.specs.Neutral.{AreMarks, MarkedText, Neutral, neutral_of}
 use Rattle.trac_step.specs.Layout.{IsSound, Parts, parts_of, state_of}
-use Rattle.trac_step.specs.Returning.{KnowsBefore}
-use Rattle.trac_step.specs.Undone.{undone_in}
-use Rattle.trac_step.proofs.CallsUndone.{has_value, knows, mark_room, marked_same, never_outside, ordered, parts_before, restores, same_arguments, same_parts, sound_before, text_room}
+use Rattle.trac_step.proofs.CallsUndone.{has_value, knows, mark_room, marked_same, never_outside, ordered, restores, same_arguments, same_parts, sound_before, text_room}
 use Rattle.trac_step.proofs.engine.Core.uncall.Goals as goal
 
 pub put_call-requires-clause-value : goal.put_call-requires-clause-value
@@ -63,8 +58,8 @@ invariant_of-self g c =
     let same = same_arguments c.args.called c.args.arguments.now c.args.change p c.args.self.now c.self.invariant c.self.view_is c.requires c.new-text.result f.number f.place f.kind f.arguments read c.in-Some.ensures in
     let store = c.put_storage.new.store in
     let storage = storage_in store in
-    let q_is = same_parts c.args.called c.args.arguments.now p (g.E.TwoEnds.ends c.put_call.new.text) (g.M.TwoEnds.ends c.put_call.new.marks) store c.unwrap_or-self-inside.result c.truncate.new.self
-    c.put_call.ensures.text c.put_call.ensures.marks c.put_call.ensures.mark_room c.put_storage.ensures.names c.unwrap_or-self-inside.ensures
+    let q_is = same_parts c.args.called c.args.arguments.now p (g.E.TwoEnds.ends c.put_call.new.text) (g.M.TwoEnds.ends c.put_call.new.marks) store c.meta_before-self-inside.result c.truncate.new.self
+    c.put_call.ensures.text c.put_call.ensures.marks c.put_call.ensures.mark_room c.put_storage.ensures.names c.meta_before-self-inside.ensures
     (c.truncate.ensures.items ∙ ap (λ (n : ℕ). take (n - c.args.called.printed) c.self.inside.output.items) (c.len.ensures ∙ c.self.inside.output.ok.0)) c.truncate.ensures.capacity in
     subst IsSound (sym q_is) (sound_before c.args.called c.args.arguments.now c.args.change p c.args.self.now c.self.invariant c.self.view_is c.requires f.arguments same storage store.spare c.put_storage.ensures.storage)
 
@@ -78,7 +73,7 @@ returns-clause-state g c =
     let same = same_arguments c.args.called c.args.arguments.now c.args.change p c.args.self.now c.self.invariant c.self.view_is c.requires c.new-text.result f.number f.place f.kind f.arguments read c.in-Some.ensures in
     let store = c.put_storage.new.store in
     let storage = storage_in store in
-    let q_is = same_parts c.args.called c.args.arguments.now p (g.E.TwoEnds.ends c.put_call.new.text) (g.M.TwoEnds.ends c.put_call.new.marks) store c.unwrap_or-self-inside.result c.truncate.new.self
-    c.put_call.ensures.text c.put_call.ensures.marks c.put_call.ensures.mark_room c.put_storage.ensures.names c.unwrap_or-self-inside.ensures
+    let q_is = same_parts c.args.called c.args.arguments.now p (g.E.TwoEnds.ends c.put_call.new.text) (g.M.TwoEnds.ends c.put_call.new.marks) store c.meta_before-self-inside.result c.truncate.new.self
+    c.put_call.ensures.text c.put_call.ensures.marks c.put_call.ensures.mark_room c.put_storage.ensures.names c.meta_before-self-inside.ensures
     (c.truncate.ensures.items ∙ ap (λ (n : ℕ). take (n - c.args.called.printed) c.self.inside.output.items) (c.len.ensures ∙ c.self.inside.output.ok.0)) c.truncate.ensures.capacity in
     restores c.args.called c.args.arguments.now c.args.change p c.args.self.now c.self.invariant c.self.view_is c.requires f.arguments same storage store.spare c.put_storage.ensures.storage ∙ ap (λ (x : Parts). Some (state_of x)) (sym q_is)
