@@ -1,5 +1,4 @@
-//! Tests of numbers, of lists with two ends, and of forms. The library itself has samples of forms, which tests of what stands
-//! above use too.
+//! Tests of numbers, of lists with two ends, of forms, and of what the primitives plan. The library itself is empty.
 //!
 //! Cases stand in tables, and one loop goes through them: what a test's proof costs grows with the calls that stand in it.
 //! Each call stands in a helper that promises nothing. Expected values come from the definition of the language, not from
@@ -9,6 +8,8 @@
 #[cfg(test)]
 mod blocks;
 #[cfg(test)]
+mod calls;
+#[cfg(test)]
 mod cuts;
 #[cfg(test)]
 mod ends;
@@ -17,11 +18,16 @@ mod expect;
 #[cfg(test)]
 mod forms;
 #[cfg(test)]
+mod limits;
+#[cfg(test)]
 mod numbers;
 #[cfg(test)]
 mod octals;
 #[cfg(test)]
+mod planned;
+#[cfg(test)]
 mod reads;
-pub mod samples;
+#[cfg(test)]
+mod samples;
 #[cfg(test)]
 mod stores;

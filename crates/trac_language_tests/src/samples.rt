@@ -3,7 +3,7 @@ use std::alloc::Allocator;
 use trac_forms::{Form, FormError, Item, Store};
 
 /// Puts a form under a name, whatever the name had before.
-pub fn put_form<A: Allocator + Copy>(
+pub(crate) fn put_form<A: Allocator + Copy>(
     store: &mut Store<A>,
     name: &[u8],
     form: Form<A>,
@@ -14,7 +14,7 @@ pub fn put_form<A: Allocator + Copy>(
 }
 
 /// Puts a form of this text under a name.
-pub fn define<A: Allocator + Copy>(
+pub(crate) fn define<A: Allocator + Copy>(
     alloc: A,
     store: &mut Store<A>,
     name: &[u8],
@@ -37,7 +37,7 @@ const AFTER: [Item; 4] = [
 ];
 
 /// The form `a<^><1>bc<2>`.
-pub fn divided<A: Allocator + Copy>(alloc: A) -> Result<Form<A>, FormError> {
+pub(crate) fn divided<A: Allocator + Copy>(alloc: A) -> Result<Form<A>, FormError> {
     Form::of(alloc, &[Item::Byte(b'a')], &AFTER)
 }
 
@@ -48,7 +48,7 @@ fn put_forms<A: Allocator + Copy>(alloc: A, store: &mut Store<A>) -> Result<(), 
 }
 
 /// A store with the forms `B`: `<^>banana`, `F`: `a<^><1>bc<2>`, and `R`: `<^>abcabc`.
-pub fn with_forms<A: Allocator + Copy>(alloc: A) -> Result<Store<A>, FormError> {
+pub(crate) fn with_forms<A: Allocator + Copy>(alloc: A) -> Result<Store<A>, FormError> {
     let mut store = Store::new(alloc);
     put_forms(alloc, &mut store)?;
     Ok(store)

@@ -204,14 +204,14 @@ sound_at_start made reserved filled ms store output made_is left right room fill
 -- ---- a released output
 
 -- nothing is printed and nothing read
-pub settled_parts : (p : Parts) (items : List ℕ) (room : ℕ) → items ≡ [] → room ≡ p.output_room →
-    shown_by (record p { position = 0; output = items; output_room = room }) ≡ record (shown_by p) { state = settled (state_of p) }
-settled_parts p items room none same =
+pub settled_parts : (p : Parts) (items : List ℕ) (room : ℕ) (names : Names) → items ≡ [] → room ≡ p.output_room →
+    shown_by (record p { position = 0; output = items; output_room = room; known = names }) ≡ record (shown_by p) { state = settled (state_of p); known = names }
+settled_parts p items room names none same =
     let gone : items ≡ drop (length p.output) p.output = none ∙ sym (drop_all (length p.output) p.output (omega arith)) in
     let start : 0 ≡ p.position - p.position = omega arith in
-    ap (λ (xs : List ℕ). shown_by (record p { position = 0; output = xs; output_room = room })) gone
-    ∙ ap (λ (n : ℕ). shown_by (record p { position = 0; output = drop (length p.output) p.output; output_room = n })) same
-    ∙ ap (λ (n : ℕ). shown_by (record p { position = n; output = drop (length p.output) p.output })) start
+    ap (λ (xs : List ℕ). shown_by (record p { position = 0; output = xs; output_room = room; known = names })) gone
+    ∙ ap (λ (n : ℕ). shown_by (record p { position = 0; output = drop (length p.output) p.output; output_room = n; known = names })) same
+    ∙ ap (λ (n : ℕ). shown_by (record p { position = n; output = drop (length p.output) p.output; known = names })) start
 
 -- ---- other items in the place of all
 

@@ -1,10 +1,11 @@
 //! Whole runs: what each writes and how it ends, where reads, writes, flushes and requests for memory fail in turn.
 ghost use Rattle.std.specs.Prelude.{◌≤◌};
 
+use crate::faulty::{Fault, reader_of, writer_of};
 use std::alloc::{AllocError, Allocator, Global};
 use std::process::Abort;
 use std::test::Fail;
-use trac_faults::{FaultyReader, FaultyWriter, Refusing, RepeatingReader};
+use trac_faults::{FaultyWriter, Refusing, RepeatingReader};
 use trac_rules::limit::JOURNAL_LIMIT;
 use trac_run::{BUDGET_LIMIT, Ending, Options, run};
 
@@ -13,38 +14,6 @@ const DEFAULTS: Options = Options {
     budget: 1_000_000_000,
     journal: 64,
 };
-
-// What fails in a run: the call of this number.
-#[derive(Clone, Copy)]
-enum Fault {
-    None,
-    Read(u64),
-    // once all bytes are given
-    ReadAtEnd,
-    Write(u64),
-    // nothing is taken
-    TakeNone(u64),
-    Flush(u64),
-}
-
-fn reader_of(input: &[u8], most: usize, fault: Fault) -> FaultyReader<'_> {
-    let reader = FaultyReader::new(input).at_most(most);
-    match fault {
-        Fault::Read(nth) => reader.failing_at(nth),
-        Fault::ReadAtEnd => reader.failing_at_end(),
-        _ => reader,
-    }
-}
-
-fn writer_of(plain: Global, fault: Fault) -> FaultyWriter {
-    let writer = FaultyWriter::new(plain);
-    match fault {
-        Fault::Write(nth) => writer.failing_at(nth),
-        Fault::TakeNone(nth) => writer.taking_none_at(nth),
-        Fault::Flush(nth) => writer.failing_flush_at(nth),
-        _ => writer,
-    }
-}
 
 // How a run over this input ends, which comes at most so many bytes at a time, and what it has written.
 fn run_over<A: Allocator + Copy>(

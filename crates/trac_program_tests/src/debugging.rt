@@ -1,23 +1,11 @@
 //! Sessions in which reads, writes, flushes and requests for memory fail in turn.
-use crate::session::{DEFAULTS, expect_written, session};
+use crate::faulty::Fault;
+use crate::session::{DEFAULTS, expect_written, session, session_over};
 use std::alloc::{AllocError, Global};
 use std::process::Abort;
 use std::test::Fail;
 use trac_faults::{Call, CallLog, FaultyReader, FaultyWriter, Logged, Refusing};
 use trac_run::Ending;
-
-// What fails: the call of this number.
-#[derive(Clone, Copy)]
-enum Fault {
-    None,
-    Read(u64),
-    // once all bytes are given
-    ReadAtEnd,
-    Write(u64),
-    // nothing is taken
-    TakeNone(u64),
-    Flush(u64),
-}
 
 // Two lines, the second of which has no line feed, one byte a read: the first reply is written before the fifth read, and the second
 // behind the eighth, which finds the end.
@@ -42,38 +30,24 @@ const FAULTS: &[(Fault, &[u8], Ending)] = &[
     (Fault::Flush(3), b"forward 3\nback 1\n", Ending::Ended),
 ];
 
-fn reader_of(fault: Fault) -> FaultyReader<'static> {
-    let reader = FaultyReader::new(COMMANDS).at_most(1);
-    match fault {
-        Fault::Read(nth) => reader.failing_at(nth),
-        Fault::ReadAtEnd => reader.failing_at_end(),
-        _ => reader,
-    }
-}
-
-fn writer_of(alloc: Global, fault: Fault) -> FaultyWriter {
-    let writer = FaultyWriter::new(alloc);
-    match fault {
-        Fault::Write(nth) => writer.failing_at(nth),
-        Fault::TakeNone(nth) => writer.taking_none_at(nth),
-        Fault::Flush(nth) => writer.failing_flush_at(nth),
-        _ => writer,
-    }
-}
-
-fn expect_fault(rt: &(impl Abort + AllocGlobal), fault: Fault, output: &[u8], ending: Ending) {
-    let mut reader = reader_of(fault);
-    let mut writer = writer_of(rt.alloc(), fault);
-    let met = session(rt, rt.alloc(), b"AB'", &mut reader, &mut writer, DEFAULTS);
+fn expect_fault(
+    rt: &(impl Abort + AllocGlobal),
+    fault: Fault,
+    output: &[u8],
+    ending: Ending,
+) -> Result<(), AllocError> {
+    let (met, written) = session_over(rt, rt.alloc(), b"AB'", COMMANDS, 1, fault, DEFAULTS)?;
     assert!(rt; met == ending, "{ending:?} behind {output:?}");
-    expect_written(rt, writer.contents(), output);
+    expect_written(rt, written.as_slice(), output);
+    Ok(())
 }
 
 #[test]
-fn each_fault(rt: HostRuntime) {
+fn each_fault(rt: HostRuntime) -> Result<(), Fail> {
     for (fault, output, ending) in FAULTS.iter() {
-        expect_fault(&rt, *fault, output, *ending);
+        expect_fault(&rt, *fault, output, *ending)?;
     }
+    Ok(())
 }
 
 // "s 1", "forward 1", a null line, "b 1", "back 1", and the end.
@@ -119,10 +93,9 @@ fn expect_memory(
     memory: &Refusing<Global>,
 ) -> Result<(), AllocError> {
     let refusals = memory.refusals();
-    let mut reader = FaultyReader::new(b"s 11\nb 1\nb 99\nu ps 99\np\nc\n");
-    let mut writer = FaultyWriter::new(rt.alloc());
-    let ending = session(rt, memory, b"AB'", &mut reader, &mut writer, DEFAULTS);
-    let written = writer.contents();
+    let commands = b"s 11\nb 1\nb 99\nu ps 99\np\nc\n";
+    let (ending, text) = session_over(rt, memory, b"AB'", commands, 4096, Fault::None, DEFAULTS)?;
+    let written = text.as_slice();
     let is_answered = if memory.refusals() == refusals {
         ending == Ending::Ended
     } else {

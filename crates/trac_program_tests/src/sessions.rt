@@ -1,5 +1,6 @@
 //! Whole sessions.
-use crate::session::{DEFAULTS, expect_session, expect_written, session};
+use crate::faulty::Fault;
+use crate::session::{DEFAULTS, expect_session, expect_written, session, session_over};
 use std::alloc::{AllocError, Global};
 use std::io::Read;
 use std::process::Abort;
@@ -79,17 +80,18 @@ fn a_cut_at_every_place(rt: HostRuntime) {
 
 // Behind the longest line the journal is full.
 #[test]
-fn a_full_journal(rt: HostRuntime) {
-    let mut reader = FaultyReader::new(b"s 5\nc\ns 1\nb 2");
-    let mut writer = FaultyWriter::new(rt.alloc());
+fn a_full_journal(rt: HostRuntime) -> Result<(), Fail> {
+    let commands = b"s 5\nc\ns 1\nb 2";
     let options = Options {
         budget: 1_000_000_000,
         journal: 4,
     };
-    let ending = session(&rt, rt.alloc(), b"AB'", &mut reader, &mut writer, options);
+    let none = Fault::None;
+    let (ending, written) = session_over(&rt, rt.alloc(), b"AB'", commands, 4096, none, options)?;
     assert!(rt; ending == Ending::Ended);
     let output = b"forward 4 JournalFull\ncommit []\nforward 1\nback 1 AtStart\n";
-    expect_written(&rt, writer.contents(), output);
+    expect_written(&rt, written.as_slice(), output);
+    Ok(())
 }
 
 // A million lines and more, all null: the one behind the last is one too many, whatever it holds.
@@ -102,9 +104,8 @@ fn expect_lines(
 ) -> Result<(), AllocError> {
     let mut commands = vec![in alloc; b'\n'; count]?;
     commands.extend_from_slice(last)?;
-    let mut reader = FaultyReader::new(commands.as_slice());
-    let mut writer = FaultyWriter::new(alloc);
-    let met = session(rt, alloc, b"AB'", &mut reader, &mut writer, DEFAULTS);
+    let (none, lines) = (Fault::None, commands.as_slice());
+    let (met, _) = session_over(rt, alloc, b"AB'", lines, 4096, none, DEFAULTS)?;
     assert!(rt; met == ending, "{count} lines");
     Ok(())
 }

@@ -2,6 +2,7 @@
 //! stands here.
 ghost use Rattle.std.specs.Prelude.{◌≡◌, ◌≤◌, length, None};
 
+use crate::expect::expect_text;
 use std::alloc::{AllocError, Allocator, Global};
 use std::process::Abort;
 use trac_forms::{Cut, Form, FormError, Store};
@@ -221,11 +222,6 @@ pub(crate) fn planned<A: Allocator + Copy>(
     let is_written = effect_into(out, &effect).is_ok();
     assert!(rt; is_written, "there is memory for the text");
     Ok(())
-}
-
-/// The text is this one.
-pub(crate) fn expect_text(rt: &impl Abort, text: &[u8], wanted: &[u8]) {
-    assert_eq!(rt; text, wanted);
 }
 
 /// A call is planned so, or refused so.

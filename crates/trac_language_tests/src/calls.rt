@@ -1,14 +1,13 @@
 //! Calls, what is planned for them, and each request for memory refused in turn.
-use crate::planned::{Call, Input, expect_outcome, expect_text, planned};
+use crate::expect::{Memory, expect_text};
+use crate::planned::{Call, Input, expect_outcome, planned};
+use crate::samples::with_forms;
 use std::alloc::Global;
 use std::process::Abort;
 use std::test::Fail;
 use trac_faults::Refusing;
 use trac_forms::Store;
-use trac_language_tests::samples::with_forms;
 use trac_rules::refusal::Refusal;
-
-type Memory<'a> = &'a Refusing<Global>;
 
 const UNREAD: Input = Input {
     bytes: b"AB'C",

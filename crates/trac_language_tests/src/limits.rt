@@ -1,11 +1,11 @@
 //! Calls that pass a limit.
 use crate::planned::{Call, Input, expect_outcome, planned};
+use crate::samples::{define, put_form};
 use std::alloc::{AllocError, Allocator, Global};
 use std::process::Abort;
 use std::test::Fail;
 use trac_faults::Refusing;
 use trac_forms::{Form, FormError, Store};
-use trac_language_tests::samples::{define, put_form};
 use trac_rules::refusal::Refusal;
 
 const NO_INPUT: Input = Input {

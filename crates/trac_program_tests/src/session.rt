@@ -1,0 +1,65 @@
+//! One session of the debugger, as the tests make it.
+use crate::faulty::{Fault, reader_of, writer_of};
+use std::alloc::{AllocError, Allocator};
+use std::io::{Read, Write};
+use std::process::Abort;
+use trac_debug::debug;
+use trac_rules::limit::JOURNAL_LIMIT;
+use trac_run::{Ending, Options};
+
+/// The options of the program.
+pub(crate) const DEFAULTS: Options = Options {
+    budget: 1_000_000_000,
+    journal: 64,
+};
+
+/// How a session over this tape ends.
+pub(crate) fn session<R: Read, W: Write, A: Allocator + Copy>(
+    rt: &impl Abort,
+    alloc: A,
+    tape: &[u8],
+    commands: &mut R,
+    output: &mut W,
+    options: Options,
+) -> Ending {
+    assert!(rt; 1 <= options.journal && options.journal <= JOURNAL_LIMIT);
+    debug(alloc, tape, commands, output, options)
+}
+
+/// This is written.
+pub(crate) fn expect_written(rt: &impl Abort, written: &[u8], wanted: &[u8]) {
+    assert_eq!(rt; written, wanted);
+}
+
+/// How a session with these commands ends, which come at most so many bytes at a time, and what it has written. The readers and writers
+/// that fail are named here: a proof shows anew, at each call with certain ones, that they read and write.
+pub(crate) fn session_over<A: Allocator + Copy>(
+    rt: &(impl Abort + AllocGlobal),
+    alloc: A,
+    tape: &[u8],
+    commands: &[u8],
+    most: usize,
+    fault: Fault,
+    options: Options,
+) -> Result<(Ending, Vec<u8>), AllocError> {
+    let mut reader = reader_of(commands, most, fault);
+    let mut writer = writer_of(rt.alloc(), fault);
+    let ending = session(rt, alloc, tape, &mut reader, &mut writer, options);
+    Ok((ending, Vec::from_slice(rt.alloc(), writer.contents())?))
+}
+
+/// A session with these commands, at most so many bytes a read, writes this and ends so.
+pub(crate) fn expect_session(
+    rt: &(impl Abort + AllocGlobal),
+    tape: &[u8],
+    commands: &[u8],
+    most: usize,
+    output: &[u8],
+    ending: Ending,
+) -> Result<(), AllocError> {
+    let none = Fault::None;
+    let (met, written) = session_over(rt, rt.alloc(), tape, commands, most, none, DEFAULTS)?;
+    assert!(rt; met == ending, "{most} bytes a read");
+    expect_written(rt, written.as_slice(), output);
+    Ok(())
+}
