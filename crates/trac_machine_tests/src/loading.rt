@@ -52,7 +52,7 @@ fn form_with_a_gap<A: Allocator + Copy>(alloc: A) -> Result<Form<A>, Refusal> {
 }
 
 // No text, no function, no form, no block, and no room.
-fn nothing<A: Allocator + Copy>(alloc: A) -> Parts<A> {
+pub(crate) fn nothing<A: Allocator + Copy>(alloc: A) -> Parts<A> {
     Parts {
         active: Vec::new(alloc),
         base: Vec::new(alloc),

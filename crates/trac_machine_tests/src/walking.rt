@@ -278,11 +278,7 @@ fn are_kept<A: Allocator + Copy>(functions: &[(Kind, Pieces<A>)], wanted: &[Kept
 }
 
 // Whether a record keeps this base text and these begun functions.
-fn empties<A: Allocator + Copy>(
-    record: &Record<A>,
-    base: &[u8],
-    functions: &[Kept],
-) -> bool {
+fn empties<A: Allocator + Copy>(record: &Record<A>, base: &[u8], functions: &[Kept]) -> bool {
     match record {
         Record::Idle { base: kept, frames } => {
             kept.as_slice() == base && are_kept(frames.as_slice(), functions)

@@ -1,5 +1,5 @@
 -- What the records of a session weigh together.
-use Rattle.std.proofs.Common.{◌≡◌, ℕ, ◌+◌, ◌^◌, ◌<◌, ◌≤◌, Bool, List, [], ◌∷◌, ◌++◌, length, zero, suc, All, refl, sym, ap, subst, ◌∙◌, arith}
+use Rattle.std.proofs.Common.{◌≡◌, ℕ, ◌+◌, ◌^◌, ◌<◌, ◌≤◌, Bool, List, [], ◌∷◌, ◌++◌, length, drop, get_or, zero, suc, All, add-one, drop-cons, refl, sym, ap, subst, ◌∙◌, arith}
 use Rattle.std.specs.Prelude.{Option, reverse}
 use Rattle.std.proofs.lemmas.List.{length-reverse, reverse-append}
 use Rattle.std.proofs.lemmas.List.Elements.{All-cons, All-nil}
@@ -32,6 +32,14 @@ weights_by-reverse weigh (r ∷ records) =
     ∙ omega (arith, weights_by-append weigh (reverse records) (r ∷ []), weights_by-reverse weigh records)
 
 -- ---- as the journal keeps them
+
+-- the next entry
+pub next_weight : {A : Type 0} → (entries : List (Entry A)) (i : ℕ) (entry : Entry A) → i < length entries → entry ≡ get_or entries i entry →
+    entries_weight (drop i entries) ≡ weighed entry.kept + entries_weight (drop (i + 1) entries)
+next_weight {A} entries i entry within is =
+    let cut : drop i entries ≡ entry ∷ drop (i + 1) entries =
+    rw add-one (drop-cons entries i entry within ∙ ap (λ (e : Entry A). e ∷ drop (suc i) entries) (sym is)) in
+    ap entries_weight cut
 
 moved_weights : (A : Type 0) (n : ℕ) → weights_by (weighed {A = A}) (all_moved n) ≡ 0
 moved_weights A zero = refl

@@ -1,5 +1,5 @@
 -- What is planned for a call is what its record keeps.
-use Rattle.std.proofs.Common.{◌≡◌, ℕ, ◌+◌, ◌-◌, ◌≤◌, List, [], ◌∷◌, length, sym, ap, ◌∙◌, subst, arith}
+use Rattle.std.proofs.Common.{◌≡◌, ℕ, ◌-◌, ◌≤◌, List, ◌∷◌, length, sym, ap, ◌∙◌, subst, arith}
 use Rattle.std.specs.Prelude.{Bool, Option, None, Some, Result, Ok, is_some, option_map}
 use Rattle.std.specs.Bool.{then_some}
 use Rattle.std.specs.Result.{result_ok}
@@ -7,13 +7,13 @@ use Rattle.trac_rules.specs.declared.kind.Kind.{Kind}
 use Rattle.trac_rules.specs.declared.refusal.Refusal.{Refusal}
 use Rattle.trac_rules.specs.declared.scan.Front.TheVariants.{Closing}
 use Rattle.trac_rules.specs.Effect.{Effect, argument}
-use Rattle.trac_rules.specs.Outcomes.{limited, seen_as}
+use Rattle.trac_rules.specs.Outcomes.{limited}
 use Rattle.trac_rules.specs.Performing.{effect_of, performed, primitive_of, printed_behind, trace_line}
 use Rattle.trac_rules.specs.Records as rules
 use Rattle.trac_rules.specs.Records.{CallRecord, call_recorded, is_scanned, record_in, record_of}
-use Rattle.trac_rules.specs.Scanning.{Call, Calls, Scanned, front_of, scan}
+use Rattle.trac_rules.specs.Scanning.{Call, Scanned, front_of, scan}
 use Rattle.trac_rules.specs.State.{Environment, Frame, State, Storage, storage_of}
-use Rattle.trac_rules.specs.Undone.{Undone, undone_by}
+use Rattle.trac_rules.specs.Undone.{undone_by}
 use Rattle.trac_rules.proofs.Outcomes.{limited_Ok, seen_as-Ok}
 use Rattle.trac_forms.specs.Stored.{Stored, storage_in}
 use Rattle.trac_prims.specs.declared.effect.Effect as code

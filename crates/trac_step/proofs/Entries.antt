@@ -11,7 +11,8 @@ use Rattle.trac_rules.specs.declared.limit.TheConstants.{BLOCK_LIMIT, FORM_LIMIT
 use Rattle.trac_rules.specs.Form.{Form, IsWide, all_items, extent}
 use Rattle.trac_rules.specs.Proper.{IsProperForm}
 use Rattle.trac_rules.proofs.Cutting.{count_within_extent}
-use Rattle.trac_prims.specs.Effects.{named_forms, names_in, texts_of}
+use Rattle.trac_prims.specs.Effects.{named_forms, texts_of}
+use Rattle.trac_rules.specs.Undone.{names_in}
 use Rattle.trac_step.specs.Loading.{AreProperEntries, block_entries_fit, blocks_fit, entries_fit, names_fit}
 
 -- ---- elements that are looked at one after another

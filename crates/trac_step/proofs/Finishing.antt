@@ -1,9 +1,9 @@
 -- The call that is finished is the one that scanning asks for.
-use Rattle.std.proofs.Common.{◌≡◌, ℕ, List, [], ◌∷◌, refl, sym, ap, ◌∙◌, subst}
+use Rattle.std.proofs.Common.{◌≡◌, ℕ, List, [], refl, sym, ap, ◌∙◌, subst}
 use Rattle.trac_rules.specs.declared.kind.Kind.{Kind}
 use Rattle.trac_rules.specs.declared.scan.Front.TheVariants.{Closing}
 use Rattle.trac_rules.specs.Scanning.{front_of, scan}
-use Rattle.trac_rules.specs.State.{Frame, State, Storage, storage_of}
+use Rattle.trac_rules.specs.State.{Frame, State, storage_of}
 use Rattle.trac_prims.specs.declared.change.Change.{Change}
 use Rattle.trac_prims.specs.Changes.{NamesGiven}
 use Rattle.trac_prims.specs.Frames.{IsInnermost}

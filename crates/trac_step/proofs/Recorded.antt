@@ -6,7 +6,7 @@ use Rattle.trac_rules.specs.declared.refusal.Refusal.{Refusal}
 use Rattle.trac_rules.specs.declared.scan.Front.{Front}
 use Rattle.trac_rules.specs.declared.scan.Front.TheVariants as front
 use Rattle.trac_rules.specs.Limits.{marks}
-use Rattle.trac_rules.specs.Records.{CallRecord, Record, Called, Deleted, Rest, Texts, closing_recorded, put_together, record_in, record_of, recorded, recorded_at, rest_before, rest_of, state_before, state_of, texts_before, texts_in}
+use Rattle.trac_rules.specs.Records.{CallRecord, Record, Called, Deleted, Rest, Texts, put_together, record_in, record_of, recorded, recorded_at, rest_before, rest_of, state_before, state_of, texts_before, texts_in}
 use Rattle.trac_rules.specs.Scanning.{Scanned, Calls, Moves, closing_in, comma_in, deleted, front_of, scan}
 use Rattle.trac_rules.specs.State.{Environment, Frame, State, Storage, storage_of}
 use Rattle.trac_rules.specs.Stepping.{step}
@@ -27,12 +27,8 @@ pub recorded_front : (s : State) (at : Front) → front_of s.active ≡ at → r
 recorded_front s at is = ap (λ (f : Front). recorded_at f s) is
 
 -- a `)` outside any function is deleted
-pub closing_kept : (s : State) → front_of s.active ≡ front.Closing → IsMove (scan s) → recorded s ≡ Deleted (get_or s.active 0 0)
-closing_kept s is moves = recorded_front s front.Closing is ∙ by_frames s.frames (subst IsMove (scan_front s front.Closing is) moves)
-  where
-    by_frames : (fs : List Frame) → IsMove (closing_in fs (deleted 1 s)) → closing_recorded fs s ≡ Deleted (get_or s.active 0 0)
-    by_frames [] h = refl
-    by_frames (f ∷ fs) h = absurd h
+pub closing_kept : (s : State) → front_of s.active ≡ front.Closing → recorded s ≡ Deleted (get_or s.active 0 0)
+closing_kept s is = recorded_front s front.Closing is
 
 -- the record of a rule that moves on is that of the rules
 pub move_recorded : (e : Environment) (s : State) → IsMove (scan s) → record_of e s ≡ Some (recorded s)

@@ -1,8 +1,7 @@
 -- The form that is put next, and the one that it replaces.
-use Rattle.std.proofs.Common.{◌≡◌, ◌++◌, [], ◌∷◌, List, ℕ, ap, subst, sym, ◌∙◌, arith}
-use Rattle.std.specs.Prelude.{length, Vec}
+use Rattle.std.proofs.Common.{ap, arith}
+use Rattle.std.specs.Prelude.{length}
 use Rattle.std.specs.Vec.Iter.{into_iter_items}
-use Rattle.trac_forms.specs.Stored.{Stored}
 use Rattle.trac_step.proofs.Replacing.{none_replaced, one_replaced, put_on, still_known, still_apart}
 use Rattle.trac_step.proofs.leaving.replace_each.Goals as goal
 

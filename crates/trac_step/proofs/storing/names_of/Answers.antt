@@ -2,7 +2,8 @@ use Rattle.std.proofs.Common.{List, ℕ, ap, ◌∙◌, arith}
 use Rattle.std.specs.Prelude.{Vec}
 use Rattle.std.proofs.lemmas.List.{take_all}
 use Rattle.trac_rules.specs.Form.{Form}
-use Rattle.trac_prims.specs.Effects.{named_forms, names_in}
+use Rattle.trac_prims.specs.Effects.{named_forms}
+use Rattle.trac_rules.specs.Undone.{names_in}
 use Rattle.trac_step.proofs.Entries.{names_next}
 use Rattle.trac_step.proofs.storing.names_of.Goals as goal
 

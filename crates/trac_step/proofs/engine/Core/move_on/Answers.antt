@@ -91,5 +91,5 @@ returns-in-Layout-clause-ok g c = elim c.in-Layout.is [
 pub returns-in-Layout-clause-recorded : goal.returns-in-Layout-clause-recorded
 returns-in-Layout-clause-recorded g c = elim c.in-Layout.is [
   | inl is ↦ ap Deleted c.delete_first.ensures.byte ∙ sym (recorded_front c.args.self.now.state Layout (sym c.requires.front ∙ is))
-  | inr is ↦ ap Deleted c.delete_first.ensures.byte ∙ sym (closing_kept c.args.self.now.state (sym c.requires.front ∙ is) c.requires.moves)
+  | inr is ↦ ap Deleted c.delete_first.ensures.byte ∙ sym (closing_kept c.args.self.now.state (sym c.requires.front ∙ is))
 ]
