@@ -1,5 +1,5 @@
 //! The forms by their names, and the blocks.
-ghost use Rattle.std.specs.Prelude.{◌≡◌, ◌++◌, ◌∷◌, [], filter, is_some, length, map, true, IfOk, IfSome, IsOk, IsOkUnless, IsTrue, OnErr, OnOk};
+ghost use Rattle.std.specs.Prelude.{◌≡◌, ◌++◌, ◌∷◌, [], filter, is_some, length, map, nat_lt, true, IfOk, IfSome, IsOk, IsOkUnless, IsTrue, OnErr, OnOk};
 ghost use Rattle.std.specs.FinMap as finite;
 ghost use Rattle.std.specs.FinSet as set;
 ghost use Rattle.std.specs.Option.{option_copied};
@@ -65,6 +65,14 @@ impl<A: Allocator + Copy> Store<A> {
         ensures { result ≡ finite.len self.now.forms }
     {
         count_full(&self.table)
+    }
+
+    /// Whether there are fewer forms than `n`. It takes no memory, and no time for each form where the store knows fewer names
+    /// (this project's profile).
+    pub fn has_fewer_forms(&self, n: usize) -> bool
+        ensures { result ≡ nat_lt (finite.len self.now.forms) n }
+    {
+        self.table.len() < n || self.form_count() < n
     }
 
     /// The form of this name, if there is one: names are compared byte for byte. It takes no memory

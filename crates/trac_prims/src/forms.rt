@@ -164,11 +164,10 @@ fn may_put<A: Allocator + Copy>(store: &Store<A>, name: &[u8]) -> bool
     if name.len() > NAME_LIMIT {
         return false;
     }
-    let count = store.form_count();
     if store.get(name).is_some() {
-        count <= FORM_COUNT_LIMIT
+        store.has_fewer_forms(FORM_COUNT_LIMIT + 1)
     } else {
-        count < FORM_COUNT_LIMIT
+        store.has_fewer_forms(FORM_COUNT_LIMIT)
     }
 }
 
