@@ -1,5 +1,5 @@
 //! Lists of commands to a session.
-use crate::sessions::{Memory, let_go, made};
+use crate::sessions::{Memory, expect_each, let_go, made};
 use std::alloc::Global;
 use std::process::Abort;
 use std::test::Fail;
@@ -60,15 +60,14 @@ fn perform_list(
     memory: Memory<'_>,
     session: &mut Session<Memory<'_>>,
     replies: &mut Vec<Reply>,
-) -> Result<bool, Refusal> {
+) -> bool {
     let refusals = memory.refusals();
     let Err(refusal) = perform(session, COMMANDS, replies) else {
-        return Ok(memory.refusals() > refusals);
+        return memory.refusals() > refusals;
     };
-    assert!(rt; refusal == Refusal::Memory);
-    assert!(rt; shows(session, b"#(ps,#(rs))"));
-    perform(session, COMMANDS, replies)?;
-    Ok(false)
+    assert!(rt; refusal == Refusal::Memory && shows(session, b"#(ps,#(rs))"));
+    perform(session, COMMANDS, replies).expect(rt, "it was refused again");
+    false
 }
 
 // A refused request is the reply of its own command. A list of none has no replies.
@@ -77,34 +76,31 @@ fn expect_replies(
     plain: Global,
     memory: Memory<'_>,
     session: &mut Session<Memory<'_>>,
-) -> Result<(), Refusal> {
+) {
     let mut replies = Vec::new(plain);
-    let is_refused = perform_list(rt, memory, session, &mut replies)?;
-    perform(session, &[], &mut replies)?;
+    let is_refused = perform_list(rt, memory, session, &mut replies);
+    perform(session, &[], &mut replies).expect(rt, "it was refused");
     assert!(rt; replies.len() == COMMANDS.len());
-    assert!(rt; is_refused || replies.as_slice() == REPLIES);
-    assert!(rt; is_refused || shows(session, b",#(rs))"));
-    Ok(())
+    let is_met = replies.as_slice() == REPLIES && shows(session, b",#(rs))");
+    assert!(rt; is_refused || is_met);
 }
 
 fn commands_and_replies(rt: &impl Abort, plain: Global, memory: Memory<'_>) -> Result<(), Refusal> {
     let mut session = made(memory, 4)?;
-    let outcome = expect_replies(rt, plain, memory, &mut session);
+    expect_replies(rt, plain, memory, &mut session);
     let_go(session);
-    outcome
-}
-
-#[test]
-fn each_command_has_a_reply(rt: HostRuntime) -> Result<(), Fail> {
-    let memory = Refusing::new(rt.alloc());
-    commands_and_replies(&rt, rt.alloc(), &memory)?;
     Ok(())
 }
 
+// In the last run none is refused.
 #[test]
 fn each_request_of_a_list(rt: HostRuntime) -> Result<(), Fail> {
     let memory = Refusing::new(rt.alloc());
-    let runs = memory.refuse_each(1_000, |_| commands_and_replies(&rt, rt.alloc(), &memory))?;
-    assert!(rt; runs > Some(2), "{runs:?} runs");
+    expect_each(
+        &rt,
+        &memory,
+        2,
+        |_| commands_and_replies(&rt, rt.alloc(), &memory),
+    )?;
     Ok(())
 }

@@ -2,6 +2,7 @@
 ghost use Rattle.std.specs.Prelude.{◌≤◌};
 
 use std::alloc::{Allocator, Global};
+use std::process::Abort;
 use trac_faults::Refusing;
 use trac_rules::limit::JOURNAL_LIMIT;
 use trac_rules::refusal::Refusal;
@@ -31,4 +32,18 @@ pub(crate) fn made(memory: Memory<'_>, limit: usize) -> Result<Session<Memory<'_
 /// Lets a session go. A function that owns one ends with this call, since its own proof would else carry all that is freed.
 pub(crate) fn let_go<A: Allocator + Copy>(session: Session<A>) {
     let _last = session;
+}
+
+/// Each request of this run is refused in turn, which takes more runs than this.
+pub(crate) fn expect_each<E, F: FnMut(u64) -> Result<(), E>>(
+    rt: &impl Abort,
+    memory: Memory<'_>,
+    fewer: u64,
+    run: F,
+) -> Result<(), E>
+    requires { F.IsAlwaysCallable run }
+{
+    let runs = memory.refuse_each(10_000, run)?;
+    assert!(rt; runs > Some(fewer), "{runs:?} runs");
+    Ok(())
 }

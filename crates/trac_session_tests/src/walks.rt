@@ -157,32 +157,6 @@ const A_STRAY_CLOSING_TO_THE_END: &[Act] = &[
     Pending(b"a"),
 ];
 
-const WALKS: &[&[Act]] = &[
-    ELEVEN_STEPS_AND_BACK,
-    A_STRAY_CLOSING,
-    THE_BASE_TEXT_COMES_BACK,
-    AN_UNMATCHED_OPENING,
-    TWO_FUNCTIONS_ARE_BEGUN,
-    MORE_INPUT_IS_WAITED_FOR,
-    A_TRACED_CALL_WAITS_FOR_A_BYTE,
-    A_TRACED_CALL_WAITS_FOR_A_TEXT,
-    NOTHING_BEHIND_THE_END,
-    A_COMMIT_KEEPS_WHAT_IS_UNREAD,
-    FORMS_COME_AND_GO,
-    NO_INPUT,
-    ONE_TEXT,
-    AN_UNMATCHED_OPENING_TO_THE_END,
-    A_STRAY_CLOSING_TO_THE_END,
-];
-
-#[test]
-fn forwards_and_backwards(rt: HostRuntime) -> Result<(), Fail> {
-    for acts in WALKS.iter() {
-        play(&rt, rt.alloc(), JOURNAL_LIMIT, acts)?;
-    }
-    Ok(())
-}
-
 // `rs` weighs 2, and `ps` with its argument `AB` 5. What is gone back over is not weighed any more.
 const A_TEXT_WEIGHS: &[Act] = &[
     Weighs(0),
@@ -235,14 +209,6 @@ const A_DELETED_FORM_WEIGHS: &[Act] = &[
     Forms(1),
 ];
 
-#[test]
-fn weights(rt: HostRuntime) -> Result<(), Fail> {
-    for acts in [A_TEXT_WEIGHS, A_STRAY_CLOSING_WEIGHS, A_DELETED_FORM_WEIGHS] {
-        play(&rt, rt.alloc(), JOURNAL_LIMIT, acts)?;
-    }
-    Ok(())
-}
-
 // Ten plain bytes behind eight steps, over which walks of each length go: to the end of the run, to within it, and past it.
 const A_RUN_OF_PLAIN_BYTES: &[Act] = &[
     Feed(b"ABCDEFGHIJ'"),
@@ -284,12 +250,6 @@ const A_RUN_FILLS_THE_JOURNAL: &[Act] = &[
     Shows(b"#(ps,ABCD^EFGHIJ)"),
 ];
 
-#[test]
-fn runs_of_plain_bytes(rt: HostRuntime) -> Result<(), Fail> {
-    play(&rt, rt.alloc(), JOURNAL_LIMIT, A_RUN_OF_PLAIN_BYTES)?;
-    play(&rt, rt.alloc(), 12, A_RUN_FILLS_THE_JOURNAL)
-}
-
 const A_FULL_JOURNAL: &[Act] = &[
     Feed(b"AB'"),
     ForwardRefused(5, 4, JournalFull),
@@ -301,11 +261,6 @@ const A_FULL_JOURNAL: &[Act] = &[
     Forward(0),
     Back(0),
 ];
-
-#[test]
-fn a_full_journal(rt: HostRuntime) -> Result<(), Fail> {
-    play(&rt, rt.alloc(), 4, A_FULL_JOURNAL)
-}
 
 // A tape one byte too long is refused, and a value one byte longer than the texts may be.
 const LIMITS_ARE_KEPT: &[Act] = &[
@@ -333,8 +288,37 @@ const A_VALUE_THAT_IS_TOO_LONG: &[Act] = &[
     Active(b"))"),
 ];
 
+// How many records a journal may hold, and the acts on a session with that journal.
+const WALKS: &[(usize, &[Act])] = &[
+    (JOURNAL_LIMIT, ELEVEN_STEPS_AND_BACK),
+    (JOURNAL_LIMIT, A_STRAY_CLOSING),
+    (JOURNAL_LIMIT, THE_BASE_TEXT_COMES_BACK),
+    (JOURNAL_LIMIT, AN_UNMATCHED_OPENING),
+    (JOURNAL_LIMIT, TWO_FUNCTIONS_ARE_BEGUN),
+    (JOURNAL_LIMIT, MORE_INPUT_IS_WAITED_FOR),
+    (JOURNAL_LIMIT, A_TRACED_CALL_WAITS_FOR_A_BYTE),
+    (JOURNAL_LIMIT, A_TRACED_CALL_WAITS_FOR_A_TEXT),
+    (JOURNAL_LIMIT, NOTHING_BEHIND_THE_END),
+    (JOURNAL_LIMIT, A_COMMIT_KEEPS_WHAT_IS_UNREAD),
+    (JOURNAL_LIMIT, FORMS_COME_AND_GO),
+    (JOURNAL_LIMIT, NO_INPUT),
+    (JOURNAL_LIMIT, ONE_TEXT),
+    (JOURNAL_LIMIT, AN_UNMATCHED_OPENING_TO_THE_END),
+    (JOURNAL_LIMIT, A_STRAY_CLOSING_TO_THE_END),
+    (JOURNAL_LIMIT, A_TEXT_WEIGHS),
+    (JOURNAL_LIMIT, A_STRAY_CLOSING_WEIGHS),
+    (JOURNAL_LIMIT, A_DELETED_FORM_WEIGHS),
+    (JOURNAL_LIMIT, A_RUN_OF_PLAIN_BYTES),
+    (12, A_RUN_FILLS_THE_JOURNAL),
+    (4, A_FULL_JOURNAL),
+    (64, LIMITS_ARE_KEPT),
+    (JOURNAL_LIMIT, A_VALUE_THAT_IS_TOO_LONG),
+];
+
 #[test]
-fn limits_are_kept(rt: HostRuntime) -> Result<(), Fail> {
-    play(&rt, rt.alloc(), 64, LIMITS_ARE_KEPT)?;
-    play(&rt, rt.alloc(), JOURNAL_LIMIT, A_VALUE_THAT_IS_TOO_LONG)
+fn forwards_and_backwards(rt: HostRuntime) -> Result<(), Fail> {
+    for (limit, acts) in WALKS.iter() {
+        play(&rt, rt.alloc(), *limit, acts)?;
+    }
+    Ok(())
 }

@@ -1,7 +1,7 @@
 //! Whole runs of a session: to the end, and all the way back, where each state is the one on the way out. Each request for
 //! memory is refused in turn, and all of them on the way back.
-use crate::sessions::{Memory, let_go, made};
-use std::alloc::{AllocError, Global};
+use crate::sessions::{Memory, expect_each, let_go, made};
+use std::alloc::Global;
 use std::process::Abort;
 use std::test::Fail;
 use trac_faults::Refusing;
@@ -31,8 +31,8 @@ const SHORT_RUNS: &[(&[u8], &[u8])] = &[
 ];
 
 // What the session shows of its last state.
-fn shown(plain: Global, session: &Session<Memory<'_>>) -> Result<Vec<u8>, AllocError> {
-    state_shown(plain, session.machine())
+fn shown(rt: &impl Abort, plain: Global, session: &Session<Memory<'_>>) -> Vec<u8> {
+    state_shown(plain, session.machine()).expect(rt, "there was no memory")
 }
 
 fn forward(session: &mut Session<Memory<'_>>, n: u64) -> Walk {
@@ -56,21 +56,17 @@ fn feed(session: &mut Session<Memory<'_>>, input: &[u8]) -> Result<(), Refusal> 
 }
 
 // All of this input is fed, where one request may be refused: nothing is done then.
-fn feed_all(session: &mut Session<Memory<'_>>, input: &[u8]) -> Result<(), Refusal> {
+fn feed_all(rt: &impl Abort, session: &mut Session<Memory<'_>>, input: &[u8]) {
     if feed(session, input).is_err() {
-        feed(session, input)?;
+        feed(session, input).expect(rt, "it was refused again");
     }
     session.end();
-    Ok(())
 }
 
 // Keeps what a session shows behind the states that were kept before.
-fn keep(
-    plain: Global,
-    session: &Session<Memory<'_>>,
-    states: &mut Vec<Vec<u8>>,
-) -> Result<(), AllocError> {
-    Ok(states.push(shown(plain, session)?)?)
+fn keep(rt: &impl Abort, plain: Global, session: &Session<Memory<'_>>, states: &mut Vec<Vec<u8>>) {
+    let state = shown(rt, plain, session);
+    states.push(state).expect(rt, "there was no memory");
 }
 
 // To the end, step by step: the state before each step, and the last one.
@@ -79,17 +75,27 @@ fn to_end(
     plain: Global,
     session: &mut Session<Memory<'_>>,
     states: &mut Vec<Vec<u8>>,
-) -> Result<(), AllocError> {
+) {
     let mut why = None;
     for _ in 0..5_000 {
-        keep(plain, session, states)?;
-        why = forward(session, 1).why;
-        if why.is_some() {
-            break;
+        if why.is_none() {
+            keep(rt, plain, session, states);
+            why = forward(session, 1).why;
         }
     }
     assert!(rt; why == Some(Refusal::Ended));
-    Ok(())
+}
+
+// A session shows this.
+fn expect_shown(
+    rt: &impl Abort,
+    plain: Global,
+    session: &Session<Memory<'_>>,
+    state: &[u8],
+    input: &[u8],
+) {
+    let text = shown(rt, plain, session);
+    expect_text(rt, text.as_slice(), state, input);
 }
 
 // All the way back, step by step, while every request for memory is refused: none is made.
@@ -100,22 +106,16 @@ fn to_start(
     session: &mut Session<Memory<'_>>,
     states: &[Vec<u8>],
     input: &[u8],
-) -> Result<(), AllocError> {
+) {
     let requests = memory.requests();
     memory.refuse_all();
     for state in states.iter().rev() {
-        expect_text(
-            rt,
-            shown(plain, session)?.as_slice(),
-            state.as_slice(),
-            input,
-        );
+        expect_shown(rt, plain, session, state.as_slice(), input);
         back(session, 1);
     }
     expect_walk(rt, back(session, 1), 0, Refusal::AtStart);
     assert!(rt; memory.requests() == requests);
     memory.accept_all();
-    Ok(())
 }
 
 // To the end and all the way back: each state is the one on the way out.
@@ -127,12 +127,11 @@ fn there_and_back(
     input: &[u8],
     output: &[u8],
     states: &mut Vec<Vec<u8>>,
-) -> Result<(), Fail> {
-    feed_all(session, input)?;
-    to_end(rt, plain, session, states)?;
+) {
+    feed_all(rt, session, input);
+    to_end(rt, plain, session, states);
     expect_text(rt, session.pending(), output, input);
-    to_start(rt, plain, memory, session, states.as_slice(), input)?;
-    Ok(())
+    to_start(rt, plain, memory, session, states.as_slice(), input);
 }
 
 // The states of such a run, the first one first.
@@ -145,9 +144,8 @@ fn states_of(
 ) -> Result<Vec<Vec<u8>>, Fail> {
     let mut session = made(memory, JOURNAL_LIMIT)?;
     let mut states = Vec::new(plain);
-    let outcome = there_and_back(rt, plain, memory, &mut session, input, output, &mut states);
+    there_and_back(rt, plain, memory, &mut session, input, output, &mut states);
     let_go(session);
-    outcome?;
     Ok(states)
 }
 
@@ -179,10 +177,9 @@ fn expect_state(
     session: &Session<Memory<'_>>,
     states: &[Vec<u8>],
     steps: u64,
-) -> Result<(), AllocError> {
-    let text = shown(plain, session)?;
+) {
+    let text = shown(rt, plain, session);
     assert!(rt; is_state(states, steps, text.as_slice()));
-    Ok(())
 }
 
 // To the end, where one request may be refused: nothing has changed then, and the next try goes on.
@@ -191,17 +188,17 @@ fn to_end_at_once(
     plain: Global,
     session: &mut Session<Memory<'_>>,
     states: &[Vec<u8>],
-) -> Result<(), AllocError> {
+) {
     let steps = steps_over(states);
     let walk = forward(session, u64::MAX);
-    expect_state(rt, plain, session, states, walk.done)?;
+    expect_state(rt, plain, session, states, walk.done);
     if walk.why == Some(Refusal::Memory) {
         let left = steps.saturating_sub(walk.done);
         expect_walk(rt, forward(session, u64::MAX), left, Refusal::Ended);
     } else {
         expect_walk(rt, walk, steps, Refusal::Ended);
     }
-    expect_state(rt, plain, session, states, steps)
+    expect_state(rt, plain, session, states, steps);
 }
 
 // To the end, where one request may be refused, and all the way back while every request is refused.
@@ -212,14 +209,13 @@ fn there_and_back_at_once(
     session: &mut Session<Memory<'_>>,
     input: &[u8],
     states: &[Vec<u8>],
-) -> Result<(), Fail> {
-    feed_all(session, input)?;
-    to_end_at_once(rt, plain, session, states)?;
+) {
+    feed_all(rt, session, input);
+    to_end_at_once(rt, plain, session, states);
     memory.refuse_all();
     let walk = back(session, u64::MAX);
     expect_walk(rt, walk, steps_over(states), Refusal::AtStart);
-    expect_state(rt, plain, session, states, 0)?;
-    Ok(())
+    expect_state(rt, plain, session, states, 0);
 }
 
 fn again(
@@ -230,9 +226,9 @@ fn again(
     states: &[Vec<u8>],
 ) -> Result<(), Fail> {
     let mut session = made(memory, JOURNAL_LIMIT)?;
-    let outcome = there_and_back_at_once(rt, plain, memory, &mut session, input, states);
+    there_and_back_at_once(rt, plain, memory, &mut session, input, states);
     let_go(session);
-    outcome
+    Ok(())
 }
 
 fn expect_short_run(
@@ -242,12 +238,10 @@ fn expect_short_run(
     output: &[u8],
 ) -> Result<(), Fail> {
     let states = states_of(rt, rt.alloc(), memory, input, output)?;
-    let runs = memory.refuse_each(10_000, |_| {
-        again(rt, rt.alloc(), memory, input, states.as_slice())
-    })?;
     // A moved byte takes no memory, so there may be fewer requests than steps.
-    assert!(rt; runs > Some(10), "{runs:?} runs from {input:?}");
-    Ok(())
+    expect_each(rt, memory, 10, |_| {
+        again(rt, rt.alloc(), memory, input, states.as_slice())
+    })
 }
 
 #[test]
