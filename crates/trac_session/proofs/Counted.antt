@@ -44,7 +44,7 @@ entry_behind {A} (entry ∷ entries) long more newest r as_many one =
     ap (λ first. all_moved entry.moved ++ first ++ unrolled with_newest (drop (longs entry.kept) (long ++ more)) 0) (record_before entry.kept long more own)
     ∙ ap (λ rest. all_moved entry.moved ++ record_of entry.kept long ++ unrolled with_newest rest 0) (drop-append-le (longs entry.kept) long more own)
     ∙ more_behind (all_moved entry.moved ++ record_of entry.kept long) (unrolled entries others newest.moved) (unrolled with_newest (others ++ more) 0) (r ∷ [])
-        (entry_behind entries others more newest r as_many_others one)
+    (entry_behind entries others more newest r as_many_others one)
 
 -- which is the one that is kept
 one_more_entry : {A : Type 0} → (entries : List Entry) (old new : List (Record A)) (newest : Entry) (r : Record A) → length old ≡ longs_of entries →

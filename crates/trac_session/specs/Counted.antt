@@ -1,6 +1,6 @@
 -- A journal as its fields show it: records of moved bytes are kept as their number, short ones in entries, and the others in a list of
 -- their own.
-use Rattle.std.specs.Prelude.{◌≡◌, ℕ, ◌+◌, Bool, List, [], ◌∷◌, ◌++◌, length, replicate, take, drop}
+use Rattle.std.specs.Prelude.{◌≡◌, ℕ, ◌+◌, List, [], ◌∷◌, ◌++◌, length, replicate, take, drop}
 use Rattle.trac_step.specs.declared.record.Record.{Record}
 use Rattle.trac_step.specs.declared.record.Record.TheVariants.{Moved, Comma, Begun, Quoted, Deleted}
 use Rattle.trac_session.specs.declared.journal.Entry.{Entry}

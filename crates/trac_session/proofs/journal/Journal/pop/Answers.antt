@@ -1,4 +1,4 @@
-use Rattle.std.proofs.Common.{◌≡◌, ◌≤◌, ◌<◌, [], sym, ◌∙◌, arith}
+use Rattle.std.proofs.Common.{◌≡◌, ◌≤◌, [], sym, ◌∙◌, arith}
 use Rattle.std.proofs.lemmas.List.{nil_from_length}
 use Rattle.trac_session.proofs.Counted.{counted_taken, entry_taken, longs_there, moved_taken, moved_within, no_record}
 use Rattle.trac_session.proofs.journal.Journal.pop.Goals as goal

@@ -1,4 +1,4 @@
-use Rattle.std.proofs.Common.{◌≡◌, ◌+◌, sym, ap, ◌∙◌, arith}
+use Rattle.std.proofs.Common.{ap, arith}
 use Rattle.trac_session.specs.Journal.{weights_by}
 use Rattle.trac_session.specs.Weighed.{entries_weight, weighed}
 use Rattle.trac_session.proofs.Summed.{unrolled_weights}
