@@ -20,7 +20,7 @@ pub(crate) struct Journal<A: Allocator + Copy> {
     entries: Vec<Entry, A>,
     // the records of those entries that are long, in the same order
     long: Vec<Record<A>, A>,
-    // how many bytes were moved since the last of them, a step each
+    // how many bytes were moved since the last entry, a step each
     moved: usize,
     // how many records there are in all
     len: usize,
