@@ -1,11 +1,12 @@
 //! Reading a form at its pointer: what is given, and where the pointer goes. A pointer before a gap and one behind it are two
 //! places. Each call is measured before anything is built or moved.
-ghost use Rattle.std.specs.Prelude.{◌≡◌, ◌+◌, ◌++◌, ◌∷◌, [], ◌≤◌, ◌<◌, length, take, drop, position, option_map, IfOk, IfSome, OnOk, OnErr, IsOkUnless};
+ghost use Rattle.std.specs.Prelude.{◌≡◌, ◌+◌, ◌-◌, ◌^◌, ◌++◌, ◌∷◌, [], ◌≤◌, ◌<◌, length, take, drop, position, option_map, IfOk, IfSome, OnOk, OnErr, IsOkUnless};
+ghost use Rattle.memchr.specs.Find.{FindsNeedle};
 ghost use Rattle.trac_rules.specs.Fronts.{IsFrontOf};
 ghost use Rattle.trac_rules.specs.Pieces.{at_most_all, bytes_in, char_read, count_read, is_gap, last_bytes, next_bytes, place_before, place_behind, place_of_text, segment_items, segment_read, until_read};
 ghost use Rattle.trac_forms.specs.Taken.{IsThere, taken};
 
-use crate::cutting::{end_run, push_item};
+use crate::cutting::end_run;
 use crate::error::FormError;
 use crate::form::Form;
 use memchr::memmem::Finder;
@@ -257,6 +258,9 @@ fn place_of<A: Allocator>(
     first_place_of(alloc, text, items)
 }
 
+// How many bytes of a run are read before it is searched for the first time.
+const FIRST_ROOM: usize = 64;
+
 // The first place of a text that is not null among these items, if it occurs.
 fn first_place_of<A: Allocator>(
     alloc: A,
@@ -271,18 +275,23 @@ fn first_place_of<A: Allocator>(
 {
     let finder = Finder::new(text);
     // the run that is read so far, where it begins, and how many bytes stand before it
-    let mut run = Vec::new(alloc);
+    let mut run = Vec::with_capacity(alloc, FIRST_ROOM)?;
     let mut start = Reached { items: 0, bytes: 0 };
     for item in items {
         if let Item::Byte(b) = *item {
-            push_item(b, &mut run)?;
+            // The run is searched each time before its room doubles, so that what is read and searched grows with how far away
+            // the text stands, and not with what is left.
+            if run.len() == run.capacity() {
+                if let Some(at) = place_in_run(&finder, run.as_slice(), start) {
+                    return Ok(Some(at));
+                }
+                run.reserve(run.len().max(FIRST_ROOM))?;
+            }
+            run.push_reserved(b);
             continue;
         }
-        if let Some(place) = finder.find(run.as_slice()) {
-            return Ok(Some(Reached {
-                items: start.items + place,
-                bytes: start.bytes + place,
-            }));
+        if let Some(at) = place_in_run(&finder, run.as_slice(), start) {
+            return Ok(Some(at));
         }
         start = Reached {
             items: start.items + run.len() + 1,
@@ -290,13 +299,22 @@ fn first_place_of<A: Allocator>(
         };
         end_run(&mut run);
     }
-    match finder.find(run.as_slice()) {
-        Some(place) => Ok(Some(Reached {
-            items: start.items + place,
-            bytes: start.bytes + place,
-        })),
-        None => Ok(None),
-    }
+    Ok(place_in_run(&finder, run.as_slice(), start))
+}
+
+// The first place of a text in a run of bytes that begins at `start`, if it occurs there.
+fn place_in_run(finder: &Finder<'_>, run: &[u8], start: Reached) -> Option<Reached>
+    requires items { start.items + length run.now < 2 ^ 64 }
+    requires bytes { start.bytes ≤ start.items }
+    ensures place { FindsNeedle run.now finder.now 0 (option_map (λ at. at.items - start.items) result) }
+    ensures behind { IfSome result (λ at. start.items ≤ at.items) }
+    ensures bytes { IfSome result (λ at. at.bytes + start.items ≡ start.bytes + at.items) }
+{
+    let place = finder.find(run)?;
+    Some(Reached {
+        items: start.items + place,
+        bytes: start.bytes + place,
+    })
 }
 
 // Puts the first `most` bytes of these items, or as many as there are, at the end of `out`, and answers how many.
@@ -310,24 +328,16 @@ fn first_bytes_into<B: Allocator>(
     ensures left { OnErr result (IsFrontOf out.old.items out.new.items) }
     ensures err { IsOkUnless result FormError.Memory }
 {
+    out.reserve(most.min(items.len()))?;
     let mut put = 0;
     for item in items {
         if put == most {
             return Ok(put);
         }
         if let Item::Byte(b) = *item {
-            byte_into(b, out)?;
+            out.push_reserved(b);
             put += 1;
         }
     }
     Ok(put)
-}
-
-// Puts a byte at the end of `out`.
-fn byte_into<B: Allocator>(b: u8, out: &mut Vec<u8, B>) -> Result<(), FormError>
-    ensures ok { OnOk result (out.new.items ≡ out.old.items ++ b ∷ []) }
-    ensures left { OnErr result (out.new.items ≡ out.old.items) }
-    ensures err { IsOkUnless result FormError.Memory }
-{
-    Ok(out.push(b)?)
 }
