@@ -77,8 +77,8 @@ impl<A: Allocator + Copy> Form<A> {
     /// occurrence crosses a gap; a null text occurs at once, also at the end (this project's profile). `None` where it does not
     /// occur. This is the rule of `in`.
     ///
-    /// Refused with `Memory` where the allocator refuses: runs of bytes between gaps are copied for the search. They are copied in
-    /// growing parts, so time and memory grow with what is passed, and not with all that is left (this project's profile).
+    /// Refused with `Memory` where the allocator refuses: runs of bytes between gaps are copied for the search, in growing
+    /// parts, so that time and memory grow with what is passed, and not with all that is left (this project's profile).
     pub fn read_until(&self, text: &[u8]) -> Result<Option<Piece>, FormError>
         ensures read { IfOk result (λ r. option_map (λ p. taken p self.now) r ≡ until_read text.now self.now) }
         ensures there { IfOk result (λ r. IfSome r (IsThere self.now)) }
