@@ -77,7 +77,8 @@ impl<A: Allocator + Copy> Form<A> {
     /// occurrence crosses a gap; a null text occurs at once, also at the end (this project's profile). `None` where it does not
     /// occur. This is the rule of `in`.
     ///
-    /// Refused with `Memory` where the allocator refuses: runs of bytes between gaps are copied for the search.
+    /// Refused with `Memory` where the allocator refuses: runs of bytes between gaps are copied for the search, in growing
+    /// parts, so that time and memory grow with what is passed, and not with all that is left (this project's profile).
     pub fn read_until(&self, text: &[u8]) -> Result<Option<Piece>, FormError>
         ensures read { IfOk result (λ r. option_map (λ p. taken p self.now) r ≡ until_read text.now self.now) }
         ensures there { IfOk result (λ r. IfSome r (IsThere self.now)) }
@@ -258,8 +259,8 @@ fn place_of<A: Allocator>(
     first_place_of(alloc, text, items)
 }
 
-// How many bytes of a run are read before it is searched for the first time.
-const FIRST_ROOM: usize = 64;
+// How many bytes are read at least before they are searched for the first time.
+const FIRST_ROOM: usize = 16;
 
 // The first place of a text that is not null among these items, if it occurs.
 fn first_place_of<A: Allocator>(
@@ -275,12 +276,12 @@ fn first_place_of<A: Allocator>(
 {
     let finder = Finder::new(text);
     // the run that is read so far, where it begins, and how many bytes stand before it
-    let mut run = Vec::with_capacity(alloc, FIRST_ROOM)?;
+    let mut run = Vec::new(alloc);
     let mut start = Reached { items: 0, bytes: 0 };
     for item in items {
         if let Item::Byte(b) = *item {
-            // The run is searched each time before its room doubles, so that what is read and searched grows with how far away
-            // the text stands, and not with what is left.
+            // Searched each time before its room doubles: so it is read at most about twice as far as the text stands, and
+            // searched about twice in all, however much is left of it.
             if run.len() == run.capacity() {
                 if let Some(at) = place_in_run(&finder, run.as_slice(), start) {
                     return Ok(Some(at));
