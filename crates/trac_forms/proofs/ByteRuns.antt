@@ -75,7 +75,8 @@ module _ (texts : List (List ℕ)) (items run behind : List Item) (seam : items 
 
 -- what goes on twice goes on
 pub goes_on_twice : (start old xs middle ys new : List ℕ) → IsFrontOf start old → middle ≡ old ++ xs → new ≡ middle ++ ys → IsFrontOf start new
-goes_on_twice start old xs middle ys new front put more =
-    ((front.0 ++ xs) ++ ys,
-      more ∙ ap (λ (m : List ℕ). m ++ ys) (put ∙ ap (λ (m : List ℕ). m ++ xs) front.1 ∙ append_assoc start front.0 xs)
-      ∙ append_assoc start (front.0 ++ xs) ys)
+goes_on_twice start old xs middle ys new front put more = (
+  (front.0 ++ xs) ++ ys,
+  more ∙ ap (λ (m : List ℕ). m ++ ys) (put ∙ ap (λ (m : List ℕ). m ++ xs) front.1 ∙ append_assoc start front.0 xs)
+      ∙ append_assoc start (front.0 ++ xs) ys,
+)

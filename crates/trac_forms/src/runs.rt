@@ -70,9 +70,7 @@ fn bytes_into<B: Allocator>(run: &[Item], out: &mut Vec<u8, B>)
     ensures capacity { vec_capacity out.new ≡ vec_capacity out.old }
 {
     for item in run {
-        let Item::Byte(b) = *item else {
-            unreachable!()
-        };
+        let Item::Byte(b) = *item else { unreachable!() };
         out.push_reserved(b);
     }
 }
