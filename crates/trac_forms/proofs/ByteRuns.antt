@@ -1,7 +1,8 @@
 -- Runs of bytes among items.
-use Rattle.std.proofs.Common.{◌≡◌, ℕ, ◌+◌, ◌-◌, ◌<◌, ◌≤◌, List, [], ◌∷◌, ◌++◌, length, take, drop, get_or, false, refl, sym, ap, ◌∙◌, arith}
+use Rattle.std.proofs.Common.{◌≡◌, ℕ, ◌+◌, ◌<◌, Bool, true, List, [], ◌∷◌, ◌++◌, length, take, drop, get_or, false, refl, sym, ap, ◌∙◌, arith}
+use Rattle.std.specs.Prelude.{◌||◌}
 use Rattle.std.proofs.lemmas.Grind.{flat_map-append}
-use Rattle.std.proofs.lemmas.List.{append_assoc, drop-take, length-append, take-append-drop, take-take}
+use Rattle.std.proofs.lemmas.List.{append_assoc, length-append, take-append-drop}
 use Rattle.trac_rules.specs.declared.item.Item.{Item}
 use Rattle.trac_rules.specs.declared.item.Item.TheVariants.{Byte, Gap}
 use Rattle.trac_rules.specs.Filling.{all_filled, filled}
@@ -10,24 +11,20 @@ use Rattle.trac_rules.specs.Pieces.{bytes_in, is_gap}
 use Rattle.trac_rules.specs.Weights.{gap_count}
 use Rattle.trac_forms.proofs.Segments.{gap_count-append, gaps_more}
 
--- n items more
-take_group : (n m : ℕ) (items : List Item) → take (n + m) items ≡ take n items ++ take m (drop n items)
-take_group n m items =
-    sym (take-append-drop n (take (n + m) items))
-    ∙ (λ i. take-take n (n + m) items (omega arith) i ++ drop-take n m items i)
-
--- a group without a gap
-pub group_passed : (n m size : ℕ) (items : List Item) → m ≡ size → gap_count (take n items) ≡ 0 → gap_count (take m (drop n items)) ≡ 0 → gap_count (take (n + size) items) ≡ 0
-group_passed n m size items e before group =
-    omega (arith, ap (λ k. gap_count (take (n + k) items)) e, ap gap_count (take_group n m items), gap_count-append (take n items) (take m (drop n items)), before, group)
-
 -- a byte is no gap
 no_gap : (item : Item) → is_gap item ≡ false → gap_count (item ∷ []) ≡ 0
 no_gap (Byte b) h = refl
 no_gap (Gap k w) h = absurd cc
 
-pub byte_passed : (n : ℕ) (items : List Item) (d : Item) → n < length items → gap_count (take n items) ≡ 0 → is_gap (get_or items n d) ≡ false → gap_count (take (n + 1) items) ≡ 0
-byte_passed n items d l before h = omega (arith, gaps_more items n d l, before, no_gap (get_or items n d) h)
+-- a byte more
+pub byte_passed : (items : List Item) (n m : ℕ) (d : Item) → m ≡ n + 1 → n < length items → gap_count (take n items) ≡ 0 → is_gap (get_or items n d) ≡ false → gap_count (take m items) ≡ 0
+byte_passed items n m d e l before h =
+    omega (arith, ap (λ k. gap_count (take k items)) e, gaps_more items n d l, before, no_gap (get_or items n d) h)
+
+-- neither of two
+pub neither : (a b : Bool) → (a || b) ≡ false → (a ≡ false) × (b ≡ false)
+neither false b h = (refl, h)
+neither true b h = absurd cc
 
 -- where there is no gap each item is a byte
 pub all_bytes : (items : List Item) (i : ℕ) (d : Item) → i < length items → gap_count items ≡ 0 → ((b : ℕ) → get_or items i d ≡ Byte b → ⊥) → ⊥
@@ -78,7 +75,8 @@ module _ (texts : List (List ℕ)) (items run behind : List Item) (seam : items 
 
 -- what goes on twice goes on
 pub goes_on_twice : (start old xs middle ys new : List ℕ) → IsFrontOf start old → middle ≡ old ++ xs → new ≡ middle ++ ys → IsFrontOf start new
-goes_on_twice start old xs middle ys new front put more =
-    ((front.0 ++ xs) ++ ys,
-      more ∙ ap (λ (m : List ℕ). m ++ ys) (put ∙ ap (λ (m : List ℕ). m ++ xs) front.1 ∙ append_assoc start front.0 xs)
-      ∙ append_assoc start (front.0 ++ xs) ys)
+goes_on_twice start old xs middle ys new front put more = (
+  (front.0 ++ xs) ++ ys,
+  more ∙ ap (λ (m : List ℕ). m ++ ys) (put ∙ ap (λ (m : List ℕ). m ++ xs) front.1 ∙ append_assoc start front.0 xs)
+      ∙ append_assoc start (front.0 ++ xs) ys,
+)

@@ -122,7 +122,7 @@ impl<A: Allocator + Copy> Form<A> {
 }
 
 // How many of these items are gaps.
-pub(crate) fn gaps_among(items: &[Item]) -> usize
+fn gaps_among(items: &[Item]) -> usize
     ensures { result ≡ gap_count items.now }
 {
     let mut count = 0;

@@ -1,5 +1,5 @@
 -- Runs are counted, and the items behind them.
-use Rattle.std.proofs.Common.{◌≡◌, length, ap, ◌∙◌, arith}
+use Rattle.std.proofs.Common.{length, ap, ◌∙◌, arith}
 use Rattle.std.proofs.lemmas.List.{nil_from_length}
 use Rattle.trac_rules.specs.Filling.{all_filled}
 use Rattle.trac_rules.specs.Weights.{gap_count}
