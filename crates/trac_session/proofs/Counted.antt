@@ -2,7 +2,7 @@
 use Rattle.std.proofs.Common.{◌≡◌, ℕ, ◌+◌, ◌-◌, ◌≤◌, List, [], ◌∷◌, ◌++◌, length, drop, refl, sym, ap, ◌∙◌, arith}
 use Rattle.std.proofs.lemmas.List.{append-nil, append_assoc, drop-append-le, length-append, length-drop, length-replicate, nil_from_length, replicate-append-replicate, take-append-le}
 use Rattle.trac_step.specs.declared.record.Record.{Record}
-use Rattle.trac_step.specs.declared.record.Record.TheVariants.{Moved}
+use Rattle.trac_step.specs.declared.record.Record.TheVariants.{Moved, Comma, Begun, Quoted, Deleted}
 use Rattle.trac_session.specs.declared.journal.Entry.{Entry}
 use Rattle.trac_session.specs.declared.journal.Kept.{Kept}
 use Rattle.trac_session.specs.declared.journal.Kept.TheVariants as variant
@@ -172,3 +172,19 @@ entry_taken old new newest old_long new_long r moved count none last counted is_
       counted = record { all = omega (arith, counted.all, fewer); long_ones = as_many };
       some = omega (arith, counted.all, fewer);
     }
+
+-- ---- records that an entry holds
+
+-- what an entry keeps without a long record is a record, whatever the long ones are
+pub record IsWhole {A : Type 0} (k : Kept) (long : List (Record A)) : Type 0 where
+  pub one : Record A
+  pub is : record_of k [] ≡ one ∷ []
+  pub kept : IsKept k one long long
+
+pub whole_entry : {A : Type 0} → (k : Kept) (long : List (Record A)) → longs k ≡ 0 → IsWhole k long
+whole_entry variant.Comma long none = record { one = Comma; is = refl; kept = record { more = []; behind = sym (append-nil long); one = refl; count = refl } }
+whole_entry variant.Begun long none = record { one = Begun; is = refl; kept = record { more = []; behind = sym (append-nil long); one = refl; count = refl } }
+whole_entry (variant.Quoted closed inner) long none =
+    record { one = Quoted inner closed; is = refl; kept = record { more = []; behind = sym (append-nil long); one = refl; count = refl } }
+whole_entry (variant.Deleted b) long none = record { one = Deleted b; is = refl; kept = record { more = []; behind = sym (append-nil long); one = refl; count = refl } }
+whole_entry variant.Long long none = absurd (omega (arith, none))

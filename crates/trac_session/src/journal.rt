@@ -1,15 +1,17 @@
 //! The journal of a session: what its steps destroyed.
-ghost use Rattle.std.specs.Prelude.{◌≡◌, ◌<◌, ◌≤◌, ◌+◌, ◌^◌, ◌++◌, ◌∷◌, [], length, IfErr, IfOk, OnErr, OnOk, IsOk, MatchOption};
+ghost use Rattle.std.specs.Prelude.{◌≡◌, ◌<◌, ◌≤◌, ◌+◌, ◌^◌, ◌++◌, ◌∷◌, [], length, IfErr, IfOk, OnErr, OnOk, IsOk, IsOkUnless, MatchOption};
 ghost use Rattle.trac_rules.specs.declared.limit.TheConstants.{JOURNAL_LIMIT};
 ghost use Rattle.trac_step.specs.declared.record.Record.TheVariants.{Moved};
-ghost use Rattle.trac_session.specs.Counted.{all_moved, longs, IsKept};
+ghost use Rattle.trac_step.specs.Record.{whole_of};
+ghost use Rattle.trac_session.specs.Counted.{all_moved, longs, record_of, IsKept};
 ghost use Rattle.trac_session.specs.Journal.{weights_by};
 ghost use Rattle.trac_session.specs.Weighed.{entries_weight, weighed};
 
 use std::alloc::Allocator;
 use std::marker::Model;
 use std::mem::size_of;
-use trac_step::Record;
+use trac_rules::refusal::Refusal;
+use trac_step::{Record, Short};
 
 /// What the steps of a session destroyed, a record for each, seen as the list of these, the oldest first. Bytes that were moved one
 /// after another are kept as their number: so a step over a plain byte takes no memory. A short record stands in an entry of two words,
@@ -108,6 +110,50 @@ impl<A: Allocator + Copy> Journal<A> {
             }
             other => self.push_entry(other),
         }
+    }
+
+    /// Keeps one short record more, the newest. That of a moved byte takes no memory and is never refused.
+    /// Where there is no memory for any other, the journal stays as it was.
+    pub(crate) fn push_short(&mut self, newest: Short) -> Result<(), Refusal>
+        requires { length self.old < JOURNAL_LIMIT }
+        ensures kept { OnOk result (self.new ≡ self.old ++ whole_of newest ∷ []) }
+        ensures same { OnErr result (self.new ≡ self.old) }
+        ensures err { IsOkUnless result Refusal.Memory }
+    {
+        match newest {
+            Short::Moved => Ok(self.push_moved(1)),
+            Short::Comma => self.push_kept(Kept::Comma),
+            Short::Begun => self.push_kept(Kept::Begun),
+            Short::Quoted { inner, closed } if inner <= u32::MAX as usize => {
+                let inner = inner as u32;
+                self.push_kept(Kept::Quoted { closed, inner })
+            }
+            Short::Deleted(byte) => self.push_kept(Kept::Deleted(byte)),
+            Short::Quoted { .. } => match self.push_entry(newest.whole()) {
+                Ok(()) => Ok(()),
+                Err(_) => Err(Refusal::Memory),
+            },
+        }
+    }
+
+    // Keeps one record more in an entry that holds all of it, behind the bytes that were moved before its step.
+    fn push_kept(&mut self, kept: Kept) -> Result<(), Refusal>
+        requires not_full { length self.old < JOURNAL_LIMIT }
+        requires whole { longs kept ≡ 0 }
+        ensures kept { OnOk result (self.new ≡ self.old ++ record_of kept []) }
+        ensures same { OnErr result (self.new ≡ self.old) }
+        ensures err { IsOkUnless result Refusal.Memory }
+    {
+        let Ok(()) = self.entries.reserve(1) else {
+            return Err(Refusal::Memory);
+        };
+        self.entries.push_reserved(Entry {
+            moved: self.moved,
+            kept,
+        });
+        self.moved = 0;
+        self.len += 1;
+        Ok(())
     }
 
     /// Keeps so many records more, each of a moved byte. It takes no memory.
