@@ -70,20 +70,15 @@ pub(crate) fn nothing<A: Allocator + Copy>(alloc: A) -> Parts<A> {
     }
 }
 
-// Two begun functions, and the texts.
-fn add_texts<A: Allocator + Copy>(alloc: A, parts: &mut Parts<A>) -> Result<(), Refusal> {
-    parts.active.extend_from_slice(b")#(x")?;
-    parts.base.extend_from_slice(b"bb")?;
-    parts.output.extend_from_slice(b"out")?;
+// Two begun functions, forms and blocks.
+fn rich<A: Allocator + Copy>(alloc: A) -> Result<Parts<A>, Refusal> {
+    let mut parts = nothing(alloc);
+    parts.active = Vec::from_slice(alloc, b")#(x")?;
+    parts.base = Vec::from_slice(alloc, b"bb")?;
     parts
         .frames
         .push((Kind::Active, texts(alloc, &[b"ds", b"", b"A"])?))?;
     parts.frames.push((Kind::Neutral, texts(alloc, &[b"cl"])?))?;
-    Ok(())
-}
-
-// Forms and blocks, and further names.
-fn add_forms<A: Allocator + Copy>(alloc: A, parts: &mut Parts<A>) -> Result<(), Refusal> {
     parts.forms = named(alloc, FORMS)?;
     parts
         .forms
@@ -91,16 +86,9 @@ fn add_forms<A: Allocator + Copy>(alloc: A, parts: &mut Parts<A>) -> Result<(), 
     parts.blocks.push(Some(named(alloc, HELD)?))?;
     parts.blocks.push(None)?;
     parts.blocks.push(Some(Vec::new(alloc)))?;
-    parts.names = texts(alloc, &[b"later", b"A"])?;
-    Ok(())
-}
-
-// Two begun functions, forms and blocks. Each part is added to parts that are lent, since letting them go at each end is dear to prove.
-fn rich<A: Allocator + Copy>(alloc: A) -> Result<Parts<A>, Refusal> {
-    let mut parts = nothing(alloc);
+    parts.output = Vec::from_slice(alloc, b"out")?;
     parts.text_room = 1_000;
-    add_texts(alloc, &mut parts)?;
-    add_forms(alloc, &mut parts)?;
+    parts.names = texts(alloc, &[b"later", b"A"])?;
     Ok(parts)
 }
 
@@ -194,26 +182,27 @@ fn rich_state(rt: HostRuntime) -> Result<(), Fail> {
 }
 
 // Each request for memory is refused in turn.
-fn expect_refusals<'a>(rt: &impl Abort, memory: Memory<'a>, parts: &Parts<Memory<'a>>) {
+fn expect_refusals(rt: &impl Abort, memory: Memory<'_>) -> Result<(), Refusal> {
+    let parts = rich(memory)?;
     for nth in 1..MOST_REQUESTS {
         let refusals = memory.refusals();
         memory.refuse_nth(nth);
-        let refusal = unloaded(rt, memory, parts);
+        let refusal = unloaded(rt, memory, &parts);
         memory.accept_all();
         if memory.refusals() == refusals {
             assert!(rt; nth > 10 && refusal.is_none());
-            return;
+            return Ok(());
         }
         assert!(rt; refusal == Some(Refusal::Memory));
     }
     assert!(rt; false, "too many requests");
+    Ok(())
 }
 
 #[test]
 fn each_request_refused(rt: HostRuntime) -> Result<(), Fail> {
     let memory = Refusing::new(rt.alloc());
-    let parts = rich(&memory)?;
-    expect_refusals(&rt, &memory, &parts);
+    expect_refusals(&rt, &memory)?;
     Ok(())
 }
 
@@ -233,18 +222,19 @@ fn refusal_wanted(fits: bool) -> Option<Refusal> {
     if fits { None } else { Some(Refusal::TooLong) }
 }
 
-fn expect_rooms(rt: &impl Abort, plain: Global, parts: &mut Parts) {
+fn expect_rooms(rt: &impl Abort, plain: Global) {
     for (text, marks, output, fits) in ROOMS.iter() {
+        let mut parts = nothing(plain);
         parts.text_room = *text;
         parts.mark_room = *marks;
         parts.output_room = *output;
-        assert!(rt; unloaded(rt, plain, parts) == refusal_wanted(*fits));
+        assert!(rt; unloaded(rt, plain, &parts) == refusal_wanted(*fits));
     }
 }
 
 #[test]
 fn rooms(rt: HostRuntime) -> Result<(), Fail> {
-    expect_rooms(&rt, rt.alloc(), &mut nothing(rt.alloc()));
+    expect_rooms(&rt, rt.alloc());
     Ok(())
 }
 
@@ -256,21 +246,22 @@ fn long_text(plain: Global, len: usize) -> Result<Vec<u8>, Refusal> {
 }
 
 // Base text and active text that are too long together, and a further name that is.
-fn expect_lengths(rt: &impl Abort, plain: Global, parts: &mut Parts) -> Result<(), Refusal> {
+fn expect_lengths(rt: &impl Abort, plain: Global) -> Result<(), Refusal> {
+    let mut parts = nothing(plain);
     parts.base = long_text(plain, TEXT_LIMIT)?;
-    assert!(rt; unloaded(rt, plain, parts).is_none());
+    assert!(rt; unloaded(rt, plain, &parts).is_none());
     parts.active = long_text(plain, 1)?;
-    assert!(rt; unloaded(rt, plain, parts) == Some(Refusal::TooLong));
+    assert!(rt; unloaded(rt, plain, &parts) == Some(Refusal::TooLong));
     parts.base.clear();
     parts.names.push(long_text(plain, NAME_LIMIT)?)?;
-    assert!(rt; unloaded(rt, plain, parts).is_none());
+    assert!(rt; unloaded(rt, plain, &parts).is_none());
     parts.names.push(long_text(plain, NAME_LIMIT + 1)?)?;
-    assert!(rt; unloaded(rt, plain, parts) == Some(Refusal::TooLong));
+    assert!(rt; unloaded(rt, plain, &parts) == Some(Refusal::TooLong));
     Ok(())
 }
 
 #[test]
 fn lengths(rt: HostRuntime) -> Result<(), Fail> {
-    expect_lengths(&rt, rt.alloc(), &mut nothing(rt.alloc()))?;
+    expect_lengths(&rt, rt.alloc())?;
     Ok(())
 }
