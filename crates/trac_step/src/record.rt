@@ -1,6 +1,6 @@
 //! What a step leaves for the way back, and going back.
 ghost use Rattle.std.specs.Prelude.{◌≡◌, IsSomeAnd, Some};
-ghost use Rattle.trac_step.specs.Record.{before};
+ghost use Rattle.trac_step.specs.Record.{before, recorded_by, said_by, whole_of};
 ghost use Rattle.trac_step.specs.Room.{HasRoom, IsNoLess};
 
 use crate::engine::Core;
@@ -58,6 +58,43 @@ pub enum Record<A: Allocator + Copy = Global> {
         /// What was destroyed of forms and blocks.
         change: Undone<A>,
     },
+}
+
+/// The record of a step that performs no function and leaves the texts of all others: two words say it, and it owns no memory
+/// (this project's profile).
+#[derive(Clone, Copy)]
+pub enum Short {
+    /// A byte went to the current text.
+    Moved,
+    /// An argument was finished, and a null one begun.
+    Comma,
+    /// A function was begun.
+    Begun,
+    /// A protected text went to the current text.
+    Quoted {
+        /// How many bytes it has.
+        inner: usize,
+        /// Whether a match of its `(` was deleted.
+        closed: bool,
+    },
+    /// This byte was deleted.
+    Deleted(u8),
+}
+
+impl Short {
+    /// The same record among those of all steps. It takes no memory (this project's profile).
+    pub fn whole<A: Allocator + Copy>(self) -> Record<A>
+        ensures same { result ≡ whole_of self }
+        ensures said { recorded_by result ≡ said_by self }
+    {
+        match self {
+            Short::Moved => Record::Moved,
+            Short::Comma => Record::Comma,
+            Short::Begun => Record::Begun,
+            Short::Quoted { inner, closed } => Record::Quoted { inner, closed },
+            Short::Deleted(byte) => Record::Deleted(byte),
+        }
+    }
 }
 
 impl<E: TwoEnds<u8, A>, M: TwoEnds<Mark, A>, A: Allocator + Copy> Core<E, M, A> {
