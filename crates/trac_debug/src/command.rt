@@ -13,7 +13,7 @@ pub const SPACE: u8 = b' ';
 pub const DIGIT_LIMIT: usize = 9;
 
 /// What the debugger is told to do.
-#[derive(Clone, Copy, Debug, PartialEq, Eq)]
+#[derive(Clone, Copy)]
 pub enum Command<'a> {
     /// Go forward by so many steps.
     Forward(u64),

@@ -1,5 +1,5 @@
 //! How texts and forms are shown.
-ghost use Rattle.std.specs.Prelude.{◌≡◌, ◌++◌, ◌-◌, ◌<◌, ◌≤◌, length, take, drop, OnOk, decimal};
+ghost use Rattle.std.specs.Prelude.{◌≡◌, ◌++◌, ◌-◌, ◌<◌, ◌≤◌, length, take, drop, codes, OnOk, decimal};
 ghost use Rattle.std.specs.Char.{digit_char};
 ghost use Rattle.trac_rules.specs.Form.{all_items};
 ghost use Rattle.trac_debug.specs.Texts.{bracketed, bracketed_form, escaped, escaped_byte, escaped_item, escaped_items, form_line, is_shown, number_line, text_line};
@@ -126,10 +126,17 @@ pub fn text_line_into<A: Allocator>(
 ) -> Result<(), AllocError>
     ensures { OnOk result (out.new.items ≡ out.old.items ++ text_line word.now text.now) }
 {
+    lead_into(word, text, out)?;
+    Ok(out.push(LINE_FEED)?)
+}
+
+// Puts a word and a text behind it at the end of a text.
+fn lead_into<A: Allocator>(word: &[u8], text: &[u8], out: &mut Vec<u8, A>) -> Result<(), AllocError>
+    ensures { OnOk result (out.new.items ≡ out.old.items ++ (word.now ++ (codes " " ++ bracketed text.now))) }
+{
     out.extend_from_slice(word)?;
     out.extend_from_slice(b" ")?;
-    text_into(text, out)?;
-    Ok(out.push(LINE_FEED)?)
+    text_into(text, out)
 }
 
 /// Puts a line of a word and a number at the end of a text. The error is that memory was refused.
@@ -155,9 +162,7 @@ pub fn form_line_into<A: Allocator + Copy, B: Allocator>(
 ) -> Result<(), AllocError>
     ensures { OnOk result (out.new.items ≡ out.old.items ++ form_line word.now (name.now, form.now)) }
 {
-    out.extend_from_slice(word)?;
-    out.extend_from_slice(b" ")?;
-    text_into(name, out)?;
+    lead_into(word, name, out)?;
     out.extend_from_slice(b" ")?;
     form_into(form, out)?;
     Ok(out.push(LINE_FEED)?)
