@@ -2,6 +2,7 @@
 ghost use Rattle.std.specs.Prelude.{◌≡◌, ◌<◌, ◌≤◌, ◌+◌, ◌^◌, ◌++◌, ◌∷◌, [], length, IfErr, IfOk, OnErr, OnOk, IsOk, IsOkUnless, MatchOption};
 ghost use Rattle.trac_rules.specs.declared.limit.TheConstants.{JOURNAL_LIMIT};
 ghost use Rattle.trac_step.specs.declared.record.Record.TheVariants.{Moved};
+ghost use Rattle.trac_step.specs.declared.record.Short.TheVariants as short;
 ghost use Rattle.trac_step.specs.Record.{whole_of};
 ghost use Rattle.trac_session.specs.Counted.{all_moved, longs, record_of, IsKept};
 ghost use Rattle.trac_session.specs.Journal.{weights_by};
@@ -119,6 +120,7 @@ impl<A: Allocator + Copy> Journal<A> {
         ensures kept { OnOk result (self.new ≡ self.old ++ whole_of newest ∷ []) }
         ensures same { OnErr result (self.new ≡ self.old) }
         ensures err { IsOkUnless result Refusal.Memory }
+        ensures moved { newest ≡ short.Moved → IsOk result }
     {
         match newest {
             Short::Moved => Ok(self.push_moved(1)),

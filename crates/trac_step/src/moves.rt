@@ -118,9 +118,10 @@ impl<E: TwoEnds<u8, A>, M: TwoEnds<Mark, A>, A: Allocator + Copy> Core<E, M, A> 
         self.move_on(front)
     }
 
-    /// Takes the next step where it performs no function and does not empty all texts, and answers its record: it is the step that
-    /// `step` takes. None where the next step is another one, or would be refused, and then nothing is changed. What it answers is
-    /// short, and so it takes less time than `step` (this project's profile).
+    /// Takes the next step where it performs no function, does not empty all texts and needs no more room than there is, and answers
+    /// its record: it is the step that `step` takes. None where the next step is another one, or would be refused, and then nothing
+    /// is changed. It asks for no memory, and takes less time than `step`, whose record has room for all that a call destroys (this
+    /// project's profile).
     pub fn scan_step(&mut self) -> Option<Short>
         ensures taken { IfSome result (λ _. (environment : Environment) → step environment self.old.state ≡ Ok self.new.state) }
         ensures recorded { IfSome result (λ r. (environment : Environment) → record_of environment self.old.state ≡ Some (said_by r)) }
@@ -137,10 +138,18 @@ impl<E: TwoEnds<u8, A>, M: TwoEnds<Mark, A>, A: Allocator + Copy> Core<E, M, A> 
         if !self.move_fits(front) {
             return None;
         }
+        if !self.has_mark_room(front) {
+            return None;
+        }
         match self.move_briefly(front) {
             Ok(short) => Some(short),
             Err(_) => None,
         }
+    }
+
+    // Whether there is room for the mark that the rule for this front makes, if it makes one.
+    fn has_mark_room(&self, front: Front) -> bool {
+        !makes_mark(front, self.marks.left().len()) || self.marks.room() > 0
     }
 
     // Whether the rule for this front asks for no call and does not empty all texts.

@@ -1,6 +1,6 @@
 -- The block holds what was listed, unless that is too much, or memory lacks; an erased one is none.
 use Rattle.std.proofs.Common.{◌≡◌, ◌<◌, ◌≤◌, List, ℕ, false, length, refl, sym, ap, subst, ◌∙◌}
-use Rattle.std.specs.Prelude.{Option, Some, Ok, Err, Vec}
+use Rattle.std.specs.Prelude.{Option, Some, Ok, Vec}
 use Rattle.std.proofs.lemmas.Bool.{le-leb}
 use Rattle.std.proofs.lemmas.Result.{err_from_is_err_and}
 use Rattle.trac_rules.specs.declared.limit.TheConstants.{FORM_COUNT_LIMIT}

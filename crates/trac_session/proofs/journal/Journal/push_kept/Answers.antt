@@ -1,4 +1,3 @@
-use Rattle.std.proofs.Common.{ap, sym, ◌∙◌, ◌++◌}
 use Rattle.trac_session.specs.declared.journal.Entry.{Entry}
 use Rattle.trac_session.proofs.Counted.{entry_kept, whole_entry}
 use Rattle.trac_session.proofs.journal.Journal.push_kept.Goals as goal

@@ -2,10 +2,10 @@ use Rattle.std.proofs.Common.{◌≡◌, ◌<◌, ◌≤◌, length, sym, ap, �
 use Rattle.std.proofs.lemmas.Result.{on_err_weaker, on_ok_weaker}
 use Rattle.trac_forms.proofs.Going.{on_err}
 use Rattle.trac_rules.specs.declared.kind.Kind.TheVariants.{Active, Neutral}
-use Rattle.trac_rules.specs.declared.scan.Front.TheVariants.{Nothing, Opening, Layout, Comma, ActiveCall, NeutralCall, Sharp, Plain}
+use Rattle.trac_rules.specs.declared.scan.Front.TheVariants.{Opening, Layout, Comma, ActiveCall, NeutralCall, Sharp, Plain}
 use Rattle.trac_rules.specs.Scanning.{Moves, deleted, begun, comma_in}
 use Rattle.trac_rules.specs.Limits.{marks, texts_fit}
-use Rattle.trac_rules.specs.Records.{Deleted, Idle}
+use Rattle.trac_rules.specs.Records.{Deleted}
 use Rattle.trac_step.specs.Layout.{Shown}
 use Rattle.trac_step.proofs.Recorded.{argument_marks, closing_kept, lacks_a_mark, recorded_front}
 use Rattle.trac_step.proofs.Scans.{scan_front}
