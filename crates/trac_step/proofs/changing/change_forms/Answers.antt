@@ -1,16 +1,17 @@
 -- Each change by the function that makes it, under the name that the call gave.
-use Rattle.std.proofs.Common.{List, ℕ, ◌≤◌, ap, drop, length, subst, sym, ◌∙◌, IsTrue}
-use Rattle.std.specs.Prelude.{Some}
+use Rattle.std.proofs.Common.{◌≡◌, List, ℕ, ◌≤◌, ap, drop, length, subst, sym, ◌∙◌, IsTrue}
+use Rattle.std.specs.Prelude.{IfSome, Some, vec_capacity}
 use Rattle.std.proofs.lemmas.List.{length-map}
 use Rattle.std.specs.FinMap as finite
 use Rattle.std.specs.FinSet as set
 use Rattle.trac_rules.specs.Blocks.{erased, moved_out, put_aside}
+use Rattle.trac_rules.specs.Cuts.{cut_of}
 use Rattle.trac_rules.specs.Handling.{keeping, without}
 use Rattle.trac_rules.specs.State.{Forms}
 use Rattle.trac_rules.specs.Undone.{MoveOut, Restore, Swap, Unbring, block_lost, pointer_lost}
 use Rattle.trac_prims.specs.Changes.{NamesGiven, cut_lost}
 use Rattle.trac_prims.specs.Effects.{cut_in, named_forms, pointed, texts_of, with_form}
-use Rattle.trac_step.specs.Changing.{HasPlaceFor, cleared_names, held_by}
+use Rattle.trac_step.specs.Changing.{HasPlaceFor, cleared_names, held_by, leaving_count}
 use Rattle.trac_step.proofs.Replacing.{block_apart}
 use Rattle.trac_forms.specs.Stored.{Stored, storage_in}
 use Rattle.trac_step.proofs.Clearing.{all_leave, none_stays}
@@ -140,3 +141,28 @@ returns-in-Erase-clause-undone g c =
     let store = c.args.store.now in
     rw c.in-Erase.is
     (c.erase.ensures.undone ∙ ap (λ n. block_lost (Some c.in-Erase.number) (finite.get store.forms n) store.blocks) c.as_slice-in-Erase.ensures.value)
+
+pub take_each-requires-clause-none : goal.take_each-requires-clause-none
+take_each-requires-clause-none g c = c.requires.made.list_is_empty
+
+pub take_each-requires-clause-room : goal.take_each-requires-clause-room
+take_each-requires-clause-room g c =
+    subst (λ change. leaving_count change (length c.args.places.names.items) ≤ vec_capacity c.args.places.forms) c.in-Remove.is c.requires.made.list_room
+
+pub take_each-requires-in-Clear-clause-room : goal.take_each-requires-in-Clear-clause-room
+take_each-requires-in-Clear-clause-room g c =
+    subst (λ change. leaving_count change (length c.args.places.names.items) ≤ vec_capacity c.args.places.forms) c.in-Clear.is c.requires.made.list_room
+
+pub replace_each-requires-clause-room : goal.replace_each-requires-clause-room
+replace_each-requires-clause-room g c =
+    subst (λ change. leaving_count change (length c.args.places.names.items) ≤ vec_capacity c.args.places.forms) c.in-Bring.is c.requires.made.list_room
+
+pub cut_out-requires : goal.cut_out-requires
+cut_out-requires g c =
+    let arguments = c.args.arguments.now in
+    let forms = c.args.store.now.forms in
+    let given = subst (NamesGiven arguments (storage_in c.args.store.now)) c.in-Cut.is c.requires.given in
+    subst (λ (n : List ℕ). IfSome (finite.get forms n) (λ form. c.in-Cut.cut ≡ cut_of (drop 2 arguments) form)) (sym (c.as_slice-in-Cut.ensures.value ∙ given.0)) given.1
+
+pub erase-requires : goal.erase-requires
+erase-requires g c = (subst (NamesGiven c.args.arguments.now (storage_in c.args.store.now)) c.in-Erase.is c.requires.given).1

@@ -2,6 +2,7 @@
 use Rattle.std.proofs.Common.{◌++◌, List, ℕ, ap, arith, subst, sym, ◌∙◌, IsTrue}
 use Rattle.std.specs.Prelude.{length, Vec}
 use Rattle.std.specs.FinSet as set
+use Rattle.std.proofs.lemmas.List.{append-nil}
 use Rattle.std.specs.Vec.Iter.{into_iter_items}
 use Rattle.trac_forms.specs.Stored.{AreApart, Stored}
 use Rattle.trac_prims.specs.Effects.{named_forms}
@@ -9,6 +10,7 @@ use Rattle.trac_rules.specs.Blocks.{moved_out, with_all}
 use Rattle.trac_rules.specs.Form.{Form}
 use Rattle.trac_rules.specs.Undone.{names_in}
 use Rattle.trac_step.specs.Changing.{KnowsNamed}
+use Rattle.trac_step.proofs.Emptied.{none_left}
 use Rattle.trac_step.proofs.Replacing.{none_replaced, one_replaced, put_on, still_known, still_apart}
 use Rattle.trac_step.proofs.Stored.{known_first}
 use Rattle.trac_step.proofs.leaving.replace_each.Goals as goal
@@ -61,3 +63,16 @@ loop-name-preserved g c =
           c.in_default.ensures.replaced _ at.invariant.3,
       omega (arith, at.invariant.4, ap length steps),
     )
+
+pub returns-clause-store : goal.returns-clause-store
+returns-clause-store g c =
+    let at = c.loop-name in
+    ap (λ (es : List (Vec ℕ g.row.A.Denot × Form)). let kept : Stored = record at.store { forms = with_all (named_forms es) at.store.forms } in kept)
+    (sym (none_left (into_iter_items at.name-iterator) (sym at.name-iterator.rest.ok.0 ∙ c.in-None.ensures.steps.0))) ∙ at.invariant.0
+
+pub returns-clause-replaced : goal.returns-clause-replaced
+returns-clause-replaced g c =
+    let at = c.loop-name in
+    sym (append-nil (named_forms at.replaced.items))
+    ∙ ap (λ (es : List (Vec ℕ g.row.A.Denot × Form)). named_forms at.replaced.items ++ moved_out (names_in (named_forms es)) at.store.forms)
+    (sym (none_left (into_iter_items at.name-iterator) (sym at.name-iterator.rest.ok.0 ∙ c.in-None.ensures.steps.0))) ∙ at.invariant.3

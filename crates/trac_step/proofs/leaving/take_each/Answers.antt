@@ -1,13 +1,14 @@
 -- The form that is taken next; a name without a form is passed over.
-use Rattle.std.proofs.Common.{◌++◌, [], ◌∷◌, List, ℕ, ap, arith, ◌∙◌}
+use Rattle.std.proofs.Common.{◌++◌, [], ◌∷◌, List, ℕ, ap, arith, sym, ◌∙◌}
 use Rattle.std.specs.Prelude.{length, Vec}
 use Rattle.std.specs.Vec.Iter.{into_iter_items}
-use Rattle.std.proofs.lemmas.List.{map-append}
+use Rattle.std.proofs.lemmas.List.{append-nil, map-append}
 use Rattle.trac_forms.specs.Stored.{Stored}
 use Rattle.trac_prims.specs.Effects.{named_forms, texts_of}
 use Rattle.trac_rules.specs.Blocks.{moved_out}
 use Rattle.trac_rules.specs.Form.{Form}
 use Rattle.trac_rules.specs.Handling.{without}
+use Rattle.trac_step.proofs.Emptied.{none_left}
 use Rattle.trac_step.proofs.MovedForms.{left_next, moved_next, none_next}
 use Rattle.trac_step.proofs.leaving.take_each.Goals as goal
 
@@ -50,3 +51,16 @@ loop-name-preserved g c =
           c.in_default.ensures.taken at.invariant.1,
       omega (arith, at.invariant.2, ap length steps),
     )
+
+pub returns-clause-store : goal.returns-clause-store
+returns-clause-store g c =
+    let at = c.loop-name in
+    ap (λ (ns : List (Vec ℕ g.row.A.Denot)). let kept : Stored = record at.store { forms = without (texts_of ns) at.store.forms } in kept)
+    (sym (none_left (into_iter_items at.name-iterator) (sym at.name-iterator.rest.ok.0 ∙ c.in-None.ensures.steps.0))) ∙ at.invariant.0
+
+pub returns-clause-taken : goal.returns-clause-taken
+returns-clause-taken g c =
+    let at = c.loop-name in
+    sym (append-nil (named_forms at.taken.items))
+    ∙ ap (λ (ns : List (Vec ℕ g.row.A.Denot)). named_forms at.taken.items ++ moved_out (texts_of ns) at.store.forms)
+    (sym (none_left (into_iter_items at.name-iterator) (sym at.name-iterator.rest.ok.0 ∙ c.in-None.ensures.steps.0))) ∙ at.invariant.1
