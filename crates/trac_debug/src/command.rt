@@ -31,8 +31,8 @@ pub enum Command<'a> {
     Quit,
 }
 
-/// The command that a line says, without what ends it; none where it is not understood. Words are separated by exactly one space
-/// (this project's profile). It takes no memory.
+/// The command that a line says, without what ends it; none where it is not understood. Words are separated by exactly one
+/// space (this project's profile). It takes no memory.
 pub fn command_in(line: &[u8]) -> Option<Command<'_>>
     ensures { option_map command_seen result ≡ command_of line.now }
 {

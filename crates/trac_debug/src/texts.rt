@@ -41,8 +41,9 @@ fn byte_into<A: Allocator>(byte: u8, out: &mut Vec<u8, A>) -> Result<(), AllocEr
     Ok(out.push(hexadecimal_digit(byte % 16))?)
 }
 
-/// Puts a text in brackets at the end of another one, byte by byte: bytes 32 to 126 but for `[`, `\` and `]` as themselves, every
-/// other one as `\x` and two hexadecimal digits in lower case (this project's profile). The error is that memory was refused.
+/// Puts a text in brackets at the end of another one, byte by byte: bytes 32 to 126 but for `[`, `\` and `]` as
+/// themselves, every other one as `\x` and two hexadecimal digits in lower case (this project's profile). The
+/// error is that memory was refused.
 pub fn text_into<A: Allocator>(text: &[u8], out: &mut Vec<u8, A>) -> Result<(), AllocError>
     ensures { OnOk result (out.new.items ≡ out.old.items ++ bracketed text.now) }
 {
@@ -103,8 +104,8 @@ fn items_into<A: Allocator + Copy, B: Allocator>(
     Ok(())
 }
 
-/// Puts a form in brackets at the end of a text: its items, with `<^>` at the place of its pointer. The error is that memory was
-/// refused.
+/// Puts a form in brackets at the end of a text: its items, with `<^>` at the place of its pointer. The
+/// error is that memory was refused.
 pub fn form_into<A: Allocator + Copy, B: Allocator>(
     form: &Form<A>,
     out: &mut Vec<u8, B>,

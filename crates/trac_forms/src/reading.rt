@@ -1,5 +1,5 @@
-//! Reading a form at its pointer: what is given, and where the pointer goes. A pointer before a gap and one behind it are two
-//! places. Each call is measured before anything is built or moved.
+//! Reading a form at its pointer: what is given, and where the pointer goes. A pointer before a gap and one behind it are
+//! two places. Each call is measured before anything is built or moved.
 ghost use Rattle.std.specs.Prelude.{◌≡◌, ◌+◌, ◌-◌, ◌^◌, ◌++◌, ◌∷◌, [], ◌≤◌, ◌<◌, length, take, drop, position, option_map, IfOk, IfSome, OnOk, OnErr, IsOkUnless};
 ghost use Rattle.memchr.specs.Find.{FindsNeedle};
 ghost use Rattle.trac_rules.specs.Fronts.{IsFrontOf};
@@ -14,8 +14,8 @@ use std::alloc::Allocator;
 use trac_gap::TwoEnds;
 use trac_rules::item::Item;
 
-/// What a call reads of a form, measured: its bytes are the first `len` from the lesser of the form's and the piece's pointer
-/// on, with gaps passed and not given.
+/// What a call reads of a form, measured: its bytes are the first `len` from the lesser of the form's and the piece's
+/// pointer on, with gaps passed and not given.
 #[derive(Clone, Copy, Debug, PartialEq, Eq)]
 pub struct Piece {
     /// How many bytes are given.
@@ -25,8 +25,8 @@ pub struct Piece {
 }
 
 impl<A: Allocator + Copy> Form<A> {
-    /// The bytes from the pointer up to the next gap, the pointer behind that gap; without a gap all bytes, the pointer at the
-    /// end. `None` where nothing stands after the pointer, no gap either. This is the rule of `cs`. It takes no memory.
+    /// The bytes from the pointer up to the next gap, the pointer behind that gap; without a gap all bytes, the pointer at
+    /// the end. `None` where nothing stands after the pointer, no gap either. This is the rule of `cs`. It takes no memory.
     pub fn read_segment(&self) -> Option<Piece>
         ensures read { option_map (λ p. taken p self.now) result ≡ segment_read self.now }
         ensures there { IfSome result (IsThere self.now) }
@@ -51,10 +51,10 @@ impl<A: Allocator + Copy> Form<A> {
         self.read_next(1)
     }
 
-    /// For `n` above 0 the next `n` bytes, or as many as there are, the pointer right behind the last of them. For `n` below 0
-    /// as many bytes before the pointer, in the order of the text, the pointer right before the first of them. For 0 null, the
-    /// pointer unmoved. Gaps are passed and not given (this project's profile). `None` where `n` is not 0 and no byte stands on
-    /// that side. This is the rule of `cn`. It takes no memory.
+    /// For `n` above 0 the next `n` bytes, or as many as there are, the pointer right behind the last of them. For `n` below
+    /// 0 as many bytes before the pointer, in the order of the text, the pointer right before the first of them. For 0 null,
+    /// the pointer unmoved. Gaps are passed and not given (this project's profile). `None` where `n` is not 0 and no byte
+    /// stands on that side. This is the rule of `cn`. It takes no memory.
     pub fn read_count(&self, n: i64) -> Option<Piece>
         ensures read { option_map (λ p. taken p self.now) result ≡ count_read n self.now }
         ensures there { IfSome result (IsThere self.now) }
@@ -74,8 +74,8 @@ impl<A: Allocator + Copy> Form<A> {
     }
 
     /// The bytes before the first occurrence of `text` after the pointer, the pointer right behind that occurrence. No
-    /// occurrence crosses a gap; a null text occurs at once, also at the end (this project's profile). `None` where it does not
-    /// occur. This is the rule of `in`.
+    /// occurrence crosses a gap; a null text occurs at once, also at the end (this project's profile). `None` where it does
+    /// not occur. This is the rule of `in`.
     ///
     /// Refused with `Memory` where the allocator refuses: runs of bytes between gaps are copied for the search, in growing
     /// parts, so that time and memory grow with what is passed, and not with all that is left (this project's profile).
@@ -93,8 +93,9 @@ impl<A: Allocator + Copy> Form<A> {
         }))
     }
 
-    /// Puts the bytes of a piece at the end of `out`: the first `piece.len` bytes from the lesser of the form's and the piece's
-    /// pointer on, with gaps passed. The pointer stays. A form that has fewer gives what it has (this project's profile).
+    /// Puts the bytes of a piece at the end of `out`: the first `piece.len` bytes from the lesser of the
+    /// form's and the piece's pointer on, with gaps passed. The pointer stays. A form that has fewer gives
+    /// what it has (this project's profile).
     ///
     /// Refused with `Memory` where the allocator refuses; then `out` still begins with what it held.
     pub fn piece_into<B: Allocator>(

@@ -44,8 +44,8 @@ pub(crate) struct Beginning {
     pub(crate) kind: Kind,
 }
 
-// Where the function of a planned call begins, and what the call's record says beside its arguments, and what was destroyed of forms and
-// blocks.
+// Where the function of a planned call begins, and what the call's record says beside its arguments, and what was
+// destroyed of forms and blocks.
 #[derive(Clone, Copy)]
 pub(crate) struct Plan {
     pub(crate) beginning: Beginning,
@@ -96,7 +96,8 @@ fn cut_function<E: TwoEnds<u8, A>, M: TwoEnds<Mark, A>, A: Allocator + Copy>(
     marks.cut_left(marks.left().len() - beginning.number);
 }
 
-// Puts a value where it goes: behind the neutral text for a neutral function, where it is not forced, else before the active text.
+// Puts a value where it goes: behind the neutral text for a neutral function, where it is not
+// forced, else before the active text.
 fn put_value<E: TwoEnds<u8, A>, A: Allocator + Copy>(
     text: &mut E,
     kind: Kind,
@@ -124,8 +125,8 @@ pub(crate) fn append<A: Allocator + Copy>(list: &mut Vec<u8, A>, text: &[u8])
 }
 
 impl<E: TwoEnds<u8, A>, M: TwoEnds<Mark, A>, A: Allocator + Copy> Core<E, M, A> {
-    // What the call will do that the next step performs, where its function begins, and what its record says, with a copy of its arguments;
-    // or why it is refused.
+    // What the call will do that the next step performs, where its function begins, and what its record says, with a copy of
+    // its arguments; or why it is refused.
     fn planned(&self, tape: Tape<'_>) -> Result<(Plan, Effect<A>, Pieces<A>), Refusal>
         requires front { front_of self.now.state.active ≡ Front.Closing }
         requires inside { 0 < length self.now.state.frames }
@@ -186,7 +187,8 @@ impl<E: TwoEnds<u8, A>, M: TwoEnds<Mark, A>, A: Allocator + Copy> Core<E, M, A> 
         places_for(*self.output.allocator(), &self.store, &effect.change)
     }
 
-    // Takes the memory that the call still needs: for what leaves forms and blocks, and room for what it adds. The state stays.
+    // Takes the memory that the call still needs: for what leaves forms and blocks, and room for
+    // what it adds. The state stays.
     fn made_ready(&mut self, effect: &Effect<A>) -> Result<Places<A>, Refusal>
         ensures room_for { OnOk result (HasRoomFor effect.now self.new) }
         ensures made { IfOk result (AreMadeFor effect.now.change self.old.state.forms) }
@@ -199,8 +201,8 @@ impl<E: TwoEnds<u8, A>, M: TwoEnds<Mark, A>, A: Allocator + Copy> Core<E, M, A> 
         Ok(places)
     }
 
-    // Performs the call: forms and blocks change, the function is gone, what it prints is printed, and its value is where it goes. Answers
-    // what was destroyed of forms and blocks. It takes no memory.
+    // Performs the call: forms and blocks change, the function is gone, what it prints is printed, and its value is where it
+    // goes. Answers what was destroyed of forms and blocks. It takes no memory.
     fn finish_call(
         &mut self,
         beginning: Beginning,

@@ -59,8 +59,8 @@ impl<E: TwoEnds<u8, A>, M: TwoEnds<Mark, A>, A: Allocator + Copy> Core<E, M, A> 
         Ok(Short::Comma)
     }
 
-    // The first n bytes of the active text are deleted, and a function of this kind is begun, or, where none is named, a further
-    // argument of the innermost one.
+    // The first n bytes of the active text are deleted, and a function of this kind is begun, or, where none is named, a
+    // further argument of the innermost one.
     pub(crate) fn mark(&mut self, n: usize, frame: Option<Kind>) -> Result<(), Refusal>
         requires front { n ≤ length self.old.state.active }
         requires inside { frame ≡ None → 0 < length self.old.state.frames }
@@ -85,9 +85,9 @@ impl<E: TwoEnds<u8, A>, M: TwoEnds<Mark, A>, A: Allocator + Copy> Core<E, M, A> 
         Short::Moved
     }
 
-    /// Moves the plain bytes with which the active text begins, counted up to `most`, to the current text, and answers how many these
-    /// are: as many steps of T-64's rules of scanning, each of which would answer the record `Moved`. It takes no memory, and the
-    /// machine has room for each state on the way (this project's profile).
+    /// Moves the plain bytes with which the active text begins, counted up to `most`, to the current text, and answers how
+    /// many these are: as many steps of T-64's rules of scanning, each of which would answer the record `Moved`. It takes no
+    /// memory, and the machine has room for each state on the way (this project's profile).
     pub fn move_plain(&mut self, most: usize) -> usize
         ensures moved { self.new ≡ record self.old { state = moved_on result self.old.state } }
         ensures plain { BeginsPlain result self.old.state }
