@@ -2,6 +2,7 @@
 use crate::expect::Memory;
 use crate::stores::{Act, add};
 use std::alloc::Global;
+use std::process::Abort;
 use trac_forms::{Block, Form, FormError, Store};
 
 /// Acts on the blocks of a store.
@@ -49,15 +50,20 @@ fn add_block(out: &mut Vec<u8>, block: &Block<Memory<'_>>) -> Result<(), FormErr
 
 /// The blocks in order: `-` for an erased one, else its forms as they are printed, each behind its name and `=` and before `;`,
 /// between `[` and `]`.
-pub(crate) fn blocks_shown(plain: Global, store: &Store<Memory<'_>>) -> Result<Vec<u8>, FormError> {
+pub(crate) fn blocks_shown(rt: &impl Abort, plain: Global, store: &Store<Memory<'_>>) -> Vec<u8> {
     let mut out = Vec::new(plain);
+    add_blocks(&mut out, store).expect(rt, "there was no memory");
+    out
+}
+
+fn add_blocks(out: &mut Vec<u8>, store: &Store<Memory<'_>>) -> Result<(), FormError> {
     for i in 0..store.block_count() {
         match store.block(i) {
-            Some(block) => add_block(&mut out, block)?,
-            None => add(&mut out, b"-")?,
+            Some(block) => add_block(out, block)?,
+            None => add(out, b"-")?,
         }
     }
-    Ok(out)
+    Ok(())
 }
 
 /// Moves the form of this name, if there is one, into a new block. All memory is taken before the form is moved.

@@ -22,6 +22,12 @@ const CALLS: &[(&[u8], &[usize], &[u8])] = &[
     (b"adapples5pears3", &[2, 9], b"apples8||keep 0"),
     // A quotient by zero: the default argument, forced.
     (b"DV10none", &[2, 3, 4], b"none!||keep 0"),
+    // Octal strings at the ends of their arguments.
+    (b"bu12x7", &[2, 4], b"17||keep 0"),
+    (b"bi1237", &[2, 5], b"3||keep 0"),
+    (b"bc017", &[2], b"760||keep 0"),
+    (b"bs312", &[2, 3], b"20||keep 0"),
+    (b"br-11", &[2, 4], b"4||keep 0"),
     (b"psX", &[2], b"|X|keep 0"),
     (b"rs", &[], b"AB||keep 3"),
     (b"rc", &[], b"A||keep 1"),
@@ -121,7 +127,7 @@ fn runs_over<'a>(
     store: &Store<Memory<'a>>,
     call: &Call<'_>,
     wanted: &[u8],
-) -> Result<u64, Refusal> {
+) -> Result<u64, Fail> {
     for nth in 1..100 {
         let refusals = memory.refusals();
         memory.refuse_nth(nth);
@@ -142,8 +148,7 @@ fn runs_of(
     wanted: &[u8],
 ) -> Result<u64, Fail> {
     let store = with_forms(memory)?;
-    let runs = runs_over(rt, plain, memory, &store, call, wanted)?;
-    Ok(runs)
+    runs_over(rt, plain, memory, &store, call, wanted)
 }
 
 #[test]
@@ -161,7 +166,7 @@ fn expect_without_memory<'a>(
     plain: Global,
     memory: Memory<'a>,
     store: &Store<Memory<'a>>,
-) -> Result<(), Refusal> {
+) -> Result<(), Fail> {
     for (text, places, wanted) in CALLS_WITHOUT_MEMORY.iter() {
         expect_planned(rt, plain, memory, store, &call_of(text, places), wanted)?;
     }
@@ -173,8 +178,7 @@ fn calls_without_memory(rt: HostRuntime) -> Result<(), Fail> {
     let memory = Refusing::new(rt.alloc());
     let store = with_forms(&memory)?;
     memory.refuse_all();
-    expect_without_memory(&rt, rt.alloc(), &memory, &store)?;
-    Ok(())
+    expect_without_memory(&rt, rt.alloc(), &memory, &store)
 }
 
 // What a call without arguments gives: its name, whether the trace is on, whether the tape has ended, and how many of its bytes

@@ -2,11 +2,11 @@
 ghost use Rattle.std.specs.Prelude.{◌≡◌, ◌≤◌, length, IfOk};
 ghost use Rattle.trac_rules.specs.Cuts.{cut_of};
 
-use crate::expect::{Memory, expect_each};
+use crate::expect::{Memory, Trial, expect_trials};
 use crate::forms::{expect_shown, made, set_pointer};
+use std::alloc::Global;
 use std::process::Abort;
 use std::test::Fail;
-use trac_faults::Refusing;
 use trac_forms::{Cut, CutGap, Form, FormError, Texts};
 use trac_rules::limit::MARK_LIMIT;
 
@@ -140,18 +140,26 @@ fn there_and_back<'a>(
     expect_shown(rt, memory, form, case.joined)
 }
 
-fn expect_case(rt: &impl Abort, memory: Memory<'_>, case: &Case) -> Result<(), FormError> {
-    let mut form = made(memory, case.text)?;
-    cut_out(rt, &mut form, case.earlier)?;
-    set_pointer(rt, &mut form, 1);
-    there_and_back(rt, memory, &mut form, case)
+fn expect_case<'a>(
+    rt: &impl Abort,
+    memory: Memory<'a>,
+    form: &mut Form<Memory<'a>>,
+    case: &Case,
+) -> Result<(), Fail> {
+    cut_out(rt, form, case.earlier)?;
+    set_pointer(rt, form, 1);
+    there_and_back(rt, memory, form, case)?;
+    Ok(())
+}
+
+impl Trial for Case {
+    fn run(&self, rt: &impl Abort, _plain: Global, memory: Memory<'_>) -> Result<(), Fail> {
+        let mut form = made(memory, self.text)?;
+        expect_case(rt, memory, &mut form, self)
+    }
 }
 
 #[test]
 fn each_request(rt: HostRuntime) -> Result<(), Fail> {
-    let memory = Refusing::new(rt.alloc());
-    for case in CASES.iter() {
-        expect_each(&rt, &memory, 3, |_| expect_case(&rt, &memory, case))?;
-    }
-    Ok(())
+    expect_trials(&rt, 3, CASES)
 }

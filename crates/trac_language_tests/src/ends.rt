@@ -2,11 +2,10 @@
 //! is refused in turn.
 ghost use Rattle.std.specs.Prelude.{◌<◌};
 
-use crate::expect::{Memory, expect_each, expect_text};
+use crate::expect::{Memory, Trial, expect_text, expect_trials};
 use std::alloc::{AllocError, Allocator, Global};
 use std::process::Abort;
 use std::test::Fail;
-use trac_faults::Refusing;
 use trac_gap::{GapBuf, GapError, PlainEnds, TwoEnds};
 
 // One call. Room is made before an item is put in; no more is taken than is there.
@@ -160,19 +159,26 @@ fn play_row<E: TwoEnds<u8, A>, A: Allocator + Copy>(
     play_on(rt, &mut ends)
 }
 
-fn play_each<'a, E: TwoEnds<u8, Memory<'a>>>(
-    rt: &impl Abort,
-    memory: Memory<'a>,
-) -> Result<(), GapError> {
-    expect_each(rt, memory, 5, |_| play_row::<E, Memory<'_>>(rt, memory))
+// The row on each of the types.
+#[derive(Clone, Copy)]
+enum Ends {
+    Plain,
+    Gap,
+}
+
+impl Trial for Ends {
+    fn run(&self, rt: &impl Abort, _plain: Global, memory: Memory<'_>) -> Result<(), Fail> {
+        match self {
+            Ends::Plain => play_row::<PlainEnds<u8, Memory<'_>>, Memory<'_>>(rt, memory)?,
+            Ends::Gap => play_row::<GapBuf<u8, Memory<'_>>, Memory<'_>>(rt, memory)?,
+        }
+        Ok(())
+    }
 }
 
 #[test]
 fn each_request(rt: HostRuntime) -> Result<(), Fail> {
-    let memory = Refusing::new(rt.alloc());
-    play_each::<PlainEnds<u8, Memory<'_>>>(&rt, &memory)?;
-    play_each::<GapBuf<u8, Memory<'_>>>(&rt, &memory)?;
-    Ok(())
+    expect_trials(&rt, 5, &[Ends::Plain, Ends::Gap])
 }
 
 // Where the long sequence takes its calls and amounts from.
@@ -212,114 +218,91 @@ fn drawn_act(index: usize) -> Act {
 }
 
 // One call on both, which hold the same then; and how long the longer list is.
-fn carry_out_on_both(
+fn carry_out_on_both<E: TwoEnds<u8, A>, F: TwoEnds<u8, A>, A: Allocator + Copy>(
     rt: &impl Abort,
-    plain: &mut PlainEnds<u8>,
-    gap: &mut GapBuf<u8>,
+    ends: &mut E,
+    others: &mut F,
     act: Act,
 ) -> Result<usize, GapError> {
-    let item = carry_out(plain, act)?;
-    let other = carry_out(gap, act)?;
+    let item = carry_out(ends, act)?;
+    let other = carry_out(others, act)?;
     assert!(rt; other == item);
-    expect_lists(rt, gap, plain.left(), plain.right());
-    Ok(gap.left().len().max(gap.right().len()))
+    expect_lists(rt, others, ends.left(), ends.right());
+    Ok(others.left().len().max(others.right().len()))
 }
 
-#[test]
-fn a_long_sequence(rt: HostRuntime) -> Result<(), Fail> {
-    let mut plain: PlainEnds<u8> = PlainEnds::new(rt.alloc());
-    let mut gap: GapBuf<u8> = GapBuf::new(rt.alloc());
+// The long sequence on both.
+fn play_long<E: TwoEnds<u8, A>, F: TwoEnds<u8, A>, A: Allocator + Copy>(
+    rt: &impl Abort,
+    ends: &mut E,
+    others: &mut F,
+) -> Result<(), Fail> {
     let mut most = 0;
     for index in 0..4000 {
-        let longer = carry_out_on_both(&rt, &mut plain, &mut gap, drawn_act(index))?;
+        let longer = carry_out_on_both(rt, ends, others, drawn_act(index))?;
         most = longer.max(most);
     }
     assert!(rt; most > 64, "the lists stay too short");
     Ok(())
 }
 
-// Bytes up to this number, and then so many that one place is left: on the left, or on the right.
-fn fill<E: TwoEnds<u8, A>, A: Allocator + Copy>(ends: &mut E, count: usize, on_the_left: bool) {
-    for i in 0..count {
-        if ends.room() > 1 {
-            let item = (drawn(i, 256) & 0xff) as u8;
-            if on_the_left {
-                ends.push_left(item);
-            } else {
-                ends.push_right(item);
-            }
-        }
-    }
+#[test]
+fn a_long_sequence(rt: HostRuntime) -> Result<(), Fail> {
+    let mut plain: PlainEnds<u8> = PlainEnds::new(rt.alloc());
+    let mut gap: GapBuf<u8> = GapBuf::new(rt.alloc());
+    play_long(&rt, &mut plain, &mut gap)
 }
 
-// A list with room for one more: so many items on the left, and the others on the right.
-fn nearly_full<E: TwoEnds<u8, A>, A: Allocator + Copy>(
-    rt: &impl Abort,
-    alloc: A,
-    places: usize,
-    lefts: usize,
-) -> Result<E, GapError> {
-    let mut ends = E::new(alloc);
-    ends.reserve(places)?;
-    assert!(rt; ends.room() >= places);
-    fill(&mut ends, lefts, true);
-    fill(&mut ends, places.saturating_mul(2), false);
-    assert!(rt; ends.room() == 1);
-    Ok(ends)
-}
-
-fn copied<E: TwoEnds<u8, A>, A: Allocator + Copy>(ends: &E) -> Result<E, GapError> {
-    ends.copy()
-}
-
-// So many of the items that were last on the left are now first on the right.
-fn expect_moved(rt: &impl Abort, left: &[u8], right: &[u8], before: &[u8], moved: usize) {
-    let (front, back) = before.split_at(before.len().saturating_sub(moved));
-    expect_text(rt, left, front);
-    assert!(rt; back.len() == moved && right.starts_with(back));
-}
-
-// Behind so many items the right is as before.
-fn expect_end(rt: &impl Abort, right: &[u8], before: &[u8], moved: usize) {
-    let (_, rest) = right.split_at(moved.min(right.len()));
-    expect_text(rt, rest, before);
-}
-
-// So many items go from the left to the right and back.
-fn there_and_back<E: TwoEnds<u8, A>, A: Allocator + Copy>(
+// So many items on the left of both, and others on the right, until the second list has one place left.
+fn fill<E: TwoEnds<u8, A>, F: TwoEnds<u8, A>, A: Allocator + Copy>(
     rt: &impl Abort,
     ends: &mut E,
-    before: &E,
-    moved: usize,
-) {
-    shift_right(ends, moved);
-    expect_moved(rt, ends.left(), ends.right(), before.left(), moved);
-    expect_end(rt, ends.right(), before.right(), moved);
-    shift_left(ends, moved);
-    expect_lists(rt, ends, before.left(), before.right());
+    others: &mut F,
+    lefts: usize,
+) -> Result<(), GapError> {
+    for index in 0..lefts {
+        carry_out_on_both(rt, ends, others, Act::PushLeft((index & 0xff) as u8))?;
+    }
+    for index in 0..20_000 {
+        if others.room() > 1 {
+            carry_out_on_both(rt, ends, others, Act::PushRight((index & 0xff) as u8))?;
+        }
+    }
+    assert!(rt; others.room() == 1);
+    Ok(())
 }
 
-// That is done over a gap that on `GapBuf` is one place.
-fn over_one_place<E: TwoEnds<u8, A>, A: Allocator + Copy>(
+// So many items go from the left to the right and back, over a gap that in the second list is one place.
+fn over_one_place<E: TwoEnds<u8, A>, F: TwoEnds<u8, A>, A: Allocator + Copy>(
     rt: &impl Abort,
-    alloc: A,
+    ends: &mut E,
+    others: &mut F,
     (places, lefts, moved): (usize, usize, usize),
-) -> Result<(), GapError> {
-    let mut ends: E = nearly_full(rt, alloc, places, lefts)?;
-    let before = copied(&ends)?;
-    assert!(rt; before.room() >= 1);
-    there_and_back(rt, &mut ends, &before, moved);
+) -> Result<(), Fail> {
+    carry_out_on_both(rt, ends, others, Act::Reserve(places))?;
+    fill(rt, ends, others, lefts)?;
+    carry_out_on_both(rt, ends, others, Act::ShiftRight(moved))?;
+    carry_out_on_both(rt, ends, others, Act::ShiftLeft(moved))?;
+    assert!(rt; others.left().len() == lefts && others.room() == 1);
     Ok(())
 }
 
 // How many places there are, how many items stand on the left, and how many of them are moved.
 const NEARLY_FULL: &[(usize, usize, usize)] = &[(16, 8, 7), (5_000, 4_999, 4_999)];
 
+fn nearly_full<E: TwoEnds<u8, A>, F: TwoEnds<u8, A>, A: Allocator + Copy>(
+    rt: &impl Abort,
+    alloc: A,
+    row: (usize, usize, usize),
+) -> Result<(), Fail> {
+    let (mut ends, mut others) = (E::new(alloc), F::new(alloc));
+    over_one_place(rt, &mut ends, &mut others, row)
+}
+
 #[test]
 fn nearly_full_blocks(rt: HostRuntime) -> Result<(), Fail> {
     for row in NEARLY_FULL.iter() {
-        over_one_place::<PlainEnds<u8>, Global>(&rt, rt.alloc(), *row)?;
-        over_one_place::<GapBuf<u8>, Global>(&rt, rt.alloc(), *row)?;
+        nearly_full::<PlainEnds<u8>, GapBuf<u8>, Global>(&rt, rt.alloc(), *row)?;
     }
     Ok(())
 }

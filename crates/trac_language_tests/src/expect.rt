@@ -2,6 +2,7 @@
 //! would else add to the proof of every function that makes one.
 use std::alloc::Global;
 use std::process::Abort;
+use std::test::Fail;
 use trac_faults::Refusing;
 
 /// Memory of which a request may be refused.
@@ -17,16 +18,34 @@ pub(crate) fn expect_act(rt: &impl Abort, is_met: bool, at: usize) {
     assert!(rt; is_met, "at act {at}");
 }
 
-/// Each request of this run is refused in turn, which takes more runs than this.
-pub(crate) fn expect_each<E, F: FnMut(u64) -> Result<(), E>>(
+/// A run of calls that may be refused memory once and then goes on, or starts again.
+pub(crate) trait Trial {
+    /// Runs them. Texts for comparison are made with `plain`, of which no request is refused.
+    fn run(&self, rt: &impl Abort, plain: Global, memory: Memory<'_>) -> Result<(), Fail>;
+}
+
+// Each request of this run is refused in turn, which takes more runs than this.
+fn expect_each<T: Trial>(
     rt: &impl Abort,
+    plain: Global,
     memory: Memory<'_>,
     fewer: u64,
-    run: F,
-) -> Result<(), E>
-    requires { F.IsAlwaysCallable run }
-{
-    let runs = memory.refuse_each(1_000, run)?;
+    trial: &T,
+) -> Result<(), Fail> {
+    let runs = memory.refuse_each(1_000, |_| trial.run(rt, plain, memory))?;
     assert!(rt; runs > Some(fewer), "{runs:?} runs");
+    Ok(())
+}
+
+/// Each request of each of these runs is refused in turn, which takes more tries than this.
+pub(crate) fn expect_trials<T: Trial>(
+    rt: &(impl Abort + AllocGlobal),
+    fewer: u64,
+    trials: &[T],
+) -> Result<(), Fail> {
+    let memory = Refusing::new(rt.alloc());
+    for trial in trials.iter() {
+        expect_each(rt, rt.alloc(), &memory, fewer, trial)?;
+    }
     Ok(())
 }

@@ -1,12 +1,11 @@
 //! Forms: what is cut out of them, what a call of them gives, and how they are printed. Each request for memory is refused
 //! in turn.
 use crate::cuts::cut_out;
-use crate::expect::{Memory, expect_each, expect_text};
+use crate::expect::{Memory, Trial, expect_text, expect_trials};
 use crate::samples::divided;
-use std::alloc::Allocator;
+use std::alloc::{Allocator, Global};
 use std::process::Abort;
 use std::test::Fail;
-use trac_faults::Refusing;
 use trac_forms::{Form, FormError, Item, Texts};
 
 // What is printed of a form, which may be refused once.
@@ -149,20 +148,28 @@ fn cut_all(
     Ok(())
 }
 
-fn expect_case(rt: &impl Abort, memory: Memory<'_>, case: &Case) -> Result<(), FormError> {
-    let mut form = made(memory, case.text)?;
-    cut_all(rt, &mut form, case.cuts)?;
-    expect_shown(rt, memory, &form, case.shown)?;
-    expect_called(rt, memory, &form, &case.fillings, case.value)
+fn expect_case<'a>(
+    rt: &impl Abort,
+    memory: Memory<'a>,
+    form: &mut Form<Memory<'a>>,
+    case: &Case,
+) -> Result<(), Fail> {
+    cut_all(rt, form, case.cuts)?;
+    expect_shown(rt, memory, form, case.shown)?;
+    expect_called(rt, memory, form, &case.fillings, case.value)?;
+    Ok(())
+}
+
+impl Trial for Case {
+    fn run(&self, rt: &impl Abort, _plain: Global, memory: Memory<'_>) -> Result<(), Fail> {
+        let mut form = made(memory, self.text)?;
+        expect_case(rt, memory, &mut form, self)
+    }
 }
 
 #[test]
 fn each_request(rt: HostRuntime) -> Result<(), Fail> {
-    let memory = Refusing::new(rt.alloc());
-    for case in CASES.iter() {
-        expect_each(&rt, &memory, 3, |_| expect_case(&rt, &memory, case))?;
-    }
-    Ok(())
+    expect_trials(&rt, 3, CASES)
 }
 
 // A copy, where one request may be refused.
@@ -199,18 +206,13 @@ fn point_each<'a>(
     rt: &impl Abort,
     memory: Memory<'a>,
     form: &mut Form<Memory<'a>>,
-) -> Result<(), FormError> {
+) -> Result<(), Fail> {
     for (old, place, shown, value) in POINTERS.iter() {
         point(rt, form, *place, *old)?;
         expect_shown(rt, memory, form, shown)?;
         expect_called(rt, memory, form, &TWO_TEXTS, value)?;
     }
     Ok(())
-}
-
-fn pointed(rt: &impl Abort, memory: Memory<'_>) -> Result<(), FormError> {
-    let mut form = divided_once(memory)?;
-    point_each(rt, memory, &mut form)
 }
 
 #[test]
@@ -230,11 +232,20 @@ pub(crate) fn divided_once(memory: Memory<'_>) -> Result<Form<Memory<'_>>, FormE
     }
 }
 
+// The form `a<^><1>bc<2>`, of which the pointer goes to each of these places.
+#[derive(Clone, Copy)]
+struct Pointers;
+
+impl Trial for Pointers {
+    fn run(&self, rt: &impl Abort, _plain: Global, memory: Memory<'_>) -> Result<(), Fail> {
+        let mut form = divided_once(memory)?;
+        point_each(rt, memory, &mut form)
+    }
+}
+
 #[test]
 fn each_request_at_pointers(rt: HostRuntime) -> Result<(), Fail> {
-    let memory = Refusing::new(rt.alloc());
-    expect_each(&rt, &memory, 3, |_| pointed(&rt, &memory))?;
-    Ok(())
+    expect_trials(&rt, 3, &[Pointers])
 }
 
 // A vector of texts that has one too few: the second is null.

@@ -1,4 +1,5 @@
-//! Tests of numbers, of lists with two ends, of forms, and of what the primitives plan. The library itself is empty.
+//! Tests of lists with two ends, of forms, of what the primitives plan, and of numbers that are printed. The library itself is empty.
+//! What numbers and octal strings whole programs print stands in `tests/programs`.
 //!
 //! Cases stand in tables, and one loop goes through them: what a test's proof costs grows with the calls that stand in it.
 //! Each call stands in a helper that promises nothing. Expected values come from the definition of the language, not from
@@ -21,8 +22,6 @@ mod forms;
 mod limits;
 #[cfg(test)]
 mod numbers;
-#[cfg(test)]
-mod octals;
 #[cfg(test)]
 mod planned;
 #[cfg(test)]

@@ -1,6 +1,6 @@
-//! Calls that pass a limit.
-use crate::planned::{Call, Input, expect_outcome, planned};
-use crate::samples::{define, put_form};
+//! Calls whose value passes a limit. That there is one form too many is tested in `tests/endings`.
+use crate::planned::{Call, Input, planned};
+use crate::samples::put_form;
 use std::alloc::{AllocError, Allocator, Global};
 use std::process::Abort;
 use std::test::Fail;
@@ -103,45 +103,5 @@ fn a_value_that_is_too_long(rt: HostRuntime) -> Result<(), Fail> {
         let met = called_with(&rt, rt.alloc(), &memory, &store, *count, *is_refused)?;
         assert!(rt; met == *outcome, "{count} letters");
     }
-    Ok(())
-}
-
-// For `ds` with this name and text this is planned, or it is refused so.
-fn expect_defined(
-    rt: &impl Abort,
-    alloc: Global,
-    store: &Store,
-    text: &[u8],
-    wanted: Result<&[u8], Refusal>,
-) {
-    let call = Call {
-        text,
-        places: &[2, 3],
-        input: NO_INPUT,
-    };
-    expect_outcome(rt, alloc, store, &call, wanted);
-}
-
-fn define_many(alloc: Global, store: &mut Store) -> Result<(), FormError> {
-    for i in 0..65_535_u16 {
-        define(alloc, store, &i.to_be_bytes(), b"")?;
-    }
-    Ok(())
-}
-
-fn expect_limit(rt: &impl Abort, alloc: Global, store: &mut Store) -> Result<(), FormError> {
-    define_many(alloc, store)?;
-    expect_defined(rt, alloc, store, b"dsAx", Ok(b"||put A <^>x 0"));
-    define(alloc, store, b"A", b"x")?;
-    expect_defined(rt, alloc, store, b"dsBx", Err(Refusal::TooLong));
-    expect_defined(rt, alloc, store, b"dsAy", Ok(b"||put A <^>y 0"));
-    Ok(())
-}
-
-// There may be 65,536 forms and no more; at that number a form can still be replaced.
-#[test]
-fn a_form_too_many(rt: HostRuntime) -> Result<(), Fail> {
-    let mut store = Store::new(rt.alloc());
-    expect_limit(&rt, rt.alloc(), &mut store)?;
     Ok(())
 }

@@ -1,10 +1,10 @@
 //! Reading a form at its pointer: the value of each call and the place where the pointer goes. Each request for memory is
 //! refused in turn.
-use crate::expect::{Memory, expect_act, expect_each};
+use crate::expect::{Memory, Trial, expect_trials};
 use crate::forms::divided_once;
+use std::alloc::Global;
 use std::process::Abort;
 use std::test::Fail;
-use trac_faults::Refusing;
 use trac_forms::{Form, FormError, Piece};
 
 // One call.
@@ -19,28 +19,31 @@ enum Act {
 type Given = Option<(&'static [u8], usize)>;
 
 // A place of the pointer in `a<1>bc<2>`, a call from there, and what it must give: the value and the new place, or none.
-const ROWS: &[(usize, Act, Given)] = &[
-    (0, Act::Segment, Some((b"a", 2))),
-    (1, Act::Segment, Some((b"", 2))),
-    (2, Act::Segment, Some((b"bc", 5))),
-    (4, Act::Segment, Some((b"", 5))),
-    (5, Act::Segment, None),
-    (0, Act::Char, Some((b"a", 1))),
-    (1, Act::Char, Some((b"b", 3))),
-    (4, Act::Char, None),
-    (0, Act::Count(2), Some((b"ab", 3))),
-    (0, Act::Count(i64::MAX), Some((b"abc", 4))),
-    (4, Act::Count(1), None),
-    (5, Act::Count(-2), Some((b"bc", 2))),
-    (3, Act::Count(-2), Some((b"ab", 0))),
-    (5, Act::Count(i64::MIN), Some((b"abc", 0))),
-    (0, Act::Count(-1), None),
-    (5, Act::Count(0), Some((b"", 5))),
-    (0, Act::Until(b"c"), Some((b"ab", 4))),
-    (0, Act::Until(b"ab"), None),
-    (2, Act::Until(b"bc"), Some((b"", 4))),
-    (5, Act::Until(b""), Some((b"", 5))),
-    (5, Act::Until(b"c"), None),
+#[derive(Clone, Copy)]
+struct Row(usize, Act, Given);
+
+const ROWS: &[Row] = &[
+    Row(0, Act::Segment, Some((b"a", 2))),
+    Row(1, Act::Segment, Some((b"", 2))),
+    Row(2, Act::Segment, Some((b"bc", 5))),
+    Row(4, Act::Segment, Some((b"", 5))),
+    Row(5, Act::Segment, None),
+    Row(0, Act::Char, Some((b"a", 1))),
+    Row(1, Act::Char, Some((b"b", 3))),
+    Row(4, Act::Char, None),
+    Row(0, Act::Count(2), Some((b"ab", 3))),
+    Row(0, Act::Count(i64::MAX), Some((b"abc", 4))),
+    Row(4, Act::Count(1), None),
+    Row(5, Act::Count(-2), Some((b"bc", 2))),
+    Row(3, Act::Count(-2), Some((b"ab", 0))),
+    Row(5, Act::Count(i64::MIN), Some((b"abc", 0))),
+    Row(0, Act::Count(-1), None),
+    Row(5, Act::Count(0), Some((b"", 5))),
+    Row(0, Act::Until(b"c"), Some((b"ab", 4))),
+    Row(0, Act::Until(b"ab"), None),
+    Row(2, Act::Until(b"bc"), Some((b"", 4))),
+    Row(5, Act::Until(b""), Some((b"", 5))),
+    Row(5, Act::Until(b"c"), None),
 ];
 
 fn read(form: &Form<Memory<'_>>, act: Act) -> Result<Option<Piece>, FormError> {
@@ -100,24 +103,27 @@ fn gives<'a>(
     Ok(piece.pointer == pointer && piece.len == value.len() && out.as_slice() == value)
 }
 
-fn expect_row(
+fn expect_row<'a>(
     rt: &impl Abort,
-    memory: Memory<'_>,
-    at: usize,
-    (place, act, given): (usize, Act, Given),
-) -> Result<(), FormError> {
-    let form = placed(rt, memory, place)?;
-    let piece = read_once(&form, act)?;
-    let is_met = form.pointer() == place && gives(memory, &form, piece, given)?;
-    expect_act(rt, is_met, at);
+    memory: Memory<'a>,
+    form: &Form<Memory<'a>>,
+    row: &Row,
+) -> Result<(), Fail> {
+    let Row(place, act, given) = *row;
+    let piece = read_once(form, act)?;
+    let is_met = form.pointer() == place && gives(memory, form, piece, given)?;
+    assert!(rt; is_met, "from place {place}");
     Ok(())
+}
+
+impl Trial for Row {
+    fn run(&self, rt: &impl Abort, _plain: Global, memory: Memory<'_>) -> Result<(), Fail> {
+        let form = placed(rt, memory, self.0)?;
+        expect_row(rt, memory, &form, self)
+    }
 }
 
 #[test]
 fn each_request_of_reads(rt: HostRuntime) -> Result<(), Fail> {
-    let memory = Refusing::new(rt.alloc());
-    for (at, row) in ROWS.iter().enumerate() {
-        expect_each(&rt, &memory, 1, |_| expect_row(&rt, &memory, at, *row))?;
-    }
-    Ok(())
+    expect_trials(&rt, 1, ROWS)
 }

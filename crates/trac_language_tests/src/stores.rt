@@ -1,18 +1,20 @@
 //! Stores of forms and of blocks: what each call leaves, and each request for memory refused in turn.
 use crate::blocks::{BLOCKS, blocks_shown, erase, pop, put_aside, set_back};
-use crate::expect::{Memory, expect_act, expect_each, expect_text};
+use crate::expect::{Memory, Trial, expect_act, expect_text, expect_trials};
 use crate::forms::expect_shown;
 use crate::samples::{define, put_form};
 use std::alloc::{AllocError, Global};
 use std::process::Abort;
 use std::test::Fail;
-use trac_faults::Refusing;
 use trac_forms::{Form, FormError, Store};
 
 /// One act on a store, or what it shows then.
 pub(crate) enum Act {
     /// A form of this text is put under this name.
     Define(&'static [u8], &'static [u8]),
+    /// The form of this name is replaced by one of this text, while every request for memory is refused. It is the last act, since
+    /// all are accepted from then on.
+    Replace(&'static [u8], &'static [u8]),
     /// The form of this name is taken out, and was printed so.
     Take(&'static [u8], &'static [u8]),
     Clear,
@@ -59,6 +61,8 @@ const FORMS: &[Act] = &[
     Act::Define(b"b", b"3"),
     Act::Names(b"b;"),
     Act::Shows(b"b", b"<^>3"),
+    Act::Replace(b"b", b"44"),
+    Act::Shows(b"b", b"<^>44"),
 ];
 
 /// Puts a text behind another one.
@@ -66,13 +70,30 @@ pub(crate) fn add(out: &mut Vec<u8>, text: &[u8]) -> Result<(), AllocError> {
     Ok(out.extend_from_slice(text)?)
 }
 
-fn names_shown(plain: Global, store: &Store<Memory<'_>>) -> Result<Vec<u8>, FormError> {
-    let mut out = Vec::new(plain);
-    for name in store.names()?.iter() {
-        add(&mut out, name)?;
-        add(&mut out, b";")?;
+fn add_names(out: &mut Vec<u8>, names: &[&[u8]]) -> Result<(), AllocError> {
+    for name in names.iter() {
+        add(out, name)?;
+        add(out, b";")?;
     }
-    Ok(out)
+    Ok(())
+}
+
+fn expect_names(
+    rt: &impl Abort,
+    plain: Global,
+    store: &Store<Memory<'_>>,
+    wanted: &[u8],
+) -> Result<(), FormError> {
+    let names = store.names()?;
+    let mut out = Vec::new(plain);
+    add_names(&mut out, names.as_slice()).expect(rt, "there was no memory");
+    expect_text(rt, out.as_slice(), wanted);
+    Ok(())
+}
+
+fn expect_blocks(rt: &impl Abort, plain: Global, store: &Store<Memory<'_>>, wanted: &[u8]) {
+    let out = blocks_shown(rt, plain, store);
+    expect_text(rt, out.as_slice(), wanted);
 }
 
 fn expect_form<'a>(
@@ -87,6 +108,33 @@ fn expect_form<'a>(
     }
 }
 
+// Whether a name that is known takes another form without memory.
+fn replaces<'a>(
+    memory: Memory<'a>,
+    store: &mut Store<Memory<'a>>,
+    name: &[u8],
+    text: &[u8],
+) -> Result<bool, FormError> {
+    let form = Form::new(memory, text)?;
+    memory.refuse_all();
+    let is_put = put_form(store, name, form).is_ok();
+    memory.accept_all();
+    Ok(is_put)
+}
+
+// What makes no request for memory: whether it is answered so.
+fn changes(store: &mut Store<Memory<'_>>, act: &Act) -> bool {
+    match *act {
+        Act::Clear => store.clear(),
+        Act::Sweep => store.sweep(),
+        Act::Pop(name) => return pop(store, name),
+        Act::Erase(i, len) => return erase(store, i) == len,
+        Act::SetBack(i) => set_back(store, i),
+        _ => {}
+    }
+    true
+}
+
 fn expect_taken<'a>(
     rt: &impl Abort,
     memory: Memory<'a>,
@@ -94,7 +142,9 @@ fn expect_taken<'a>(
     name: &[u8],
     text: &[u8],
 ) -> Result<(), FormError> {
+    let requests = memory.requests();
     let form = store.take(name);
+    assert!(rt; memory.requests() == requests);
     expect_form(rt, memory, form.as_ref(), text)
 }
 
@@ -107,14 +157,13 @@ fn carry_out<'a>(
 ) -> Result<bool, FormError> {
     match *act {
         Act::Define(name, text) => define(memory, store, name, text)?,
+        Act::Replace(name, text) => return replaces(memory, store, name, text),
         Act::Take(name, text) => expect_taken(rt, memory, store, name, text)?,
-        Act::Clear => store.clear(),
-        Act::Sweep => store.sweep(),
         Act::PutAside(name) => put_aside(memory, store, name)?,
-        Act::Pop(name) => return Ok(pop(store, name)),
-        Act::Erase(i, len) => return Ok(erase(store, i) == len),
-        Act::SetBack(i) => set_back(store, i),
-        _ => {}
+        _ => {
+            let requests = memory.requests();
+            return Ok(changes(store, act) && memory.requests() == requests);
+        }
     }
     Ok(true)
 }
@@ -129,8 +178,8 @@ fn look<'a>(
 ) -> Result<bool, FormError> {
     match *act {
         Act::Shows(name, text) => expect_form(rt, memory, store.get(name), text)?,
-        Act::Names(names) => expect_text(rt, names_shown(plain, store)?.as_slice(), names),
-        Act::Blocks(blocks) => expect_text(rt, blocks_shown(plain, store)?.as_slice(), blocks),
+        Act::Names(names) => expect_names(rt, plain, store, names)?,
+        Act::Blocks(blocks) => expect_blocks(rt, plain, store, blocks),
         Act::Lacks(name) => return Ok(store.get(name).is_none()),
         Act::Count(count) => return Ok(store.form_count() == count),
         _ => {}
@@ -156,17 +205,14 @@ fn is_met_once<'a>(
     store: &mut Store<Memory<'a>>,
     act: &Act,
 ) -> Result<bool, FormError> {
-    let before = blocks_shown(plain, store)?;
     let count = store.form_count();
-    if let Ok(is_met) = is_met(rt, plain, memory, store, act) {
-        return Ok(is_met);
+    let before = blocks_shown(rt, plain, store);
+    let tried = is_met(rt, plain, memory, store, act);
+    if tried.is_ok() {
+        return tried;
     }
     assert!(rt; store.form_count() == count);
-    expect_text(
-        rt,
-        blocks_shown(plain, store)?.as_slice(),
-        before.as_slice(),
-    );
+    expect_blocks(rt, plain, store, before.as_slice());
     is_met(rt, plain, memory, store, act)
 }
 
@@ -174,60 +220,28 @@ fn play<'a>(
     rt: &impl Abort,
     plain: Global,
     memory: Memory<'a>,
+    store: &mut Store<Memory<'a>>,
     acts: &[Act],
-) -> Result<(), FormError> {
-    let mut store = Store::new(memory);
+) -> Result<(), Fail> {
     for (at, act) in acts.iter().enumerate() {
-        let is_met = is_met_once(rt, plain, memory, &mut store, act)?;
+        let is_met = is_met_once(rt, plain, memory, store, act)?;
         expect_act(rt, is_met, at);
     }
     Ok(())
 }
 
+// Acts, one after another, on a new store.
+#[derive(Clone, Copy)]
+struct Acts(&'static [Act]);
+
+impl Trial for Acts {
+    fn run(&self, rt: &impl Abort, plain: Global, memory: Memory<'_>) -> Result<(), Fail> {
+        let mut store = Store::new(memory);
+        play(rt, plain, memory, &mut store, self.0)
+    }
+}
+
 #[test]
 fn each_request(rt: HostRuntime) -> Result<(), Fail> {
-    let memory = Refusing::new(rt.alloc());
-    for acts in [FORMS, BLOCKS].iter() {
-        expect_each(&rt, &memory, 7, |_| play(&rt, rt.alloc(), &memory, acts))?;
-    }
-    Ok(())
-}
-
-fn taken<'a>(store: &mut Store<Memory<'a>>, name: &[u8]) -> Option<Form<Memory<'a>>> {
-    store.take(name)
-}
-
-// The form of a name is taken out, and its length is given.
-fn take_len(store: &mut Store<Memory<'_>>, name: &[u8]) -> Option<usize> {
-    let form = taken(store, name)?;
-    Some(form.len())
-}
-
-fn clear_all(store: &mut Store<Memory<'_>>) -> usize {
-    store.sweep();
-    store.clear();
-    store.form_count()
-}
-
-// All calls after the refusal of every request take no memory, since the name is known.
-fn change_without_memory<'a>(
-    rt: &impl Abort,
-    memory: Memory<'a>,
-    store: &mut Store<Memory<'a>>,
-) -> Result<(), FormError> {
-    define(memory, store, b"a", b"xyz")?;
-    let other = Form::new(memory, b"uv")?;
-    memory.refuse_all();
-    put_form(store, b"a", other)?;
-    assert!(rt; take_len(store, b"a") == Some(2));
-    assert!(rt; clear_all(store) == 0);
-    Ok(())
-}
-
-#[test]
-fn changes_need_no_memory(rt: HostRuntime) -> Result<(), Fail> {
-    let memory = Refusing::new(rt.alloc());
-    let mut store = Store::new(&memory);
-    change_without_memory(&rt, &memory, &mut store)?;
-    Ok(())
+    expect_trials(&rt, 7, &[Acts(FORMS), Acts(BLOCKS)])
 }

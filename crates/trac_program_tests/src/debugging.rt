@@ -1,6 +1,6 @@
 //! Sessions in which reads, writes, flushes and requests for memory fail in turn.
-use crate::faulty::Fault;
-use crate::session::{DEFAULTS, expect_written, session, session_over};
+use crate::faulty::{Fault, Trial, expect_trial};
+use crate::session::{expect_session, session, session_over};
 use std::alloc::{AllocError, Global};
 use std::process::Abort;
 use std::test::Fail;
@@ -30,22 +30,10 @@ const FAULTS: &[(Fault, &[u8], Ending)] = &[
     (Fault::Flush(3), b"forward 3\nback 1\n", Ending::Ended),
 ];
 
-fn expect_fault(
-    rt: &(impl Abort + AllocGlobal),
-    fault: Fault,
-    output: &[u8],
-    ending: Ending,
-) -> Result<(), AllocError> {
-    let (met, written) = session_over(rt, rt.alloc(), b"AB'", COMMANDS, 1, fault, DEFAULTS)?;
-    assert!(rt; met == ending, "{ending:?} behind {output:?}");
-    expect_written(rt, written.as_slice(), output);
-    Ok(())
-}
-
 #[test]
 fn each_fault(rt: HostRuntime) -> Result<(), Fail> {
     for (fault, output, ending) in FAULTS.iter() {
-        expect_fault(&rt, *fault, output, *ending)?;
+        expect_session(&rt, b"AB'", COMMANDS, 1, *fault, output, *ending)?;
     }
     Ok(())
 }
@@ -67,7 +55,7 @@ fn noted(rt: &(impl Abort + AllocGlobal)) -> Option<Vec<Call>> {
     let log = CallLog::new(rt.alloc());
     let mut reader = Logged::new(FaultyReader::new(b"s 1\n\nb 1\n").by_lines(), &log);
     let mut writer = Logged::new(FaultyWriter::new(rt.alloc()), &log);
-    let ending = session(rt, rt.alloc(), b"AB'", &mut reader, &mut writer, DEFAULTS);
+    let ending = session(rt.alloc(), b"AB'", &mut reader, &mut writer);
     assert!(rt; ending == Ending::Ended);
     log.take_calls()
 }
@@ -87,34 +75,43 @@ fn is_whole(written: &[u8]) -> bool {
         && contains(written, b"active [") == contains(written, b"journal ")
 }
 
-// Where a request is refused, whole replies stand before the end; a walk for which memory was refused is replied to.
-fn expect_memory(
-    rt: &(impl Abort + AllocGlobal),
-    memory: &Refusing<Global>,
-) -> Result<(), AllocError> {
-    let refusals = memory.refusals();
-    let commands = b"s 11\nb 1\nb 99\nu ps 99\np\nc\n";
-    let (ending, text) = session_over(rt, memory, b"AB'", commands, 4096, Fault::None, DEFAULTS)?;
-    let written = text.as_slice();
-    let is_answered = if memory.refusals() == refusals {
-        ending == Ending::Ended
-    } else {
-        ending == Ending::Memory || contains(written, b" Memory\n")
-    };
-    assert!(rt; is_answered, "{ending:?}");
-    assert!(rt; is_whole(written));
-    Ok(())
-}
-
 // Whether a text stands in another one.
 fn contains(text: &[u8], wanted: &[u8]) -> bool {
-    text.windows(wanted.len().max(1)).any(|part| part == wanted)
+    for at in 0..text.len() {
+        let (_, rest) = text.split_at(at);
+        if rest.starts_with(wanted) {
+            return true;
+        }
+    }
+    false
+}
+
+// A session over `AB'`. Where a request is refused, whole replies stand before the end; a walk for which memory was refused is replied to.
+#[derive(Clone, Copy)]
+struct Refused;
+
+impl Trial for Refused {
+    fn run(
+        &self,
+        rt: &(impl Abort + AllocGlobal),
+        memory: &Refusing<Global>,
+    ) -> Result<(), AllocError> {
+        let refusals = memory.refusals();
+        let commands = b"s 11\nb 1\nb 99\nu ps 99\np\nc\n";
+        let (ending, text) = session_over(rt, memory, b"AB'", commands, 4096, Fault::None)?;
+        let written = text.as_slice();
+        let is_answered = if memory.refusals() == refusals {
+            ending == Ending::Ended
+        } else {
+            ending == Ending::Memory || contains(written, b" Memory\n")
+        };
+        assert!(rt; is_answered && is_whole(written));
+        Ok(())
+    }
 }
 
 #[test]
 fn each_request(rt: HostRuntime) -> Result<(), Fail> {
-    let memory = Refusing::new(rt.alloc());
-    let runs = memory.refuse_each(10_000, |_| expect_memory(&rt, &memory))?;
-    assert!(rt; runs > Some(19), "{runs:?} runs");
+    expect_trial(&rt, 19, &Refused)?;
     Ok(())
 }

@@ -1,6 +1,7 @@
-//! Readers and writers of which a call fails.
-use std::alloc::Global;
-use trac_faults::{FaultyReader, FaultyWriter};
+//! Readers and writers of which a call fails, and memory of which a request is refused.
+use std::alloc::{AllocError, Global};
+use std::process::Abort;
+use trac_faults::{FaultyReader, FaultyWriter, Refusing};
 
 /// What fails: the call of this number.
 #[derive(Clone, Copy)]
@@ -34,4 +35,35 @@ pub(crate) fn writer_of(plain: Global, fault: Fault) -> FaultyWriter {
         Fault::Flush(nth) => writer.failing_flush_at(nth),
         _ => writer,
     }
+}
+
+/// A run over memory of which a request may be refused.
+pub(crate) trait Trial {
+    /// Runs it. Where no request is refused, it must end well.
+    fn run(
+        &self,
+        rt: &(impl Abort + AllocGlobal),
+        memory: &Refusing<Global>,
+    ) -> Result<(), AllocError>;
+}
+
+fn expect_each<T: Trial>(
+    rt: &(impl Abort + AllocGlobal),
+    memory: &Refusing<Global>,
+    fewer: u64,
+    trial: &T,
+) -> Result<(), AllocError> {
+    let runs = memory.refuse_each(10_000, |_| trial.run(rt, memory))?;
+    assert!(rt; runs > Some(fewer), "{runs:?} runs");
+    Ok(())
+}
+
+/// Each request of this run is refused in turn, which takes more runs than this.
+pub(crate) fn expect_trial<T: Trial>(
+    rt: &(impl Abort + AllocGlobal),
+    fewer: u64,
+    trial: &T,
+) -> Result<(), AllocError> {
+    let memory = Refusing::new(rt.alloc());
+    expect_each(rt, &memory, fewer, trial)
 }

@@ -4,25 +4,19 @@ use std::alloc::{AllocError, Allocator};
 use std::io::{Read, Write};
 use std::process::Abort;
 use trac_debug::debug;
-use trac_rules::limit::JOURNAL_LIMIT;
 use trac_run::{Ending, Options};
-
-/// The options of the program.
-pub(crate) const DEFAULTS: Options = Options {
-    budget: 1_000_000_000,
-    journal: 64,
-};
 
 /// How a session over this tape ends.
 pub(crate) fn session<R: Read, W: Write, A: Allocator + Copy>(
-    rt: &impl Abort,
     alloc: A,
     tape: &[u8],
     commands: &mut R,
     output: &mut W,
-    options: Options,
 ) -> Ending {
-    assert!(rt; 1 <= options.journal && options.journal <= JOURNAL_LIMIT);
+    let options = Options {
+        budget: 1_000_000_000,
+        journal: 64,
+    };
     debug(alloc, tape, commands, output, options)
 }
 
@@ -40,25 +34,24 @@ pub(crate) fn session_over<A: Allocator + Copy>(
     commands: &[u8],
     most: usize,
     fault: Fault,
-    options: Options,
 ) -> Result<(Ending, Vec<u8>), AllocError> {
     let mut reader = reader_of(commands, most, fault);
     let mut writer = writer_of(rt.alloc(), fault);
-    let ending = session(rt, alloc, tape, &mut reader, &mut writer, options);
+    let ending = session(alloc, tape, &mut reader, &mut writer);
     Ok((ending, Vec::from_slice(rt.alloc(), writer.contents())?))
 }
 
-/// A session with these commands, at most so many bytes a read, writes this and ends so.
+/// Where this fails, a session with these commands, at most so many bytes a read, writes this and ends so.
 pub(crate) fn expect_session(
     rt: &(impl Abort + AllocGlobal),
     tape: &[u8],
     commands: &[u8],
     most: usize,
+    fault: Fault,
     output: &[u8],
     ending: Ending,
 ) -> Result<(), AllocError> {
-    let none = Fault::None;
-    let (met, written) = session_over(rt, rt.alloc(), tape, commands, most, none, DEFAULTS)?;
+    let (met, written) = session_over(rt, rt.alloc(), tape, commands, most, fault)?;
     assert!(rt; met == ending, "{most} bytes a read");
     expect_written(rt, written.as_slice(), output);
     Ok(())
