@@ -7,9 +7,8 @@ ghost use Rattle.trac_step.specs.Layout.{Shown};
 ghost use Rattle.trac_step.specs.Record.{before};
 ghost use Rattle.trac_step.specs.Room.{HasRoom, IsNoLess};
 
-use crate::machines::{Memory, let_go};
-use crate::shown::state_shown;
-use crate::walking::{Walk, expect_shown, is_among};
+use crate::machines::{Memory, expect_shown, let_go, shown_by};
+use crate::walking::{Walk, is_among};
 use std::alloc::{Allocator, Global};
 use std::process::Abort;
 use trac_faults::Refusing;
@@ -82,16 +81,16 @@ fn back_on_another<E: TwoEnds<u8, A>, M: TwoEnds<Mark, A>, A: Allocator + Copy>(
     ensures state { other.new.state ≡ machine.old.state }
     ensures room { IsNoLess other.old other.new }
 {
-    let wanted = state_shown(walk.plain, machine).expect(rt, "there was no memory");
+    let wanted = shown_by(rt, walk.plain, machine);
     let Some(rest) = left.checked_sub(1) else {
-        expect_shown(rt, walk, other, wanted.as_slice()).expect(rt, "there was no memory");
+        expect_shown(rt, walk.plain, other, wanted.as_slice());
         return;
     };
     let number = done.saturating_add(1);
     let taken = take_step(rt, walk, machine, number);
     back_on_another(rt, walk, machine, other, number, rest);
     go_back(rt, walk, other, taken);
-    expect_shown(rt, walk, other, wanted.as_slice()).expect(rt, "there was no memory");
+    expect_shown(rt, walk.plain, other, wanted.as_slice());
 }
 
 // A machine that is loaded from the parts of the state after a walk.

@@ -1,15 +1,15 @@
 //! Machines that are loaded from the parts of a state: they show it, or a limit refuses them, or each request for memory in turn.
+use crate::machines::{Memory, let_go};
 use crate::shown::texts_shown;
 use std::alloc::{AllocError, Allocator, Global};
 use std::process::Abort;
 use std::test::Fail;
 use trac_faults::Refusing;
 use trac_forms::{Block, Form, Item};
+use trac_gap::{GapBuf, TwoEnds};
 use trac_rules::limit::{MARK_LIMIT, NAME_LIMIT, OUTPUT_LIMIT, TEXT_LIMIT};
 use trac_rules::refusal::Refusal;
-use trac_step::{Kind, Machine, Parts, Store};
-
-type Memory<'a> = &'a Refusing<Global>;
+use trac_step::{Core, Kind, Mark, Parts, Store};
 
 /// A form with its name.
 type Named<A> = (Vec<u8, A>, Form<A>);
@@ -70,40 +70,60 @@ pub(crate) fn nothing<A: Allocator + Copy>(alloc: A) -> Parts<A> {
     }
 }
 
-// Two begun functions, forms and blocks.
-fn rich<A: Allocator + Copy>(alloc: A) -> Result<Parts<A>, Refusal> {
-    let mut parts = nothing(alloc);
-    parts.active = Vec::from_slice(alloc, b")#(x")?;
-    parts.base = Vec::from_slice(alloc, b"bb")?;
-    parts
-        .frames
-        .push((Kind::Active, texts(alloc, &[b"ds", b"", b"A"])?))?;
-    parts.frames.push((Kind::Neutral, texts(alloc, &[b"cl"])?))?;
+fn add_begun<A: Allocator + Copy>(
+    alloc: A,
+    parts: &mut Parts<A>,
+    kind: Kind,
+    arguments: &[&[u8]],
+) -> Result<(), Refusal> {
+    let gathered = texts(alloc, arguments)?;
+    Ok(parts.frames.push((kind, gathered))?)
+}
+
+fn add_texts<A: Allocator + Copy>(alloc: A, parts: &mut Parts<A>) -> Result<(), Refusal> {
+    parts.active.extend_from_slice(b")#(x")?;
+    parts.base.extend_from_slice(b"bb")?;
+    parts.output.extend_from_slice(b"out")?;
+    add_begun(alloc, parts, Kind::Active, &[b"ds", b"", b"A"])?;
+    add_begun(alloc, parts, Kind::Neutral, &[b"cl"])
+}
+
+fn add_stored<A: Allocator + Copy>(alloc: A, parts: &mut Parts<A>) -> Result<(), Refusal> {
     parts.forms = named(alloc, FORMS)?;
-    parts
-        .forms
-        .push((Vec::from_slice(alloc, b"G")?, form_with_a_gap(alloc)?))?;
+    let gapped = (Vec::from_slice(alloc, b"G")?, form_with_a_gap(alloc)?);
+    parts.forms.push(gapped)?;
     parts.blocks.push(Some(named(alloc, HELD)?))?;
     parts.blocks.push(None)?;
     parts.blocks.push(Some(Vec::new(alloc)))?;
-    parts.output = Vec::from_slice(alloc, b"out")?;
+    Ok(())
+}
+
+// Two begun functions, forms and blocks.
+fn rich<A: Allocator + Copy>(alloc: A) -> Result<Parts<A>, Refusal> {
+    let mut parts = nothing(alloc);
+    add_texts(alloc, &mut parts)?;
+    add_stored(alloc, &mut parts)?;
     parts.text_room = 1_000;
     parts.names = texts(alloc, &[b"later", b"A"])?;
     Ok(parts)
 }
 
-fn load<A: Allocator + Copy>(
+fn load<E: TwoEnds<u8, A>, M: TwoEnds<Mark, A>, A: Allocator + Copy>(
     rt: &impl Abort,
     alloc: A,
     parts: &Parts<A>,
-) -> Result<Machine<A>, Refusal> {
+) -> Result<Core<E, M, A>, Refusal> {
     assert!(rt; parts.each_gathers());
-    Machine::load(alloc, parts)
+    Core::load(alloc, parts)
 }
 
 // Why no machine is made.
-fn unloaded<A: Allocator + Copy>(rt: &impl Abort, alloc: A, parts: &Parts<A>) -> Option<Refusal> {
-    match load(rt, alloc, parts) {
+fn unloaded<E: TwoEnds<u8, A>, M: TwoEnds<Mark, A>, A: Allocator + Copy>(
+    rt: &impl Abort,
+    alloc: A,
+    parts: &Parts<A>,
+) -> Option<Refusal> {
+    match load::<E, M, A>(rt, alloc, parts) {
         Ok(_machine) => None,
         Err(refusal) => Some(refusal),
     }
@@ -160,10 +180,10 @@ fn expect_stored<A: Allocator + Copy>(rt: &impl Abort, store: &Store<A>) {
     expect_held(rt, first, 1, b"y", b'2');
 }
 
-fn expect_rich<A: Allocator + Copy>(
+fn expect_rich<E: TwoEnds<u8, A>, M: TwoEnds<Mark, A>, A: Allocator + Copy>(
     rt: &impl Abort,
     plain: Global,
-    machine: &Machine<A>,
+    machine: &Core<E, M, A>,
 ) -> Result<(), AllocError> {
     let text = texts_shown(plain, machine)?;
     assert!(rt; text.as_slice() == b"bb#(ds,,A##(cl^)#(x".as_slice());
@@ -173,42 +193,66 @@ fn expect_rich<A: Allocator + Copy>(
     Ok(())
 }
 
-#[test]
-fn rich_state(rt: HostRuntime) -> Result<(), Fail> {
-    let parts = rich(rt.alloc())?;
-    let machine = load(&rt, rt.alloc(), &parts)?;
-    expect_rich(&rt, rt.alloc(), &machine)?;
+// A machine is loaded, and shows the rich state; or this is why there is none.
+fn expect_loaded<E: TwoEnds<u8, A>, M: TwoEnds<Mark, A>, A: Allocator + Copy>(
+    rt: &impl Abort,
+    plain: Global,
+    alloc: A,
+    parts: &Parts<A>,
+) -> Result<(), Fail> {
+    let machine = load::<E, M, A>(rt, alloc, parts)?;
+    let outcome = expect_rich(rt, plain, &machine);
+    let_go(machine);
+    outcome?;
     Ok(())
 }
 
 // Each request for memory is refused in turn.
-fn expect_refusals(rt: &impl Abort, memory: Memory<'_>) -> Result<(), Refusal> {
-    let parts = rich(memory)?;
+fn expect_refusals<E: TwoEnds<u8, A>, M: TwoEnds<Mark, A>, A: Allocator + Copy>(
+    rt: &impl Abort,
+    memory: Memory<'_>,
+    alloc: A,
+    parts: &Parts<A>,
+) -> u64 {
     for nth in 1..MOST_REQUESTS {
         let refusals = memory.refusals();
         memory.refuse_nth(nth);
-        let refusal = unloaded(rt, memory, &parts);
+        let refusal = unloaded::<E, M, A>(rt, alloc, parts);
         memory.accept_all();
         if memory.refusals() == refusals {
-            assert!(rt; nth > 10 && refusal.is_none());
-            return Ok(());
+            return nth;
         }
         assert!(rt; refusal == Some(Refusal::Memory));
     }
-    assert!(rt; false, "too many requests");
+    MOST_REQUESTS
+}
+
+fn expect_rich_states<E: TwoEnds<u8, A>, M: TwoEnds<Mark, A>, A: Allocator + Copy>(
+    rt: &impl Abort,
+    plain: Global,
+    memory: Memory<'_>,
+    alloc: A,
+) -> Result<(), Fail> {
+    let parts = rich(alloc)?;
+    expect_loaded::<E, M, A>(rt, plain, alloc, &parts)?;
+    let runs = expect_refusals::<E, M, A>(rt, memory, alloc, &parts);
+    assert!(rt; 10 < runs && runs < MOST_REQUESTS);
     Ok(())
 }
 
 #[test]
-fn each_request_refused(rt: HostRuntime) -> Result<(), Fail> {
+fn rich_states(rt: HostRuntime) -> Result<(), Fail> {
     let memory = Refusing::new(rt.alloc());
-    expect_refusals(&rt, &memory)?;
-    Ok(())
+    expect_rich_states::<GapBuf<u8, Memory<'_>>, GapBuf<Mark, Memory<'_>>, Memory<'_>>(
+        &rt,
+        rt.alloc(),
+        &memory,
+        &memory,
+    )
 }
 
-// Rooms for texts, marks and output, and whether they are within the limits.
+// Rooms for texts, marks and output, and whether they are within the limits. In the end there is none.
 const ROOMS: &[(usize, usize, usize, bool)] = &[
-    (0, 0, 0, true),
     (TEXT_LIMIT, 0, 0, true),
     (TEXT_LIMIT + 1, 0, 0, false),
     (0, MARK_LIMIT, 0, true),
@@ -216,26 +260,24 @@ const ROOMS: &[(usize, usize, usize, bool)] = &[
     (0, 0, OUTPUT_LIMIT, true),
     (0, 0, OUTPUT_LIMIT + 1, false),
     (usize::MAX, usize::MAX, usize::MAX, false),
+    (0, 0, 0, true),
 ];
 
 fn refusal_wanted(fits: bool) -> Option<Refusal> {
     if fits { None } else { Some(Refusal::TooLong) }
 }
 
-fn expect_rooms(rt: &impl Abort, plain: Global) {
+fn expect_rooms<E: TwoEnds<u8, Global>, M: TwoEnds<Mark, Global>>(
+    rt: &impl Abort,
+    plain: Global,
+    parts: &mut Parts<Global>,
+) {
     for (text, marks, output, fits) in ROOMS.iter() {
-        let mut parts = nothing(plain);
         parts.text_room = *text;
         parts.mark_room = *marks;
         parts.output_room = *output;
-        assert!(rt; unloaded(rt, plain, &parts) == refusal_wanted(*fits));
+        assert!(rt; unloaded::<E, M, Global>(rt, plain, parts) == refusal_wanted(*fits));
     }
-}
-
-#[test]
-fn rooms(rt: HostRuntime) -> Result<(), Fail> {
-    expect_rooms(&rt, rt.alloc());
-    Ok(())
 }
 
 // A text of so many bytes.
@@ -245,23 +287,48 @@ fn long_text(plain: Global, len: usize) -> Result<Vec<u8>, Refusal> {
     Ok(text)
 }
 
+// What is added to the parts.
+enum Part {
+    Base(usize),
+    Active(usize),
+    NoBase,
+    Name(usize),
+}
+
 // Base text and active text that are too long together, and a further name that is.
-fn expect_lengths(rt: &impl Abort, plain: Global) -> Result<(), Refusal> {
-    let mut parts = nothing(plain);
-    parts.base = long_text(plain, TEXT_LIMIT)?;
-    assert!(rt; unloaded(rt, plain, &parts).is_none());
-    parts.active = long_text(plain, 1)?;
-    assert!(rt; unloaded(rt, plain, &parts) == Some(Refusal::TooLong));
-    parts.base.clear();
-    parts.names.push(long_text(plain, NAME_LIMIT)?)?;
-    assert!(rt; unloaded(rt, plain, &parts).is_none());
-    parts.names.push(long_text(plain, NAME_LIMIT + 1)?)?;
-    assert!(rt; unloaded(rt, plain, &parts) == Some(Refusal::TooLong));
+const LENGTHS: &[(Part, bool)] = &[
+    (Part::Base(TEXT_LIMIT), true),
+    (Part::Active(1), false),
+    (Part::NoBase, true),
+    (Part::Name(NAME_LIMIT), true),
+    (Part::Name(NAME_LIMIT + 1), false),
+];
+
+fn add_part(plain: Global, parts: &mut Parts<Global>, part: &Part) -> Result<(), Refusal> {
+    match *part {
+        Part::Base(len) => parts.base.resize(len, b'n')?,
+        Part::Active(len) => parts.active.resize(len, b'n')?,
+        Part::NoBase => parts.base.clear(),
+        Part::Name(len) => parts.names.push(long_text(plain, len)?)?,
+    }
+    Ok(())
+}
+
+fn expect_lengths<E: TwoEnds<u8, Global>, M: TwoEnds<Mark, Global>>(
+    rt: &impl Abort,
+    plain: Global,
+    parts: &mut Parts<Global>,
+) -> Result<(), Fail> {
+    for (part, fits) in LENGTHS.iter() {
+        add_part(plain, parts, part)?;
+        assert!(rt; unloaded::<E, M, Global>(rt, plain, parts) == refusal_wanted(*fits));
+    }
     Ok(())
 }
 
 #[test]
-fn lengths(rt: HostRuntime) -> Result<(), Fail> {
-    expect_lengths(&rt, rt.alloc())?;
-    Ok(())
+fn rooms_and_lengths(rt: HostRuntime) -> Result<(), Fail> {
+    let mut parts = nothing(rt.alloc());
+    expect_rooms::<GapBuf<u8>, GapBuf<Mark>>(&rt, rt.alloc(), &mut parts);
+    expect_lengths::<GapBuf<u8>, GapBuf<Mark>>(&rt, rt.alloc(), &mut parts)
 }

@@ -5,9 +5,8 @@
 ghost use Rattle.std.specs.Prelude.{◌≤◌, length};
 
 use crate::shown::{PROGRAMS, state_shown};
-use std::alloc::{AllocError, Allocator, Global};
+use std::alloc::{Allocator, Global};
 use std::process::Abort;
-use std::test::Fail;
 use trac_faults::Refusing;
 use trac_gap::{GapBuf, PlainEnds, TwoEnds};
 use trac_rules::refusal::Refusal;
@@ -54,8 +53,8 @@ fn expect_refusals_at_start<E: TwoEnds<u8, A>, M: TwoEnds<Mark, A>, A: Allocator
     }
 }
 
-fn expect_text(rt: &impl Abort, text: &[u8], wanted: &[u8], input: &[u8]) {
-    assert_eq!(rt; text, wanted, "from {input:?}");
+fn expect_text(rt: &impl Abort, text: &[u8], wanted: &[u8]) {
+    assert_eq!(rt; text, wanted);
 }
 
 // The next step over this whole input.
@@ -95,17 +94,24 @@ fn step_and_undo<E: TwoEnds<u8, A>, M: TwoEnds<Mark, A>, A: Allocator + Copy>(
     }
 }
 
-// A machine shows this.
-fn expect_shown<E: TwoEnds<u8, A>, M: TwoEnds<Mark, A>, A: Allocator + Copy>(
+/// What a machine shows. An end where there is no memory has no early return, which a proof would carry through each caller.
+pub(crate) fn shown_by<E: TwoEnds<u8, A>, M: TwoEnds<Mark, A>, A: Allocator + Copy>(
+    rt: &impl Abort,
+    plain: Global,
+    machine: &Core<E, M, A>,
+) -> Vec<u8> {
+    state_shown(plain, machine).expect(rt, "there was no memory")
+}
+
+/// A machine shows this.
+pub(crate) fn expect_shown<E: TwoEnds<u8, A>, M: TwoEnds<Mark, A>, A: Allocator + Copy>(
     rt: &impl Abort,
     plain: Global,
     machine: &Core<E, M, A>,
     wanted: &[u8],
-    input: &[u8],
-) -> Result<(), AllocError> {
-    let text = state_shown(plain, machine)?;
-    expect_text(rt, text.as_slice(), wanted, input);
-    Ok(())
+) {
+    let text = shown_by(rt, plain, machine);
+    expect_text(rt, text.as_slice(), wanted);
 }
 
 // The next step, with each request for memory refused in turn: whether it is refused or undone, the machine shows the same as
@@ -117,19 +123,28 @@ fn try_step<E: TwoEnds<u8, A>, M: TwoEnds<Mark, A>, A: Allocator + Copy>(
     machine: &mut Core<E, M, A>,
     before: &[u8],
     input: &[u8],
-) -> Result<(Option<Refusal>, u64), AllocError> {
+) -> (Option<Refusal>, u64) {
     for made in 0..MOST_REQUESTS {
         let refusals = memory.refusals();
         memory.refuse_nth(made + 1);
         let refused = step_and_undo(rt, memory, machine, input);
         memory.accept_all();
-        expect_shown(rt, plain, machine, before, input)?;
+        expect_shown(rt, plain, machine, before);
         if memory.refusals() == refusals {
-            return Ok((refused, made));
+            return (refused, made);
         }
         assert!(rt; refused.is_none() || refused == Some(Refusal::Memory));
     }
-    Ok((Some(Refusal::Memory), MOST_REQUESTS))
+    (Some(Refusal::Memory), MOST_REQUESTS)
+}
+
+/// The next step, whose record is let go. It owns the record, since the proof of each caller would else carry all that is freed.
+pub(crate) fn take_step<E: TwoEnds<u8, A>, M: TwoEnds<Mark, A>, A: Allocator + Copy>(
+    rt: &impl Abort,
+    machine: &mut Core<E, M, A>,
+    input: &[u8],
+) {
+    let _taken = step(rt, machine, input).expect(rt, "the step was refused");
 }
 
 // How many requests the next step makes.
@@ -138,10 +153,10 @@ fn requests_of_step<E: TwoEnds<u8, A>, M: TwoEnds<Mark, A>, A: Allocator + Copy>
     memory: Memory<'_>,
     machine: &mut Core<E, M, A>,
     input: &[u8],
-) -> Result<u64, Refusal> {
+) -> u64 {
     let before = memory.requests();
-    let _taken = step(rt, machine, input)?;
-    Ok(memory.requests().saturating_sub(before))
+    take_step(rt, machine, input);
+    memory.requests().saturating_sub(before)
 }
 
 // Whether the next step performs no function and loads no idle program.
@@ -170,72 +185,47 @@ fn advance<E: TwoEnds<u8, A>, M: TwoEnds<Mark, A>, A: Allocator + Copy>(
     machine: &mut Core<E, M, A>,
     before: &[u8],
     input: &[u8],
-) -> Result<Option<Refusal>, Fail> {
+) -> Option<Refusal> {
     let moves = only_moves(machine);
     let marks = makes_mark(machine);
-    let (refused, first) = try_step(rt, plain, memory, machine, before, input)?;
-    if refused.is_some() {
-        return Ok(refused);
+    let (refused, first) = try_step(rt, plain, memory, machine, before, input);
+    if refused.is_none() {
+        let again = requests_of_step(rt, memory, machine, input);
+        assert!(rt; !moves || (again == 0 && (marks || first == 0)));
     }
-    assert!(rt; !moves || marks || first == 0);
-    let again = requests_of_step(rt, memory, machine, input)?;
-    assert!(rt; !moves || again == 0);
-    Ok(None)
+    refused
 }
 
-// One step on, on two machines, which show the same before it; or why there is none.
-fn advance_both<
-    E: TwoEnds<u8, A>,
-    M: TwoEnds<Mark, A>,
-    F: TwoEnds<u8, A>,
-    N: TwoEnds<Mark, A>,
-    A: Allocator + Copy,
->(
+// A whole run, step by step: the state before each step, and the last one, are added to these.
+fn walk<E: TwoEnds<u8, A>, M: TwoEnds<Mark, A>, A: Allocator + Copy>(
     rt: &impl Abort,
     plain: Global,
     memory: Memory<'_>,
     machine: &mut Core<E, M, A>,
-    other: &mut Core<F, N, A>,
     input: &[u8],
-) -> Result<Option<Refusal>, Fail> {
-    let shown = state_shown(plain, machine)?;
-    let why = advance(rt, plain, memory, machine, shown.as_slice(), input)?;
-    assert!(rt; advance(rt, plain, memory, other, shown.as_slice(), input)? == why);
-    Ok(why)
-}
-
-// A whole run, step by step on two machines.
-fn walk_both<
-    E: TwoEnds<u8, A>,
-    M: TwoEnds<Mark, A>,
-    F: TwoEnds<u8, A>,
-    N: TwoEnds<Mark, A>,
-    A: Allocator + Copy,
->(
-    rt: &impl Abort,
-    plain: Global,
-    memory: Memory<'_>,
-    machine: &mut Core<E, M, A>,
-    other: &mut Core<F, N, A>,
-    input: &[u8],
-) -> Result<(), Fail> {
+    states: &mut Vec<Vec<u8>>,
+) {
+    let mut why = None;
     for _ in 0..5_000 {
-        if let Some(why) = advance_both(rt, plain, memory, machine, other, input)? {
-            assert!(rt; why == Refusal::Ended);
-            return Ok(());
+        if why.is_none() {
+            let shown = shown_by(rt, plain, machine);
+            why = advance(rt, plain, memory, machine, shown.as_slice(), input);
+            keep(rt, states, shown);
         }
     }
-    assert!(rt; false);
-    Ok(())
+    assert!(rt; why == Some(Refusal::Ended));
+}
+
+fn keep(rt: &impl Abort, states: &mut Vec<Vec<u8>>, shown: Vec<u8>) {
+    states.push(shown).expect(rt, "there was no memory");
 }
 
 fn expect_settled<E: TwoEnds<u8, A>, M: TwoEnds<Mark, A>, A: Allocator + Copy>(
     rt: &impl Abort,
     machine: &mut Core<E, M, A>,
     output: &[u8],
-    input: &[u8],
 ) {
-    expect_text(rt, machine.output(), output, input);
+    expect_text(rt, machine.output(), output);
     machine.settle();
     assert!(rt; machine.position() == 0 && machine.output().is_empty());
 }
@@ -247,75 +237,54 @@ pub(crate) fn let_go<E: TwoEnds<u8, A>, M: TwoEnds<Mark, A>, A: Allocator + Copy
     let _last = machine;
 }
 
-// The run on a machine, beside the one over other lists.
-fn run_beside<
-    E: TwoEnds<u8, A>,
-    M: TwoEnds<Mark, A>,
-    F: TwoEnds<u8, A>,
-    N: TwoEnds<Mark, A>,
-    A: Allocator + Copy,
->(
+// A whole run on a new machine, whose states are added to these.
+fn run<E: TwoEnds<u8, A>, M: TwoEnds<Mark, A>, A: Allocator + Copy>(
     rt: &impl Abort,
     plain: Global,
     memory: Memory<'_>,
     alloc: A,
-    machine: &mut Core<E, M, A>,
-    input: &[u8],
-) -> Result<(), Fail> {
-    let mut other = made::<F, N, A>(alloc)?;
-    let outcome = walk_both(rt, plain, memory, machine, &mut other, input);
-    let_go(other);
-    outcome
-}
-
-// The run on a machine over the first two lists, beside one over the other two.
-fn run_both<
-    E: TwoEnds<u8, A>,
-    M: TwoEnds<Mark, A>,
-    F: TwoEnds<u8, A>,
-    N: TwoEnds<Mark, A>,
-    A: Allocator + Copy,
->(
-    rt: &impl Abort,
-    plain: Global,
-    memory: Memory<'_>,
-    alloc: A,
-    input: &[u8],
-    output: &[u8],
-) -> Result<(), Fail> {
-    let mut machine = made::<E, M, A>(alloc)?;
-    let outcome = run_beside::<E, M, F, N, A>(rt, plain, memory, alloc, &mut machine, input);
-    if outcome.is_ok() {
-        expect_settled(rt, &mut machine, output, input);
-    }
+    (input, output): (&[u8], &[u8]),
+    states: &mut Vec<Vec<u8>>,
+) {
+    let mut machine = made::<E, M, A>(alloc).expect(rt, "there was no memory");
+    walk(rt, plain, memory, &mut machine, input, states);
+    expect_settled(rt, &mut machine, output);
     let_go(machine);
-    outcome
 }
 
-// All programs on a machine over the first two lists, beside one over the other two, and each request for either machine.
-fn run_all<
-    E: TwoEnds<u8, A>,
-    M: TwoEnds<Mark, A>,
-    F: TwoEnds<u8, A>,
-    N: TwoEnds<Mark, A>,
-    A: Allocator + Copy,
->(rt: &impl Abort, plain: Global, memory: Memory<'_>, alloc: A) -> Result<(), Fail> {
+// All programs on such machines: their states, one after another. Each request for a machine is refused in turn before.
+fn states_of_all<E: TwoEnds<u8, A>, M: TwoEnds<Mark, A>, A: Allocator + Copy>(
+    rt: &impl Abort,
+    plain: Global,
+    memory: Memory<'_>,
+    alloc: A,
+) -> Vec<Vec<u8>> {
     expect_refusals_at_start::<E, M, A>(rt, memory, alloc);
-    expect_refusals_at_start::<F, N, A>(rt, memory, alloc);
-    for (input, output) in PROGRAMS.iter() {
-        run_both::<E, M, F, N, A>(rt, plain, memory, alloc, input, output)?;
+    let mut states = Vec::new(plain);
+    for program in PROGRAMS.iter() {
+        run::<E, M, A>(rt, plain, memory, alloc, *program, &mut states);
     }
-    Ok(())
+    states
+}
+
+// The states are the same.
+fn expect_same(rt: &impl Abort, states: &[Vec<u8>], others: &[Vec<u8>]) {
+    assert!(rt; states.len() == others.len());
+    for (state, other) in states.iter().zip(others.iter()) {
+        expect_text(rt, state.as_slice(), other.as_slice());
+    }
 }
 
 #[test]
-fn both_representations(rt: HostRuntime) -> Result<(), Fail> {
-    let memory = Refusing::new(rt.alloc());
-    run_all::<
-        GapBuf<u8, Memory<'_>>,
-        GapBuf<Mark, Memory<'_>>,
+fn both_representations(rt: HostRuntime) {
+    let (plain, memory) = (rt.alloc(), Refusing::new(rt.alloc()));
+    let states = states_of_all::<GapBuf<u8, Memory<'_>>, GapBuf<Mark, Memory<'_>>, Memory<'_>>(
+        &rt, plain, &memory, &memory,
+    );
+    let others = states_of_all::<
         PlainEnds<u8, Memory<'_>>,
         PlainEnds<Mark, Memory<'_>>,
         Memory<'_>,
-    >(&rt, rt.alloc(), &memory, &memory)
+    >(&rt, plain, &memory, &memory);
+    expect_same(&rt, states.as_slice(), others.as_slice());
 }

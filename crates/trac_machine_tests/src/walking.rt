@@ -3,11 +3,9 @@ ghost use Rattle.std.specs.Prelude.{◌≡◌};
 ghost use Rattle.trac_step.specs.Room.{IsNoLess};
 
 use crate::loading::nothing;
-use crate::machines::{Memory, let_go, made, step};
-use crate::shown::state_shown;
-use std::alloc::{AllocError, Allocator, Global};
+use crate::machines::{Memory, expect_shown, let_go, made, shown_by, step, take_step};
+use std::alloc::{Allocator, Global};
 use std::process::Abort;
-use std::test::Fail;
 use trac_faults::Refusing;
 use trac_gap::{GapBuf, PlainEnds, TwoEnds};
 use trac_rules::refusal::Refusal;
@@ -77,18 +75,6 @@ pub(crate) fn is_among(numbers: &[u64], number: u64) -> bool {
     false
 }
 
-/// A machine shows what it showed before.
-pub(crate) fn expect_shown<E: TwoEnds<u8, A>, M: TwoEnds<Mark, A>, A: Allocator + Copy>(
-    rt: &impl Abort,
-    walk: &Walk<'_>,
-    machine: &Core<E, M, A>,
-    before: &[u8],
-) -> Result<(), AllocError> {
-    let shown = state_shown(walk.plain, machine)?;
-    assert!(rt; shown.as_slice() == before);
-    Ok(())
-}
-
 // Takes up to so many steps, until the end is found, and goes back over all of them while every request for memory is refused.
 // Answers how many they are. A step for which a request is refused is taken again, but for those that have to do with none.
 fn there_and_back<E: TwoEnds<u8, A>, M: TwoEnds<Mark, A>, A: Allocator + Copy>(
@@ -97,14 +83,14 @@ fn there_and_back<E: TwoEnds<u8, A>, M: TwoEnds<Mark, A>, A: Allocator + Copy>(
     machine: &mut Core<E, M, A>,
     done: u64,
     left: u64,
-) -> Result<u64, AllocError>
+) -> u64
     ensures state { machine.new.state ≡ machine.old.state }
     ensures room { IsNoLess machine.old machine.new }
 {
     let Some(rest) = left.checked_sub(1) else {
-        return Ok(done);
+        return done;
     };
-    let before = state_shown(walk.plain, machine)?;
+    let before = shown_by(rt, walk.plain, machine);
     let number = done.saturating_add(1);
     let is_scarce = is_among(walk.scarce, number);
     if is_scarce {
@@ -126,7 +112,7 @@ fn there_and_back<E: TwoEnds<u8, A>, M: TwoEnds<Mark, A>, A: Allocator + Copy>(
             machine.undo(taken);
             assert!(rt; walk.memory.requests() == requests);
             walk.memory.accept_all();
-            expect_shown(rt, walk, machine, before.as_slice())?;
+            expect_shown(rt, walk.plain, machine, before.as_slice());
             all
         }
         Err(Refusal::Memory) => {
@@ -135,7 +121,7 @@ fn there_and_back<E: TwoEnds<u8, A>, M: TwoEnds<Mark, A>, A: Allocator + Copy>(
         }
         Err(refusal) => {
             assert!(rt; refusal == Refusal::Ended);
-            Ok(done)
+            done
         }
     }
 }
@@ -147,10 +133,8 @@ fn expect_steps<E: TwoEnds<u8, A>, M: TwoEnds<Mark, A>, A: Allocator + Copy>(
     machine: &mut Core<E, M, A>,
     most: u64,
     wanted: u64,
-) -> Result<(), Fail> {
-    let done = there_and_back(rt, walk, machine, 0, most)?;
-    assert!(rt; done == wanted, "steps over {:?}", walk.input);
-    Ok(())
+) {
+    assert!(rt; there_and_back(rt, walk, machine, 0, most) == wanted);
 }
 
 // A new machine, of which this request for memory is refused, takes up to so many steps and goes back over them.
@@ -161,13 +145,12 @@ fn expect_walk<E: TwoEnds<u8, A>, M: TwoEnds<Mark, A>, A: Allocator + Copy>(
     nth: u64,
     most: u64,
     wanted: u64,
-) -> Result<(), Fail> {
-    let mut machine = made::<E, M, A>(alloc)?;
+) {
+    let mut machine = made::<E, M, A>(alloc).expect(rt, "there was no memory");
     walk.memory.refuse_nth(nth);
-    let outcome = expect_steps(rt, walk, &mut machine, most, wanted);
+    expect_steps(rt, walk, &mut machine, most, wanted);
     walk.memory.accept_all();
     let_go(machine);
-    outcome
 }
 
 // Walks over a whole input, with each request for memory refused in turn.
@@ -176,16 +159,15 @@ fn expect_walks<E: TwoEnds<u8, A>, M: TwoEnds<Mark, A>, A: Allocator + Copy>(
     walk: &Walk<'_>,
     alloc: A,
     wanted: u64,
-) -> Result<(), Fail> {
+) {
     for nth in 1..MOST_REQUESTS {
         let refusals = walk.memory.refusals();
-        expect_walk::<E, M, A>(rt, walk, alloc, nth, MOST_STEPS, wanted)?;
+        expect_walk::<E, M, A>(rt, walk, alloc, nth, MOST_STEPS, wanted);
         if walk.memory.refusals() == refusals {
-            return Ok(());
+            return;
         }
     }
     assert!(rt; false);
-    Ok(())
 }
 
 // A machine in the state in which a processor begins, with the room that eleven steps over `AB'` need, and no more.
@@ -210,11 +192,10 @@ fn expect_walk_in_room<E: TwoEnds<u8, A>, M: TwoEnds<Mark, A>, A: Allocator + Co
     rt: &impl Abort,
     walk: &Walk<'_>,
     alloc: A,
-) -> Result<(), Fail> {
-    let mut machine = loaded_at_start::<E, M, A>(rt, alloc)?;
-    let outcome = expect_steps(rt, walk, &mut machine, 11, 11);
+) {
+    let mut machine = loaded_at_start::<E, M, A>(rt, alloc).expect(rt, "there was no memory");
+    expect_steps(rt, walk, &mut machine, 11, 11);
     let_go(machine);
-    outcome
 }
 
 // All walks on machines over such lists: over each whole input; eleven steps, where those that only move get no memory; and the same in
@@ -224,39 +205,38 @@ fn expect_all_walks<E: TwoEnds<u8, A>, M: TwoEnds<Mark, A>, A: Allocator + Copy>
     plain: Global,
     memory: Memory<'_>,
     alloc: A,
-) -> Result<(), Fail> {
+) {
     let mut walk = Walk {
         plain,
         memory,
         input: b"AB'",
         scarce: STEPS_THAT_MOVE,
     };
-    expect_walk::<E, M, A>(rt, &walk, alloc, 0, 11, 11)?;
+    expect_walk::<E, M, A>(rt, &walk, alloc, 0, 11, 11);
     walk.scarce = STEPS_THAT_SCAN;
-    expect_walk_in_room::<E, M, A>(rt, &walk, alloc)?;
+    expect_walk_in_room::<E, M, A>(rt, &walk, alloc);
     walk.scarce = &[];
     for (input, steps) in SCANNED.iter() {
         walk.input = *input;
-        expect_walks::<E, M, A>(rt, &walk, alloc, *steps)?;
+        expect_walks::<E, M, A>(rt, &walk, alloc, *steps);
     }
-    Ok(())
 }
 
 #[test]
-fn there_and_back_without_memory(rt: HostRuntime) -> Result<(), Fail> {
+fn there_and_back_without_memory(rt: HostRuntime) {
     let memory = Refusing::new(rt.alloc());
     expect_all_walks::<GapBuf<u8, Memory<'_>>, GapBuf<Mark, Memory<'_>>, Memory<'_>>(
         &rt,
         rt.alloc(),
         &memory,
         &memory,
-    )?;
+    );
     expect_all_walks::<PlainEnds<u8, Memory<'_>>, PlainEnds<Mark, Memory<'_>>, Memory<'_>>(
         &rt,
         rt.alloc(),
         &memory,
         &memory,
-    )
+    );
 }
 
 // Whether a begun function is kept so.
@@ -277,8 +257,8 @@ fn are_kept<A: Allocator + Copy>(functions: &[(Kind, Pieces<A>)], wanted: &[Kept
     true
 }
 
-// Whether a record keeps this base text and these begun functions.
-fn empties<A: Allocator + Copy>(record: &Record<A>, base: &[u8], functions: &[Kept]) -> bool {
+// Whether a record keeps this base text and these begun functions. It is let go.
+fn empties<A: Allocator + Copy>(record: Record<A>, base: &[u8], functions: &[Kept]) -> bool {
     match record {
         Record::Idle { base: kept, frames } => {
             kept.as_slice() == base && are_kept(frames.as_slice(), functions)
@@ -287,47 +267,32 @@ fn empties<A: Allocator + Copy>(record: &Record<A>, base: &[u8], functions: &[Ke
     }
 }
 
-// Takes so many steps.
-fn go<E: TwoEnds<u8, A>, M: TwoEnds<Mark, A>, A: Allocator + Copy>(
-    rt: &impl Abort,
-    machine: &mut Core<E, M, A>,
-    input: &[u8],
-    n: u64,
-) -> Result<(), Refusal> {
-    for _ in 0..n {
-        let _record = step(rt, machine, input)?;
-    }
-    Ok(())
-}
-
 // The step of this number empties all texts, and its record keeps these.
 fn expect_emptied<E: TwoEnds<u8, A>, M: TwoEnds<Mark, A>, A: Allocator + Copy>(
     rt: &impl Abort,
     machine: &mut Core<E, M, A>,
     (input, number, base, functions): &(&[u8], u64, &[u8], &[Kept]),
-) -> Result<(), Refusal> {
-    go(rt, machine, input, number.saturating_sub(1))?;
-    let record = step(rt, machine, input)?;
-    assert!(rt; empties(&record, base, functions));
-    Ok(())
+) {
+    for _ in 1..*number {
+        take_step(rt, machine, input);
+    }
+    let record = step(rt, machine, input).expect(rt, "the step was refused");
+    assert!(rt; empties(record, base, functions));
 }
 
 // That is so of each row, on a new machine.
 fn expect_each_emptied<E: TwoEnds<u8, A>, M: TwoEnds<Mark, A>, A: Allocator + Copy>(
     rt: &impl Abort,
     alloc: A,
-) -> Result<(), Refusal> {
+) {
     for row in EMPTIED.iter() {
-        let mut machine = made::<E, M, A>(alloc)?;
-        let outcome = expect_emptied(rt, &mut machine, row);
+        let mut machine = made::<E, M, A>(alloc).expect(rt, "there was no memory");
+        expect_emptied(rt, &mut machine, row);
         let_go(machine);
-        outcome?;
     }
-    Ok(())
 }
 
 #[test]
-fn emptied_texts_are_kept(rt: HostRuntime) -> Result<(), Fail> {
-    expect_each_emptied::<GapBuf<u8>, GapBuf<Mark>, Global>(&rt, rt.alloc())?;
-    Ok(())
+fn emptied_texts_are_kept(rt: HostRuntime) {
+    expect_each_emptied::<GapBuf<u8>, GapBuf<Mark>, Global>(&rt, rt.alloc());
 }
