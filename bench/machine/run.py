@@ -2,8 +2,8 @@
 """Times the machine over one block (`GapBuf`) against the same core over two vectors (`PlainEnds`), and prints a table.
 
 The program is built under target/bench_machine, by `rt run`, which proves it and what it stands on. All crates are copied
-there, with what earlier checks kept of them (2 GB). Each step keeps its record, which is let go: that of a call is still a copy
-of the machine. Each figure is the median of all rounds of all runs; both representations are timed in turn, in one run.
+there, with what earlier checks kept of them (2 GB). Each step makes its record, which is let go. Each figure is the median of
+all rounds of all runs; both representations are timed in turn, in one run.
 
     python3 bench/machine/run.py [RUNS]
 """
@@ -25,7 +25,7 @@ ROWS = [
     ("protected", 1, "a protected text of 1 MiB, in one step"),
     ("crossing_narrow", 1, "its way across a gap of one place, once the match is found"),
     ("crossing_wide", 1, "the same across a gap of 1 MiB"),
-    ("calls", 16 * 64, "a call of `eq`, in ten steps, with the copy of the machine that its record keeps"),
+    ("calls", 16 * 64, "a call of `eq`, in ten steps"),
 ]
 
 

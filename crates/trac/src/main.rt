@@ -86,8 +86,8 @@ fn debug_file(rt: &HostRuntime, path: &str, options: Options) -> Ending
     }
 }
 
-// The bytes of the file at this path, which is closed before any command is read: where standard input is closed, the system opens
-// the file in its place.
+// The bytes of the file at this path, which is closed before any command is read: where standard input is closed, the
+// system opens the file in its place.
 fn tape_in(rt: &HostRuntime, path: &str) -> Result<Vec<u8>, Ending> {
     match fs::File::open(rt, path) {
         Ok(mut file) => read_tape(rt.alloc(), &mut file),

@@ -1,13 +1,14 @@
 -- Digits, one more at a time.
-use Rattle.std.proofs.Common.{◌≡◌, ℕ, zero, suc, ◌+◌, ◌-◌, ◌*◌, ◌^◌, ◌<◌, ◌≤◌, ◌&&◌, Bool, true, false, List, [], ◌∷◌, ◌++◌, length, take, get_or, refl, ap, ◌∙◌, arith}
+use Rattle.std.proofs.Common.{◌≡◌, ℕ, zero, suc, ◌+◌, ◌-◌, ◌*◌, ◌^◌, ◌<◌, ◌≤◌, ◌&&◌, Bool, true, false, List, [], ◌∷◌, ◌++◌, length, take, get_or, refl, sym, ap, ◌∙◌, arith}
+use Rattle.std.specs.Bool.{◌==◌}
 use Rattle.std.specs.Prelude.{None, Some, nat_le, ltb}
 use Rattle.std.specs.Char.{digit_value, is_ascii_digit}
 use Rattle.std.specs.Str.{all_ascii_digits}
 use Rattle.std.specs.Str.Parse.{digits_value}
 use Rattle.std.proofs.Math.Nat.{pow-suc}
-use Rattle.std.proofs.lemmas.Bool.{cond-false, lt-ltb, le-ltb}
+use Rattle.std.proofs.lemmas.Bool.{cond-false, cond-true, le-leb, lt-ltb, le-ltb}
 use Rattle.std.proofs.lemmas.Int.Digits.{digits_value_more}
-use Rattle.std.proofs.lemmas.List.{take_more}
+use Rattle.std.proofs.lemmas.List.{take_all, take_more}
 use Rattle.trac_debug.specs.declared.command.TheConstants.{DIGIT_LIMIT}
 use Rattle.trac_debug.specs.Commands.{count_of}
 
@@ -60,3 +61,19 @@ small_more i number digit few small =
     let next : i + 1 ≡ suc i = omega arith in
     let grows : 10 ^ (i + 1) ≡ 10 ^ i * 10 = ap (λ n. 10 ^ n) next ∙ pow-suc 10 i in
     omega arith
+
+some_bytes : (word : List ℕ) → (length word == 0) ≡ false → 1 ≤ length word
+some_bytes [] filled = absurd (cc)
+some_bytes (b ∷ bs) filled = omega arith
+
+-- the number that a word of few digits writes
+pub counted : (word : List ℕ) (i number : ℕ) → (length word == 0) ≡ false → length word ≤ DIGIT_LIMIT → length word ≤ i → number ≡ digits_value 10 (take i word) → all_ascii_digits (take i word) ≡ true →
+    Some number ≡ count_of word
+counted word i number filled few end value digits =
+    let whole : take i word ≡ word = take_all i word end in
+    let all : all_ascii_digits word ≡ true = ap all_ascii_digits (sym whole) ∙ digits in
+    let fits : (nat_le 1 (length word) && nat_le (length word) DIGIT_LIMIT && all_ascii_digits word) ≡ true
+    = ap (λ t. t && nat_le (length word) DIGIT_LIMIT && all_ascii_digits word) (le-leb 1 (length word) (some_bytes word filled))
+    ∙ (ap (λ t. t && all_ascii_digits word) (le-leb (length word) DIGIT_LIMIT few) ∙ all) in
+    ap Some (value ∙ ap (digits_value 10) whole)
+    ∙ sym (cond-true (nat_le 1 (length word) && nat_le (length word) DIGIT_LIMIT && all_ascii_digits word) (Some (digits_value 10 word)) None fits)

@@ -13,7 +13,7 @@ pub const SPACE: u8 = b' ';
 pub const DIGIT_LIMIT: usize = 9;
 
 /// What the debugger is told to do.
-#[derive(Clone, Copy, Debug, PartialEq, Eq)]
+#[derive(Clone, Copy)]
 pub enum Command<'a> {
     /// Go forward by so many steps.
     Forward(u64),
@@ -31,8 +31,8 @@ pub enum Command<'a> {
     Quit,
 }
 
-/// The command that a line says, without what ends it; none where it is not understood. Words are separated by exactly one space
-/// (this project's profile). It takes no memory.
+/// The command that a line says, without what ends it; none where it is not understood. Words are separated by exactly one
+/// space (this project's profile). It takes no memory.
 pub fn command_in(line: &[u8]) -> Option<Command<'_>>
     ensures { option_map command_seen result ≡ command_of line.now }
 {

@@ -15,14 +15,15 @@ use trac_run::writing::{flush, write_whole};
 use trac_run::{Ending, Options};
 use trac_session::Session;
 
-/// Goes forwards and backwards over a program, the tape being the whole of its input: it reads commands, one a line, carries each of them
-/// out, and writes the reply to it, which is flushed before more is read. The commands are read by at most 4,096 bytes at a time.
+/// Goes forwards and backwards over a program, the tape being the whole of its input: it reads commands, one a line,
+/// carries each of them out, and writes the reply to it, which is flushed before more is read. The commands are read by
+/// at most 4,096 bytes at a time.
 ///
-/// The session ends with `Ended` at the end of the commands, and where it is asked to; with `NotUnderstood` at a line that says no
-/// command; with `Budget` where there is a line behind the first 1,048,576; with `Limit`, and nothing written, where the tape has more
-/// than 33,554,432 bytes; with `Read` and `Write` where the reader or the writer fails; and with `Memory` where there is no memory
-/// for the session, for a line or for a reply, of which nothing is written then. A walk for which memory was refused is replied to as
-/// any other (this project's profile).
+/// The session ends with `Ended` at the end of the commands, and where it is asked to; with `NotUnderstood` at a line that
+/// says no command; with `Budget` where there is a line behind the first 1,048,576; with `Limit`, and nothing written, where
+/// the tape has more than 33,554,432 bytes; with `Read` and `Write` where the reader or the writer fails; and with `Memory`
+/// where there is no memory for the session, for a line or for a reply, of which nothing is written then. A walk for which
+/// memory was refused is replied to as any other (this project's profile).
 pub fn debug<R: Read, W: Write, A: Allocator + Copy>(
     alloc: A,
     tape: &[u8],

@@ -19,7 +19,7 @@ pub const LINE_LIMIT: usize = 4096;
 pub const LINE_COUNT_LIMIT: u64 = 1_048_576;
 
 /// What stands at the front of bytes that were read.
-#[derive(Clone, Copy, Debug, PartialEq, Eq)]
+#[derive(Clone, Copy, PartialEq, Eq)]
 pub enum Front {
     /// A line, which may be longer than a line may be. Lengths count bytes.
     Line {

@@ -12,9 +12,9 @@ use std::alloc::{AllocError, Allocator};
 use trac_rules::byte::LINE_FEED;
 use trac_session::{Refusal, Session, Walk};
 
-/// Carries out a command, and gives the reply to it, which is exact: a word, how many steps were taken, and why no more were; or what
-/// was pending; or the state (this project's profile). To `Quit` nothing is replied.
-/// The error is that memory was refused for the reply: the command is carried out then, but for `Commit`.
+/// Carries out a command, and gives the reply to it, which is exact: a word, how many steps were taken, and why no more
+/// were; or what was pending; or the state (this project's profile). To `Quit` nothing is replied. The error is that memory
+/// was refused for the reply: the command is carried out then, but for `Commit`.
 pub fn reply_to<A: Allocator + Copy>(
     alloc: A,
     session: &mut Session<A>,

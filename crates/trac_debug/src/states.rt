@@ -25,8 +25,8 @@ pub fn state_lines<A: Allocator + Copy>(
     Ok(out)
 }
 
-// All parts of a machine's state, as lines. Here and below the machine may be of any representation: that the gap buffer is one is shown once,
-// where a session's machine is passed on, and not at each call.
+// All parts of a machine's state, as lines. Here and below the machine may be of any representation: that the gap buffer is
+// one is shown once, where a session's machine is passed on, and not at each call.
 fn machine_into<E: TwoEnds<u8, A>, M: TwoEnds<Mark, A>, A: Allocator + Copy, B: Allocator>(
     machine: &Core<E, M, A>,
     out: &mut Vec<u8, B>,

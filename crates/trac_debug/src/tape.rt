@@ -8,8 +8,8 @@ use trac_rules::limit::TAPE_LIMIT;
 use trac_run::Ending;
 use trac_run::running::READ_SIZE;
 
-/// All bytes of a reader, as the tape of a session. Each read asks for at most 4,096 bytes, and none is read behind the first that is
-/// too many (this project's profile).
+/// All bytes of a reader, as the tape of a session. Each read asks for at most 4,096 bytes, and none is read behind the
+/// first that is too many (this project's profile).
 ///
 /// `Ending::Limit`: there are more than 33,554,432. `Ending::Read`: the reader failed. `Ending::Memory`: memory was refused.
 pub fn read_tape<R: Read, A: Allocator + Copy>(

@@ -1,5 +1,5 @@
 //! How texts and forms are shown.
-ghost use Rattle.std.specs.Prelude.{◌≡◌, ◌++◌, ◌-◌, ◌<◌, ◌≤◌, length, take, drop, OnOk, decimal};
+ghost use Rattle.std.specs.Prelude.{◌≡◌, ◌++◌, ◌-◌, ◌<◌, ◌≤◌, length, take, drop, codes, OnOk, decimal};
 ghost use Rattle.std.specs.Char.{digit_char};
 ghost use Rattle.trac_rules.specs.Form.{all_items};
 ghost use Rattle.trac_debug.specs.Texts.{bracketed, bracketed_form, escaped, escaped_byte, escaped_item, escaped_items, form_line, is_shown, number_line, text_line};
@@ -41,8 +41,9 @@ fn byte_into<A: Allocator>(byte: u8, out: &mut Vec<u8, A>) -> Result<(), AllocEr
     Ok(out.push(hexadecimal_digit(byte % 16))?)
 }
 
-/// Puts a text in brackets at the end of another one, byte by byte: bytes 32 to 126 but for `[`, `\` and `]` as themselves, every
-/// other one as `\x` and two hexadecimal digits in lower case (this project's profile). The error is that memory was refused.
+/// Puts a text in brackets at the end of another one, byte by byte: bytes 32 to 126 but for `[`, `\` and `]` as
+/// themselves, every other one as `\x` and two hexadecimal digits in lower case (this project's profile). The
+/// error is that memory was refused.
 pub fn text_into<A: Allocator>(text: &[u8], out: &mut Vec<u8, A>) -> Result<(), AllocError>
     ensures { OnOk result (out.new.items ≡ out.old.items ++ bracketed text.now) }
 {
@@ -103,8 +104,8 @@ fn items_into<A: Allocator + Copy, B: Allocator>(
     Ok(())
 }
 
-/// Puts a form in brackets at the end of a text: its items, with `<^>` at the place of its pointer. The error is that memory was
-/// refused.
+/// Puts a form in brackets at the end of a text: its items, with `<^>` at the place of its pointer. The
+/// error is that memory was refused.
 pub fn form_into<A: Allocator + Copy, B: Allocator>(
     form: &Form<A>,
     out: &mut Vec<u8, B>,
@@ -126,10 +127,17 @@ pub fn text_line_into<A: Allocator>(
 ) -> Result<(), AllocError>
     ensures { OnOk result (out.new.items ≡ out.old.items ++ text_line word.now text.now) }
 {
+    lead_into(word, text, out)?;
+    Ok(out.push(LINE_FEED)?)
+}
+
+// Puts a word and a text behind it at the end of a text.
+fn lead_into<A: Allocator>(word: &[u8], text: &[u8], out: &mut Vec<u8, A>) -> Result<(), AllocError>
+    ensures { OnOk result (out.new.items ≡ out.old.items ++ (word.now ++ (codes " " ++ bracketed text.now))) }
+{
     out.extend_from_slice(word)?;
     out.extend_from_slice(b" ")?;
-    text_into(text, out)?;
-    Ok(out.push(LINE_FEED)?)
+    text_into(text, out)
 }
 
 /// Puts a line of a word and a number at the end of a text. The error is that memory was refused.
@@ -155,9 +163,7 @@ pub fn form_line_into<A: Allocator + Copy, B: Allocator>(
 ) -> Result<(), AllocError>
     ensures { OnOk result (out.new.items ≡ out.old.items ++ form_line word.now (name.now, form.now)) }
 {
-    out.extend_from_slice(word)?;
-    out.extend_from_slice(b" ")?;
-    text_into(name, out)?;
+    lead_into(word, name, out)?;
     out.extend_from_slice(b" ")?;
     form_into(form, out)?;
     Ok(out.push(LINE_FEED)?)

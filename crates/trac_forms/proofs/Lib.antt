@@ -8,4 +8,5 @@ pub mod Going
 pub mod Tables
 pub mod Names
 pub mod Passing
+pub mod ByteRuns
 pub mod Searching

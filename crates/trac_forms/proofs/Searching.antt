@@ -1,7 +1,7 @@
 -- A text among items: where it occurs in a run of bytes between gaps, and where it does not.
 use Rattle.std.proofs.Common.{◌≡◌, ℕ, suc, ◌+◌, ◌-◌, ◌<◌, ◌≤◌, true, false, List, [], ◌∷◌, ◌++◌, length, take, drop, get_or, refl, sym, ap, subst, ◌∙◌, arith, ⊎_elim}
-use Rattle.std.specs.Prelude.{None, Some, ◌==◌}
-use Rattle.std.proofs.lemmas.Bool.{and_from, and_left, and_right, cases_Bool, cases_lt, eq-eqb, eqb-true, false≢true, false_from_ne_true}
+use Rattle.std.specs.Prelude.{IfSome, None, Option, Some, option_map, ◌==◌}
+use Rattle.std.proofs.lemmas.Bool.{and_from, and_parts, cases_lt, eq-eqb, eqb-true, false≢true, false_from_ne_true}
 use Rattle.std.proofs.lemmas.List.{append_assoc, drop-append-le, drop-drop, drop-map, drop_more, length-append, length-drop, length-map, length-take-le, map-append, take-append-drop, take-append-le, take-map}
 use Rattle.std.proofs.lemmas.List.Prefix.{at_from_reads}
 use Rattle.std.proofs.Math.Seq.{take-add}
@@ -11,6 +11,7 @@ use Rattle.trac_rules.specs.declared.item.Item.TheVariants.{Byte, Gap}
 use Rattle.trac_rules.specs.Form.{as_items}
 use Rattle.trac_rules.specs.Pieces.{begin_with, is_gap, place_of_text}
 use Rattle.trac_rules.proofs.Balanced.{first_place_none, first_place_some}
+use Rattle.trac_forms.specs.declared.reading.Reached.{Reached}
 use Rattle.trac_forms.proofs.Cuts.{occurs_in}
 use Rattle.trac_forms.proofs.Passing.{count, count-append, count_gap, count_next}
 
@@ -25,22 +26,21 @@ begins : (text back : List ℕ) (tail : List Item) → begin_with text (as_items
 begins [] back tail = refl
 begins (b ∷ text) back tail = and_from (b == b) (begin_with text (as_items (text ++ back) ++ tail)) (eq-eqb b b refl) (begins text back tail)
 
--- and only such: no text reaches over the end of a run
-begins_only : (text run : List ℕ) (tail : List Item) → IsBound tail → begin_with text (as_items run ++ tail) ≡ true → (back : List ℕ) × (run ≡ text ++ back)
-begins_only [] run tail bound e = (run, refl)
-begins_only (b ∷ text) [] [] bound e = absurd (false≢true e)
-begins_only (b ∷ text) [] (Byte c ∷ rest) bound e = absurd (bound c rest refl)
-begins_only (b ∷ text) [] (Gap ordinal width ∷ rest) bound e = absurd (false≢true e)
-begins_only (b ∷ text) (c ∷ run) tail bound e =
-    ⊎_elim
-    (λ (first : (b == c) ≡ true).
-    ⊎_elim
-    (λ (others : begin_with text (as_items run ++ tail) ≡ true).
-    let rest = begins_only text run tail bound others in (rest.0, (λ i. sym (eqb-true b c first) i ∷ rest.1 i)))
-    (λ (others : begin_with text (as_items run ++ tail) ≡ false). absurd (false≢true (sym (and_right (b == c) (begin_with text (as_items run ++ tail)) others) ∙ e)))
-    (cases_Bool (begin_with text (as_items run ++ tail))))
-    (λ (first : (b == c) ≡ false). absurd (false≢true (sym (and_left (b == c) (begin_with text (as_items run ++ tail)) first) ∙ e)))
-    (cases_Bool (b == c))
+-- and only such, where the text is no longer
+begins_only : (text run : List ℕ) (tail : List Item) → length text ≤ length run → begin_with text (as_items run ++ tail) ≡ true → (back : List ℕ) × (run ≡ text ++ back)
+begins_only [] run tail l e = (run, refl)
+begins_only (b ∷ text) [] tail l e = absurd (omega arith)
+begins_only (b ∷ text) (c ∷ run) tail l e =
+    let both = and_parts (b == c) (begin_with text (as_items run ++ tail)) e in
+    let rest = begins_only text run tail (omega arith) both.1 in (rest.0, (λ i. sym (eqb-true b c both.0) i ∷ rest.1 i))
+
+-- no text reaches over the end of a run
+fits : (text run : List ℕ) (tail : List Item) → IsBound tail → begin_with text (as_items run ++ tail) ≡ true → length text ≤ length run
+fits [] run tail bound e = omega arith
+fits (b ∷ text) [] [] bound e = absurd (false≢true e)
+fits (b ∷ text) [] (Byte c ∷ rest) bound e = absurd (bound c rest refl)
+fits (b ∷ text) [] (Gap ordinal width ∷ rest) bound e = absurd (false≢true e)
+fits (b ∷ text) (c ∷ run) tail bound e = omega (arith, fits text run tail bound (and_parts (b == c) (begin_with text (as_items run ++ tail)) e).1)
 
 count_run : (run : List ℕ) → count (as_items run) ≡ length run
 count_run [] = refl
@@ -66,36 +66,40 @@ module _ (text : List ℕ) (items : List Item) (start : ℕ) (run : List ℕ) (t
   pub as_long : length items ≡ start + length run + length tail
   as_long = omega (arith, length-drop start items, ap length rest, length-append (as_items run) tail, length-map run Byte)
 
-  module _ (bound : IsBound tail) where
-    -- a text that begins at a place of the run occurs there
-    occurs : (j : ℕ) → j ≤ length run → begin_with text (drop (start + j) items) ≡ true → OccursAt run text j
-    occurs j l e =
-        let here = begins_only text (drop j run) tail bound (ap (begin_with text) (sym (at j l)) ∙ e) in
-        let split : run ≡ take j run ++ (text ++ here.0) = sym (take-append-drop j run) ∙ ap (λ (r : List ℕ). take j run ++ r) here.1 in
-        subst (OccursAt run text) (length-take-le j run l) (occurs_in run (take j run) text here.0 split)
+  -- a text that begins at a place of the run, and does not reach over its end, occurs there
+  occurs : (j : ℕ) → j + length text ≤ length run → begin_with text (drop (start + j) items) ≡ true → OccursAt run text j
+  occurs j l e =
+      let here =
+      begins_only text (drop j run) tail (omega (arith, length-drop j run)) (ap (begin_with text) (sym (at j (omega arith))) ∙ e) in
+      let split : run ≡ take j run ++ (text ++ here.0) = sym (take-append-drop j run) ∙ ap (λ (r : List ℕ). take j run ++ r) here.1 in
+      subst (OccursAt run text) (length-take-le j run (omega arith)) (occurs_in run (take j run) text here.0 split)
 
+  -- the first place that a search finds is the first at which the text begins, also where the run goes on
+  pub found_in_run : (place : ℕ) → FindsNeedle run text 0 (Some place) → ((k : ℕ) → k < start → begin_with text (drop k items) ≡ false) → Some (start + place) ≡ place_of_text text items
+  found_in_run place finds before =
+      let fits = finds.1.fits in
+      let here : begin_with text (drop (start + place) items) ≡ true =
+      ap (begin_with text) (at place (omega arith) ∙ ap (λ (r : List ℕ). as_items r ++ tail) (at_from_reads 0 run text place finds.1.fits finds.1.reads))
+      ∙ begins text (drop (place + length text) run) tail in
+      sym (
+      first_place_some (λ k. begin_with text (drop k items)) (length items + 1) (start + place) (omega (arith, as_long)) here
+      (λ k l.
+      ⊎_elim
+      (λ (sooner : k < start). before k sooner)
+      (λ (later : start ≤ k).
+      let j = k - start in
+      let same : k ≡ start + j = omega arith in
+      false_from_ne_true _ (λ e. finds.0.before j (omega arith) (omega arith) (occurs j (omega arith) (ap (λ m. begin_with text (drop m items)) (sym same) ∙ e))))
+      (cases_lt k start))
+      )
+
+  module _ (bound : IsBound tail) where
     -- where a search finds nothing, the text begins at no place of the run, nor right behind it
     pub not_in_run : FindsNeedle run text 0 None → (j : ℕ) → j ≤ length run → begin_with text (drop (start + j) items) ≡ false
-    not_in_run none j l = false_from_ne_true _ (λ e. none j (omega arith) (omega arith) (occurs j l e))
-
-    -- the first place that a search finds is the first at which the text begins
-    pub found_in_run : (place : ℕ) → FindsNeedle run text 0 (Some place) → ((k : ℕ) → k < start → begin_with text (drop k items) ≡ false) → Some (start + place) ≡ place_of_text text items
-    found_in_run place finds before =
-        let fits = finds.1.fits in
-        let here : begin_with text (drop (start + place) items) ≡ true =
-        ap (begin_with text) (at place (omega arith) ∙ ap (λ (r : List ℕ). as_items r ++ tail) (at_from_reads 0 run text place finds.1.fits finds.1.reads))
-        ∙ begins text (drop (place + length text) run) tail in
-        sym (
-        first_place_some (λ k. begin_with text (drop k items)) (length items + 1) (start + place) (omega (arith, as_long)) here
-        (λ k l.
-        ⊎_elim
-        (λ (sooner : k < start). before k sooner)
-        (λ (later : start ≤ k).
-        let j = k - start in
-        let same : k ≡ start + j = omega arith in
-        false_from_ne_true _ (λ e. finds.0.before j (omega arith) (omega arith) (occurs j (omega arith) (ap (λ m. begin_with text (drop m items)) (sym same) ∙ e))))
-        (cases_lt k start))
-        )
+    not_in_run none j l =
+        false_from_ne_true _ (λ e.
+        let short = fits text (drop j run) tail bound (ap (begin_with text) (sym (at j l)) ∙ e) in
+        none j (omega arith) (omega arith) (occurs j (omega (arith, length-drop j run)) e))
 
     -- where no search found it, it begins nowhere up to the end of the run
     pub nowhere_yet : FindsNeedle run text 0 None → ((k : ℕ) → k < start → begin_with text (drop k items) ≡ false) → (k : ℕ) → k < start + length run + 1 → begin_with text (drop k items) ≡ false
@@ -111,6 +115,44 @@ module _ (text : List ℕ) (items : List Item) (start : ℕ) (run : List ℕ) (t
 -- where it begins at no place at all there is none
 pub nowhere : (text : List ℕ) (items : List Item) → ((k : ℕ) → k < length items + 1 → begin_with text (drop k items) ≡ false) → None ≡ place_of_text text items
 nowhere text items none = sym (first_place_none (λ k. begin_with text (drop k items)) (length items + 1) none)
+
+-- ---- what a search of the run says
+
+-- it is one for this text in these bytes
+pub searched : (run text hay needle : List ℕ) (place : Option ℕ) → hay ≡ run → needle ≡ text → FindsNeedle hay needle 0 place → FindsNeedle run text 0 place
+searched run text hay needle place h n finds = subst (λ (r : List ℕ). FindsNeedle r text 0 place) h (subst (λ (t : List ℕ). FindsNeedle hay t 0 place) n finds)
+
+module _ (text : List ℕ) (items : List Item) (start : ℕ) (run : List ℕ) (tail : List Item) (within : start ≤ length items) (rest : drop start items ≡ as_items run ++ tail)
+    (before : (k : ℕ) → k < start → begin_with text (drop k items) ≡ false) where
+  -- it occurs there first
+  pub reached_in_run : (at : Reached) → FindsNeedle run text 0 (Some (at.items - start)) → start ≤ at.items → Some at.items ≡ place_of_text text items
+  reached_in_run at finds behind =
+      let same : at.items ≡ start + (at.items - start) = omega arith in
+      ap Some same ∙ found_in_run text items start run tail within rest (at.items - start) finds before
+
+  -- the bytes before it
+  pub passed_in_run : (at : Reached) (bytes : ℕ) → FindsNeedle run text 0 (Some (at.items - start)) → start ≤ at.items → bytes ≡ count (take start items) → at.bytes + start ≡ bytes + at.items →
+      at.bytes ≡ count (take at.items items)
+  passed_in_run at bytes finds behind counted passed =
+      let same : at.items ≡ start + (at.items - start) = omega arith in
+      omega (arith, count_at text items start run tail within rest (at.items - start) (omega (arith, finds.1.fits)), ap (λ k. count (take k items)) same)
+
+  -- there is room for it
+  pub fits_in_run : (at : Reached) → FindsNeedle run text 0 (Some (at.items - start)) → start ≤ at.items → at.items + length text ≤ length items
+  fits_in_run at finds behind = omega (arith, finds.1.fits, as_long text items start run tail within rest)
+
+  -- the last run
+  pub in_last_run : (found : Option Reached) → FindsNeedle run text 0 (option_map (λ at. at.items - start) found) → IfSome found (λ at. start ≤ at.items) → tail ≡ [] →
+      option_map (λ at. at.items) found ≡ place_of_text text items
+  in_last_run None none behind end =
+      nowhere text items (λ k l.
+      nowhere_yet text items start run tail within rest (λ b more e. absurd (omega (arith, ap length (sym end ∙ e)))) none before k (omega (arith, as_long text items start run tail within rest, ap length end)))
+  in_last_run (Some at) finds behind end = reached_in_run at finds behind
+
+  pub passed_in_last_run : (found : Option Reached) (bytes : ℕ) → FindsNeedle run text 0 (option_map (λ at. at.items - start) found) → IfSome found (λ at. start ≤ at.items) →
+      bytes ≡ count (take start items) → IfSome found (λ at. at.bytes + start ≡ bytes + at.items) → IfSome found (λ at. at.bytes ≡ count (take at.items items))
+  passed_in_last_run None bytes none behind counted passed = tt
+  passed_in_last_run (Some at) bytes finds behind counted passed = passed_in_run at bytes finds behind counted passed
 
 -- the end of the items, and a gap, end a run
 pub bound_end : (n : ℕ) (items : List Item) → length items ≤ n → IsBound (drop n items)

@@ -29,7 +29,7 @@ none_there (x ∷ items) (suc place) h = none_there items place h
 
 -- ---- how many gaps there are
 
-gap_count-append : (xs ys : List Item) → gap_count (xs ++ ys) ≡ gap_count xs + gap_count ys
+pub gap_count-append : (xs ys : List Item) → gap_count (xs ++ ys) ≡ gap_count xs + gap_count ys
 gap_count-append [] ys = omega arith
 gap_count-append (Byte b ∷ xs) ys = gap_count-append xs ys
 gap_count-append (Gap k w ∷ xs) ys = omega (arith, gap_count-append xs ys)

@@ -8,8 +8,8 @@ use crate::form::Form;
 use std::alloc::{Allocator, Global};
 use std::marker::Model;
 
-/// Forms with their names, in the order in which they came into the block. It is seen as the list of these pairs, and beside it
-/// the number of spare places, by which more can come in without memory. No name stands twice in it.
+/// Forms with their names, in the order in which they came into the block. It is seen as the list of these pairs, and beside
+/// it the number of spare places, by which more can come in without memory. No name stands twice in it.
 #[derive(Drop)]
 pub struct Block<A: Allocator + Copy = Global> {
     pub(crate) entries: Vec<(Vec<u8, A>, Form<A>), A>,
@@ -41,8 +41,8 @@ impl<A: Allocator + Copy> Block<A> {
         })
     }
 
-    /// Puts a form under a name behind all others. A place has to be spare, which it takes, and no form of the block may have
-    /// this name. It takes no memory (this project's profile).
+    /// Puts a form under a name behind all others. A place has to be spare, which it takes, and no form of the block may
+    /// have this name. It takes no memory (this project's profile).
     pub fn push(&mut self, name: Vec<u8, A>, form: Form<A>)
         requires room { 0 < self.old.room }
         requires other { list_any (λ entry. bytes_eq name.items entry.0) self.old.held ≡ false }
@@ -51,8 +51,8 @@ impl<A: Allocator + Copy> Block<A> {
         self.entries.push_reserved((name, form));
     }
 
-    /// Takes the last form away with its name, and answers both; `None` where the block holds no forms. It takes no memory, and
-    /// no spare place (this project's profile).
+    /// Takes the last form away with its name, and answers both; `None` where the block holds no forms. It takes no memory,
+    /// and no spare place (this project's profile).
     pub fn pop(&mut self) -> Option<(Vec<u8, A>, Form<A>)>
         ensures last { MatchOption result ((self.old.held ≡ []) × (self.new.held ≡ [])) (λ entry. self.old.held ≡ self.new.held ++ (entry.0.items, entry.1) ∷ []) }
         ensures room { self.old.room ≤ self.new.room }

@@ -9,8 +9,8 @@ use crate::store::Store;
 use std::alloc::Allocator;
 
 impl<A: Allocator + Copy> Store<A> {
-    /// Makes places for at least `n` more blocks, so that `push_block` needs no memory. Forms, blocks and names stay as they are.
-    /// Refused with `Memory` where the allocator refuses, and then nothing has changed (this project's profile).
+    /// Makes places for at least `n` more blocks, so that `push_block` needs no memory. Forms, blocks and names stay as they
+    /// are. Refused with `Memory` where the allocator refuses, and then nothing has changed (this project's profile).
     pub fn reserve_blocks(&mut self, n: usize) -> Result<(), FormError>
         ensures room { OnOk result (n ≤ self.new.spare) }
         ensures no_less { self.old.spare ≤ self.new.spare }
@@ -21,8 +21,8 @@ impl<A: Allocator + Copy> Store<A> {
         Ok(())
     }
 
-    /// Puts a block at the end of the blocks: its number is how many there were before. A place has to be spare, which it takes.
-    /// It takes no memory (this project's profile).
+    /// Puts a block at the end of the blocks: its number is how many there were before. A place has to be spare, which it
+    /// takes. It takes no memory (this project's profile).
     pub fn push_block(&mut self, block: Block<A>)
         requires { 0 < self.old.spare }
         ensures { self.new ≡ record self.old { blocks = self.old.blocks ++ Some block.held ∷ []; spare = self.old.spare - 1 } }
@@ -30,8 +30,8 @@ impl<A: Allocator + Copy> Store<A> {
         self.blocks.push_reserved(Some(block));
     }
 
-    /// Takes the last block off the list, and answers it; `None` where it is an erased one, or where there are no blocks. It takes
-    /// no memory, and no spare place (this project's profile).
+    /// Takes the last block off the list, and answers it; `None` where it is an erased one, or where there are no blocks. It
+    /// takes no memory, and no spare place (this project's profile).
     pub fn pop_block(&mut self) -> Option<Block<A>>
         ensures last { option_map (λ b. b.held) result ≡ block_at (length self.old.blocks - 1) self.old.blocks }
         ensures others { self.new ≡ record self.old { blocks = take (length self.old.blocks - 1) self.old.blocks; spare = self.new.spare } }
@@ -40,8 +40,8 @@ impl<A: Allocator + Copy> Store<A> {
         self.blocks.pop()?
     }
 
-    /// Takes the block of this number away and answers it; its place stays, as that of an erased block. `None` where it is erased
-    /// already, and past the last, and then nothing has changed. It takes no memory (this project's profile).
+    /// Takes the block of this number away and answers it; its place stays, as that of an erased block. `None` where it is
+    /// erased already, and past the last, and then nothing has changed. It takes no memory (this project's profile).
     pub fn take_block(&mut self, i: usize) -> Option<Block<A>>
         ensures taken { option_map (λ b. b.held) result ≡ block_at i self.old.blocks }
         ensures erased { self.new ≡ record self.old { blocks = slice_set self.old.blocks i None } }

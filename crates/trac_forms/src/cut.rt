@@ -21,8 +21,8 @@ use trac_gap::TwoEnds;
 use trac_rules::item::{CutGap, Item};
 use trac_rules::limit::{FORM_LIMIT, MARK_LIMIT};
 
-/// The gaps that segmenting makes in a form, at rising places: how many items stand before each in the segmented form, and its
-/// ordinal. With the texts that were cut out it says what the form was before. It is seen as the list of these gaps.
+/// The gaps that segmenting makes in a form, at rising places: how many items stand before each in the segmented form, and
+/// its ordinal. With the texts that were cut out it says what the form was before. It is seen as the list of these gaps.
 #[derive(Drop)]
 pub struct Cut<A: Allocator + Copy = Global> {
     gaps: Vec<CutGap, A>,
@@ -47,8 +47,8 @@ impl<A: Allocator + Copy> Cut<A> {
 }
 
 impl<A: Allocator + Copy> Form<A> {
-    /// What segmenting with these texts would cut: the gaps that it would make. There may be at most 1,048,576 texts. The form
-    /// stays as it is. This is this project's profile.
+    /// What segmenting with these texts would cut: the gaps that it would make. There may be at most 1,048,576 texts. The
+    /// form stays as it is. This is this project's profile.
     ///
     /// Refused with `Memory` where the allocator refuses.
     pub fn cut_for<T: Texts>(&self, texts: &T) -> Result<Cut<A>, FormError>
@@ -61,10 +61,10 @@ impl<A: Allocator + Copy> Form<A> {
         Ok(Cut { gaps })
     }
 
-    /// Cuts these texts out of the form: for each text in turn, every run of bytes between gaps is searched from the left, and
-    /// the leftmost occurrences that do not overlap become gaps of that text's number, which counts from 1. Earlier gaps stay,
-    /// a null text uses up its number, and the pointer goes to the start. `cut` has to be what `cut_for` answers for this form
-    /// and these texts. This is the rule of `ss`, in this project's profile. It takes no memory.
+    /// Cuts these texts out of the form: for each text in turn, every run of bytes between gaps is searched from the left,
+    /// and the leftmost occurrences that do not overlap become gaps of that text's number, which counts from 1. Earlier gaps
+    /// stay, a null text uses up its number, and the pointer goes to the start. `cut` has to be what `cut_for` answers for
+    /// this form and these texts. This is the rule of `ss`, in this project's profile. It takes no memory.
     pub fn segment<T: Texts>(&mut self, cut: &Cut<A>, texts: &T)
         requires { cut.now ≡ cut_of (T.texts texts.now) self.old }
         ensures { self.new ≡ segmented (T.texts texts.now) self.old }
@@ -72,9 +72,9 @@ impl<A: Allocator + Copy> Form<A> {
         cut_gaps(&mut self.items, cut.gaps(), texts);
     }
 
-    /// Undoes `segment`: puts the texts in place of the gaps of a cut again, and the pointer at the start. At each place of the
-    /// cut, which rise, a gap of its ordinal has to stand, as wide as the text of that number. Other gaps stay. This is this
-    /// project's profile. It takes no memory, since the form has room for all bytes that it stands for.
+    /// Undoes `segment`: puts the texts in place of the gaps of a cut again, and the pointer at the start. At each place of
+    /// the cut, which rise, a gap of its ordinal has to stand, as wide as the text of that number. Other gaps stay. This is
+    /// this project's profile. It takes no memory, since the form has room for all bytes that it stands for.
     pub fn unsegment<T: Texts>(&mut self, cut: Cut<A>, texts: &T)
         requires { IsTrue (is_some (joined (T.texts texts.now) cut (all_items self.old))) }
         ensures { option_map at_start (joined (T.texts texts.now) cut (all_items self.old)) ≡ Some self.new }

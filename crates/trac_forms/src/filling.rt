@@ -5,6 +5,7 @@ ghost use Rattle.trac_rules.specs.Filling.{called, filled, text_numbered};
 
 use crate::error::FormError;
 use crate::form::Form;
+use crate::runs::{run_into, run_len};
 use crate::texts::Texts;
 use std::alloc::Allocator;
 use trac_rules::item::Item;
@@ -17,14 +18,23 @@ impl<A: Allocator + Copy> Form<A> {
         ensures { SomeIff result (length (called (T.texts args.now) self.now) ≤ TEXT_LIMIT) (length (called (T.texts args.now) self.now)) }
     {
         let mut total = 0;
-        for item in self.after() {
+        let mut rest = self.after();
+        'runs: loop {
+            let (run, behind) = rest.split_at(run_len(rest));
+            if run.len() > TEXT_LIMIT - total {
+                return None;
+            }
+            total += run.len();
+            let Some((item, behind)) = behind.split_first() else {
+                return Some(total);
+            };
             let len = filled_len(*item, args);
             if len > TEXT_LIMIT - total {
                 return None;
             }
             total += len;
+            rest = behind;
         }
-        Some(total)
     }
 
     /// Puts the value of a call with these texts at the end of `out`: the bytes behind the pointer, with each gap replaced
@@ -41,10 +51,17 @@ impl<A: Allocator + Copy> Form<A> {
         ensures left { OnErr result (IsFrontOf out.old.items out.new.items) }
         ensures err { IsOkUnless result FormError.Memory }
     {
-        for item in self.after() {
+        let mut rest = self.after();
+        'runs: loop {
+            let (run, behind) = rest.split_at(run_len(rest));
+            out.reserve(run.len())?;
+            run_into(run, out);
+            let Some((item, behind)) = behind.split_first() else {
+                return Ok(());
+            };
             fill_into(*item, args, out)?;
+            rest = behind;
         }
-        Ok(())
     }
 }
 

@@ -43,8 +43,8 @@ impl<A: Allocator + Copy> Model for Form<A> {
 impl<A: Allocator + Copy> Form<A> {
     /// A form of the bytes of `text`, with its pointer at the start.
     ///
-    /// Refused with `TooLong` where `text` has more than 16,777,216 bytes (this project's profile), and with `Memory` where the
-    /// allocator refuses.
+    /// Refused with `TooLong` where `text` has more than 16,777,216 bytes (this project's profile), and with
+    /// `Memory` where the allocator refuses.
     pub fn new(alloc: A, text: &[u8]) -> Result<Self, FormError>
         ensures made { IfOk result (λ f. f ≡ defined text.now) }
         ensures fits { OnOk result (length text.now ≤ FORM_LIMIT) }

@@ -12,6 +12,7 @@ pub mod form;
 mod listing;
 mod looking;
 pub mod reading;
+mod runs;
 mod showing;
 pub mod store;
 pub mod texts;

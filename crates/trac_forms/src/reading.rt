@@ -1,11 +1,12 @@
-//! Reading a form at its pointer: what is given, and where the pointer goes. A pointer before a gap and one behind it are two
-//! places. Each call is measured before anything is built or moved.
-ghost use Rattle.std.specs.Prelude.{◌≡◌, ◌+◌, ◌++◌, ◌∷◌, [], ◌≤◌, ◌<◌, length, take, drop, position, option_map, IfOk, IfSome, OnOk, OnErr, IsOkUnless};
+//! Reading a form at its pointer: what is given, and where the pointer goes. A pointer before a gap and one behind it are
+//! two places. Each call is measured before anything is built or moved.
+ghost use Rattle.std.specs.Prelude.{◌≡◌, ◌+◌, ◌-◌, ◌^◌, ◌++◌, ◌∷◌, [], ◌≤◌, ◌<◌, length, take, drop, position, option_map, IfOk, IfSome, OnOk, OnErr, IsOkUnless};
+ghost use Rattle.memchr.specs.Find.{FindsNeedle};
 ghost use Rattle.trac_rules.specs.Fronts.{IsFrontOf};
 ghost use Rattle.trac_rules.specs.Pieces.{at_most_all, bytes_in, char_read, count_read, is_gap, last_bytes, next_bytes, place_before, place_behind, place_of_text, segment_items, segment_read, until_read};
 ghost use Rattle.trac_forms.specs.Taken.{IsThere, taken};
 
-use crate::cutting::{end_run, push_item};
+use crate::cutting::end_run;
 use crate::error::FormError;
 use crate::form::Form;
 use memchr::memmem::Finder;
@@ -13,8 +14,8 @@ use std::alloc::Allocator;
 use trac_gap::TwoEnds;
 use trac_rules::item::Item;
 
-/// What a call reads of a form, measured: its bytes are the first `len` from the lesser of the form's and the piece's pointer
-/// on, with gaps passed and not given.
+/// What a call reads of a form, measured: its bytes are the first `len` from the lesser of the form's and the piece's
+/// pointer on, with gaps passed and not given.
 #[derive(Clone, Copy, Debug, PartialEq, Eq)]
 pub struct Piece {
     /// How many bytes are given.
@@ -24,8 +25,8 @@ pub struct Piece {
 }
 
 impl<A: Allocator + Copy> Form<A> {
-    /// The bytes from the pointer up to the next gap, the pointer behind that gap; without a gap all bytes, the pointer at the
-    /// end. `None` where nothing stands after the pointer, no gap either. This is the rule of `cs`. It takes no memory.
+    /// The bytes from the pointer up to the next gap, the pointer behind that gap; without a gap all bytes, the pointer at
+    /// the end. `None` where nothing stands after the pointer, no gap either. This is the rule of `cs`. It takes no memory.
     pub fn read_segment(&self) -> Option<Piece>
         ensures read { option_map (λ p. taken p self.now) result ≡ segment_read self.now }
         ensures there { IfSome result (IsThere self.now) }
@@ -50,10 +51,10 @@ impl<A: Allocator + Copy> Form<A> {
         self.read_next(1)
     }
 
-    /// For `n` above 0 the next `n` bytes, or as many as there are, the pointer right behind the last of them. For `n` below 0
-    /// as many bytes before the pointer, in the order of the text, the pointer right before the first of them. For 0 null, the
-    /// pointer unmoved. Gaps are passed and not given (this project's profile). `None` where `n` is not 0 and no byte stands on
-    /// that side. This is the rule of `cn`. It takes no memory.
+    /// For `n` above 0 the next `n` bytes, or as many as there are, the pointer right behind the last of them. For `n` below
+    /// 0 as many bytes before the pointer, in the order of the text, the pointer right before the first of them. For 0 null,
+    /// the pointer unmoved. Gaps are passed and not given (this project's profile). `None` where `n` is not 0 and no byte
+    /// stands on that side. This is the rule of `cn`. It takes no memory.
     pub fn read_count(&self, n: i64) -> Option<Piece>
         ensures read { option_map (λ p. taken p self.now) result ≡ count_read n self.now }
         ensures there { IfSome result (IsThere self.now) }
@@ -73,10 +74,11 @@ impl<A: Allocator + Copy> Form<A> {
     }
 
     /// The bytes before the first occurrence of `text` after the pointer, the pointer right behind that occurrence. No
-    /// occurrence crosses a gap; a null text occurs at once, also at the end (this project's profile). `None` where it does not
-    /// occur. This is the rule of `in`.
+    /// occurrence crosses a gap; a null text occurs at once, also at the end (this project's profile). `None` where it does
+    /// not occur. This is the rule of `in`.
     ///
-    /// Refused with `Memory` where the allocator refuses: runs of bytes between gaps are copied for the search.
+    /// Refused with `Memory` where the allocator refuses: runs of bytes between gaps are copied for the search, in growing
+    /// parts, so that time and memory grow with what is passed, and not with all that is left (this project's profile).
     pub fn read_until(&self, text: &[u8]) -> Result<Option<Piece>, FormError>
         ensures read { IfOk result (λ r. option_map (λ p. taken p self.now) r ≡ until_read text.now self.now) }
         ensures there { IfOk result (λ r. IfSome r (IsThere self.now)) }
@@ -91,8 +93,9 @@ impl<A: Allocator + Copy> Form<A> {
         }))
     }
 
-    /// Puts the bytes of a piece at the end of `out`: the first `piece.len` bytes from the lesser of the form's and the piece's
-    /// pointer on, with gaps passed. The pointer stays. A form that has fewer gives what it has (this project's profile).
+    /// Puts the bytes of a piece at the end of `out`: the first `piece.len` bytes from the lesser of the
+    /// form's and the piece's pointer on, with gaps passed. The pointer stays. A form that has fewer gives
+    /// what it has (this project's profile).
     ///
     /// Refused with `Memory` where the allocator refuses; then `out` still begins with what it held.
     pub fn piece_into<B: Allocator>(
@@ -257,6 +260,9 @@ fn place_of<A: Allocator>(
     first_place_of(alloc, text, items)
 }
 
+// How many bytes are read at least before they are searched for the first time.
+const FIRST_ROOM: usize = 16;
+
 // The first place of a text that is not null among these items, if it occurs.
 fn first_place_of<A: Allocator>(
     alloc: A,
@@ -275,14 +281,19 @@ fn first_place_of<A: Allocator>(
     let mut start = Reached { items: 0, bytes: 0 };
     for item in items {
         if let Item::Byte(b) = *item {
-            push_item(b, &mut run)?;
+            // Searched each time before its room doubles: so it is read at most about twice as far as the text stands, and
+            // searched about twice in all, however much is left of it.
+            if run.len() == run.capacity() {
+                if let Some(at) = place_in_run(&finder, run.as_slice(), start) {
+                    return Ok(Some(at));
+                }
+                run.reserve(run.len().max(FIRST_ROOM))?;
+            }
+            run.push_reserved(b);
             continue;
         }
-        if let Some(place) = finder.find(run.as_slice()) {
-            return Ok(Some(Reached {
-                items: start.items + place,
-                bytes: start.bytes + place,
-            }));
+        if let Some(at) = place_in_run(&finder, run.as_slice(), start) {
+            return Ok(Some(at));
         }
         start = Reached {
             items: start.items + run.len() + 1,
@@ -290,13 +301,22 @@ fn first_place_of<A: Allocator>(
         };
         end_run(&mut run);
     }
-    match finder.find(run.as_slice()) {
-        Some(place) => Ok(Some(Reached {
-            items: start.items + place,
-            bytes: start.bytes + place,
-        })),
-        None => Ok(None),
-    }
+    Ok(place_in_run(&finder, run.as_slice(), start))
+}
+
+// The first place of a text in a run of bytes that begins at `start`, if it occurs there.
+fn place_in_run(finder: &Finder<'_>, run: &[u8], start: Reached) -> Option<Reached>
+    requires items { start.items + length run.now < 2 ^ 64 }
+    requires bytes { start.bytes ≤ start.items }
+    ensures place { FindsNeedle run.now finder.now 0 (option_map (λ at. at.items - start.items) result) }
+    ensures behind { IfSome result (λ at. start.items ≤ at.items) }
+    ensures bytes { IfSome result (λ at. at.bytes + start.items ≡ start.bytes + at.items) }
+{
+    let place = finder.find(run)?;
+    Some(Reached {
+        items: start.items + place,
+        bytes: start.bytes + place,
+    })
 }
 
 // Puts the first `most` bytes of these items, or as many as there are, at the end of `out`, and answers how many.
@@ -310,24 +330,16 @@ fn first_bytes_into<B: Allocator>(
     ensures left { OnErr result (IsFrontOf out.old.items out.new.items) }
     ensures err { IsOkUnless result FormError.Memory }
 {
+    out.reserve(most.min(items.len()))?;
     let mut put = 0;
     for item in items {
         if put == most {
             return Ok(put);
         }
         if let Item::Byte(b) = *item {
-            byte_into(b, out)?;
+            out.push_reserved(b);
             put += 1;
         }
     }
     Ok(put)
-}
-
-// Puts a byte at the end of `out`.
-fn byte_into<B: Allocator>(b: u8, out: &mut Vec<u8, B>) -> Result<(), FormError>
-    ensures ok { OnOk result (out.new.items ≡ out.old.items ++ b ∷ []) }
-    ensures left { OnErr result (out.new.items ≡ out.old.items) }
-    ensures err { IsOkUnless result FormError.Memory }
-{
-    Ok(out.push(b)?)
 }

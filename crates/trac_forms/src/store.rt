@@ -20,8 +20,9 @@ use std::marker::Model;
 /// `sweep`, and a form in it while it names one.
 pub(crate) type Table<A> = IndexMap<Vec<u8, A>, Option<Form<A>>, BuildHasherDefault<FoldHasher>, A>;
 
-/// Forms by their names, which are any bytes, and blocks by their numbers, an erased one having none. It is seen as the map of
-/// its forms, the list of its blocks and the set of the names that it knows, with the number of places that are spare for blocks.
+/// Forms by their names, which are any bytes, and blocks by their numbers, an erased one having none. It is seen
+/// as the map of its forms, the list of its blocks and the set of the names that it knows, with the number of
+/// places that are spare for blocks.
 ///
 /// A form can be put under a known name without memory. A name stays known when its form is taken, until `sweep`.
 #[derive(Drop)]
@@ -42,8 +43,8 @@ impl<A: Allocator + Copy> Model for Store<A> {
 }
 
 impl<A: Allocator + Copy> Store<A> {
-    /// A store without forms and blocks, which knows no name. It takes no memory (this project's profile); `alloc` is kept for
-    /// later.
+    /// A store without forms and blocks, which knows no name. It takes no memory (this project's
+    /// profile); `alloc` is kept for later.
     pub fn new(alloc: A) -> Self
         ensures { result ≡ nothing_stored }
     {
@@ -53,7 +54,8 @@ impl<A: Allocator + Copy> Store<A> {
         }
     }
 
-    /// The name of each form is known, of every store. It does nothing: it is called for what it says (this project's profile).
+    /// The name of each form is known, of every store. It does nothing: it is called for what it
+    /// says (this project's profile).
     pub fn knows_its_forms(&self)
         ensures { KnowsAll self.now.known self.now.forms }
     {
@@ -67,8 +69,8 @@ impl<A: Allocator + Copy> Store<A> {
         count_full(&self.table)
     }
 
-    /// Whether there are fewer forms than `n`. It takes no memory, and no time for each form where the store knows fewer names
-    /// (this project's profile).
+    /// Whether there are fewer forms than `n`. It takes no memory, and no time for each form where the store knows fewer
+    /// names (this project's profile).
     pub fn has_fewer_forms(&self, n: usize) -> bool
         ensures { result ≡ nat_lt (finite.len self.now.forms) n }
     {

@@ -10,6 +10,8 @@ mod elsewhere;
 mod loading;
 #[cfg(test)]
 mod machines;
+#[cfg(test)]
+mod short_steps;
 pub mod shown;
 #[cfg(test)]
 mod walking;

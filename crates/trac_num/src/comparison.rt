@@ -54,7 +54,8 @@ fn has_minus(numeral: &[u8]) -> bool
     first == b'-'
 }
 
-// The longer one is the larger one; of two with the same length it is the one with the greater digit where they first differ.
+// The longer one is the larger one; of two with the same length it is the one with the greater
+// digit where they first differ.
 fn is_larger(a: &[u8], b: &[u8]) -> bool
     requires a_form { IsMagnitude a.now }
     requires b_form { IsMagnitude b.now }

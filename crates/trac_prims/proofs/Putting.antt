@@ -1,11 +1,11 @@
 -- Whether a form may be put among others.
-use Rattle.std.proofs.Common.{◌≡◌, ℕ, suc, ◌+◌, ◌<◌, ◌≤◌, Bool, true, false, List, length, sym, ap, ◌∙◌, arith}
+use Rattle.std.proofs.Common.{◌≡◌, ℕ, suc, ◌+◌, ◌<◌, ◌≤◌, Bool, true, false, List, length, refl, sym, ap, ◌∙◌, arith}
 use Rattle.std.specs.Prelude.{Option, None, Some, Err, ◌&&◌, nat_le, nat_lt, is_some, cond, Ok, if◌then◌else◌}
 use Rattle.std.specs.Borrow.{Bor}
 use Rattle.std.specs.Cmp.Lexicographic.{nat_list_cmp_total}
 use Rattle.std.specs.FinMap as map
 use Rattle.std.specs.Option.{option_copied}
-use Rattle.std.proofs.lemmas.Bool.{le-leb, lt-leb, and_left, and_right}
+use Rattle.std.proofs.lemmas.Bool.{le-leb, lt-leb, ltb-true, and_left, and_right}
 use Rattle.std.proofs.lemmas.List.{length-map}
 use Rattle.trac_rules.specs.declared.item.Item.TheVariants.{Byte}
 use Rattle.trac_rules.specs.declared.limit.TheConstants.{FORM_LIMIT, FORM_COUNT_LIMIT, NAME_LIMIT}
@@ -57,6 +57,14 @@ module _ (name : List ℕ) (form : Form) (forms : Forms) (count : ℕ) (named : 
   put_new e =
       let one_more : suc count ≡ count + 1 = omega arith in
       ap (λ n. nat_le n FORM_COUNT_LIMIT) one_more ∙ by_count false e
+
+  -- either way, where there is a place for a further form
+  pub put_any : nat_lt count FORM_COUNT_LIMIT ≡ true → true ≡ may_be_put name form forms
+  put_any few = either (is_some (map.get forms name)) refl
+    where
+      either : (there : Bool) → is_some (map.get forms name) ≡ there → true ≡ may_be_put name form forms
+      either true e = sym (le-leb count FORM_COUNT_LIMIT (omega (arith, ltb-true count FORM_COUNT_LIMIT few))) ∙ put_again e
+      either false e = sym few ∙ put_new e
 
 -- ---- forms as the code has them
 

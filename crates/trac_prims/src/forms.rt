@@ -164,11 +164,14 @@ fn may_put<A: Allocator + Copy>(store: &Store<A>, name: &[u8]) -> bool
     if name.len() > NAME_LIMIT {
         return false;
     }
-    if store.get(name).is_some() {
-        store.has_fewer_forms(FORM_COUNT_LIMIT + 1)
-    } else {
-        store.has_fewer_forms(FORM_COUNT_LIMIT)
+    // While there may be one form more, no earlier one of this name is looked for.
+    if store.has_fewer_forms(FORM_COUNT_LIMIT) {
+        return true;
     }
+    if store.get(name).is_none() {
+        return false;
+    }
+    store.has_fewer_forms(FORM_COUNT_LIMIT + 1)
 }
 
 // A form is put under this name, the first argument behind that of the call.

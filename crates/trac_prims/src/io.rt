@@ -97,9 +97,9 @@ pub(crate) fn set_meta<A: Allocator + Copy>(alloc: A, args: &Args<'_>) -> Made<A
     }
 }
 
-/// Whether a call of these arguments sets the meta character, as the rule of T-64 for `cm` has it: its name is one of the primitive,
-/// each letter in either case, and the text behind it is not null (that a null one sets nothing, and the cases, are this project's
-/// profile). It takes no memory, and looks at the name alone and not at the table of names.
+/// Whether a call of these arguments sets the meta character, as the rule of T-64 for `cm` has it: its name is one of the
+/// primitive, each letter in either case, and the text behind it is not null (that a null one sets nothing, and the cases,
+/// are this project's profile). It takes no memory, and looks at the name alone and not at the table of names.
 pub fn sets_meta(args: &Args<'_>) -> bool
     ensures { (environment : Environment) (s : State) (e : Effect) → effect_of (primitive_of (argument 0 args.now)) environment args.now s ≡ Ok e → is_some e.meta ≡ result }
 {

@@ -12,7 +12,8 @@ use crate::change::Change;
 use std::alloc::Allocator;
 use trac_rules::refusal::Refusal;
 
-// What a primitive makes, its pieces already made: the parts of an effect as the definitions have them, but for forms and blocks.
+// What a primitive makes, its pieces already made: the parts of an effect as the definitions have
+// them, but for forms and blocks.
 #[derive(Drop)]
 pub(crate) struct Made<A: Allocator + Copy> {
     // the value

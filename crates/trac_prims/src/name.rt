@@ -1,37 +1,34 @@
 //! The names of the primitives.
 ghost use Rattle.std.specs.Prelude.{◌≡◌, find};
-ghost use Rattle.std.specs.Str.{str_eq_ignore_ascii_case};
-ghost use Rattle.trac_rules.specs.Performing.{looked_up, primitive_of};
+ghost use Rattle.std.specs.Str.{bytes_eq};
+ghost use Rattle.trac_rules.specs.Performing.{named_primitive, primitive_of};
+ghost use Rattle.trac_rules.specs.declared.primitive.TheConstants.{NAMES};
 
 use trac_rules::primitive::{NAMES, NamedPrimitive, Primitive};
 
-// What a name stands for, each letter in either case.
+// What a name stands for, each letter in either case: all names are of two letters.
 pub(crate) fn primitive_named(name: &[u8]) -> Primitive
     ensures { result ≡ primitive_of name.now }
 {
-    looked_up(&NAMES, name)
+    let [first, second] = name else {
+        return Primitive::Unknown;
+    };
+    named_by(&[first.to_ascii_lowercase(), second.to_ascii_lowercase()])
 }
 
-// What a name stands for by a table: the first entry of these letters.
-fn looked_up(table: &[NamedPrimitive], name: &[u8]) -> Primitive
-    ensures { result ≡ looked_up table.now name.now }
+// What two letters in lower case stand for by the table of names.
+fn named_by(letters: &[u8; 2]) -> Primitive
+    ensures { result ≡ named_primitive (find (λ entry. bytes_eq letters.now entry.letters) NAMES) }
 {
-    match entry_of(table, name) {
+    match entry_of(&NAMES, letters) {
         Some(entry) => entry.primitive,
         None => Primitive::Unknown,
     }
 }
 
 // The first entry of these letters, if there is one.
-fn entry_of(table: &[NamedPrimitive], name: &[u8]) -> Option<NamedPrimitive>
-    ensures { result ≡ find (λ entry. str_eq_ignore_ascii_case name.now entry.letters) table.now }
+fn entry_of(table: &[NamedPrimitive], letters: &[u8; 2]) -> Option<NamedPrimitive>
+    ensures { result ≡ find (λ entry. bytes_eq letters.now entry.letters) table.now }
 {
-    table.iter().find(|entry| is_named(entry, name)).copied()
-}
-
-// Whether an entry is one of these letters.
-fn is_named(entry: &NamedPrimitive, name: &[u8]) -> bool
-    ensures { result ≡ str_eq_ignore_ascii_case name.now entry.now.letters }
-{
-    name.eq_ignore_ascii_case(&entry.letters)
+    table.iter().find(|entry| entry.letters == *letters).copied()
 }

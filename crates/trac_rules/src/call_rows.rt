@@ -1,5 +1,5 @@
-//! Worked rows of records of calls: what calls on forms and blocks destroy and how that is given back, what records weigh, and whole
-//! steps there and back.
+//! Worked rows of records of calls: what calls on forms and blocks destroy and how that is given back, what records weigh,
+//! and whole steps there and back.
 ghost use Rattle.std.specs.Prelude.{◌≡◌, ◌++◌, ◌∷◌, [], codes, replicate, None, Some, false, true};
 ghost use Rattle.trac_rules.specs.Form.{as_items, defined, pointed_at};
 ghost use Rattle.trac_rules.specs.RecordRows.{Destroys, GivesBack, GivesNothingBack, no_tape, records_of, silent_call, weights_of};
@@ -15,7 +15,8 @@ ghost use Rattle.trac_rules.specs.declared.kind.Kind.TheVariants.{Active, Neutra
 
 /// What calls destroy of forms and blocks.
 pub fn worked_destroyed()
-    // A replaced form is kept with its pointer; deleted forms in the order in which they are named, and all of them in the order of names.
+    // A replaced form is kept with its pointer; deleted forms in the order in which they are named, and all
+    // of them in the order of names.
     ensures defining { Destroys (texts_of (codes "ds,a,1")) [] [] (Swap None) }
     ensures defining_again { Destroys (texts_of (codes "ds,a,1")) ((codes "a", pointed_at 1 (as_items (codes "xyz"))) ∷ (codes "b", defined (codes "2")) ∷ []) [] (Swap (Some (pointed_at 1 (as_items (codes "xyz"))))) }
     ensures deleting { Destroys (texts_of (codes "dd,b,c,a,b")) ((codes "a", defined (codes "1")) ∷ (codes "b", defined (codes "2")) ∷ []) [] (Restore ((codes "b", defined (codes "2")) ∷ (codes "a", defined (codes "1")) ∷ [])) }
@@ -38,11 +39,13 @@ pub fn worked_destroyed()
     ensures showing { Destroys (texts_of (codes "pf,F")) ((codes "F", defined (codes "abc")) ∷ []) [] Nothing }
     ensures printing { Destroys (texts_of (codes "ps,F")) ((codes "F", defined (codes "abc")) ∷ []) [] Nothing }
     ensures unknown { Destroys (texts_of (codes "zz,F")) ((codes "F", defined (codes "abc")) ∷ []) [] Nothing }
-    // Of forms that are put aside nothing is kept, but the form that the address of their block replaces, unless it is put aside too.
+    // Of forms that are put aside nothing is kept, but the form that the address of their block
+    // replaces, unless it is put aside too.
     ensures storing { Destroys (texts_of (codes "sb,G,A,C,B,A")) ((codes "A", defined (codes "1")) ∷ (codes "B", defined (codes "2")) ∷ []) [] (MoveOut None) }
     ensures storing_over { Destroys (texts_of (codes "sb,G,A")) ((codes "A", defined (codes "1")) ∷ (codes "G", pointed_at 1 (as_items (codes "xy"))) ∷ []) [] (MoveOut (Some (pointed_at 1 (as_items (codes "xy"))))) }
     ensures storing_itself { Destroys (texts_of (codes "sb,G,G")) ((codes "G", defined (codes "xy")) ∷ []) [] (MoveOut None) }
-    // Of a block whose copies are brought back the replaced forms are kept, of an erased one all that it held, and its address.
+    // Of a block whose copies are brought back the replaced forms are kept, of an erased one all
+    // that it held, and its address.
     ensures fetching { Destroys (texts_of (codes "fb,G")) ((codes "A", pointed_at 1 (as_items (codes "9xx"))) ∷ (codes "G", defined (codes "0")) ∷ []) (Some ((codes "A", defined (codes "1")) ∷ (codes "B", defined (codes "2")) ∷ []) ∷ []) (Unbring 0 ((codes "A", pointed_at 1 (as_items (codes "9xx"))) ∷ [])) }
     ensures fetching_itself { Destroys (texts_of (codes "fb,G")) ((codes "G", defined (codes "1")) ∷ []) (None ∷ Some ((codes "G", defined (codes "x")) ∷ []) ∷ []) (Unbring 1 ((codes "G", defined (codes "1")) ∷ [])) }
     ensures erasing { Destroys (texts_of (codes "eb,G")) ((codes "G", pointed_at 1 (as_items (codes "0"))) ∷ []) (Some ((codes "A", defined (codes "1")) ∷ (codes "B", defined (codes "2")) ∷ []) ∷ []) (Unerase 0 ((codes "A", defined (codes "1")) ∷ (codes "B", defined (codes "2")) ∷ []) (pointed_at 1 (as_items (codes "0")))) }
@@ -56,7 +59,8 @@ pub fn worked_given_back()
     ensures defined_again { GivesBack (texts_of (codes "ds,a,1")) (Swap (Some (pointed_at 1 (as_items (codes "xyz"))))) ((codes "a", defined (codes "1")) ∷ (codes "b", defined (codes "2")) ∷ []) [] ((codes "a", pointed_at 1 (as_items (codes "xyz"))) ∷ (codes "b", defined (codes "2")) ∷ []) [] }
     ensures deleted { GivesBack (texts_of (codes "dd,b,c,a,b")) (Restore ((codes "b", defined (codes "2")) ∷ (codes "a", defined (codes "1")) ∷ [])) ((codes "d", defined (codes "4")) ∷ []) [] ((codes "a", defined (codes "1")) ∷ (codes "b", defined (codes "2")) ∷ (codes "d", defined (codes "4")) ∷ []) [] }
     ensures all_deleted { GivesBack (texts_of (codes "da")) (Restore ((codes "a", defined (codes "1")) ∷ (codes "bc", defined (codes "2")) ∷ [])) [] [] ((codes "bc", defined (codes "2")) ∷ (codes "a", defined (codes "1")) ∷ []) [] }
-    // New gaps are filled again, also where the pointer has moved on, and earlier ones stay; the pointer stands where it stood.
+    // New gaps are filled again, also where the pointer has moved on, and earlier ones stay; the
+    // pointer stands where it stood.
     ensures segmented { GivesBack (texts_of (codes "ss,F,b")) (Join (record { place = 1; ordinal = 1 } ∷ record { place = 3; ordinal = 1 } ∷ []) 1) ((codes "F", pointed_at 0 (Byte 97 ∷ Gap 1 1 ∷ Byte 99 ∷ Gap 1 1 ∷ [])) ∷ []) [] ((codes "F", pointed_at 1 (as_items (codes "abcb"))) ∷ []) [] }
     ensures segmented_again { GivesBack (texts_of (codes "ss,F,x")) (Join (record { place = 1; ordinal = 1 } ∷ []) 0) ((codes "F", pointed_at 2 (Gap 1 1 ∷ Gap 1 1 ∷ Byte 98 ∷ [])) ∷ []) [] ((codes "F", pointed_at 0 (Gap 1 1 ∷ Byte 120 ∷ Byte 98 ∷ [])) ∷ []) [] }
     ensures pointed { GivesBack (texts_of (codes "cn,F,2")) (Point 1) ((codes "F", pointed_at 3 (as_items (codes "abc"))) ∷ []) [] ((codes "F", pointed_at 1 (as_items (codes "abc"))) ∷ []) [] }
@@ -96,7 +100,8 @@ pub fn worked_call_weights()
     ensures defining_again { weight (Called (silent_call (texts_of (codes "ds,a,1")) (Swap (Some (defined (codes "xyz")))))) ≡ 9 }
     ensures deleting { weight (Called (silent_call (texts_of (codes "dd,a")) (Restore ((codes "a", defined (codes "1")) ∷ [])))) ≡ 7 }
     ensures deleting_two { weight (Called (silent_call (texts_of (codes "da")) (Restore ((codes "a", defined (codes "1")) ∷ (codes "bc", defined (codes "xy")) ∷ [])))) ≡ 10 }
-    // One for each new gap; of forms that are put aside nothing; a block with all its forms, and its address without its name.
+    // One for each new gap; of forms that are put aside nothing; a block with all its forms,
+    // and its address without its name.
     ensures segmenting { weight (Called (silent_call (texts_of (codes "ss,F,b")) (Join (record { place = 1; ordinal = 1 } ∷ record { place = 3; ordinal = 1 } ∷ []) 9))) ≡ 8 }
     ensures storing { weight (Called (silent_call (texts_of (codes "sb,G,A")) (MoveOut (Some (defined (codes "xy")))))) ≡ 8 }
     ensures storing_itself { weight (Called (silent_call (texts_of (codes "sb,G,G")) (MoveOut None))) ≡ 6 }

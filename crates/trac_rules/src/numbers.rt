@@ -1,4 +1,5 @@
-//! Laws of numerals and numbers, each the contract of a function that does nothing, and worked rows, computed from the definitions.
+//! Laws of numerals and numbers, each the contract of a function that does nothing, and worked rows,
+//! computed from the definitions.
 ghost use Rattle.std.specs.Prelude.{◌≡◌, ◌≤◌, ◌++◌, [], List, ℕ, length, codes, true, false, None, Some, ℤ, pos, neg_ℤ};
 ghost use Rattle.trac_rules.specs.Number.{IsCutQuotient, IsNumeralOrNull, calculated, difference_of, fits, is_greater, is_numeral, number_of, number_text, numeral_of, prefix_of, product_of, quotient_of, sum_of};
 

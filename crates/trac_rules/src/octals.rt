@@ -8,8 +8,8 @@ pub const ZERO: u8 = b'0';
 /// `7`, the greatest octal digit.
 pub const SEVEN: u8 = b'7';
 
-/// The octal string of a text is a tail of it, of octal digits alone, and no tail of octal digits alone is longer; what stands
-/// before it is dropped (this project's profile).
+/// The octal string of a text is a tail of it, of octal digits alone, and no tail of octal digits alone is longer; what
+/// stands before it is dropped (this project's profile).
 pub fn octal_tail_is_longest()
     ensures tail { (text : List ℕ) → (front : List ℕ) × (text ≡ front ++ octal_tail text) }
     ensures octal { (text : List ℕ) → IsOctal (octal_tail text) }

@@ -18,9 +18,9 @@ ghost use Rattle.trac_rules.specs.declared.kind.Kind.TheVariants.{Active, Neutra
 ghost use Rattle.trac_rules.specs.declared.refusal.Refusal.TheVariants.{NeedInput};
 ghost use Rattle.trac_rules.specs.declared.reply.Reply.TheVariants.{Done, Refused};
 
-/// Each accepted step, of scanning or a call, has a record. With the state after the step it gives back the state before, where that is
-/// a proper one: nothing else holds what was lost. The state before is always a proper one. Where a session takes so many steps one
-/// after another, as many records lead back over all of them.
+/// Each accepted step, of scanning or a call, has a record. With the state after the step it gives back the state before,
+/// where that is a proper one: nothing else holds what was lost. The state before is always a proper one. Where a session
+/// takes so many steps one after another, as many records lead back over all of them.
 pub fn records_lead_back()
     ensures is_there { (environment : Environment) (s t : State) → step environment s ≡ Ok t → is_some (record_of environment s) ≡ true }
     ensures each_step { (environment : Environment) (s t : State) (r : Record) → IsProper s → step environment s ≡ Ok t → record_of environment s ≡ Some r →
@@ -30,9 +30,9 @@ pub fn records_lead_back()
         led_back (records_from (over new.tape) (take n new.earlier)) new.last ≡ Some old.last }
 {}
 
-/// The record of a call keeps what the call destroyed, and with that the state after it gives back the state before. Each of the
-/// three parts of a state is got back by itself, from its part of the state after and nothing else: texts and begun functions;
-/// forms and blocks; all the rest.
+/// The record of a call keeps what the call destroyed, and with that the state after it gives back the state before. Each of
+/// the three parts of a state is got back by itself, from its part of the state after and nothing else: texts and begun
+/// functions; forms and blocks; all the rest.
 pub fn records_of_calls_lead_back()
     ensures texts { (environment : Environment) (s t : State) (call : CallRecord) → step environment s ≡ Ok t → call_record_of environment s ≡ Some call →
         texts_before call (texts_in t) ≡ Some (texts_in s) }
@@ -44,9 +44,9 @@ pub fn records_of_calls_lead_back()
         restored (Called call) t ≡ Some s }
 {}
 
-/// A record names no absolute place of the tape or of the output. One of scanning knows nothing of either: what it restores stands where
-/// the state after stands, with its output. Of any record: where the state after stands so many bytes further on, and its output has a
-/// text before it, so has the state before.
+/// A record names no absolute place of the tape or of the output. One of scanning knows nothing of either: what it restores
+/// stands where the state after stands, with its output. Of any record: where the state after stands so many bytes further
+/// on, and its output has a text before it, so has the state before.
 pub fn records_name_no_place()
     ensures elsewhere { (r : Record) (t : State) (position : ℕ) (output : List ℕ) → IsOfScanning r →
         restored r (record t { position = position; output = output }) ≡ option_map (λ (s : State). record s { position = position; output = output }) (restored r t) }
@@ -58,9 +58,9 @@ pub fn records_weigh_no_more()
     ensures { (environment : Environment) (s : State) (r : Record) → record_of environment s ≡ Some r → weight r ≤ loss s }
 {}
 
-/// What the record of a step weighs is told by the state before the step alone, whatever the input is, and is no more than the step may
-/// lose. From a proper state that is less than five million million. So a word of 64 bits holds what a record weighs, and what all records
-/// of a journal weigh together.
+/// What the record of a step weighs is told by the state before the step alone, whatever the input is, and is no more than
+/// the step may lose. From a proper state that is less than five million million. So a word of 64 bits holds what a record
+/// weighs, and what all records of a journal weigh together.
 pub fn weights_are_told_by_states()
     ensures of_records { (environment : Environment) (s : State) (r : Record) → record_of environment s ≡ Some r → weight r ≡ step_weight s }
     ensures within { (s : State) → step_weight s ≤ loss s }
@@ -71,7 +71,8 @@ pub fn weights_are_told_by_states()
 
 /// What the steps of scanning keep, and what is got back from that.
 pub fn worked_records()
-    // The stray `)` of the input ends the idle program's `ps`; then `b` and `c` go to the base text, and the fifteenth step empties it.
+    // The stray `)` of the input ends the idle program's `ps`; then `b` and `c` go to the base text, and
+    // the fifteenth step empties it.
     ensures steps { replies_to (Feed (codes "a)b,c'") ∷ replicate 23 Step) (new_session 64) ≡ replicate 23 Done ++ Refused NeedInput ∷ [] }
     ensures first_seven { records_of (session_after (Feed (codes "a)b,c'") ∷ replicate 7 Step) (new_session 64)) ≡ Moved ∷ Moved ∷ Begun ∷ Comma ∷ Moved ∷ Moved ∷ Begun ∷ [] }
     ensures eleventh_to_fifteenth { take 5 (records_of (session_after (Feed (codes "a)b,c'") ∷ replicate 15 Step) (new_session 64))) ≡ Idle (codes "bc") [] ∷ Deleted CLOSING ∷ Moved ∷ Deleted COMMA ∷ Moved ∷ [] }

@@ -237,13 +237,15 @@ pub fn worked_readings()
     ensures none_left { Forces (texts_of (codes "cn,F,1,Z")) (pointing_at 5 (codes "F") (as_items (codes "abcde"))) (codes "Z") }
     ensures none_before { Forces (texts_of (codes "cn,F,-1,Z")) (pointing_at 0 (codes "F") (as_items (codes "abcde"))) (codes "Z") }
     ensures all_bytes_before { Does (texts_of (codes "cn,F,-9223372036854775808,Z")) (pointing_at 3 (codes "F") (as_items (codes "abcde"))) (codes "abc") [] (pointing_at 0 (codes "F") (as_items (codes "abcde"))) }
-    // A number that does not fit and a text without a number give null before anything else is thought of; a prefix is dropped.
+    // A number that does not fit and a text without a number give null before anything else is
+    // thought of; a prefix is dropped.
     ensures number_too_great { Does (texts_of (codes "cn,F,9223372036854775808,Z")) (pointing_at 5 (codes "F") (as_items (codes "abcde"))) [] [] (pointing_at 5 (codes "F") (as_items (codes "abcde"))) }
     ensures number_too_small { Does (texts_of (codes "cn,F,-9223372036854775809,Z")) (pointing_at 0 (codes "F") (as_items (codes "abcde"))) [] [] (pointing_at 0 (codes "F") (as_items (codes "abcde"))) }
     ensures zero_at_the_end { Does (texts_of (codes "cn,F,0,Z")) (pointing_at 5 (codes "F") (as_items (codes "abcde"))) [] [] (pointing_at 5 (codes "F") (as_items (codes "abcde"))) }
     ensures no_number { Does (texts_of (codes "cn,F,x,Z")) (pointing_at 5 (codes "F") (as_items (codes "abcde"))) [] [] (pointing_at 5 (codes "F") (as_items (codes "abcde"))) }
     ensures number_behind_a_prefix { Does (texts_of (codes "cn,F,x2,Z")) (pointing_at 0 (codes "F") (as_items (codes "abcde"))) (codes "ab") [] (pointing_at 2 (codes "F") (as_items (codes "abcde"))) }
-    // The pointer stops right behind the last byte given, or going back right before the first one, whatever gaps stand there.
+    // The pointer stops right behind the last byte given, or going back right before the first
+    // one, whatever gaps stand there.
     ensures stops_before_a_gap { Does (texts_of (codes "cn,F,1,Z")) (pointing_at 0 (codes "F") (Gap 1 1 ∷ Byte 97 ∷ Gap 1 2 ∷ Gap 2 1 ∷ Byte 98 ∷ [])) (codes "a") [] (pointing_at 2 (codes "F") (Gap 1 1 ∷ Byte 97 ∷ Gap 1 2 ∷ Gap 2 1 ∷ Byte 98 ∷ [])) }
     ensures passes_gaps { Does (texts_of (codes "cn,F,2,Z")) (pointing_at 0 (codes "F") (Gap 1 1 ∷ Byte 97 ∷ Gap 1 2 ∷ Gap 2 1 ∷ Byte 98 ∷ [])) (codes "ab") [] (pointing_at 5 (codes "F") (Gap 1 1 ∷ Byte 97 ∷ Gap 1 2 ∷ Gap 2 1 ∷ Byte 98 ∷ [])) }
     ensures stops_behind_a_gap { Does (texts_of (codes "cn,F,-1,Z")) (pointing_at 4 (codes "F") (Gap 1 1 ∷ Byte 97 ∷ Gap 1 2 ∷ Gap 2 1 ∷ Byte 98 ∷ [])) (codes "a") [] (pointing_at 1 (codes "F") (Gap 1 1 ∷ Byte 97 ∷ Gap 1 2 ∷ Gap 2 1 ∷ Byte 98 ∷ [])) }

@@ -39,8 +39,8 @@ pub fn filling_undoes_segmenting()
         all_filled texts (all_items (segmented texts form)) ≡ all_filled texts (all_items form) }
 {}
 
-/// The gaps that segmenting makes, filled with the same texts, give the items as they were before. There are as many of them as
-/// the form has gaps more than before. Filling the gaps of any cut keeps the extent, and leaves all gaps wide.
+/// The gaps that segmenting makes, filled with the same texts, give the items as they were before. There are as many of them
+/// as the form has gaps more than before. Filling the gaps of any cut keeps the extent, and leaves all gaps wide.
 pub fn cuts_are_filled_again()
     ensures back { (texts : List (List ℕ)) (form : Form) → joined texts (cut_of texts form) (all_items (segmented texts form)) ≡ Some (all_items form) }
     ensures count { (texts : List (List ℕ)) (form : Form) → gap_count (all_items (segmented texts form)) ≡ gap_count (all_items form) + length (cut_of texts form) }
@@ -67,7 +67,8 @@ pub fn worked_cuts()
     ensures nothing_to_fill { joined [] [] (Byte 97 ∷ Gap 1 1 ∷ []) ≡ Some (Byte 97 ∷ Gap 1 1 ∷ []) }
     // The pointer bounds no run.
     ensures across_the_pointer { cut_of (codes "bc" ∷ []) (pointed_at 2 (as_items (codes "abc"))) ≡ record { place = 1; ordinal = 1 } ∷ [] }
-    // There is nothing to fill where no gap stands, or one of another ordinal or width; nor at a place that does not rise or is past the end.
+    // There is nothing to fill where no gap stands, or one of another ordinal or width; nor at a place that
+    // does not rise or is past the end.
     ensures byte_there { joined (codes "x" ∷ []) (record { place = 0; ordinal = 1 } ∷ []) (Byte 120 ∷ Gap 1 1 ∷ []) ≡ None }
     ensures other_ordinal { joined (codes "x" ∷ codes "y" ∷ []) (record { place = 0; ordinal = 2 } ∷ []) (Gap 1 1 ∷ []) ≡ None }
     ensures narrower { joined (codes "xy" ∷ []) (record { place = 0; ordinal = 1 } ∷ []) (Gap 1 1 ∷ []) ≡ None }

@@ -4,7 +4,8 @@ use std::fmt;
 /// Why a run, or a session of the debugger, ended (this project's profile).
 #[derive(Clone, Copy, Debug, PartialEq, Eq)]
 pub enum Ending {
-    /// The input has ended and is all read, or the program halted; the commands of the debugger have ended, or asked for the end.
+    /// The input has ended and is all read, or the program halted; the commands of the debugger
+    /// have ended, or asked for the end.
     Ended,
     /// As many steps were taken as the budget allows, or as many lines of commands as there may be.
     Budget,

@@ -119,8 +119,8 @@ fn release<W: Write, A: Allocator + Copy>(
     Ok(())
 }
 
-// Takes input for a step that waits for it, and does not try the step while it is sure to go on waiting: so each byte of a long line is
-// looked at once.
+// Takes input for a step that waits for it, and does not try the step while it is sure to go on waiting: so each byte of
+// a long line is looked at once.
 fn take_input<R: Read, W: Write, A: Allocator + Copy>(
     session: &mut Session<A>,
     input: &mut R,
@@ -170,8 +170,8 @@ fn take_piece<R: Read, W: Write, A: Allocator + Copy>(
     }
 }
 
-// Reads once, and feeds what the reader gives; nothing is the end of the input. Answers whether a step that waits is sure to go on
-// waiting.
+// Reads once, and feeds what the reader gives; nothing is the end of the input. Answers whether a step that
+// waits is sure to go on waiting.
 fn read_more<R: Read, A: Allocator + Copy>(
     session: &mut Session<A>,
     input: &mut R,
@@ -196,8 +196,8 @@ fn read_more<R: Read, A: Allocator + Copy>(
     }
 }
 
-// Whether a step that waits is sure to go on waiting once these bytes are fed. Where a byte is unread already, it waits for the meta
-// character.
+// Whether a step that waits is sure to go on waiting once these bytes are fed. Where a byte is unread already,
+// it waits for the meta character.
 fn waits_behind<A: Allocator + Copy>(session: &Session<A>, bytes: &[u8]) -> bool
     ensures { (fed : PlainSession) → result ≡ true → answer (Feed bytes.now) session.now ≡ done fed → StillWaits session.now fed }
 {

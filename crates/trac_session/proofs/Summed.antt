@@ -1,7 +1,7 @@
 -- What the records of a session weigh together.
-use Rattle.std.proofs.Common.{◌≡◌, ℕ, ◌+◌, ◌^◌, ◌<◌, ◌≤◌, Bool, List, [], ◌∷◌, ◌++◌, length, drop, get_or, zero, suc, All, add-one, drop-cons, refl, sym, ap, subst, ◌∙◌, arith}
+use Rattle.std.proofs.Common.{◌≡◌, ℕ, ◌+◌, ◌^◌, ◌<◌, ◌≤◌, Bool, List, [], ◌∷◌, ◌++◌, length, take, drop, get_or, zero, suc, All, add-one, drop-cons, refl, sym, ap, subst, ◌∙◌, arith}
 use Rattle.std.specs.Prelude.{Option, reverse}
-use Rattle.std.proofs.lemmas.List.{length-reverse, reverse-append}
+use Rattle.std.proofs.lemmas.List.{length-drop, length-reverse, nil_from_length, reverse-append, take-append-drop}
 use Rattle.std.proofs.lemmas.List.Elements.{All-cons, All-nil}
 use Rattle.trac_rules.specs.declared.limit.TheConstants.{JOURNAL_LIMIT}
 use Rattle.trac_rules.specs.Proper.{IsProper}
@@ -13,9 +13,11 @@ use Rattle.trac_rules.proofs.Restored.{before_proper}
 use Rattle.trac_step.specs.Record.{before, recorded_by}
 use Rattle.trac_step.specs.declared.record.Record.{Record}
 use Rattle.trac_session.specs.declared.journal.Entry.{Entry}
-use Rattle.trac_session.specs.Counted.{all_moved, unrolled}
+use Rattle.trac_session.specs.declared.journal.Kept.{Kept}
+use Rattle.trac_session.specs.declared.journal.Kept.TheVariants as variant
+use Rattle.trac_session.specs.Counted.{all_moved, longs, longs_of, record_of, unrolled}
 use Rattle.trac_session.specs.Journal.{AreRecords, earlier_of, plain_of, weights_by}
-use Rattle.trac_session.specs.Weighed.{entries_weight, weighed}
+use Rattle.trac_session.specs.Weighed.{entries_weight, kept_weight, weighed}
 use Rattle.trac_session.proofs.Journaled.{led_on-Some, length-earlier_of}
 
 -- ---- lists of records
@@ -33,26 +35,47 @@ weights_by-reverse weigh (r ∷ records) =
 
 -- ---- as the journal keeps them
 
--- the next entry
-pub next_weight : {A : Type 0} → (entries : List (Entry A)) (i : ℕ) (entry : Entry A) → i < length entries → entry ≡ get_or entries i entry →
-    entries_weight (drop i entries) ≡ weighed entry.kept + entries_weight (drop (i + 1) entries)
-next_weight {A} entries i entry within is =
-    let cut : drop i entries ≡ entry ∷ drop (i + 1) entries =
-    rw add-one (drop-cons entries i entry within ∙ ap (λ (e : Entry A). e ∷ drop (suc i) entries) (sym is)) in
-    ap entries_weight cut
+-- the next record
+pub next_record : {A : Type 0} → (records : List (Record A)) (i : ℕ) (r : Record A) → i < length records → r ≡ get_or records i r →
+    weights_by weighed (drop i records) ≡ weighed r + weights_by weighed (drop (i + 1) records)
+next_record {A} records i r within is =
+    let cut : drop i records ≡ r ∷ drop (i + 1) records =
+    rw add-one (drop-cons records i r within ∙ ap (λ (first : Record A). first ∷ drop (suc i) records) (sym is)) in
+    ap (weights_by weighed) cut
 
 moved_weights : (A : Type 0) (n : ℕ) → weights_by (weighed {A = A}) (all_moved n) ≡ 0
 moved_weights A zero = refl
 moved_weights A (suc n) = omega (arith, moved_weights A n)
 
-pub unrolled_weights : {A : Type 0} → (entries : List (Entry A)) (moved : ℕ) → weights_by weighed (unrolled entries moved) ≡ entries_weight entries
-unrolled_weights {A} [] moved = moved_weights A moved
-unrolled_weights {A} (entry ∷ entries) moved =
+-- the record of an entry weighs what the entry does, and what its own long one does
+record_weight : {A : Type 0} → (k : Kept) (long : List (Record A)) →
+    weights_by weighed (record_of k long) ≡ kept_weight k + weights_by weighed (take (longs k) long)
+record_weight variant.Comma long = refl
+record_weight variant.Begun long = refl
+record_weight (variant.Quoted closed inner) long = refl
+record_weight (variant.Deleted b) long = refl
+record_weight variant.Long long = omega arith
+
+-- so all records weigh what entries and long ones do
+pub unrolled_weights : {A : Type 0} → (entries : List Entry) (long : List (Record A)) (moved : ℕ) → length long ≡ longs_of entries →
+    weights_by weighed (unrolled entries long moved) ≡ entries_weight entries + weights_by weighed long
+unrolled_weights {A} [] long moved as_many =
+    let none = ap (weights_by weighed) (nil_from_length long as_many) in
+    omega (arith, moved_weights A moved, none)
+unrolled_weights {A} (entry ∷ entries) long moved as_many =
+    let own : ℕ = longs entry.kept in
+    let others : List (Record A) = drop own long in
+    let as_many_others : length others ≡ longs_of entries = omega (arith, as_many, length-drop own long) in
+    let parts = ap (weights_by weighed) (take-append-drop own long) in
     omega (
       arith,
-      weights_by-append weighed (all_moved entry.moved) (entry.kept ∷ unrolled entries moved),
+      weights_by-append weighed (all_moved entry.moved ++ record_of entry.kept long) (unrolled entries others moved),
+      weights_by-append weighed (all_moved entry.moved) (record_of entry.kept long),
       moved_weights A entry.moved,
-      unrolled_weights entries moved,
+      record_weight entry.kept long,
+      unrolled_weights entries others moved as_many_others,
+      weights_by-append weighed (take own long) others,
+      parts,
     )
 
 -- ---- as the session shows the states before

@@ -7,7 +7,7 @@ use trac_rules::refusal::Refusal;
 pub struct Walk {
     /// How many steps were taken.
     pub done: u64,
-    /// Why it went no further: the refusal that ended it, or `NotMet` where it looked for a name and did not meet it. None where all the
-    /// steps that were asked for were taken, or the name was met.
+    /// Why it went no further: the refusal that ended it, or `NotMet` where it looked for a name and did not meet it. None
+    /// where all the steps that were asked for were taken, or the name was met.
     pub why: Option<Refusal>,
 }

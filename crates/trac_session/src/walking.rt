@@ -80,8 +80,8 @@ impl<A: Allocator + Copy> Session<A> {
         }
     }
 
-    // Goes this way by up to `n` steps, until one is refused, which the walk answers. It looks for no name, so bytes that a step each
-    // moves are passed at once.
+    // Goes this way by up to `n` steps, until one is refused, which the walk answers. It looks for no name, so bytes that a
+    // step each moves are passed at once.
     fn go_far(&mut self, direction: Direction, n: u64) -> Walk
         ensures { IsWalk (command_towards direction) no_goal n self.old result.done result.why self.new }
     {
@@ -128,17 +128,18 @@ impl<A: Allocator + Copy> Session<A> {
         self.go_far(Direction::Forward, n)
     }
 
-    /// Goes back over up to `n` steps, until there is no record left, which the walk answers as `AtStart`. It takes no memory
-    /// (this project's profile).
+    /// Goes back over up to `n` steps, until there is no record left, which the walk answers as `AtStart`. It takes no
+    /// memory (this project's profile).
     pub fn back(&mut self, n: u64) -> Walk
         ensures { IsWalk Back no_goal n self.old result.done result.why self.new }
     {
         self.go_far(Direction::Backward, n)
     }
 
-    /// Goes forward by up to `n` steps, until the next step would perform a function of this name, which is compared byte for byte. That
-    /// it would do so already, before any step, does not count. A refused step ends the walk as in `forward`; where `n` steps were taken and the name was not
-    /// met, the walk answers `NotMet`, also where `n` is 0 (this project's profile).
+    /// Goes forward by up to `n` steps, until the next step would perform a function of this name, which is compared
+    /// byte for byte. That it would do so already, before any step, does not count. A refused step ends the walk as
+    /// in `forward`; where `n` steps were taken and the name was not met, the walk answers `NotMet`, also where `n`
+    /// is 0 (this project's profile).
     pub fn until(&mut self, name: &[u8], n: u64) -> Walk
         ensures { IsSearch Step (is_call_of name.now) n self.old result.done result.why self.new }
     {
@@ -146,9 +147,10 @@ impl<A: Allocator + Copy> Session<A> {
         self.searched(name, walk)
     }
 
-    /// Goes back over steps, until the next step would perform a function of this name, which is compared byte for byte. That it would do
-    /// so already, before any step back, does not count; the first state is tested too. Where all steps are gone back over and the name was not met, the walk answers
-    /// `NotMet`, and where there is no step to go back over, `AtStart`. It takes no memory (this project's profile).
+    /// Goes back over steps, until the next step would perform a function of this name, which is compared byte for byte.
+    /// That it would do so already, before any step back, does not count; the first state is tested too. Where all steps are
+    /// gone back over and the name was not met, the walk answers `NotMet`, and where there is no step to go back over,
+    /// `AtStart`. It takes no memory (this project's profile).
     pub fn back_until(&mut self, name: &[u8]) -> Walk
         ensures { IsSearch Back (is_call_of name.now) (max 1 (length self.old.earlier)) self.old result.done result.why self.new }
     {

@@ -24,6 +24,7 @@ pub mod Weighed
 pub mod Functions
 pub mod NeutralAgain
 pub mod BegunFunctions
+pub mod Emptied
 pub mod Entries
 pub mod Stored
 pub mod Loaded

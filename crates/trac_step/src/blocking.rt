@@ -29,8 +29,8 @@ pub(crate) fn know_each<A: Allocator + Copy>(
     Ok(())
 }
 
-// Moves the forms of these names out of the store into a block that has places for them and holds none; a name without a form is
-// passed over.
+// Moves the forms of these names out of the store into a block that has places for them and holds none; a name
+// without a form is passed over.
 pub(crate) fn move_into<A: Allocator + Copy>(
     store: &mut Store<A>,
     names: Vec<Vec<u8, A>, A>,

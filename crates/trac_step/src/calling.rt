@@ -44,8 +44,8 @@ pub(crate) struct Beginning {
     pub(crate) kind: Kind,
 }
 
-// Where the function of a planned call begins, and what the call's record says beside its arguments, and what was destroyed of forms and
-// blocks.
+// Where the function of a planned call begins, and what the call's record says beside its arguments, and what was
+// destroyed of forms and blocks.
 #[derive(Clone, Copy)]
 pub(crate) struct Plan {
     pub(crate) beginning: Beginning,
@@ -96,7 +96,8 @@ fn cut_function<E: TwoEnds<u8, A>, M: TwoEnds<Mark, A>, A: Allocator + Copy>(
     marks.cut_left(marks.left().len() - beginning.number);
 }
 
-// Puts a value where it goes: behind the neutral text for a neutral function, where it is not forced, else before the active text.
+// Puts a value where it goes: behind the neutral text for a neutral function, where it is not
+// forced, else before the active text.
 fn put_value<E: TwoEnds<u8, A>, A: Allocator + Copy>(
     text: &mut E,
     kind: Kind,
@@ -124,8 +125,9 @@ pub(crate) fn append<A: Allocator + Copy>(list: &mut Vec<u8, A>, text: &[u8])
 }
 
 impl<E: TwoEnds<u8, A>, M: TwoEnds<Mark, A>, A: Allocator + Copy> Core<E, M, A> {
-    // What the call will do that the next step performs, where its function begins, and what its record says; or why it is refused.
-    fn planned(&self, tape: Tape<'_>) -> Result<(Plan, Effect<A>), Refusal>
+    // What the call will do that the next step performs, where its function begins, and what its record says, with a copy of
+    // its arguments; or why it is refused.
+    fn planned(&self, tape: Tape<'_>) -> Result<(Plan, Effect<A>, Pieces<A>), Refusal>
         requires front { front_of self.now.state.active ≡ Front.Closing }
         requires inside { 0 < length self.now.state.frames }
         requires within { self.now.state.position ≤ length tape.bytes.now }
@@ -135,6 +137,7 @@ impl<E: TwoEnds<u8, A>, M: TwoEnds<Mark, A>, A: Allocator + Copy> Core<E, M, A> 
             ≡ Some (rules.Called (record_with r.0.called (arguments_in (scan self.now.state)) (undone_of r.1.change (storage_of self.now.state))))) }
         ensures given { IfOk result (λ r. NamesGiven (arguments_in (scan self.now.state)) (storage_of self.now.state) r.1.change) }
         ensures proper { IfOk result (λ r. IsProper (state_after r.1 (scan self.now.state))) }
+        ensures arguments { IfOk result (λ r. all_texts r.2 ≡ arguments_in (scan self.now.state)) }
     {
         let Some(function) = self.neutral().innermost() else {
             unreachable!()
@@ -160,20 +163,8 @@ impl<E: TwoEnds<u8, A>, M: TwoEnds<Mark, A>, A: Allocator + Copy> Core<E, M, A> 
             kind: function.kind,
         };
         let called = called_by(function.kind, &function.arguments, now, &effect);
-        Ok((Plan { beginning, called }, effect))
-    }
-
-    // A copy of the arguments of the call that the next step performs.
-    fn arguments(&self) -> Result<Pieces<A>, Refusal>
-        requires front { front_of self.now.state.active ≡ Front.Closing }
-        requires inside { 0 < length self.now.state.frames }
-        ensures same { IfOk result (λ p. all_texts p ≡ arguments_in (scan self.now.state)) }
-        ensures err { IsOkUnless result Refusal.Memory }
-    {
-        let Some(function) = self.neutral().innermost() else {
-            unreachable!()
-        };
-        Pieces::of(*self.output.allocator(), &function.arguments)
+        let arguments = Pieces::of(*self.output.allocator(), &function.arguments)?;
+        Ok((Plan { beginning, called }, effect, arguments))
     }
 
     // Makes room for what the call adds, so that finishing it needs no memory. The state stays.
@@ -196,26 +187,22 @@ impl<E: TwoEnds<u8, A>, M: TwoEnds<Mark, A>, A: Allocator + Copy> Core<E, M, A> 
         places_for(*self.output.allocator(), &self.store, &effect.change)
     }
 
-    // Takes all memory that the call needs: for a copy of its arguments, for what leaves forms and blocks, and room for what it adds. The
-    // state stays.
-    fn made_ready(&mut self, effect: &Effect<A>) -> Result<(Pieces<A>, Places<A>), Refusal>
-        requires front { front_of self.old.state.active ≡ Front.Closing }
-        requires inside { 0 < length self.old.state.frames }
+    // Takes the memory that the call still needs: for what leaves forms and blocks, and room for
+    // what it adds. The state stays.
+    fn made_ready(&mut self, effect: &Effect<A>) -> Result<Places<A>, Refusal>
         ensures room_for { OnOk result (HasRoomFor effect.now self.new) }
-        ensures arguments { IfOk result (λ r. all_texts r.0 ≡ arguments_in (scan self.old.state)) }
-        ensures made { IfOk result (λ r. AreMadeFor effect.now.change self.old.state.forms r.1) }
+        ensures made { IfOk result (AreMadeFor effect.now.change self.old.state.forms) }
         ensures state { self.new.state ≡ self.old.state }
         ensures room { IsNoLess self.old self.new }
         ensures err { IsOkUnless result Refusal.Memory }
     {
-        let arguments = self.arguments()?;
         let places = self.places(effect)?;
         self.make_room(effect)?;
-        Ok((arguments, places))
+        Ok(places)
     }
 
-    // Performs the call: forms and blocks change, the function is gone, what it prints is printed, and its value is where it goes. Answers
-    // what was destroyed of forms and blocks. It takes no memory.
+    // Performs the call: forms and blocks change, the function is gone, what it prints is printed, and its value is where it
+    // goes. Answers what was destroyed of forms and blocks. It takes no memory.
     fn finish_call(
         &mut self,
         beginning: Beginning,
@@ -252,9 +239,14 @@ impl<E: TwoEnds<u8, A>, M: TwoEnds<Mark, A>, A: Allocator + Copy> Core<E, M, A> 
     }
 
     // Performs the call that is planned, and answers its record. It is refused memory alone, and then the state stays.
-    fn carry_out(&mut self, plan: Plan, effect: Effect<A>) -> Result<Record<A>, Refusal>
+    fn carry_out(
+        &mut self,
+        plan: Plan,
+        effect: Effect<A>,
+        arguments: Pieces<A>,
+    ) -> Result<Record<A>, Refusal>
         requires front { front_of self.old.state.active ≡ Front.Closing }
-        requires inside { 0 < length self.old.state.frames }
+        requires arguments { all_texts arguments ≡ arguments_in (scan self.old.state) }
         requires beginning { BeginsInnermost self.old.state plan.beginning }
         requires given { NamesGiven (arguments_in (scan self.old.state)) (storage_of self.old.state) effect.change }
         requires proper { IsProper (state_after effect (scan self.old.state)) }
@@ -264,7 +256,7 @@ impl<E: TwoEnds<u8, A>, M: TwoEnds<Mark, A>, A: Allocator + Copy> Core<E, M, A> 
         ensures err { IsOkUnless result Refusal.Memory }
         ensures room { IsNoLess self.old self.new }
     {
-        let (arguments, places) = self.made_ready(&effect)?;
+        let places = self.made_ready(&effect)?;
         let change = self.finish_call(plan.beginning, effect, places);
         let called = plan.called;
         Ok(Record::Call {
@@ -291,7 +283,7 @@ impl<E: TwoEnds<u8, A>, M: TwoEnds<Mark, A>, A: Allocator + Copy> Core<E, M, A> 
         ensures lacking { LacksRoomAhead self.old }
         ensures room { IsNoLess self.old self.new }
     {
-        let (plan, effect) = self.planned(tape)?;
-        self.carry_out(plan, effect)
+        let (plan, effect, arguments) = self.planned(tape)?;
+        self.carry_out(plan, effect, arguments)
     }
 }

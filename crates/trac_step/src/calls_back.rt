@@ -12,8 +12,8 @@ use trac_gap::TwoEnds;
 use trac_prims::{Kind, Mark};
 use trac_rules::byte::CLOSING;
 
-// Takes a value of n bytes off again, from where it went: from the front of the text on the right, where it was to be scanned, or
-// else from the end of the one on the left.
+// Takes a value of n bytes off again, from where it went: from the front of the text on the right, where it was to be
+// scanned, or else from the end of the one on the left.
 fn take_value<E: TwoEnds<u8, A>, A: Allocator + Copy>(text: &mut E, scanned: bool, n: usize)
     requires { HasValue scanned n (E.ends text.old) }
     ensures { E.ends text.new ≡ without_value scanned n (E.ends text.old) }

@@ -21,8 +21,8 @@ use std::alloc::Allocator;
 use trac_forms::{Block, Cut, Form, Store};
 use trac_prims::{Args, Change};
 
-// Changes forms and blocks as a call of these arguments planned it, and answers what that destroyed; what leaves the store goes into
-// what was made for this change. It takes no memory, and forgets no name.
+// Changes forms and blocks as a call of these arguments planned it, and answers what that destroyed; what leaves the store
+// goes into what was made for this change. It takes no memory, and forgets no name.
 pub(crate) fn change_forms<A: Allocator + Copy>(
     store: &mut Store<A>,
     arguments: &Args<'_>,
@@ -57,7 +57,8 @@ pub(crate) fn change_forms<A: Allocator + Copy>(
     }
 }
 
-// Cuts the texts that the arguments give behind the name out of the form of this name, if there is one: these are the gaps that this makes.
+// Cuts the texts that the arguments give behind the name out of the form of this name, if there is one:
+// these are the gaps that this makes.
 fn cut_out<A: Allocator + Copy>(
     store: &mut Store<A>,
     arguments: &Args<'_>,
@@ -134,8 +135,8 @@ fn erase<A: Allocator + Copy>(store: &mut Store<A>, number: usize, name: &[u8]) 
     }
 }
 
-// Sets the pointer of the form of this name, if there is one: before the item at this place, or at the end where there is none. Answers
-// where it stood.
+// Sets the pointer of the form of this name, if there is one: before the item at this place, or at the end where there
+// is none. Answers where it stood.
 pub(crate) fn point<A: Allocator + Copy>(
     store: &mut Store<A>,
     name: &[u8],

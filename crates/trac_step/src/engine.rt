@@ -18,10 +18,9 @@ use trac_rules::refusal::Refusal;
 pub(crate) const IDLE_PROGRAM: &[u8; 11] = b"#(ps,#(rs))";
 
 /// A machine over lists with two ends: its neutral text stands on the left of the one pair of lists, its active text on the
-/// right; its marks stand on the left of the other.
-/// It is seen as the state that it shows, which is always a proper one; how many bytes of texts, how many marks and how many
-/// bytes of output it has room for without more memory; and the names under which it can put a form, and how many blocks it can add,
-/// without more memory.
+/// right; its marks stand on the left of the other. It is seen as the state that it shows, which is always a proper one; how
+/// many bytes of texts, how many marks and how many bytes of output it has room for without more memory; and the names under
+/// which it can put a form, and how many blocks it can add, without more memory.
 #[derive(Drop)]
 pub struct Core<E: TwoEnds<u8, A>, M: TwoEnds<Mark, A>, A: Allocator + Copy> {
     pub(crate) text: E,

@@ -60,8 +60,8 @@ pub(crate) fn mark_count<A: Allocator + Copy>(functions: &[Function<A>]) -> usiz
     total
 }
 
-// Puts a mark at the end of the text on the left, and an argument behind it: of a function of this kind, which is begun, or, where
-// none is named, a further one of the innermost.
+// Puts a mark at the end of the text on the left, and an argument behind it: of a function of this kind, which is begun, or,
+// where none is named, a further one of the innermost.
 fn put_argument<A: Allocator + Copy, E: TwoEnds<u8, A>, M: TwoEnds<Mark, A>>(
     text: &mut E,
     marks: &mut M,
@@ -123,8 +123,8 @@ fn put_functions<A: Allocator + Copy, E: TwoEnds<u8, A>, M: TwoEnds<Mark, A>>(
     }
 }
 
-// Lists with the active text on the right, the base text on the left, and room for all texts of parts, and for no less than is asked
-// for.
+// Lists with the active text on the right, the base text on the left, and room for all texts of parts, and
+// for no less than is asked for.
 fn text_of<A: Allocator + Copy, E: TwoEnds<u8, A>>(alloc: A, parts: &Parts<A>) -> Result<E, Refusal>
     requires { texts_fit (state_in parts.now) ≡ true }
     ensures left { IfOk result (λ text. (E.ends text).left ≡ parts.now.base.items) }

@@ -22,8 +22,8 @@ use trac_prims::{Kind, Mark, NeutralText, Refusal};
 pub(crate) type Functions<A> = Vec<(Kind, Pieces<A>), A>;
 
 impl<E: TwoEnds<u8, A>, M: TwoEnds<Mark, A>, A: Allocator + Copy> Core<E, M, A> {
-    // The active text is null: all other text goes, and the idle program is loaded. Answers what went: the text outside all begun
-    // functions, and these.
+    // The active text is null: all other text goes, and the idle program is loaded. Answers what went: the text outside
+    // all begun functions, and these.
     pub(crate) fn reload(&mut self) -> Result<(Vec<u8, A>, Functions<A>), Refusal>
         requires { self.old.state.active ≡ [] }
         ensures ok { OnOk result (self.new.state ≡ record self.old.state { active = idle_program; base = []; frames = [] }) }

@@ -11,8 +11,8 @@ use crate::blocking::Named;
 use std::alloc::Allocator;
 use trac_forms::Store;
 
-// Takes the forms of these names out of the store, and lists them with their names; a name without a form is passed over. The list has
-// room for so many, and holds nothing.
+// Takes the forms of these names out of the store, and lists them with their names; a name without a form is passed over.
+// The list has room for so many, and holds nothing.
 pub(crate) fn take_each<A: Allocator + Copy>(
     store: &mut Store<A>,
     names: Vec<Vec<u8, A>, A>,
@@ -31,8 +31,8 @@ pub(crate) fn take_each<A: Allocator + Copy>(
     taken
 }
 
-// Puts forms under their names, which are known and each different, and lists those that they replace, with their names. The list has
-// room for so many, and holds nothing.
+// Puts forms under their names, which are known and each different, and lists those that they replace, with their names. The
+// list has room for so many, and holds nothing.
 pub(crate) fn replace_each<A: Allocator + Copy>(
     store: &mut Store<A>,
     forms: Vec<Named<A>, A>,

@@ -31,7 +31,7 @@ mod weighing;
 pub use engine::{Core, Machine};
 pub use loading::Parts;
 pub use pieces::Pieces;
-pub use record::Record;
+pub use record::{Record, Short};
 pub use trac_forms::Store;
 pub use trac_prims::{Args, Kind, Mark, Refusal, Tape};
 pub use undone::Undone;

@@ -32,8 +32,8 @@ pub struct Parts<A: Allocator + Copy = Global> {
     pub frames: Vec<(Kind, Vec<Vec<u8, A>, A>), A>,
     /// The forms with their names. Where a name stands again, the later form replaces the earlier one.
     pub forms: Vec<(Vec<u8, A>, Form<A>), A>,
-    /// The blocks in the order of their numbers, from 0 on; an erased one is none. Where a name stands again in a block, the later
-    /// form stands in the place of the earlier one.
+    /// The blocks in the order of their numbers, from 0 on; an erased one is none. Where a name stands again in a block, the
+    /// later form stands in the place of the earlier one.
     pub blocks: Vec<Option<Vec<(Vec<u8, A>, Form<A>), A>>, A>,
     /// The byte that ends a text of the input.
     pub meta: u8,
@@ -156,8 +156,8 @@ fn blocks_within<A: Allocator + Copy>(blocks: &[Option<Vec<Named<A>, A>>]) -> bo
     true
 }
 
-// Whether all is within the limits but the number of forms, and that of the forms of a block, since only a store tells how many of
-// them replace others.
+// Whether all is within the limits but the number of forms, and that of the forms of a block, since only a store tells
+// how many of them replace others.
 fn lengths_within<A: Allocator + Copy>(parts: &Parts<A>) -> bool
     requires { EachGathers parts.now.frames.items }
     ensures fits { result ≡ lengths_fit parts.now }
@@ -184,12 +184,12 @@ fn output_of<A: Allocator + Copy>(alloc: A, parts: &Parts<A>) -> Result<Vec<u8, 
 }
 
 impl<E: TwoEnds<u8, A>, M: TwoEnds<Mark, A>, A: Allocator + Copy> Core<E, M, A> {
-    /// A machine that shows the state of the parts, has at least the rooms that they ask for, and knows their names and those of all
-    /// forms. It has memory of its own, and a room that is less than the state needs is made as large as that
+    /// A machine that shows the state of the parts, has at least the rooms that they ask for, and knows their names and
+    /// those of all forms. It has memory of its own, and a room that is less than the state needs is made as large as that
     /// (this project's profile). Each begun function has to have an argument, the one that is being gathered.
     ///
-    /// Refused with `TooLong` where the state, a room or a name passes a limit (this project's profile), and with `Memory` where the
-    /// allocator refuses, which may come first where there are too many forms: they are counted in their store.
+    /// Refused with `TooLong` where the state, a room or a name passes a limit (this project's profile), and with `Memory`
+    /// where the allocator refuses, which may come first where there are too many forms: they are counted in their store.
     pub fn load(alloc: A, parts: &Parts<A>) -> Result<Self, Refusal>
         requires { EachGathers parts.now.frames.items }
         ensures answer { MayAnswer (λ m. m.state) (loaded parts.now) result }

@@ -32,8 +32,8 @@ impl<A: Allocator + Copy> Model for Pieces<A> {
 
 impl<A: Allocator + Copy> Pieces<A> {
     /// A copy of these arguments, in memory for exactly their bytes and a length for each but the last: where there are no
-    /// bytes, or no further argument, none is asked for (this project's profile). It takes time for the bytes and the arguments.
-    /// Refused with `Memory` where the allocator refuses.
+    /// bytes, or no further argument, none is asked for (this project's profile). It takes time for the bytes and the
+    /// arguments. Refused with `Memory` where the allocator refuses.
     pub fn of(alloc: A, arguments: &Args<'_>) -> Result<Self, Refusal>
         ensures same { IfOk result (λ p. all_texts p ≡ arguments.now) }
         ensures nothing { arguments.now ≡ [] ∷ [] → IsOk result }
@@ -57,7 +57,8 @@ impl<A: Allocator + Copy> Pieces<A> {
         self.text.as_slice()
     }
 
-    /// How many bytes each argument has, but for the last one: a length for each `,` that ended one, by T-64's rules of scanning.
+    /// How many bytes each argument has, but for the last one: a length for each `,` that ended
+    /// one, by T-64's rules of scanning.
     pub fn commas(&self) -> &[usize]
         ensures { result.now ≡ map length self.now.finished }
     {

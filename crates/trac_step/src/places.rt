@@ -125,8 +125,8 @@ fn copies_of<A: Allocator + Copy>(
     Ok(copies)
 }
 
-// Makes places in the store for the forms and the block that the change puts, so that it needs no memory. Forms and blocks stay as they
-// are.
+// Makes places in the store for the forms and the block that the change puts, so that it needs no memory.
+// Forms and blocks stay as they are.
 pub(crate) fn make_place<A: Allocator + Copy>(
     store: &mut Store<A>,
     change: &Change<A>,

@@ -7,12 +7,12 @@ ghost use Rattle.trac_rules.specs.PlainRuns.{BeginsPlain, is_plain, moved_on};
 ghost use Rattle.trac_rules.specs.Proper.{IsProper};
 ghost use Rattle.trac_rules.specs.Records.{Moved, comma_recorded};
 ghost use Rattle.trac_step.specs.Calling.{with_mark};
-ghost use Rattle.trac_step.specs.Record.{recorded_by};
+ghost use Rattle.trac_step.specs.Record.{said_by};
 ghost use Rattle.trac_step.specs.Room.{HasRoom, IsNoLess};
 
 use crate::engine::Core;
 use crate::front::plain_front;
-use crate::record::Record;
+use crate::record::Short;
 use crate::texts::{push_mark, take_first, take_protected};
 use std::alloc::Allocator;
 use trac_gap::TwoEnds;
@@ -42,25 +42,25 @@ impl<E: TwoEnds<u8, A>, M: TwoEnds<Mark, A>, A: Allocator + Copy> Core<E, M, A> 
     }
 
     // A `,`: inside a function an argument is finished, and a null one begun.
-    pub(crate) fn comma(&mut self) -> Result<Record<A>, Refusal>
+    pub(crate) fn comma(&mut self) -> Result<Short, Refusal>
         requires front { 0 < length self.old.state.active }
         requires room { 0 < length self.old.state.frames → marks self.old.state.frames < MARK_LIMIT }
         ensures ok { OnOk result (self.new.state ≡ comma_in self.old.state.frames (deleted 1 self.old.state)) }
-        ensures recorded { IfOk result (λ r. recorded_by r ≡ comma_recorded self.old.state.frames self.old.state) }
+        ensures recorded { IfOk result (λ r. said_by r ≡ comma_recorded self.old.state.frames self.old.state) }
         ensures room { IsNoLess self.old self.new }
         ensures unchanged { OnErr result (self.new ≡ self.old) }
         ensures full { OnErr result ((0 < length self.old.state.frames) × (self.old.mark_room ≤ marks self.old.state.frames)) }
         ensures err { IsOkUnless result Refusal.Memory }
     {
         if self.marks.left().is_empty() {
-            return Ok(Record::Deleted(self.delete_first()));
+            return Ok(Short::Deleted(self.delete_first()));
         }
         self.mark(1, None)?;
-        Ok(Record::Comma)
+        Ok(Short::Comma)
     }
 
-    // The first n bytes of the active text are deleted, and a function of this kind is begun, or, where none is named, a further
-    // argument of the innermost one.
+    // The first n bytes of the active text are deleted, and a function of this kind is begun, or, where none is named, a
+    // further argument of the innermost one.
     pub(crate) fn mark(&mut self, n: usize, frame: Option<Kind>) -> Result<(), Refusal>
         requires front { n ≤ length self.old.state.active }
         requires inside { frame ≡ None → 0 < length self.old.state.frames }
@@ -76,18 +76,18 @@ impl<E: TwoEnds<u8, A>, M: TwoEnds<Mark, A>, A: Allocator + Copy> Core<E, M, A> 
     }
 
     // The first byte of the active text goes to the current text. Answers the record of that.
-    pub(crate) fn gather_first(&mut self) -> Record<A>
+    pub(crate) fn gather_first(&mut self) -> Short
         requires { 0 < length self.old.state.active }
         ensures shown { self.new ≡ record self.old { state = gather_first self.old.state } }
-        ensures recorded { recorded_by result ≡ Moved }
+        ensures recorded { said_by result ≡ Moved }
     {
         self.text.shift_left(1);
-        Record::Moved
+        Short::Moved
     }
 
-    /// Moves the plain bytes with which the active text begins, counted up to `most`, to the current text, and answers how many these
-    /// are: as many steps of T-64's rules of scanning, each of which would answer the record `Moved`. It takes no memory, and the
-    /// machine has room for each state on the way (this project's profile).
+    /// Moves the plain bytes with which the active text begins, counted up to `most`, to the current text, and answers how
+    /// many these are: as many steps of T-64's rules of scanning, each of which would answer the record `Moved`. It takes no
+    /// memory, and the machine has room for each state on the way (this project's profile).
     pub fn move_plain(&mut self, most: usize) -> usize
         ensures moved { self.new ≡ record self.old { state = moved_on result self.old.state } }
         ensures plain { BeginsPlain result self.old.state }

@@ -20,16 +20,16 @@ use trac_prims::{Mark, Refusal, Tape};
 use trac_rules::scan::Front;
 
 impl<E: TwoEnds<u8, A>, M: TwoEnds<Mark, A>, A: Allocator + Copy> Core<E, M, A> {
-    /// Takes the next step of T-64's rules over this tape, and gives what the way back needs: the record of what the step
-    /// destroyed, and of nothing else. The state after it is a proper one: a step is refused where its new state would pass any
-    /// limit.
+    /// Takes the next step of T-64's rules over this tape, and gives what the way back needs: the record of what
+    /// the step destroyed, and of nothing else. The state after it is a proper one: a step is refused where its
+    /// new state would pass any limit.
     ///
-    /// Refused with `NeedInput` where a function reads input that is not there yet, with `Ended` where it will never be there or `hl`
-    /// is performed, with `TooLong` where the state after the step would pass a limit, and with `Memory` where the allocator refuses; after each the state is as it was.
-    /// A step of scanning is refused memory only where the machine has no room for the new state, but for the step that empties
-    /// all texts, which keeps them in its record (this project's profile).
-    /// No step, refused ones among them, lessens the machine's room or forgets a name, and after an accepted one there is room
-    /// for the state before it. The tape has to hold at least as many bytes as are read.
+    /// Refused with `NeedInput` where a function reads input that is not there yet, with `Ended` where it will never be
+    /// there or `hl` is performed, with `TooLong` where the state after the step would pass a limit, and with `Memory` where
+    /// the allocator refuses; after each the state is as it was. A step of scanning is refused memory only where the machine
+    /// has no room for the new state, but for the step that empties all texts, which keeps them in its record (this
+    /// project's profile). No step, refused ones among them, lessens the machine's room or forgets a name, and after an
+    /// accepted one there is room for the state before it. The tape has to hold at least as many bytes as are read.
     pub fn step(&mut self, tape: Tape<'_>) -> Result<Record<A>, Refusal>
         requires { self.old.state.position ≤ length tape.bytes.now }
         ensures taken { IfOk result (λ r. (step (environment_of tape.entry) self.old.state ≡ Ok self.new.state) × (before r self.new.state ≡ Some self.old.state)) }

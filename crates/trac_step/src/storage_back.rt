@@ -18,8 +18,8 @@ use std::alloc::Allocator;
 use trac_forms::{Block, Cut, Form, Store};
 use trac_prims::Args;
 
-// Puts back what a call of these arguments destroyed of forms and blocks. It takes no memory, and forgets no name; the names of the
-// forms before have to be known.
+// Puts back what a call of these arguments destroyed of forms and blocks. It takes no memory, and forgets no name; the names
+// of the forms before have to be known.
 pub(crate) fn put_storage<A: Allocator + Copy>(
     store: &mut Store<A>,
     arguments: &Args<'_>,
@@ -48,7 +48,8 @@ pub(crate) fn put_storage<A: Allocator + Copy>(
     }
 }
 
-// Fills the gaps of a cut, in the form that the arguments name, with the texts that they give behind the name, and sets its pointer.
+// Fills the gaps of a cut, in the form that the arguments name, with the texts that they give behind
+// the name, and sets its pointer.
 fn join<A: Allocator + Copy>(
     store: &mut Store<A>,
     arguments: &Args<'_>,
@@ -79,7 +80,8 @@ fn swap<A: Allocator + Copy>(store: &mut Store<A>, name: &[u8], old: Option<Form
     };
 }
 
-// Takes the last block off the list, puts a form under a name again, or takes it away, and then puts back what the block holds.
+// Takes the last block off the list, puts a form under a name again, or takes it away, and then
+// puts back what the block holds.
 fn move_out<A: Allocator + Copy>(store: &mut Store<A>, name: &[u8], old: Option<Form<A>>)
     requires { KnowsBefore store.old.known (moved_out_again name.now old (storage_in store.old)) }
     ensures storage { moved_out_again name.now old (storage_in store.old) ≡ Some (storage_in store.new) }

@@ -64,8 +64,8 @@ fn names_of<A: Allocator + Copy>(
     Ok(names)
 }
 
-// A block of copies of these forms. Where a name stands again, its last form stands in the first one's place: so all forms go into
-// a store first, and leave it in the order of their names.
+// A block of copies of these forms. Where a name stands again, its last form stands in the first one's place: so all forms
+// go into a store first, and leave it in the order of their names.
 fn block_with<A: Allocator + Copy>(alloc: A, forms: &[Named<A>]) -> Result<Block<A>, FormError>
     ensures held { IfOk result (λ block. block.held ≡ held_of (named_forms forms.now)) }
     ensures err { IsOkUnless result FormError.Memory }

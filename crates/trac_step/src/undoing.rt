@@ -42,8 +42,8 @@ impl Called {
 }
 
 impl<E: TwoEnds<u8, A>, M: TwoEnds<Mark, A>, A: Allocator + Copy> Core<E, M, A> {
-    /// Moves the last n bytes of the current text back before the active text, as going back over as many records `Moved` does. The
-    /// current text has to hold so many. It takes no memory (this project's profile).
+    /// Moves the last n bytes of the current text back before the active text, as going back over as many records `Moved`
+    /// does. The current text has to hold so many. It takes no memory (this project's profile).
     pub fn move_back(&mut self, n: usize)
         requires { IsSome (moved_back n self.old.state) }
         ensures state { moved_back n self.old.state ≡ Some self.new.state }
@@ -88,8 +88,8 @@ impl<E: TwoEnds<u8, A>, M: TwoEnds<Mark, A>, A: Allocator + Copy> Core<E, M, A> 
         pop_beginning(&mut self.text, &mut self.marks);
     }
 
-    // The call is not performed: its function is begun again, and its `)` is back before the active text; forms, blocks and all else
-    // are as they were.
+    // The call is not performed: its function is begun again, and its `)` is back before the active text; forms, blocks
+    // and all else are as they were.
     pub(crate) fn uncall(&mut self, called: Called, arguments: &Pieces<A>, change: Undone<A>)
         requires { CanShow self.old (restored (rules.Called (call_record called arguments.now change)) self.old.state) }
         ensures state { restored (rules.Called (call_record called arguments.now change)) self.old.state ≡ Some self.new.state }

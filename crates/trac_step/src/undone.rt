@@ -2,8 +2,9 @@
 use std::alloc::{Allocator, Global};
 use trac_forms::{Block, Cut, Form};
 
-/// What a call destroyed of forms and blocks, by which they can be got back from those that stand there afterwards. What still stands
-/// there is not kept: of forms that went into a block nothing, and of a form whose pointer moved the old pointer (this project's profile).
+/// What a call destroyed of forms and blocks, by which they can be got back from those that stand there afterwards. What
+/// still stands there is not kept: of forms that went into a block nothing, and of a form whose pointer moved the old
+/// pointer (this project's profile).
 #[derive(Drop)]
 pub enum Undone<A: Allocator + Copy = Global> {
     /// Nothing of forms and blocks was destroyed.
@@ -21,8 +22,8 @@ pub enum Undone<A: Allocator + Copy = Global> {
     Swap(Option<Form<A>>),
     /// These forms were deleted.
     Restore(Vec<(Vec<u8, A>, Form<A>), A>),
-    /// Forms went into a new block, the last one, and its number became a form, in place of this one, if there was one that did not go
-    /// into the block.
+    /// Forms went into a new block, the last one, and its number became a form, in place of this one, if there was one
+    /// that did not go into the block.
     MoveOut(Option<Form<A>>),
     /// Copies of the forms of a block were put among the forms.
     Unbring {

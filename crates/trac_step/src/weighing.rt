@@ -15,9 +15,10 @@ use trac_forms::{Block, Form};
 use trac_prims::Kind;
 
 impl<A: Allocator + Copy> Record<A> {
-    /// What the record keeps: bytes of texts and names, items of forms and places of gaps, and one for each `,`, begun function, name
-    /// and meta character. Lengths, places and flags are not weighed. This is this project's profile. The sum has to fit a `usize`, as it
-    /// does for every record of a step. It takes no memory, and time for the begun functions and the forms alone, whatever their length.
+    /// What the record keeps: bytes of texts and names, items of forms and places of gaps, and one for each `,`, begun
+    /// function, name and meta character. Lengths, places and flags are not weighed. This is this project's profile. The sum
+    /// has to fit a `usize`, as it does for every record of a step. It takes no memory, and time for the begun functions and
+    /// the forms alone, whatever their length.
     pub fn weight(&self) -> usize
         requires { weight (recorded_by self.now) < 2 ^ 64 }
         ensures { result ≡ weight (recorded_by self.now) }

@@ -11,9 +11,9 @@ use trac_run::{BUDGET_LIMIT, DEFAULT_BUDGET, Options, budget_of};
 /// How many records a run's journal may hold where nothing else is said (this project's profile).
 pub const DEFAULT_JOURNAL: usize = 65_536;
 
-/// What `--version` shows behind the program's name: the program's version, and what `rt version` prints of the toolchain that
-/// proves and builds it. No crate can ask for that line, so it is written here, and `tests/launcher` compares the two: with
-/// another toolchain this text is changed too.
+/// What `--version` shows behind the program's name: the program's version, and what `rt version` prints of the toolchain
+/// that proves and builds it. No crate can ask for that line, so it is written here, and `tests/launcher` compares the two:
+/// with another toolchain this text is changed too.
 pub const VERSION: &str = "0.1.0 (rattle-kit-13b logic dac8208d650f15bf)";
 
 // What stands at the end of each help: where a program comes from, and what each exit status says.

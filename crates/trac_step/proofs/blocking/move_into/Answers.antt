@@ -1,7 +1,12 @@
 -- A form that is taken goes into the block; nothing does for a name without a form.
-use Rattle.std.proofs.Common.{ap, arith}
-use Rattle.std.specs.Prelude.{length}
-use Rattle.trac_forms.specs.Stored.{Gathered}
+use Rattle.std.proofs.Common.{◌++◌, List, ℕ, ap, arith, sym, ◌∙◌}
+use Rattle.std.specs.Prelude.{length, Vec}
+use Rattle.std.proofs.lemmas.List.{append-nil}
+use Rattle.trac_forms.specs.Stored.{Gathered, Stored}
+use Rattle.trac_prims.specs.Effects.{texts_of}
+use Rattle.trac_rules.specs.Blocks.{moved_out}
+use Rattle.trac_rules.specs.Handling.{without}
+use Rattle.trac_step.proofs.Emptied.{none_left}
 use Rattle.trac_step.proofs.MovedForms.{left_next, left_still, left_also, moved_next, none_next}
 use Rattle.std.specs.Vec.Iter.{into_iter_items}
 use Rattle.trac_step.proofs.blocking.move_into.Goals as goal
@@ -33,3 +38,16 @@ loop-name-preserved g c =
       omega (arith, at.invariant.2, ap length steps),
       left_still at.store c.take.new.self (into_iter_items at.name-iterator) rest name c.as_slice.result.now c.take.ensures.gone c.as_slice.ensures.value steps at.block.held at.invariant.3,
     )
+
+pub returns-clause-store : goal.returns-clause-store
+returns-clause-store g c =
+    let at = c.loop-name in
+    ap (λ (ns : List (Vec ℕ g.row.A.Denot)). let kept : Stored = record at.store { forms = without (texts_of ns) at.store.forms } in kept)
+    (sym (none_left (into_iter_items at.name-iterator) (sym at.name-iterator.rest.ok.0 ∙ c.in-None.ensures.steps.0))) ∙ at.invariant.0
+
+pub returns-clause-block : goal.returns-clause-block
+returns-clause-block g c =
+    let at = c.loop-name in
+    sym (append-nil at.block.held)
+    ∙ ap (λ (ns : List (Vec ℕ g.row.A.Denot)). at.block.held ++ moved_out (texts_of ns) at.store.forms)
+    (sym (none_left (into_iter_items at.name-iterator) (sym at.name-iterator.rest.ok.0 ∙ c.in-None.ensures.steps.0))) ∙ at.invariant.1

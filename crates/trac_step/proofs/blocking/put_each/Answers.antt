@@ -1,9 +1,13 @@
-use Rattle.std.proofs.Common.{List, ℕ, sym, subst, IsTrue}
+use Rattle.std.proofs.Common.{List, ℕ, ap, sym, subst, ◌∙◌, IsTrue}
+use Rattle.std.specs.Prelude.{Vec}
 use Rattle.std.specs.FinSet as set
 use Rattle.std.specs.Vec.Iter.{into_iter_items}
 use Rattle.trac_forms.specs.Stored.{Stored}
 use Rattle.trac_prims.specs.Effects.{named_forms}
+use Rattle.trac_rules.specs.Blocks.{with_all}
+use Rattle.trac_rules.specs.Form.{Form}
 use Rattle.trac_step.specs.Changing.{KnowsNamed}
+use Rattle.trac_step.proofs.Emptied.{none_left}
 use Rattle.trac_step.proofs.Stored.{form_put_first, known_first}
 use Rattle.trac_step.proofs.blocking.put_each.Goals as goal
 
@@ -23,3 +27,9 @@ loop-name-preserved g c =
       subst (λ (s : Stored). KnowsNamed (named_forms rest) s.known) (sym c.put.ensures.put)
           (known_first items rest c.in-Some.name c.in-Some.form steps at.store.known at.invariant.1).1,
     )
+
+pub returns : goal.returns
+returns g c =
+    let at = c.loop-name in
+    ap (λ (es : List (Vec ℕ g.row.A.Denot × Form)). let kept : Stored = record at.store { forms = with_all (named_forms es) at.store.forms } in kept)
+    (sym (none_left (into_iter_items at.name-iterator) (sym at.name-iterator.rest.ok.0 ∙ c.in-None.ensures.steps.0))) ∙ at.invariant.0

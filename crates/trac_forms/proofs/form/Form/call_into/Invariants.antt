@@ -1,7 +1,14 @@
--- What was filled so far.
-use Rattle.std.proofs.Common.{◌≡◌, ◌++◌, take}
-use Rattle.trac_rules.specs.Filling.{all_filled}
+-- What was filled so far, and what is left gives the rest.
+use Rattle.std.proofs.Common.{◌≡◌, ◌++◌, length}
+use Rattle.trac_rules.specs.Filling.{all_filled, called}
+use Rattle.trac_rules.specs.Fronts.{IsFrontOf}
 use Rattle.trac_forms.proofs.form.Form.call_into.Given as goal
 
-abbrev pub invariant-loop-item : goal.invariant-loop-item
-invariant-loop-item g l = l.out.items ≡ l.fn.out.items ++ all_filled (g.T.Texts.texts l.args) (take l.item-index l.item-items)
+abbrev pub invariant-runs : goal.invariant-runs
+invariant-runs g l = record {
+  filled : l.out.items ++ all_filled (g.T.Texts.texts l.args) l.rest ≡ l.fn.out.items ++ called (g.T.Texts.texts l.args) l.self;
+  front : IsFrontOf l.fn.out.items l.out.items;
+}
+
+abbrev pub decreases-runs : goal.decreases-runs
+decreases-runs g l = length l.rest

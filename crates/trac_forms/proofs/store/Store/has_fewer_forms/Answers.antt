@@ -1,5 +1,5 @@
 -- There are no more forms than entries.
-use Rattle.std.proofs.Common.{◌≡◌, ◌≤◌, List, Bool, filter, length, not, is_some, refl, sym, ◌∙◌, arith}
+use Rattle.std.proofs.Common.{◌≤◌, List, Bool, filter, length, not, is_some, refl, sym, ◌∙◌, arith}
 use Rattle.std.proofs.lemmas.Bool.{lt-ltb}
 use Rattle.std.proofs.lemmas.List.Filters.{length-filter_both}
 use Rattle.trac_forms.proofs.Tables.{counted}

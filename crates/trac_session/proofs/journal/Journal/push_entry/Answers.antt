@@ -1,18 +1,16 @@
-use Rattle.std.proofs.Common.{ap, ◌∙◌, arith}
-use Rattle.trac_session.specs.Counted.{unrolled}
-use Rattle.trac_session.proofs.Counted.{length_of_more, one_more_entry}
+use Rattle.trac_session.specs.declared.journal.Entry.{Entry}
+use Rattle.trac_session.proofs.Counted.{entry_kept}
 use Rattle.trac_session.proofs.journal.Journal.push_entry.Goals as goal
 
-pub invariant_of-self-in_default : goal.invariant_of-self-in_default
-invariant_of-self-in_default g c =
-    omega (
-      arith,
-      c.self.invariant,
-      length_of_more (unrolled c.self.inside.entries.items c.self.inside.moved) (unrolled c.push.new.self.items 0) c.args.newest
-          (ap (λ entries. unrolled entries 0) c.in_default.ensures.items ∙ one_more_entry c.self.inside.entries.items (record { moved = c.self.inside.moved; kept = c.args.newest })),
-    )
+pub invariant_of-self-2 : goal.invariant_of-self-2
+invariant_of-self-2 g c =
+    let newest : Entry = record { moved = c.self.inside.moved; kept = c.in_ok-kept.kept } in
+    (entry_kept c.self.inside.entries.items c.reserve.new.self.items c.push_reserved.new.self.items newest c.self.inside.long.items c.keep.new.long.items
+    c.args.newest c.self.inside.len c.in-Ok.ensures.items c.push_reserved.ensures.items c.self.invariant c.in_ok-kept.ensures.kept).counted
 
-pub returns-in_default-clause-kept : goal.returns-in_default-clause-kept
-returns-in_default-clause-kept g c =
+pub returns-clause-kept : goal.returns-clause-kept
+returns-clause-kept g c =
+    let newest : Entry = record { moved = c.self.inside.moved; kept = c.in_ok-kept.kept } in
     rw (← c.self.view_is)
-    (ap (λ entries. unrolled entries 0) c.in_default.ensures.items ∙ one_more_entry c.self.inside.entries.items (record { moved = c.self.inside.moved; kept = c.args.newest }))
+    (entry_kept c.self.inside.entries.items c.reserve.new.self.items c.push_reserved.new.self.items newest c.self.inside.long.items c.keep.new.long.items
+    c.args.newest c.self.inside.len c.in-Ok.ensures.items c.push_reserved.ensures.items c.self.invariant c.in_ok-kept.ensures.kept).newest_one

@@ -23,7 +23,7 @@ finish_call-change-requires-clause-proper g c =
 
 pub finish_call-change-requires-clause-made : goal.finish_call-change-requires-clause-made
 finish_call-change-requires-clause-made g c =
-    subst (λ (s : State). AreMadeFor c.args.effect.change s.forms c.in_ok-arguments.places) (sym c.made_ready.ensures.state) c.in_ok-arguments.ensures.made
+    subst (λ (s : State). AreMadeFor c.args.effect.change s.forms c.in_ok-places.places) (sym c.made_ready.ensures.state) c.in_ok-places.ensures.made
 
 pub finish_call-change-requires-clause-given : goal.finish_call-change-requires-clause-given
 finish_call-change-requires-clause-given g c =
@@ -36,7 +36,7 @@ pub returns-clause-recorded : goal.returns-clause-recorded
 returns-clause-recorded g c =
     let told = c.args.plan.called in
     let undone = c.finish_call-change.ensures.undone ∙ ap (λ (s : State). undone_of c.args.effect.change (storage_of s)) c.made_ready.ensures.state in
-    λ i. Called (record_with told (c.in_ok-arguments.ensures.arguments i) (undone i))
+    λ i. Called (record_with told (c.requires.arguments i) (undone i))
 
 pub returns-clause-room : goal.returns-clause-room
 returns-clause-room g c = no_less_then c.args.self.now c.made_ready.new.self c.finish_call-change.new.self c.made_ready.ensures.room c.finish_call-change.ensures.room

@@ -1,0 +1,82 @@
+-- Runs of bytes among items.
+use Rattle.std.proofs.Common.{◌≡◌, ℕ, ◌+◌, ◌<◌, Bool, true, List, [], ◌∷◌, ◌++◌, length, take, drop, get_or, false, refl, sym, ap, ◌∙◌, arith}
+use Rattle.std.specs.Prelude.{◌||◌}
+use Rattle.std.proofs.lemmas.Grind.{flat_map-append}
+use Rattle.std.proofs.lemmas.List.{append_assoc, length-append, take-append-drop}
+use Rattle.trac_rules.specs.declared.item.Item.{Item}
+use Rattle.trac_rules.specs.declared.item.Item.TheVariants.{Byte, Gap}
+use Rattle.trac_rules.specs.Filling.{all_filled, filled}
+use Rattle.trac_rules.specs.Fronts.{IsFrontOf}
+use Rattle.trac_rules.specs.Pieces.{bytes_in, is_gap}
+use Rattle.trac_rules.specs.Weights.{gap_count}
+use Rattle.trac_forms.proofs.Segments.{gap_count-append, gaps_more}
+
+-- a byte is no gap
+no_gap : (item : Item) → is_gap item ≡ false → gap_count (item ∷ []) ≡ 0
+no_gap (Byte b) h = refl
+no_gap (Gap k w) h = absurd cc
+
+-- a byte more
+pub byte_passed : (items : List Item) (n m : ℕ) (d : Item) → m ≡ n + 1 → n < length items → gap_count (take n items) ≡ 0 → is_gap (get_or items n d) ≡ false → gap_count (take m items) ≡ 0
+byte_passed items n m d e l before h =
+    omega (arith, ap (λ k. gap_count (take k items)) e, gaps_more items n d l, before, no_gap (get_or items n d) h)
+
+-- neither of two
+pub neither : (a b : Bool) → (a || b) ≡ false → (a ≡ false) × (b ≡ false)
+neither false b h = (refl, h)
+neither true b h = absurd cc
+
+-- where there is no gap each item is a byte
+pub all_bytes : (items : List Item) (i : ℕ) (d : Item) → i < length items → gap_count items ≡ 0 → ((b : ℕ) → get_or items i d ≡ Byte b → ⊥) → ⊥
+all_bytes items i d l none other =
+    let first = gaps_more items i d l in
+    let rest : gap_count (get_or items i d ∷ []) ≡ 0 = omega (arith, first, ap gap_count (take-append-drop (i + 1) items), gap_count-append (take (i + 1) items) (drop (i + 1) items), none) in
+    gapless (get_or items i d) rest other
+  where
+    gapless : (item : Item) → gap_count (item ∷ []) ≡ 0 → ((b : ℕ) → item ≡ Byte b → ⊥) → ⊥
+    gapless (Byte b) h other = other b refl
+    gapless (Gap k w) h other = omega (arith, h)
+
+-- what a run gives in a call are its bytes, whatever the texts are
+pub run_filled : (texts : List (List ℕ)) (run : List Item) → gap_count run ≡ 0 → all_filled texts run ≡ bytes_in run
+run_filled texts [] h = refl
+run_filled texts (Byte b ∷ run) h = ap (λ (xs : List ℕ). b ∷ xs) (run_filled texts run h)
+run_filled texts (Gap k w ∷ run) h = let none : ⊥ = omega (arith, h) in absurd none
+
+pub run_length : (texts : List (List ℕ)) (run : List Item) → gap_count run ≡ 0 → length (all_filled texts run) ≡ length run
+run_length texts [] h = refl
+run_length texts (Byte b ∷ run) h = omega (arith, run_length texts run h)
+run_length texts (Gap k w ∷ run) h = omega (arith, h)
+
+-- what items give that a run begins
+module _ (texts : List (List ℕ)) (items run behind : List Item) (seam : items ≡ run ++ behind) (bytes : gap_count run ≡ 0) where
+  both : all_filled texts items ≡ all_filled texts run ++ all_filled texts behind
+  both = ap (λ (xs : List Item). all_filled texts xs) seam ∙ flat_map-append (filled texts) run behind
+
+  pub run_counted : length (all_filled texts items) ≡ length run + length (all_filled texts behind)
+  run_counted = omega (arith, ap length both, length-append (all_filled texts run) (all_filled texts behind), run_length texts run bytes)
+
+  -- behind what was put so far
+  pub run_put : (old middle : List ℕ) → middle ≡ old ++ bytes_in run → old ++ all_filled texts items ≡ middle ++ all_filled texts behind
+  run_put old middle put =
+      ap (λ (xs : List ℕ). old ++ xs) (both ∙ ap (λ (xs : List ℕ). xs ++ all_filled texts behind) (run_filled texts run bytes))
+      ∙ sym (append_assoc old (bytes_in run) (all_filled texts behind)) ∙ ap (λ (xs : List ℕ). xs ++ all_filled texts behind) (sym put)
+
+  -- one item more
+  module _ (item : Item) (left : List Item) (next : behind ≡ item ∷ left) where
+    pub item_counted : length (all_filled texts items) ≡ length run + length (filled texts item) + length (all_filled texts left)
+    item_counted =
+        omega (arith, run_counted, ap (λ (xs : List Item). length (all_filled texts xs)) next, length-append (filled texts item) (all_filled texts left))
+
+    pub item_put : (old middle new : List ℕ) → middle ≡ old ++ bytes_in run → new ≡ middle ++ filled texts item → new ++ all_filled texts left ≡ old ++ all_filled texts items
+    item_put old middle new put more =
+        ap (λ (xs : List ℕ). xs ++ all_filled texts left) more ∙ append_assoc middle (filled texts item) (all_filled texts left)
+        ∙ ap (λ (xs : List Item). middle ++ all_filled texts xs) (sym next) ∙ sym (run_put old middle put)
+
+-- what goes on twice goes on
+pub goes_on_twice : (start old xs middle ys new : List ℕ) → IsFrontOf start old → middle ≡ old ++ xs → new ≡ middle ++ ys → IsFrontOf start new
+goes_on_twice start old xs middle ys new front put more = (
+  (front.0 ++ xs) ++ ys,
+  more ∙ ap (λ (m : List ℕ). m ++ ys) (put ∙ ap (λ (m : List ℕ). m ++ xs) front.1 ∙ append_assoc start front.0 xs)
+      ∙ append_assoc start (front.0 ++ xs) ys,
+)

@@ -1,0 +1,26 @@
+-- Where none of the group is a gap, its items are passed one after another.
+use Rattle.std.proofs.Common.{◌+◌, arith, sym, ◌∙◌}
+use Rattle.trac_rules.specs.declared.item.Item.TheVariants.{Byte}
+use Rattle.trac_forms.specs.declared.runs.TheConstants.{GROUP}
+use Rattle.trac_forms.proofs.ByteRuns.{byte_passed, neither}
+use Rattle.trac_forms.proofs.runs.group_has_gap.Goals as goal
+
+pub returns : goal.returns
+returns c = λ none before.
+    let items = c.args.items.now in
+    let at = c.args.at in
+    let g7 = neither _ c.is_gap-8.result none in
+    let g6 = neither _ c.is_gap-7.result g7.0 in
+    let g5 = neither _ c.is_gap-6.result g6.0 in
+    let g4 = neither _ c.is_gap-5.result g5.0 in
+    let g3 = neither _ c.is_gap-4.result g4.0 in
+    let g2 = neither _ c.is_gap-3.result g3.0 in
+    let g1 = neither c.is_gap.result c.is_gap-2.result g2.0 in
+    let n1 = byte_passed items at (at + 1) (Byte 0) (omega arith) (omega (arith, c.requires)) before (sym c.is_gap.ensures ∙ g1.0) in
+    let n2 = byte_passed items (at + 1) (at + 2) (Byte 0) (omega arith) (omega (arith, c.requires)) n1 (sym c.is_gap-2.ensures ∙ g1.1) in
+    let n3 = byte_passed items (at + 2) (at + 3) (Byte 0) (omega arith) (omega (arith, c.requires)) n2 (sym c.is_gap-3.ensures ∙ g2.1) in
+    let n4 = byte_passed items (at + 3) (at + 4) (Byte 0) (omega arith) (omega (arith, c.requires)) n3 (sym c.is_gap-4.ensures ∙ g3.1) in
+    let n5 = byte_passed items (at + 4) (at + 5) (Byte 0) (omega arith) (omega (arith, c.requires)) n4 (sym c.is_gap-5.ensures ∙ g4.1) in
+    let n6 = byte_passed items (at + 5) (at + 6) (Byte 0) (omega arith) (omega (arith, c.requires)) n5 (sym c.is_gap-6.ensures ∙ g5.1) in
+    let n7 = byte_passed items (at + 6) (at + 7) (Byte 0) (omega arith) (omega (arith, c.requires)) n6 (sym c.is_gap-7.ensures ∙ g6.1) in
+    byte_passed items (at + 7) (at + GROUP) (Byte 0) (omega arith) (omega (arith, c.requires)) n7 (sym c.is_gap-8.ensures ∙ g7.1)
