@@ -30,5 +30,8 @@ fn named_by(letters: &[u8; 2]) -> Primitive
 fn entry_of(table: &[NamedPrimitive], letters: &[u8; 2]) -> Option<NamedPrimitive>
     ensures { result ≡ find (λ entry. bytes_eq letters.now entry.letters) table.now }
 {
-    table.iter().find(|entry| entry.letters == *letters).copied()
+    table
+        .iter()
+        .find(|entry| entry.letters == *letters)
+        .copied()
 }
