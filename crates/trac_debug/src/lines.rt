@@ -36,8 +36,8 @@ pub enum Front {
     End,
 }
 
-/// Takes a text apart into its lines, as its bytes are read. It is seen as the bytes that were read and are not taken yet, and
-/// whether the text ends behind them.
+/// Takes a text apart into its lines, as its bytes are read. It is seen as the bytes that were read and are not taken yet,
+/// and whether the text ends behind them.
 #[derive(Drop)]
 pub struct Lines<A: Allocator + Copy> {
     // as they were read, from the last read on that found too few of them
@@ -72,8 +72,8 @@ impl<A: Allocator + Copy> Lines<A> {
         }
     }
 
-    /// What stands at the front of the text, after as many reads as it takes to see a whole line, or that it is too long, or the end;
-    /// each read asks for at most 4,096 bytes.
+    /// What stands at the front of the text, after as many reads as it takes to see a whole line, or that it is too long, or
+    /// the end; each read asks for at most 4,096 bytes.
     ///
     /// `Ending::Read`: the reader failed. `Ending::Memory`: memory was refused.
     pub fn seek<R: Read>(&mut self, input: &mut R) -> Result<Front, Ending>

@@ -1,5 +1,5 @@
-//! Each request refused in turn, at a vector and at a map: after a refusal nothing has changed, and the next try is accepted.
-//! And each read, each write and each flush failing in turn.
+//! Each request refused in turn, at a vector and at a map: after a refusal nothing has changed, and the next try is
+//! accepted. And each read, each write and each flush failing in turn.
 use indexmap::IndexMap;
 use std::alloc::{AllocError, Allocator, Global};
 use std::hash::{BuildHasherDefault, FoldHasher};

@@ -48,8 +48,8 @@ fn add_block(out: &mut Vec<u8>, block: &Block<Memory<'_>>) -> Result<(), FormErr
     Ok(add(out, b"]")?)
 }
 
-/// The blocks in order: `-` for an erased one, else its forms as they are printed, each behind its name and `=` and before `;`,
-/// between `[` and `]`.
+/// The blocks in order: `-` for an erased one, else its forms as they are printed, each behind its name and `=` and
+/// before `;`, between `[` and `]`.
 pub(crate) fn blocks_shown(rt: &impl Abort, plain: Global, store: &Store<Memory<'_>>) -> Vec<u8> {
     let mut out = Vec::new(plain);
     add_blocks(&mut out, store).expect(rt, "there was no memory");

@@ -181,8 +181,8 @@ fn calls_without_memory(rt: HostRuntime) -> Result<(), Fail> {
     expect_without_memory(&rt, rt.alloc(), &memory, &store)
 }
 
-// What a call without arguments gives: its name, whether the trace is on, whether the tape has ended, and how many of its bytes
-// are read.
+// What a call without arguments gives: its name, whether the trace is on, whether the tape has ended, and
+// how many of its bytes are read.
 const READINGS: &[(&[u8], bool, bool, usize, Result<&[u8], Refusal>)] = &[
     (b"rs", false, false, 0, Ok(b"AB||keep 3")),
     (b"rs", false, false, 3, Err(Refusal::NeedInput)),

@@ -10,8 +10,8 @@ use std::test::Fail;
 use trac_forms::{Cut, CutGap, Form, FormError, Texts};
 use trac_rules::limit::MARK_LIMIT;
 
-// A text and the texts that were cut out of it before; the texts that are cut out then, the gaps that this makes, each with its
-// place and its ordinal, and the form as it is printed with them and joined again.
+// A text and the texts that were cut out of it before; the texts that are cut out then, the gaps that this makes, each with
+// its place and its ordinal, and the form as it is printed with them and joined again.
 struct Case {
     text: &'static [u8],
     earlier: &'static [&'static [u8]],

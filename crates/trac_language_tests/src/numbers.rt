@@ -1,5 +1,5 @@
-//! Numbers as they are printed, with each request for memory refused in turn. What is read, calculated and compared stands in
-//! `tests/programs`.
+//! Numbers as they are printed, with each request for memory refused in turn. What is read, calculated and
+//! compared stands in `tests/programs`.
 use crate::expect::{Memory, Trial, expect_text, expect_trials};
 use std::alloc::Global;
 use std::process::Abort;

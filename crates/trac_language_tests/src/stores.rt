@@ -12,8 +12,8 @@ use trac_forms::{Form, FormError, Store};
 pub(crate) enum Act {
     /// A form of this text is put under this name.
     Define(&'static [u8], &'static [u8]),
-    /// The form of this name is replaced by one of this text, while every request for memory is refused. It is the last act, since
-    /// all are accepted from then on.
+    /// The form of this name is replaced by one of this text, while every request for memory is refused. It is the last act,
+    /// since all are accepted from then on.
     Replace(&'static [u8], &'static [u8]),
     /// The form of this name is taken out, and was printed so.
     Take(&'static [u8], &'static [u8]),

@@ -1,4 +1,5 @@
-//! The way back on another machine: one takes steps, and another, loaded from what the first one then shows, goes back over them.
+//! The way back on another machine: one takes steps, and another, loaded from what the first one
+//! then shows, goes back over them.
 ghost use Rattle.std.specs.Prelude.{◌≡◌, IfOk, IsSomeAnd, Ok, Some};
 ghost use Rattle.trac_machine_tests.specs.Walks.{IsLoaded, LeadsTo, begun_with, over_whole};
 ghost use Rattle.trac_rules.specs.State.{initial};
@@ -16,8 +17,8 @@ use trac_gap::TwoEnds;
 use trac_rules::refusal::Refusal;
 use trac_step::{Core, Machine, Mark, Parts, Record, Tape};
 
-/// What a machine shows after a walk, all else being as at the start: its active text, its output, and how many bytes are read; and
-/// the room for texts, marks and output with which it is loaded.
+/// What a machine shows after a walk, all else being as at the start: its active text, its output, and how many bytes are
+/// read; and the room for texts, marks and output with which it is loaded.
 #[derive(Clone, Copy)]
 pub(crate) struct After {
     pub(crate) active: &'static [u8],

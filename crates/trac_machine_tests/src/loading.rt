@@ -1,4 +1,5 @@
-//! Machines that are loaded from the parts of a state: they show it, or a limit refuses them, or each request for memory in turn.
+//! Machines that are loaded from the parts of a state: they show it, or a limit refuses them, or
+//! each request for memory in turn.
 use crate::machines::{Memory, let_go};
 use crate::shown::texts_shown;
 use std::alloc::{AllocError, Allocator, Global};

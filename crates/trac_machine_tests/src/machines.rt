@@ -1,7 +1,8 @@
 //! A machine itself, on both representations of its lists: they show the same after each step, each step is undone and
 //! taken again, and each request for memory is refused in turn.
 //!
-//! Helpers are over any two lists: a proof for certain ones shows anew, at each call of the machine, that they are such lists.
+//! Helpers are over any two lists: a proof for certain ones shows anew, at each call of the
+//! machine, that they are such lists.
 ghost use Rattle.std.specs.Prelude.{◌≤◌, length};
 
 use crate::shown::{PROGRAMS, state_shown};
@@ -114,8 +115,8 @@ pub(crate) fn expect_shown<E: TwoEnds<u8, A>, M: TwoEnds<Mark, A>, A: Allocator 
     expect_text(rt, text.as_slice(), wanted);
 }
 
-// The next step, with each request for memory refused in turn: whether it is refused or undone, the machine shows the same as
-// before. The answer is why the step is refused with ample memory, and how many requests it makes then.
+// The next step, with each request for memory refused in turn: whether it is refused or undone, the machine shows the same
+// as before. The answer is why the step is refused with ample memory, and how many requests it makes then.
 fn try_step<E: TwoEnds<u8, A>, M: TwoEnds<Mark, A>, A: Allocator + Copy>(
     rt: &impl Abort,
     plain: Global,
@@ -138,7 +139,8 @@ fn try_step<E: TwoEnds<u8, A>, M: TwoEnds<Mark, A>, A: Allocator + Copy>(
     (Some(Refusal::Memory), MOST_REQUESTS)
 }
 
-/// The next step, whose record is let go. It owns the record, since the proof of each caller would else carry all that is freed.
+/// The next step, whose record is let go. It owns the record, since the proof of each caller
+/// would else carry all that is freed.
 pub(crate) fn take_step<E: TwoEnds<u8, A>, M: TwoEnds<Mark, A>, A: Allocator + Copy>(
     rt: &impl Abort,
     machine: &mut Core<E, M, A>,

@@ -14,7 +14,8 @@ use trac_step::{Core, Kind, Mark, Pieces, Record, Tape};
 /// A begun function that a record keeps: its kind, the bytes of its arguments, and how many of these each `,` ended.
 type Kept = (Kind, &'static [u8], &'static [usize]);
 
-/// Whole inputs, the number of the step that empties all texts, the base text that its record keeps, and the begun functions.
+/// Whole inputs, the number of the step that empties all texts, the base text that its record
+/// keeps, and the begun functions.
 const EMPTIED: &[(&[u8], u64, &[u8], &[Kept])] = &[
     (b"AB'", 12, b"", &[]),
     // A stray `)` ends the idle program's `ps`: what is read behind it goes to the base text.
@@ -75,8 +76,9 @@ pub(crate) fn is_among(numbers: &[u64], number: u64) -> bool {
     false
 }
 
-// Takes up to so many steps, until the end is found, and goes back over all of them while every request for memory is refused.
-// Answers how many they are. A step for which a request is refused is taken again, but for those that have to do with none.
+// Takes up to so many steps, until the end is found, and goes back over all of them while every request for
+// memory is refused. Answers how many they are. A step for which a request is refused is taken again, but for
+// those that have to do with none.
 fn there_and_back<E: TwoEnds<u8, A>, M: TwoEnds<Mark, A>, A: Allocator + Copy>(
     rt: &impl Abort,
     walk: &Walk<'_>,
@@ -198,8 +200,8 @@ fn expect_walk_in_room<E: TwoEnds<u8, A>, M: TwoEnds<Mark, A>, A: Allocator + Co
     let_go(machine);
 }
 
-// All walks on machines over such lists: over each whole input; eleven steps, where those that only move get no memory; and the same in
-// the room that was asked for, where those that scan get none.
+// All walks on machines over such lists: over each whole input; eleven steps, where those that only move get no memory; and
+// the same in the room that was asked for, where those that scan get none.
 fn expect_all_walks<E: TwoEnds<u8, A>, M: TwoEnds<Mark, A>, A: Allocator + Copy>(
     rt: &impl Abort,
     plain: Global,

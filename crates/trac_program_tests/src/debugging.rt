@@ -7,8 +7,8 @@ use std::test::Fail;
 use trac_faults::{Call, CallLog, FaultyReader, FaultyWriter, Logged, Refusing};
 use trac_run::Ending;
 
-// Two lines, the second of which has no line feed, one byte a read: the first reply is written before the fifth read, and the second
-// behind the eighth, which finds the end.
+// Two lines, the second of which has no line feed, one byte a read: the first reply is written before the fifth read, and
+// the second behind the eighth, which finds the end.
 const COMMANDS: &[u8; 7] = b"s 3\nb 1";
 
 const FAULTS: &[(Fault, &[u8], Ending)] = &[
@@ -86,7 +86,8 @@ fn contains(text: &[u8], wanted: &[u8]) -> bool {
     false
 }
 
-// A session over `AB'`. Where a request is refused, whole replies stand before the end; a walk for which memory was refused is replied to.
+// A session over `AB'`. Where a request is refused, whole replies stand before the end; a walk for which
+// memory was refused is replied to.
 #[derive(Clone, Copy)]
 struct Refused;
 

@@ -1,6 +1,7 @@
-//! Tests of what the program is made of, where a script cannot see it: runs and sessions of the debugger, over readers and writers that
-//! fail and with too little memory; and the options of a command line. The library itself is empty. What whole programs print stands in
-//! `tests/programs`, what sessions print in `tests/sessions`, and how the program ends and what lines it understands in `tests/endings`.
+//! Tests of what the program is made of, where a script cannot see it: runs and sessions of the debugger, over readers and
+//! writers that fail and with too little memory; and the options of a command line. The library itself is empty. What whole
+//! programs print stands in `tests/programs`, what sessions print in `tests/sessions`, and how the program ends and what
+//! lines it understands in `tests/endings`.
 #![tactic(auto)]
 
 #[cfg(test)]

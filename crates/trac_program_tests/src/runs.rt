@@ -44,8 +44,8 @@ fn expect_run(
     Ok(())
 }
 
-// The first line makes `+` the meta character, the second reads the byte behind it, the third has what was the meta character
-// before, and the last has no end but that of the input.
+// The first line makes `+` the meta character, the second reads the byte behind it, the third has what was the meta
+// character before, and the last has no end but that of the input.
 const LINES: &[u8; 33] = b"#(cm,+)'#(ps,<##(rc)>)+'it's+tail";
 
 // Inputs, and what they print however they are cut into reads.

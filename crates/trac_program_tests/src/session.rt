@@ -25,8 +25,8 @@ pub(crate) fn expect_written(rt: &impl Abort, written: &[u8], wanted: &[u8]) {
     assert_eq!(rt; written, wanted);
 }
 
-/// How a session with these commands ends, which come at most so many bytes at a time, and what it has written. The readers and writers
-/// that fail are named here: a proof shows anew, at each call with certain ones, that they read and write.
+/// How a session with these commands ends, which come at most so many bytes at a time, and what it has written. The readers
+/// and writers that fail are named here: a proof shows anew, at each call with certain ones, that they read and write.
 pub(crate) fn session_over<A: Allocator + Copy>(
     rt: &(impl Abort + AllocGlobal),
     alloc: A,

@@ -11,7 +11,8 @@ use trac_run::Ending;
 // Seven bytes: read one by one, the eighth read finds the end.
 const PROGRAM: &[u8; 7] = b"#(ps,A)";
 
-// What fails while that is read, at most so many bytes at a time; whether all of it is read, or why not; and how many bytes are left.
+// What fails while that is read, at most so many bytes at a time; whether all of it is read, or why
+// not; and how many bytes are left.
 const READS: &[(Fault, usize, Result<(), Ending>, usize)] = &[
     (Fault::Read(1), 1, Err(Ending::Read), 7),
     (Fault::Read(2), 1, Err(Ending::Read), 6),
@@ -50,8 +51,8 @@ fn each_read(rt: HostRuntime) {
     }
 }
 
-// Of a program that is too long one byte is read behind the most that a tape may have, and no more. A session over such a tape is
-// none, and over the longest one it is as ever.
+// Of a program that is too long one byte is read behind the most that a tape may have, and no more. A session over such a
+// tape is none, and over the longest one it is as ever.
 fn expect_tapes(
     rt: &(impl Abort + AllocGlobal),
     bytes: &[u8],

@@ -14,9 +14,9 @@ use std::mem::size_of;
 use trac_rules::refusal::Refusal;
 use trac_step::{Record, Short};
 
-/// What the steps of a session destroyed, a record for each, seen as the list of these, the oldest first. Bytes that were moved one
-/// after another are kept as their number: so a step over a plain byte takes no memory. A short record stands in an entry of two words,
-/// and only a long one takes the room of a whole record beside it (this project's profile).
+/// What the steps of a session destroyed, a record for each, seen as the list of these, the oldest first. Bytes that were
+/// moved one after another are kept as their number: so a step over a plain byte takes no memory. A short record stands in
+/// an entry of two words, and only a long one takes the room of a whole record beside it (this project's profile).
 #[derive(Drop)]
 pub(crate) struct Journal<A: Allocator + Copy> {
     // an entry for each record that is not of a moved byte
@@ -87,7 +87,8 @@ impl<A: Allocator + Copy> Journal<A> {
         self.len
     }
 
-    /// What the records weigh together, by what they keep of what their steps destroyed. It takes no memory, and a record of a moved byte no time.
+    /// What the records weigh together, by what they keep of what their steps destroyed. It takes no memory, and a
+    /// record of a moved byte no time.
     pub(crate) fn weight(&self) -> u64
         requires { weights_by weighed self.now < 2 ^ 64 }
         ensures { result ≡ weights_by weighed self.now }
@@ -205,7 +206,8 @@ impl<A: Allocator + Copy> Journal<A> {
         Some(newest)
     }
 
-    /// Takes out the records of the bytes that were moved last, up to `most` of them, and answers how many these are. It takes no memory.
+    /// Takes out the records of the bytes that were moved last, up to `most` of them, and answers how many
+    /// these are. It takes no memory.
     pub(crate) fn pop_moved(&mut self, most: usize) -> usize
         ensures taken { self.old ≡ self.new ++ all_moved result }
         ensures most { result ≤ most }
@@ -227,8 +229,8 @@ impl<A: Allocator + Copy> Journal<A> {
     }
 }
 
-// What an entry is to keep of a record. A long one is put behind the long ones; where there is no memory for it, nothing is changed, and
-// it is given back.
+// What an entry is to keep of a record. A long one is put behind the long ones; where there is no memory for it, nothing is
+// changed, and it is given back.
 fn keep<A: Allocator + Copy>(
     newest: Record<A>,
     long: &mut Vec<Record<A>, A>,

@@ -153,9 +153,9 @@ impl<A: Allocator + Copy> Session<A> {
         self.len() == 0
     }
 
-    /// What the records of the steps that can be gone back over weigh together: of what was destroyed bytes, items of forms and places
-    /// of gaps, and one for each comma, begun function, name and meta character. Lengths, places and flags are not weighed (this project's
-    /// profile). It takes no memory, and time for the records but those of moved bytes.
+    /// What the records of the steps that can be gone back over weigh together: of what was destroyed bytes, items of forms
+    /// and places of gaps, and one for each comma, begun function, name and meta character. Lengths, places and flags are
+    /// not weighed (this project's profile). It takes no memory, and time for the records but those of moved bytes.
     pub fn weight(&self) -> u64
         ensures together { result ≡ weights_from self.now.earlier }
         ensures within { result ≤ losses_from self.now.earlier }
@@ -172,8 +172,8 @@ impl<A: Allocator + Copy> Session<A> {
     }
 }
 
-// Releases what is printed, and takes what is read off the front of the tape. The machine may be of any representation: a proof for a
-// certain one shows anew, at each call, what its lists are.
+// Releases what is printed, and takes what is read off the front of the tape. The machine may be of any representation: a
+// proof for a certain one shows anew, at each call, what its lists are.
 fn settle<E: TwoEnds<u8, A>, M: TwoEnds<Mark, A>, A: Allocator + Copy>(
     machine: &mut Core<E, M, A>,
     tape: &mut Vec<u8, A>,

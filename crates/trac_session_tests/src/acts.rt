@@ -129,8 +129,8 @@ fn has_initial_parts<E: TwoEnds<u8, A>, M: TwoEnds<Mark, A>, A: Allocator + Copy
         && !machine.trace()
 }
 
-// Whether the part of a machine that an act speaks of is so. It is any machine: a proof for a certain one would show anew, at each
-// call, what its lists are.
+// Whether the part of a machine that an act speaks of is so. It is any machine: a proof for a certain one would show anew,
+// at each call, what its lists are.
 fn look_at<E: TwoEnds<u8, A>, M: TwoEnds<Mark, A>, A: Allocator + Copy>(
     rt: &impl Abort,
     alloc: Global,

@@ -121,8 +121,8 @@ const A_COMMIT_KEEPS_WHAT_IS_UNREAD: &[Act] = &[
     Position(2),
 ];
 
-// Until the called text is printed, the rules take 17, 15, 17 and 16 steps for the four texts, and one between any two, which
-// loads the idle program again.
+// Until the called text is printed, the rules take 17, 15, 17 and 16 steps for the four texts, and one between any two,
+// which loads the idle program again.
 const FORMS_COME_AND_GO: &[Act] = &[
     Feed(b"#(ds,a,1)'#(dd,a)'#(ds,a,2)'#(cl,a)'"),
     Forward(68),

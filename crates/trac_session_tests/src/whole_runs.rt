@@ -10,8 +10,8 @@ use trac_rules::limit::JOURNAL_LIMIT;
 use trac_rules::refusal::Refusal;
 use trac_session::{Session, Walk};
 
-// The input of a program that reads a form by segments, single bytes, counts and up to a text, sets the meta character, reads
-// one byte, turns the trace on and off, and halts before it prints what it has gathered.
+// The input of a program that reads a form by segments, single bytes, counts and up to a text, sets the meta character,
+// reads one byte, turns the trace on and off, and halts before it prints what it has gathered.
 const EACH_READING: &[u8] =
     b"#(ds,F,axbcy)#(ss,F,x,y)#(cs,F)#(cc,F)#(cn,F,-1)#(in,F,c)#(cm,;)'#(rc)xy#(tn)#(tf)z#(hl);w;";
 

@@ -45,7 +45,8 @@ impl<E: TwoEnds<u8, A>, M: TwoEnds<Mark, A>, A: Allocator + Copy> Core<E, M, A> 
         !makes_mark(front, marks) || marks < MARK_LIMIT
     }
 
-    // Carries out the rule for this front, which asks for no call and does not empty all texts, and answers what it destroys.
+    // Carries out the rule for this front, which asks for no call and does not empty all
+    // texts, and answers what it destroys.
     fn move_briefly(&mut self, front: Front) -> Result<Short, Refusal>
         requires front { front ≡ front_of self.old.state.active }
         requires moves { IsMove (scan self.old.state) }
@@ -118,10 +119,10 @@ impl<E: TwoEnds<u8, A>, M: TwoEnds<Mark, A>, A: Allocator + Copy> Core<E, M, A> 
         self.move_on(front)
     }
 
-    /// Takes the next step where it performs no function, does not empty all texts and needs no more room than there is, and answers
-    /// its record: it is the step that `step` takes. None where the next step is another one, or would be refused, and then nothing
-    /// is changed. It asks for no memory, and takes less time than `step`, whose record has room for all that a call destroys (this
-    /// project's profile).
+    /// Takes the next step where it performs no function, does not empty all texts and needs no more room than there is, and
+    /// answers its record: it is the step that `step` takes. None where the next step is another one, or would be refused,
+    /// and then nothing is changed. It asks for no memory, and takes less time than `step`, whose record has room for all
+    /// that a call destroys (this project's profile).
     pub fn scan_step(&mut self) -> Option<Short>
         ensures taken { IfSome result (λ _. (environment : Environment) → step environment self.old.state ≡ Ok self.new.state) }
         ensures recorded { IfSome result (λ r. (environment : Environment) → record_of environment self.old.state ≡ Some (said_by r)) }
