@@ -7,6 +7,7 @@ pub mod Extents
 pub mod Going
 pub mod Tables
 pub mod Names
+pub mod Parted
 pub mod Passing
 pub mod ByteRuns
 pub mod Searching

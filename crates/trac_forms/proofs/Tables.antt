@@ -1,28 +1,33 @@
 -- Entries of a table, and the forms and names that they stand for.
-use Rattle.std.proofs.Common.{◌≡◌, ℕ, ◌+◌, ◌-◌, Bool, true, false, cond, ◌||◌, List, [], ◌∷◌, ◌++◌, length, map, refl, sym, ap, subst, ◌∙◌, arith, ⊎_elim, is_some, filter, IsSome}
+use Rattle.std.proofs.Common.{◌≡◌, ℕ, ◌+◌, ◌-◌, Bool, true, false, cond, ◌||◌, List, [], ◌∷◌, ◌++◌, length, map, position, refl, sym, ap, subst, ◌∙◌, arith, ⊎_elim, is_some, filter, IsSome}
 use Rattle.std.specs.Prelude.{Option, None, Some}
 use Rattle.std.specs.Cmp.Lexicographic.{slice_cmp, nat_list_cmp_total, nat_list_eq_equiv}
 use Rattle.std.specs.FinMap as finite
 use Rattle.std.specs.FinSet as set
 use Rattle.std.specs.List.{list_any, IsDistinct, AllByRecursion}
+use Rattle.std.specs.List.Sorted.{IsPermutation}
 use Rattle.std.specs.Map.Calls.{RetainsPairs}
 use Rattle.std.specs.Map.{keys_of, lookup, set_value}
 use Rattle.std.specs.Option.{option_flatten}
 use Rattle.std.specs.Ordering.{nat_cmp, eq_by_cmp}
 use Rattle.std.specs.Str.{bytes_eq}
 use Rattle.std.proofs.lemmas.Bool.{cases_Bool, cond-true, cond-false}
+use Rattle.std.proofs.lemmas.List.Sorted.{IsPermutation-map, IsPermutation-sym}
 use Rattle.std.proofs.lemmas.Map.{lookup-set_value, keys-set_value}
 use Rattle.std.proofs.lemmas.Map.Entries.{lookup-filter-values, option_filter}
 use Rattle.std.proofs.lemmas.Map.Keys.{IsDistinct-head, IsDistinct-tail}
 use Rattle.std.proofs.lemmas.Map.Made.{is_some-lookup}
 use Rattle.std.proofs.lemmas.Map.Text.{is_eq-slice_cmp}
 use Rattle.std.proofs.lemmas.Slice.Eq.{bytes_eq-Decides}
+use Rattle.indexmap.specs.IndexMap.{set_value_at}
+use Rattle.indexmap.proofs.MapLemmas.{lookup_permutation, some_index}
 use Rattle.trac_rules.specs.Form.{Form}
 use Rattle.trac_rules.proofs.NamedForms.{only_equal_tie, ties_itself}
 use Rattle.trac_rules.specs.Listing.{names_of}
 use Rattle.trac_rules.specs.State.{Forms}
 use Rattle.trac_forms.specs.Stored.{KnowsAll, Names, Stored, swept}
 use Rattle.trac_forms.specs.Table.{Kept, named, with_entry, forms_of, known_of, stored}
+use Rattle.trac_forms.proofs.Parted.{written_first}
 use Rattle.std.proofs.lemmas.List.{length-map}
 
 -- entries of a table of forms
@@ -112,6 +117,17 @@ form_known es bs s view q there =
 -- two tables in which each name has the same form
 forms_alike : (es fs : Entries) → ((q : List ℕ) → option_flatten (lookup (bytes_eq q) es) ≡ option_flatten (lookup (bytes_eq q) fs)) → forms_of es ≡ forms_of fs
 forms_alike es fs same = finite.same_map nat_list_cmp_total only_equal_tie (forms_of es) (forms_of fs) (λ q. get-forms_of es q ∙ same q ∙ sym (get-forms_of fs q))
+
+-- two tables in which the same names have entries
+known_alike : (es fs : Entries) → ((q : List ℕ) → is_some (lookup (bytes_eq q) es) ≡ is_some (lookup (bytes_eq q) fs)) → known_of es ≡ known_of fs
+known_alike es fs same = set.same_set nat_list_cmp_total only_equal_tie (known_of es) (known_of fs) (λ q. contains-known_of es q ∙ same q ∙ sym (contains-known_of fs q))
+
+-- the order of the entries is of no account
+pub stored_moved : (es fs : Entries) (bs : Kept) → IsDistinct bytes_eq (keys_of es) → IsPermutation es fs → stored fs bs ≡ stored es bs
+stored_moved es fs bs apart moves =
+    let same = λ (q : List ℕ). lookup_permutation nat_list_eq_equiv fs es (IsPermutation-sym es fs moves) apart (bytes_eq q) (nat_list_eq_equiv.congr q) in
+    ap (λ (f : Forms). let t : Stored = record { forms = f; blocks = bs.blocks; spare = bs.spare; known = known_of fs } in t) (forms_alike fs es (λ q. ap option_flatten (sym (same q))))
+    ∙ ap (λ (n : Names). let t : Stored = record { forms = forms_of es; blocks = bs.blocks; spare = bs.spare; known = n } in t) (known_alike fs es (λ q. ap is_some (sym (same q))))
 
 -- ---- what the calls do
 
@@ -299,6 +315,18 @@ module _ {K : Type 0} (name : K → List ℕ) (es : List (K × Option Form)) (bs
       ∙ ap (λ (f : Forms). let t : Stored = record { forms = f; blocks = bs.blocks; spare = bs.spare; known = known_of (set_value (bytes_eq q) (named name es) w) } in t) (forms_written (named name es) q w there)
       ∙ ap (λ (n : Names). let t : Stored = record { forms = with_entry q w (forms_of (named name es)); blocks = bs.blocks; spare = bs.spare; known = n } in t) (known_written (named name es) q w)
       ∙ ap (λ (t : Stored). let u : Stored = record t { forms = with_entry q w t.forms } in u) is
+
+  -- what is written at a name's place, wherever the entries stand then
+  pub written_at : (q : List ℕ) (i : ℕ) (w : Option Form) (new : List (K × Option Form)) → position (λ k. bytes_eq q (name k)) (keys_of es) ≡ Some i →
+      IsDistinct (λ x y. bytes_eq (name x) (name y)) (keys_of es) → IsPermutation (set_value_at es i w) new → stored (named name new) bs ≡ record s { forms = with_entry q w s.forms }
+  written_at q i w new found apart moves =
+      let test : K → Bool = λ k. bytes_eq q (name k) in
+      let there : set_value_at es i w ≡ set_value test es w = written_first test es i w found in
+      let distinct : IsDistinct (λ x y. bytes_eq (name x) (name y)) (keys_of (set_value_at es i w)) =
+      subst (λ (ks : List K). IsDistinct (λ x y. bytes_eq (name x) (name y)) ks) (sym (ap keys_of there ∙ keys-set_value test es w)) apart in
+      stored_moved (named name (set_value_at es i w)) (named name new) bs (IsDistinct-named name (set_value_at es i w) distinct)
+      (IsPermutation-map (λ e. (name e.0, e.1)) (set_value_at es i w) new moves)
+      ∙ written q w (set_value_at es i w) there (sym (some_index test es) ∙ ap is_some found)
 
   -- where a name has no entry, no form is taken
   pub not_taken : (q : List ℕ) → lookup (λ k. bytes_eq q (name k)) es ≡ None → s ≡ record s { forms = finite.remove s.forms q }

@@ -1,8 +1,8 @@
 -- How a store is kept: a table with an entry for each known name, which has a form or none.
-use Rattle.std.specs.Prelude.{ℕ, ◌-◌, List, [], ◌∷◌, map, Option, None, Some, filter, is_some, option_map, Vec, vec_capacity, vec_len}
+use Rattle.std.specs.Prelude.{◌≡◌, ℕ, ◌-◌, nat_lt, slice_index_or, List, [], ◌∷◌, map, Option, None, Some, filter, is_some, option_map, Vec, vec_capacity, vec_len}
 use Rattle.std.specs.FinMap as finite
 use Rattle.std.specs.FinSet as set
-use Rattle.std.specs.Map.{keys_of}
+use Rattle.std.specs.Map.{keys_of, values_of}
 use Rattle.trac_rules.specs.Form.{Form}
 use Rattle.trac_rules.specs.State.{Block, Forms}
 use Rattle.trac_forms.specs.Stored.{Gathered, Names, Stored}
@@ -48,3 +48,7 @@ kept_in blocks = record { blocks = blocks_of blocks.items; spare = places_left b
 -- what a table of these entries holds, beside these blocks
 abbrev pub stored : List (List ℕ × Option Form) → Kept → Stored
 stored entries kept = record { forms = forms_of entries; blocks = kept.blocks; spare = kept.spare; known = known_of entries }
+
+-- the first `live` entries have a value, and no other has
+abbrev pub IsParted : {K X : Type 0} → List (K × Option X) → ℕ → Type 0
+IsParted entries live = (i : ℕ) → is_some (slice_index_or (values_of entries) i None) ≡ nat_lt i live

@@ -1,12 +1,14 @@
 //! The forms by their names, and the blocks.
-ghost use Rattle.std.specs.Prelude.{◌≡◌, ◌++◌, ◌∷◌, [], filter, is_some, length, map, nat_lt, true, IfOk, IfSome, IsOk, IsOkUnless, IsTrue, OnErr, OnOk};
+ghost use Rattle.std.specs.Prelude.{◌≡◌, ◌<◌, ◌++◌, ◌∷◌, [], filter, is_some, map, nat_lt, slice_get, true, IfOk, IfSome, IsOk, IsOkUnless, IsTrue, None, OnErr, OnOk, Some};
 ghost use Rattle.std.specs.FinMap as finite;
 ghost use Rattle.std.specs.FinSet as set;
+ghost use Rattle.std.specs.List.Sorted.{IsPermutation};
 ghost use Rattle.std.specs.Option.{option_copied};
 ghost use Rattle.std.specs.Str.{bytes_eq};
-ghost use Rattle.indexmap.specs.IndexMap.{get_by, IsUnique};
+ghost use Rattle.indexmap.specs.IndexMap.{get_by, index_map_len, set_value_at, values, IsUnique};
 ghost use Rattle.trac_forms.specs.Layout.{IsSound};
 ghost use Rattle.trac_forms.specs.Stored.{KnowsAll, nothing_stored, swept};
+ghost use Rattle.trac_forms.specs.Table.{IsParted};
 
 use crate::block::Block;
 use crate::error::FormError;
@@ -17,7 +19,7 @@ use std::hash::{BuildHasher, BuildHasherDefault, FoldHasher, Hash};
 use std::marker::Model;
 
 /// The table of a store: a name has an entry from the call of `know` on until
-/// `sweep`, and a form in it while it names one.
+/// `sweep`, and a form in it while it names one. The entries with a form come first.
 pub(crate) type Table<A> = IndexMap<Vec<u8, A>, Option<Form<A>>, BuildHasherDefault<FoldHasher>, A>;
 
 /// Forms by their names, which are any bytes, and blocks by their numbers, an erased one having none. It is seen
@@ -28,18 +30,22 @@ pub(crate) type Table<A> = IndexMap<Vec<u8, A>, Option<Form<A>>, BuildHasherDefa
 #[derive(Drop)]
 pub struct Store<A: Allocator + Copy = Global> {
     pub(crate) table: Table<A>,
+    // How many entries have a form: a commit then looks at no name that stays.
+    live: usize,
     pub(crate) blocks: Vec<Option<Block<A>>, A>,
 }
 
 impl<A: Allocator + Copy> Model for Store<A> {
     ghost use Rattle.trac_forms.specs.Stored.{Stored, stored_code};
-    ghost use Rattle.trac_forms.specs.Table.{kept_in, named, stored};
+    ghost use Rattle.trac_forms.specs.Table.{kept_in, named, stored, IsParted};
 
     ghost Value = { Stored };
 
     ghost coded = { stored_code };
 
     ghost view = { λ s. stored (named (λ k. k.items) s.table.entries) (kept_in s.blocks) };
+
+    ghost invariant = { λ s. IsParted s.table.entries s.live };
 }
 
 impl<A: Allocator + Copy> Store<A> {
@@ -50,6 +56,7 @@ impl<A: Allocator + Copy> Store<A> {
     {
         Store {
             table: IndexMap::new(alloc),
+            live: 0,
             blocks: Vec::new(alloc),
         }
     }
@@ -62,19 +69,20 @@ impl<A: Allocator + Copy> Store<A> {
         let _ = &self.table;
     }
 
-    /// How many forms there are. It takes no memory (this project's profile).
+    /// How many forms there are. It takes no memory, and no time for each (this project's profile).
     pub fn form_count(&self) -> usize
         ensures { result ≡ finite.len self.now.forms }
     {
-        count_full(&self.table)
+        // `len` is called for its clause that no key stands twice.
+        let _len = self.table.len();
+        self.live
     }
 
-    /// Whether there are fewer forms than `n`. It takes no memory, and no time for each form where the store knows fewer
-    /// names (this project's profile).
+    /// Whether there are fewer forms than `n`. It takes no memory, and no time for each form (this project's profile).
     pub fn has_fewer_forms(&self, n: usize) -> bool
         ensures { result ≡ nat_lt (finite.len self.now.forms) n }
     {
-        self.table.len() < n || self.form_count() < n
+        self.form_count() < n
     }
 
     /// The form of this name, if there is one: names are compared byte for byte. It takes no memory
@@ -118,8 +126,8 @@ impl<A: Allocator + Copy> Store<A> {
         ensures replaced { result ≡ finite.get self.old.forms name.now }
         ensures put { self.new ≡ record self.old { forms = finite.insert self.old.forms name.now form } }
     {
-        match self.table.get_mut(name) {
-            Some(place) => place.replace(form),
+        match self.table.get_index_of(name) {
+            Some(i) => put_at(&mut self.table, &mut self.live, i, form),
             None => return None,
         }
     }
@@ -130,8 +138,8 @@ impl<A: Allocator + Copy> Store<A> {
         ensures taken { result ≡ finite.get self.old.forms name.now }
         ensures gone { self.new ≡ record self.old { forms = finite.remove self.old.forms name.now } }
     {
-        match self.table.get_mut(name) {
-            Some(place) => place.take(),
+        match self.table.get_index_of(name) {
+            Some(i) => take_at(&mut self.table, &mut self.live, i),
             None => return None,
         }
     }
@@ -140,14 +148,15 @@ impl<A: Allocator + Copy> Store<A> {
     pub fn clear(&mut self)
         ensures { self.new ≡ record self.old { forms = finite.empty } }
     {
-        take_values(&mut self.table);
+        take_values(&mut self.table, &mut self.live);
     }
 
-    /// Forgets the names without a form. It takes no memory (this project's profile).
+    /// Forgets the names without a form. It takes no memory, and time for those that it forgets alone
+    /// (this project's profile).
     pub fn sweep(&mut self)
         ensures { self.new ≡ swept self.old }
     {
-        drop_empty(&mut self.table);
+        drop_empty(&mut self.table, self.live);
     }
 }
 
@@ -168,21 +177,57 @@ pub(crate) fn add_entry<A: Allocator + Copy>(
     }
 }
 
-// How many entries have a value.
-fn count_full<K: Eq + Hash, V, S: BuildHasher, A: Allocator>(
-    table: &IndexMap<K, Option<V>, S, A>,
-) -> usize
-    ensures count { result ≡ length (filter (λ e. is_some e.1) table.now.entries) }
-    ensures unique { IsUnique K.eq table.now }
+// Puts a value into an entry, and answers the one that it replaces. An entry that had none takes the place after those that
+// have one.
+fn put_at<K: Eq + Hash, V, S: BuildHasher, A: Allocator>(
+    table: &mut IndexMap<K, Option<V>, S, A>,
+    live: &mut usize,
+    i: usize,
+    value: V,
+) -> Option<V>
+    requires within { i < index_map_len table.old }
+    requires parted { IsParted table.old.entries live.old }
+    ensures replaced { slice_get (values table.old) i ≡ Some result }
+    ensures put { IsPermutation (set_value_at table.old.entries i (Some value)) table.new.entries }
+    ensures parted { IsParted table.new.entries live.new }
 {
-    table.iter().filter(|entry| entry.1.is_some()).count()
+    // `len` is called for its clause that it is small.
+    let _len = table.len();
+    let replaced = table[i].replace(value);
+    if replaced.is_none() {
+        table.swap_indices(i, *live);
+        *live += 1;
+    }
+    replaced
+}
+
+// Takes the value of an entry away, if it has one, and answers it. The entry takes the place of the last one with a value.
+fn take_at<K: Eq + Hash, V, S: BuildHasher, A: Allocator>(
+    table: &mut IndexMap<K, Option<V>, S, A>,
+    live: &mut usize,
+    i: usize,
+) -> Option<V>
+    requires within { i < index_map_len table.old }
+    requires parted { IsParted table.old.entries live.old }
+    ensures taken { slice_get (values table.old) i ≡ Some result }
+    ensures gone { IsPermutation (set_value_at table.old.entries i None) table.new.entries }
+    ensures parted { IsParted table.new.entries live.new }
+{
+    let taken = table[i].take();
+    if taken.is_some() {
+        *live -= 1;
+        table.swap_indices(i, *live);
+    }
+    taken
 }
 
 // Takes the values of all entries away.
 fn take_values<K: Eq + Hash + Drop, V: Drop, S: BuildHasher, A: Allocator>(
     table: &mut IndexMap<K, Option<V>, S, A>,
+    live: &mut usize,
 )
-    ensures { table.new.entries ≡ map (λ e. (e.0, None)) table.old.entries }
+    ensures taken { table.new.entries ≡ map (λ e. (e.0, None)) table.old.entries }
+    ensures parted { IsParted table.new.entries live.new }
 {
     table.retain(
         |_key: &K, value: &mut Option<V>| -> bool
@@ -192,20 +237,20 @@ fn take_values<K: Eq + Hash + Drop, V: Drop, S: BuildHasher, A: Allocator>(
             true
         },
     );
+    *live = 0;
 }
 
 // Drops the entries without a value.
 fn drop_empty<K: Eq + Hash + Drop, V: Drop, S: BuildHasher, A: Allocator>(
     table: &mut IndexMap<K, Option<V>, S, A>,
+    live: usize,
 )
+    requires { IsParted table.old.entries live }
     ensures kept { table.new.entries ≡ filter (λ e. is_some e.1) table.old.entries }
     ensures unique { IsUnique K.eq table.old }
+    ensures parted { IsParted table.new.entries live }
 {
     // `len` is called for its clause that no key stands twice.
     let _len = table.len();
-    table.retain(
-        |_key: &K, value: &mut Option<V>| -> bool
-            ensures { (result ≡ is_some value.old) × (value.new ≡ value.old) }
-        { value.is_some() },
-    );
+    table.truncate(live);
 }

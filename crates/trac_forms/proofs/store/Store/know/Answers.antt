@@ -5,6 +5,7 @@ use Rattle.std.specs.Map.{lookup}
 use Rattle.std.specs.Str.{bytes_eq}
 use Rattle.std.proofs.lemmas.Bool.{false≢true}
 use Rattle.std.proofs.lemmas.Result.{on_ok_weaker}
+use Rattle.trac_forms.proofs.Parted.{parted_added}
 use Rattle.trac_forms.proofs.Tables.{none_of_false, name_found, known_again, made_known}
 use Rattle.trac_forms.proofs.store.Store.know.Goals as goal
 
@@ -31,3 +32,7 @@ returns-clause-known g c =
 pub returns-clause-again : goal.returns-clause-again
 returns-clause-again g c = λ there.
     absurd (false≢true (c.if-contains_key.ensures ∙ sym (name_found (λ k. k.items) c.self.inside.table.entries _ c.args.self.now c.self.view_is c.args.name.now) ∙ there))
+
+pub invariant_of-self : goal.invariant_of-self
+invariant_of-self g c =
+    parted_added c.add_entry.result c.self.inside.table.entries c.add_entry.new.table.entries c.self.inside.live c.in_ok-key.key c.self.invariant c.add_entry.ensures.added c.add_entry.ensures.unchanged

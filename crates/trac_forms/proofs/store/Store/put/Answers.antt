@@ -1,25 +1,25 @@
--- What is written at the name's entry.
-use Rattle.std.proofs.Common.{sym, ap, ◌∙◌, is_some}
+-- What is written at the name's entry, which may change its place.
+use Rattle.std.proofs.Common.{sym, ◌∙◌}
+use Rattle.std.specs.Prelude.{Some}
 use Rattle.std.proofs.lemmas.Bool.{false≢true}
-use Rattle.trac_forms.specs.Table.{with_entry}
-use Rattle.trac_forms.proofs.Tables.{form_found, name_found, written}
+use Rattle.trac_forms.proofs.Tables.{form_found, name_found, written_at}
 use Rattle.trac_forms.proofs.store.Store.put.Goals as goal
 
 pub returns-in-None-clause-replaced : goal.returns-in-None-clause-replaced
 returns-in-None-clause-replaced g c =
-    absurd (false≢true (ap is_some c.in-None.ensures.value ∙ sym (name_found (λ k. k.items) c.self.inside.table.entries _ c.args.self.now c.self.view_is c.args.name.now) ∙ c.requires))
+    absurd (false≢true (c.in-None.ensures.found ∙ sym (name_found (λ k. k.items) c.self.inside.table.entries _ c.args.self.now c.self.view_is c.args.name.now) ∙ c.requires))
 
 pub returns-in-None-clause-put : goal.returns-in-None-clause-put
 returns-in-None-clause-put g c =
-    absurd (false≢true (ap is_some c.in-None.ensures.value ∙ sym (name_found (λ k. k.items) c.self.inside.table.entries _ c.args.self.now c.self.view_is c.args.name.now) ∙ c.requires))
+    absurd (false≢true (c.in-None.ensures.found ∙ sym (name_found (λ k. k.items) c.self.inside.table.entries _ c.args.self.now c.self.view_is c.args.name.now) ∙ c.requires))
 
 pub returns-clause-replaced : goal.returns-clause-replaced
 returns-clause-replaced g c =
-    c.replace.ensures.value
-    ∙ sym (form_found (λ k. k.items) c.self.inside.table.entries _ c.args.self.now c.self.view_is c.args.name.now _ c.in-Some.ensures.value)
+    sym
+    (form_found (λ k. k.items) c.self.inside.table.entries _ c.args.self.now c.self.view_is c.args.name.now (Some c.put_at.result)
+    (sym c.put_at.ensures.replaced ∙ c.in-Some.ensures.value))
 
 pub returns-clause-put : goal.returns-clause-put
 returns-clause-put g c =
-    written (λ k. k.items) c.self.inside.table.entries _ c.args.self.now c.self.view_is c.args.name.now c.replace.new.self _
-    (c.get_mut.follows.holds c.replace.new.self).0 (sym (ap is_some c.in-Some.ensures.value))
-    ∙ ap (λ form. record c.args.self.now { forms = with_entry c.args.name.now form c.args.self.now.forms }) c.replace.ensures.after
+    written_at (λ k. k.items) c.self.inside.table.entries _ c.args.self.now c.self.view_is c.args.name.now c.in-Some.i (Some c.args.form) _
+    (sym c.in-Some.ensures.index) c.in-Some.ensures.unique c.put_at.ensures.put
