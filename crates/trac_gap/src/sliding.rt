@@ -1,8 +1,7 @@
 //! A list that grows at its end and loses items at both ends.
 ghost use Rattle.std.specs.Prelude.{◌≡◌, ◌==◌, ◌+◌, ◌≤◌, [], ◌++◌, length, take, drop, vec_len, vec_capacity, IsOk, OnOk, OnErr, IfOk};
 
-use crate::error::GapError;
-use std::alloc::{Allocator, Global};
+use std::alloc::{AllocError, Allocator, Global};
 use std::marker::Model;
 
 /// A list that grows at its end and loses items at both ends. What is dropped at its front stays in the block until as many
@@ -42,8 +41,8 @@ impl<T: Copy, A: Allocator> SlidingBuf<T, A> {
     }
 
     /// There are no items, and the capacity is as said.
-    /// Refused with `Memory` where the allocator refuses.
-    pub fn with_capacity(alloc: A, capacity: usize) -> Result<Self, GapError>
+    /// Refused where the allocator refuses.
+    pub fn with_capacity(alloc: A, capacity: usize) -> Result<Self, AllocError>
         ensures made { IfOk result (λ b. b ≡ record { items = []; capacity = capacity }) }
 
         // For no place nothing is asked of the allocator.
@@ -90,9 +89,9 @@ impl<T: Copy, A: Allocator> SlidingBuf<T, A> {
     }
 
     /// Makes room for `n` more items.
-    /// Refused with `Memory` where the allocator refuses, and then nothing has changed. Where there is room already it is
+    /// Refused where the allocator refuses, and then nothing has changed. Where there is room already it is
     /// not refused: what the allocator has not given, the places of dropped items have.
-    pub fn reserve(&mut self, n: usize) -> Result<(), GapError>
+    pub fn reserve(&mut self, n: usize) -> Result<(), AllocError>
         ensures items { self.new.items ≡ self.old.items }
         ensures grows { self.old.capacity ≤ self.new.capacity }
         ensures ok { OnOk result (length self.new.items + n ≤ self.new.capacity) }
@@ -109,7 +108,7 @@ impl<T: Copy, A: Allocator> SlidingBuf<T, A> {
         }
         let grown = self.list.reserve(n);
         if grown.is_err() && n > self.list.capacity() - self.len() {
-            return Err(GapError::Memory);
+            return Err(AllocError);
         }
         Ok(())
     }
@@ -132,7 +131,7 @@ impl<T: Copy, A: Allocator> SlidingBuf<T, A> {
 
     /// Puts `items`, in order, at the end, with more memory where there is no room for them.
     /// Refused as `reserve` is, and then nothing has changed.
-    pub fn extend_from_slice(&mut self, items: &[T]) -> Result<(), GapError>
+    pub fn extend_from_slice(&mut self, items: &[T]) -> Result<(), AllocError>
         ensures ok { OnOk result (self.new.items ≡ self.old.items ++ items.now) }
         ensures grows { self.old.capacity ≤ self.new.capacity }
         ensures err { OnErr result (self.new ≡ self.old) }
