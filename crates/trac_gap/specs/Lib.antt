@@ -3,3 +3,4 @@ pub mod Places
 pub mod Ownership
 pub mod Block
 pub mod GapBuf
+pub mod Window

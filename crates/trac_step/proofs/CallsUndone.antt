@@ -1,9 +1,10 @@
 -- Going back over a call: the parts before it, which show the state that its record restores.
 use Rattle.std.proofs.Common.{◌≡◌, ℕ, ◌+◌, ◌-◌, ◌≤◌, Bool, true, false, List, [], ◌∷◌, ◌++◌, length, map, take, drop, reverse, refl, sym, ap, ◌∙◌, subst, arith}
-use Rattle.std.specs.Prelude.{Option, Some, None, IsSome, codes, nat_le, ◌&&◌, option_map, option_and_then, Vec, vec_capacity}
+use Rattle.std.specs.Prelude.{Option, Some, None, IsSome, codes, nat_le, ◌&&◌, option_map, option_and_then}
 use Rattle.std.specs.Bool.{then_some}
 use Rattle.std.specs.Option.{unwrap_or}
 use Rattle.std.proofs.lemmas.Bool.{and_parts, leb-true}
+use Rattle.trac_gap.specs.Window.{Window}
 use Rattle.trac_gap.specs.Ends.{Ends, item_count}
 use Rattle.trac_rules.specs.declared.kind.Kind.{Kind}
 use Rattle.trac_rules.specs.Limits.{argument_bytes, marks}
@@ -293,11 +294,11 @@ module _ {A : Type 0} (called : Called) (a : Arguments) (change : Undone A) (p :
 
 -- ---- the parts as a machine holds them
 
-pub same_parts : {A : Type 0} (called : Called) (a : Arguments) (p : Parts) (text : Ends ℕ) (ms : Ends Mark) (store : Stored) (meta : ℕ) (output : Vec ℕ A) →
+pub same_parts : (called : Called) (a : Arguments) (p : Parts) (text : Ends ℕ) (ms : Ends Mark) (store : Stored) (meta : ℕ) (output : Window ℕ) →
     text ≡ before_call called.scanned called.value (all_texts a) (ends_in p) →
     ms.left ≡ p.marks ++ function_marks (length (without_value called.scanned called.value (ends_in p)).left) called.kind (map length a.finished) →
     ms.capacity ≡ p.mark_room → store.known ≡ p.known → meta ≡ unwrap_or called.meta p.meta → output.items ≡ take (length p.output - called.printed) p.output →
-    vec_capacity output ≡ p.output_room →
+    output.capacity ≡ p.output_room →
     parts_of text ms store meta called.trace (p.position - called.read) output ≡ parts_before called a p (storage_in store) store.spare
 same_parts called a p text ms store meta output text_is marks_are mark_room known meta_is items output_room i =
     record (parts_before called a p (storage_in store) store.spare) {

@@ -1,9 +1,10 @@
 -- What each rule does to the parts of a machine: they stay sound, and show the state that the rule names.
 use Rattle.std.proofs.Common.{◌≡◌, ℕ, zero, suc, ◌+◌, ◌-◌, ◌<◌, ◌≤◌, List, [], ◌∷◌, ◌++◌, length, take, drop, reverse, refl, sym, ap, ◌∙◌, subst, arith, true, false, Bool}
-use Rattle.std.specs.Prelude.{Option, Some, None, ◌==◌, Vec, vec_capacity}
+use Rattle.std.specs.Prelude.{Option, Some, None, ◌==◌}
 use Rattle.std.proofs.lemmas.List.{append-nil, length-append, length-drop, length-take, drop-drop, take_all, drop_all}
 use Rattle.std.specs.FinSet as set
 use Rattle.trac_gap.specs.Ends.{Ends, item_count}
+use Rattle.trac_gap.specs.Window.{Window}
 use Rattle.trac_rules.specs.declared.kind.Kind.{Kind}
 use Rattle.trac_rules.specs.declared.limit.TheConstants.{MARK_LIMIT}
 use Rattle.trac_rules.specs.declared.byte.TheConstants.{APOSTROPHE}
@@ -12,11 +13,10 @@ use Rattle.trac_rules.specs.State.{Frame, State, initial, storage_of}
 use Rattle.trac_rules.proofs.ProperStates.{initial_proper}
 use Rattle.trac_rules.specs.Matching.{match_of, protected, protected_up_to}
 use Rattle.trac_rules.specs.Scanning.{gather}
-use Rattle.trac_rules.specs.Session.{settled}
 use Rattle.trac_rules.specs.Limits.{marks}
 use Rattle.trac_prims.specs.declared.mark.Mark.{Mark}
 use Rattle.trac_forms.specs.Stored.{Names, Stored, nothing_stored, storage_in}
-use Rattle.trac_step.specs.Layout.{Parts, parts_of, shown_by, state_of, IsSound}
+use Rattle.trac_step.specs.Layout.{Parts, parts_of, state_of, IsSound}
 use Rattle.trac_prims.proofs.Neutral.{AreMarks-longer}
 use Rattle.trac_step.specs.Calling.{mark_at, with_protected}
 use Rattle.trac_step.proofs.Rules.{gathers, ordered_push, marks-parts}
@@ -36,7 +36,7 @@ sound_push p n o room sound within place above = record {
 }
 
 -- the front of the active text is gone, and a mark stands behind all others, at the end of the text
-pub marked_parts : {A : Type 0} (old cut : Ends ℕ) (ms kept : Ends Mark) (store : Stored) (meta : ℕ) (trace : Bool) (position : ℕ) (output : Vec ℕ A) (n : ℕ) (o : Option Kind) →
+pub marked_parts : (old cut : Ends ℕ) (ms kept : Ends Mark) (store : Stored) (meta : ℕ) (trace : Bool) (position : ℕ) (output : Window ℕ) (n : ℕ) (o : Option Kind) →
     cut ≡ record old { right = drop n old.right } → kept.left ≡ ms.left ++ mark_at (length old.left) o ∷ [] →
     parts_of cut kept store meta trace position output
     ≡ record (parts_of old ms store meta trace position output) { active = drop n old.right; marks = ms.left ++ mark_at (length old.left) o ∷ []; mark_room = kept.capacity }
@@ -128,10 +128,10 @@ taken_unmatched old cut last n c is l found =
 -- ---- other rooms
 
 -- the same parts with other rooms
-pub rebuilt_parts : {A : Type 0} (old new : Ends ℕ) (ms ns : Ends Mark) (store kept : Stored) (meta : ℕ) (trace : Bool) (position : ℕ) (output copy : Vec ℕ A) →
+pub rebuilt_parts : (old new : Ends ℕ) (ms ns : Ends Mark) (store kept : Stored) (meta : ℕ) (trace : Bool) (position : ℕ) (output copy : Window ℕ) →
     new.left ≡ old.left → new.right ≡ old.right → ns.left ≡ ms.left → storage_in kept ≡ storage_in store → copy.items ≡ output.items →
     parts_of new ns kept meta trace position copy
-    ≡ record (parts_of old ms store meta trace position output) { text_room = new.capacity; mark_room = ns.capacity; output_room = vec_capacity copy; known = kept.known; spare = kept.spare }
+    ≡ record (parts_of old ms store meta trace position output) { text_room = new.capacity; mark_room = ns.capacity; output_room = copy.capacity; known = kept.known; spare = kept.spare }
 rebuilt_parts old new ms ns store kept meta trace position output copy left right marks same items i =
     record (parts_of old ms store meta trace position output) {
       active = right i;
@@ -141,7 +141,7 @@ rebuilt_parts old new ms ns store kept meta trace position output copy left righ
       output = items i;
       text_room = new.capacity;
       mark_room = ns.capacity;
-      output_room = vec_capacity copy;
+      output_room = copy.capacity;
       known = kept.known;
       spare = kept.spare;
     }
@@ -189,7 +189,7 @@ sound_first text_room output_room room = record {
   storage = initial_proper.storage;
 }
 
-pub sound_at_start : {A : Type 0} (made reserved filled : Ends ℕ) (ms : Ends Mark) (store : Stored) (output : Vec ℕ A) →
+pub sound_at_start : (made reserved filled : Ends ℕ) (ms : Ends Mark) (store : Stored) (output : Window ℕ) →
     made ≡ record { left = []; right = []; capacity = 0 } → reserved.left ≡ made.left → reserved.right ≡ made.right → item_count reserved + 11 ≤ reserved.capacity →
     filled ≡ record reserved { right = idle_program ++ reserved.right } → ms ≡ record { left = []; right = []; capacity = 0 } → store ≡ nothing_stored → output.items ≡ [] →
     IsSound (parts_of filled ms store APOSTROPHE false 0 output)
@@ -199,19 +199,7 @@ sound_at_start made reserved filled ms store output made_is left right room fill
     subst IsSound (sym (
     ap (λ (e : Ends ℕ). parts_of e ms store APOSTROPHE false 0 output) filled_is
     ∙ (λ i. record (parts_of (record { left = none_left i; right = idle_program ++ none_right i; capacity = reserved.capacity }) (ms_is i) (store_is i) APOSTROPHE false 0 output) { output = items i })
-    )) (sound_first reserved.capacity (vec_capacity output) (omega (arith, room)))
-
--- ---- a released output
-
--- nothing is printed and nothing read
-pub settled_parts : (p : Parts) (items : List ℕ) (room : ℕ) (names : Names) → items ≡ [] → room ≡ p.output_room →
-    shown_by (record p { position = 0; output = items; output_room = room; known = names }) ≡ record (shown_by p) { state = settled (state_of p); known = names }
-settled_parts p items room names none same =
-    let gone : items ≡ drop (length p.output) p.output = none ∙ sym (drop_all (length p.output) p.output (omega arith)) in
-    let start : 0 ≡ p.position - p.position = omega arith in
-    ap (λ (xs : List ℕ). shown_by (record p { position = 0; output = xs; output_room = room; known = names })) gone
-    ∙ ap (λ (n : ℕ). shown_by (record p { position = 0; output = drop (length p.output) p.output; output_room = n; known = names })) same
-    ∙ ap (λ (n : ℕ). shown_by (record p { position = n; output = drop (length p.output) p.output; known = names })) start
+    )) (sound_first reserved.capacity output.capacity (omega (arith, room)))
 
 -- ---- other items in the place of all
 

@@ -1,7 +1,7 @@
 -- The parts of a machine after a call with a known effect: they are sound, and show the state that the rules say.
 use Rattle.std.proofs.Common.{◌≡◌, ℕ, ◌+◌, ◌≤◌, List, [], ◌∷◌, ◌++◌, length, take, drop, reverse, refl, sym, ap, ◌∙◌, arith, true, false, Bool}
-use Rattle.std.specs.Prelude.{Vec, vec_capacity}
 use Rattle.std.proofs.lemmas.List.{length-take-le, length-drop, length-append}
+use Rattle.trac_gap.specs.Window.{Window}
 use Rattle.trac_gap.specs.Ends.{Ends, item_count}
 use Rattle.trac_rules.specs.declared.kind.Kind.{Kind}
 use Rattle.trac_rules.specs.declared.kind.Kind.TheVariants.{Active, Neutral}
@@ -131,12 +131,12 @@ module _ (p : Parts) (number place : ℕ) (kind : Kind) (texts : List (List ℕ)
 
 -- ---- the same, as the code has the parts
 
-pub finished_parts : {A : Type 0} (old cut put : Ends ℕ) (ms kept : Ends Mark) (store after : Stored) (meta : ℕ) (trace : Bool) (position : ℕ) (output printed : Vec ℕ A)
+pub finished_parts : (old cut put : Ends ℕ) (ms kept : Ends Mark) (store after : Stored) (meta : ℕ) (trace : Bool) (position : ℕ) (output printed : Window ℕ)
     (number place : ℕ) (kind : Kind) (e : Planned) →
     cut ≡ record old { left = take place old.left; right = drop 1 old.right } → put ≡ with_value kind e.forced e.value cut → kept ≡ record ms { left = take number ms.left } →
     storage_in after ≡ e.storage → printed.items ≡ output.items ++ e.printed →
     parts_of put kept after e.meta e.trace e.position printed
-    ≡ record (ended_parts (parts_of old ms store meta trace position output) number place kind e) { text_room = put.capacity; output_room = vec_capacity printed; known = after.known; spare = after.spare }
+    ≡ record (ended_parts (parts_of old ms store meta trace position output) number place kind e) { text_room = put.capacity; output_room = printed.capacity; known = after.known; spare = after.spare }
 finished_parts old cut put ms kept store after meta trace position output printed number place kind e cut_is put_is kept_is storage_is items =
     let put_at : put ≡ with_value kind e.forced e.value (record { left = take place old.left; right = drop 1 old.right; capacity = old.capacity }) =
     put_is ∙ ap (λ (x : Ends ℕ). with_value kind e.forced e.value x) cut_is in
@@ -151,7 +151,7 @@ finished_parts old cut put ms kept store after meta trace position output printe
       output = items i;
       text_room = put.capacity;
       mark_room = (kept_is i).capacity;
-      output_room = vec_capacity printed;
+      output_room = printed.capacity;
       known = after.known;
       spare = after.spare;
     }

@@ -1,7 +1,8 @@
 -- A machine that is put together of what was made of parts: it is sound, and shows their state.
 use Rattle.std.proofs.Common.{◌≡◌, ℕ, ◌≤◌, true, length, sym, subst, arith}
-use Rattle.std.specs.Prelude.{Ok, Vec}
+use Rattle.std.specs.Prelude.{Ok}
 use Rattle.trac_gap.specs.Ends.{Ends, item_count}
+use Rattle.trac_gap.specs.Window.{Window}
 use Rattle.trac_rules.specs.Limits.{texts_fit}
 use Rattle.trac_rules.specs.Outcomes.{limited}
 use Rattle.trac_rules.specs.Proper.{IsProper, IsProperStorage}
@@ -23,7 +24,7 @@ store_made parts store made =
     let same : storage_in store ≡ storage_of (state_in parts) = (let e = both.0 in cc) in
     (same, subst (λ (s : Storage). counts_fit s ≡ true) same both.1)
 
-module _ {A : Type 0} (parts : code.Parts A) (text : Ends ℕ) (ms : Ends Mark) (store : Stored) (output : Vec ℕ A)
+module _ {A : Type 0} (parts : code.Parts A) (text : Ends ℕ) (ms : Ends Mark) (store : Stored) (output : Window ℕ)
     (neutral : neutral_of (marked_in text ms) ≡ record { base = (state_in parts).base; frames = (state_in parts).frames }) (active : text.right ≡ (state_in parts).active)
     (storage : storage_in store ≡ storage_of (state_in parts)) (printed : output.items ≡ parts.output.items) where
   abbrev machine : Parts

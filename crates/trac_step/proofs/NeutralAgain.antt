@@ -1,11 +1,12 @@
 -- The neutral text with begun functions put back: what it shows, how large it is, and that a machine may hold it.
 use Rattle.std.proofs.Common.{◌≡◌, ℕ, ◌+◌, ◌<◌, ◌≤◌, List, [], ◌∷◌, ◌++◌, length, map, reverse, refl, sym, ap, ◌∙◌, subst, arith}
 use Rattle.std.specs.Bool.{then_some}
-use Rattle.std.specs.Prelude.{Bool, true, false, IsSomeAnd, Option, Some, None, Vec}
+use Rattle.std.specs.Prelude.{Bool, true, false, IsSomeAnd, Option, Some, None}
 use Rattle.std.specs.List.{concat}
 use Rattle.std.proofs.lemmas.List.{append-nil, append_assoc, length-append, length-reverse}
 use Rattle.std.proofs.lemmas.Option.{none-some}
 use Rattle.trac_rules.specs.declared.kind.Kind.{Kind}
+use Rattle.trac_gap.specs.Window.{Window}
 use Rattle.trac_gap.specs.Ends.{Ends}
 use Rattle.trac_forms.specs.Stored.{Stored}
 use Rattle.trac_rules.specs.Limits.{argument_bytes, marks, text_bytes, total_length}
@@ -130,7 +131,7 @@ can_leave base frames m h = by_test (is_idle m.state) refl
     by_test false is = absurd (subst (λ (b : Bool). IsSomeAnd (then_some b before) (λ s. HasRoom m s × IsProper s)) is h)
 
 -- the parts with base text and functions put back, where these can be shown: they are sound, and show them
-module _ {A : Type 0} (old new : Ends ℕ) (ms ns : Ends Mark) (store : Stored) (meta : ℕ) (trace : Bool) (position : ℕ) (output : Vec ℕ A) (base : List ℕ) (frames : List Frame) (m : Shown) (view : shown_by (parts_of old ms store meta trace position output) ≡ m) (right : new.right ≡ []) (text_room : new.capacity ≡ old.capacity) (mark_room : ns.capacity ≡ ms.capacity) (same : neutral new.left (reverse ns.left) ≡ record { base = base; frames = frames }) where
+module _ (old new : Ends ℕ) (ms ns : Ends Mark) (store : Stored) (meta : ℕ) (trace : Bool) (position : ℕ) (output : Window ℕ) (base : List ℕ) (frames : List Frame) (m : Shown) (view : shown_by (parts_of old ms store meta trace position output) ≡ m) (right : new.right ≡ []) (text_room : new.capacity ≡ old.capacity) (mark_room : ns.capacity ≡ ms.capacity) (same : neutral new.left (reverse ns.left) ≡ record { base = base; frames = frames }) where
   abbrev q : Parts
   q = parts_of new ns store meta trace position output
 

@@ -1,8 +1,9 @@
 -- How the parts of a machine are read as a state.
-use Rattle.std.specs.Prelude.{ℕ, ◌≤◌, ◌+◌, List, length, Bool, Vec, vec_capacity, refl}
+use Rattle.std.specs.Prelude.{ℕ, ◌≤◌, ◌+◌, List, length, Bool, refl}
 use Rattle.std.specs.Coded.{Coded, code_by, coded×, coded_ℕ}
 use Rattle.std.specs.FinSet as set
 use Rattle.trac_gap.specs.Ends.{Ends}
+use Rattle.trac_gap.specs.Window.{Window}
 use Rattle.trac_rules.specs.declared.limit.TheConstants.{TEXT_LIMIT, MARK_LIMIT, OUTPUT_LIMIT}
 use Rattle.trac_rules.specs.State.{State, Storage}
 use Rattle.trac_rules.specs.Proper.{IsProperStorage}
@@ -31,7 +32,7 @@ pub record Parts : Type 0 where
   pub spare : ℕ
 
 -- the parts as a machine holds them
-abbrev pub parts_of : {A : Type 0} → Ends ℕ → Ends Mark → Stored → ℕ → Bool → ℕ → Vec ℕ A → Parts
+abbrev pub parts_of : Ends ℕ → Ends Mark → Stored → ℕ → Bool → ℕ → Window ℕ → Parts
 parts_of text marks store meta trace position output = record {
   active = text.right;
   text = text.left;
@@ -43,7 +44,7 @@ parts_of text marks store meta trace position output = record {
   output = output.items;
   text_room = text.capacity;
   mark_room = marks.capacity;
-  output_room = vec_capacity output;
+  output_room = output.capacity;
   known = store.known;
   spare = store.spare;
 }

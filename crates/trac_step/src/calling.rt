@@ -1,5 +1,5 @@
 //! The steps that perform a function.
-ghost use Rattle.std.specs.Prelude.{◌≡◌, ◌<◌, ◌≤◌, ◌+◌, ◌-◌, ◌++◌, length, take, drop, option_map, IfErr, IfOk, IsOkUnless, OnErr, OnOk, Ok, Some, vec_capacity, vec_len};
+ghost use Rattle.std.specs.Prelude.{◌≡◌, ◌<◌, ◌≤◌, ◌+◌, ◌-◌, ◌++◌, length, take, drop, option_map, IfErr, IfOk, IsOkUnless, OnErr, OnOk, Ok, Some};
 ghost use Rattle.trac_gap.specs.Ends.{item_count};
 ghost use Rattle.trac_rules.specs.Outcomes.{MayAnswer, MayRefuse};
 ghost use Rattle.trac_rules.specs.Proper.{IsProper};
@@ -113,17 +113,6 @@ fn put_value<E: TwoEnds<u8, A>, A: Allocator + Copy>(
     }
 }
 
-// Puts a text behind a list that has room for it.
-pub(crate) fn append<A: Allocator + Copy>(list: &mut Vec<u8, A>, text: &[u8])
-    requires { vec_len list.old + length text.now ≤ vec_capacity list.old }
-    ensures items { list.new.items ≡ list.old.items ++ text.now }
-    ensures room { vec_capacity list.old ≤ vec_capacity list.new }
-{
-    let Ok(()) = list.extend_from_slice(text) else {
-        unreachable!()
-    };
-}
-
 impl<E: TwoEnds<u8, A>, M: TwoEnds<Mark, A>, A: Allocator + Copy> Core<E, M, A> {
     // What the call will do that the next step performs, where its function begins, and what its record says, with a copy of
     // its arguments; or why it is refused.
@@ -231,7 +220,7 @@ impl<E: TwoEnds<u8, A>, M: TwoEnds<Mark, A>, A: Allocator + Copy> Core<E, M, A> 
             effect.forced,
             effect.value.as_slice(),
         );
-        append(&mut self.output, effect.print.as_slice());
+        self.output.put(effect.print.as_slice());
         self.meta = effect.meta;
         self.trace = effect.trace;
         self.position = effect.position;

@@ -1,15 +1,15 @@
 //! The machine: its parts, and how they are read as a state.
-ghost use Rattle.std.specs.Prelude.{◌≡◌, IfOk, IsOkUnless};
+ghost use Rattle.std.specs.Prelude.{◌≡◌, ◌≤◌, length, IfOk, IsOkUnless};
 ghost use Rattle.std.specs.FinSet as set;
 ghost use Rattle.trac_rules.specs.Listing.{names_of};
 ghost use Rattle.trac_rules.specs.State.{initial};
-ghost use Rattle.trac_rules.specs.Session.{settled};
+ghost use Rattle.trac_rules.specs.Session.{released, settled};
 
 use crate::ends;
 use std::alloc::{Allocator, Global};
 use std::marker::Model;
 use trac_forms::Store;
-use trac_gap::{GapBuf, TwoEnds};
+use trac_gap::{GapBuf, SlidingBuf, TwoEnds};
 use trac_prims::Mark;
 use trac_rules::byte;
 use trac_rules::refusal::Refusal;
@@ -30,7 +30,7 @@ pub struct Core<E: TwoEnds<u8, A>, M: TwoEnds<Mark, A>, A: Allocator + Copy> {
     pub(crate) meta: u8,
     pub(crate) trace: bool,
     pub(crate) position: usize,
-    pub(crate) output: Vec<u8, A>,
+    pub(crate) output: SlidingBuf<u8, A>,
 }
 
 /// The machine: its texts in one block of memory, with the gap between neutral and active text, and its marks in another.
@@ -65,7 +65,7 @@ impl<E: TwoEnds<u8, A>, M: TwoEnds<Mark, A>, A: Allocator + Copy> Core<E, M, A> 
             meta: byte::APOSTROPHE,
             trace: false,
             position: 0,
-            output: Vec::new(alloc),
+            output: SlidingBuf::new(alloc),
         })
     }
 
@@ -75,8 +75,20 @@ impl<E: TwoEnds<u8, A>, M: TwoEnds<Mark, A>, A: Allocator + Copy> Core<E, M, A> 
     pub fn settle(&mut self)
         ensures { self.new ≡ record self.old { state = settled self.old.state; known = set.from_list (names_of self.old.state.forms) } }
     {
-        self.output.clear();
-        self.position = 0;
+        let printed = self.output.len();
+        let read = self.position;
+        self.release(printed, read);
         self.store.sweep();
+    }
+
+    /// Releases so many bytes of the front of the output, which has to be that long, and takes so many bytes of the tape,
+    /// which have to be read, as dropped. Names and rooms stay. It takes no memory (this project's profile).
+    pub fn release(&mut self, output: usize, position: usize)
+        requires printed { output ≤ length self.old.state.output }
+        requires read { position ≤ self.old.state.position }
+        ensures { self.new ≡ record self.old { state = released output position self.old.state } }
+    {
+        self.output.drop_front(output);
+        self.position -= position;
     }
 }

@@ -1,5 +1,5 @@
 //! Loading: a machine made from the parts of a state.
-ghost use Rattle.std.specs.Prelude.{◌≡◌, ◌≤◌, ◌&&◌, length, nat_le, IfOk, IsOkUnless, IsTrue, vec_capacity};
+ghost use Rattle.std.specs.Prelude.{◌≡◌, ◌≤◌, ◌&&◌, length, nat_le, IfOk, IsOkUnless, IsTrue};
 ghost use Rattle.std.specs.List.{All};
 ghost use Rattle.trac_rules.specs.Limits.{texts_fit};
 ghost use Rattle.trac_rules.specs.Outcomes.{MayAnswer};
@@ -13,7 +13,7 @@ use crate::framing::{mark_count, text_len, texts_and_marks};
 use crate::storing::stored;
 use std::alloc::{Allocator, Global};
 use trac_forms::Form;
-use trac_gap::TwoEnds;
+use trac_gap::{SlidingBuf, TwoEnds};
 use trac_prims::{Kind, Mark, Refusal};
 use trac_rules::limit::{BLOCK_LIMIT, MARK_LIMIT, NAME_LIMIT, OUTPUT_LIMIT, TEXT_LIMIT};
 
@@ -173,13 +173,16 @@ fn lengths_within<A: Allocator + Copy>(parts: &Parts<A>) -> bool
 }
 
 // The output of parts, with no less room than is asked for.
-fn output_of<A: Allocator + Copy>(alloc: A, parts: &Parts<A>) -> Result<Vec<u8, A>, Refusal>
+fn output_of<A: Allocator + Copy>(alloc: A, parts: &Parts<A>) -> Result<SlidingBuf<u8, A>, Refusal>
     ensures items { IfOk result (λ output. output.items ≡ parts.now.output.items) }
-    ensures room { IfOk result (λ output. parts.now.output_room ≤ vec_capacity output) }
+    ensures room { IfOk result (λ output. parts.now.output_room ≤ output.capacity) }
+    ensures holds { IfOk result (λ output. length output.items ≤ output.capacity) }
     ensures err { IsOkUnless result Refusal.Memory }
 {
-    let mut output = Vec::with_capacity(alloc, parts.output.len().max(parts.output_room))?;
-    output.extend_from_slice(parts.output.as_slice())?;
+    let printed = parts.output.as_slice();
+    let room = printed.len().max(parts.output_room);
+    let mut output = SlidingBuf::with_capacity(alloc, room)?;
+    output.put(printed);
     Ok(output)
 }
 

@@ -55,7 +55,7 @@ impl<E: TwoEnds<u8, A>, M: TwoEnds<Mark, A>, A: Allocator + Copy> Core<E, M, A> 
         ensures proper { IsProper self.now.state }
         ensures room { HasRoom self.now self.now.state }
     {
-        let _ = &self.output;
+        let _room = self.output.capacity();
         self.store.knows_its_forms();
     }
 

@@ -1,5 +1,4 @@
 use Rattle.std.proofs.Common.{List, ℕ, ◌++◌, length, reverse, sym, ap, ◌∙◌, subst, arith, IsTrue}
-use Rattle.std.specs.Prelude.{vec_capacity}
 use Rattle.std.specs.FinSet as set
 use Rattle.std.proofs.lemmas.List.{length-drop, length-take}
 use Rattle.trac_gap.specs.Ends.{Ends, item_count}
@@ -93,17 +92,17 @@ invariant_of-self g c =
     let e = planned_on c.in-Some.function.arguments (storage_in c.self.inside.store) c.args.effect in
     let put_is = c.put_value.ensures ∙ ap (λ (value : List ℕ). with_value c.args.beginning.kind e.forced value (g.E.TwoEnds.ends c.cut_function.new.text)) c.as_slice.ensures.value in
     let q_is = finished_parts (g.E.TwoEnds.ends c.self.inside.text) (g.E.TwoEnds.ends c.cut_function.new.text) (g.E.TwoEnds.ends c.put_value.new.text)
-    (g.M.TwoEnds.ends c.self.inside.marks) (g.M.TwoEnds.ends c.cut_function.new.marks) c.self.inside.store c.change_forms-change.new.store c.self.inside.meta c.self.inside.trace c.self.inside.position c.self.inside.output c.append.new.list
+    (g.M.TwoEnds.ends c.self.inside.marks) (g.M.TwoEnds.ends c.cut_function.new.marks) c.self.inside.store c.change_forms-change.new.store c.self.inside.meta c.self.inside.trace c.self.inside.position c.self.inside.output c.put.new.self
     c.args.beginning.number c.args.beginning.place c.args.beginning.kind e
     c.cut_function.ensures.text put_is c.cut_function.ensures.marks c.change_forms-change.ensures.storage
-    (c.append.ensures.items ∙ ap (λ (text : List ℕ). c.self.inside.output.items ++ text) c.as_slice-2.ensures.value) in
+    (c.put.ensures.items ∙ ap (λ (text : List ℕ). c.self.inside.output.items ++ text) c.as_slice-2.ensures.value) in
     let shows = ended_shows p c.args.beginning.number c.args.beginning.place c.args.beginning.kind found.0 found.1 front c.args.effect c.in-Some.function.arguments are
     ∙ ap (λ (s : State). state_after c.args.effect (scan s)) state_is in
     let kept = ap (λ (x : Ends ℕ). x.capacity) put_is ∙ value_capacity c.args.beginning.kind e.forced e.value (g.E.TwoEnds.ends c.cut_function.new.text)
     ∙ ap (λ (x : Ends ℕ). x.capacity) c.cut_function.ensures.text in
     subst IsSound (sym q_is)
     (ended_sound p c.args.beginning.number c.args.beginning.place c.args.beginning.kind found.0 found.1 front e (g.E.TwoEnds.ends c.put_value.new.text).capacity
-    (vec_capacity c.append.new.list) c.change_forms-change.new.store.known c.change_forms-change.new.store.spare c.self.invariant (subst IsProper (sym shows) c.requires.proper)
+    c.put.new.self.capacity c.change_forms-change.new.store.known c.change_forms-change.new.store.spare c.self.invariant (subst IsProper (sym shows) c.requires.proper)
     (omega (arith, c.requires.room.text, ap (λ (m : Shown). m.text_room) c.self.view_is, ap (λ (s : State). text_bytes s) state_is, text_bytes-parts p c.self.invariant.ordered, kept)))
 
 pub returns-clause-state : goal.returns-clause-state
@@ -118,10 +117,10 @@ returns-clause-state g c =
     let e = planned_on c.in-Some.function.arguments (storage_in c.self.inside.store) c.args.effect in
     let put_is = c.put_value.ensures ∙ ap (λ (value : List ℕ). with_value c.args.beginning.kind e.forced value (g.E.TwoEnds.ends c.cut_function.new.text)) c.as_slice.ensures.value in
     let q_is = finished_parts (g.E.TwoEnds.ends c.self.inside.text) (g.E.TwoEnds.ends c.cut_function.new.text) (g.E.TwoEnds.ends c.put_value.new.text)
-    (g.M.TwoEnds.ends c.self.inside.marks) (g.M.TwoEnds.ends c.cut_function.new.marks) c.self.inside.store c.change_forms-change.new.store c.self.inside.meta c.self.inside.trace c.self.inside.position c.self.inside.output c.append.new.list
+    (g.M.TwoEnds.ends c.self.inside.marks) (g.M.TwoEnds.ends c.cut_function.new.marks) c.self.inside.store c.change_forms-change.new.store c.self.inside.meta c.self.inside.trace c.self.inside.position c.self.inside.output c.put.new.self
     c.args.beginning.number c.args.beginning.place c.args.beginning.kind e
     c.cut_function.ensures.text put_is c.cut_function.ensures.marks c.change_forms-change.ensures.storage
-    (c.append.ensures.items ∙ ap (λ (text : List ℕ). c.self.inside.output.items ++ text) c.as_slice-2.ensures.value) in
+    (c.put.ensures.items ∙ ap (λ (text : List ℕ). c.self.inside.output.items ++ text) c.as_slice-2.ensures.value) in
     let shows = ended_shows p c.args.beginning.number c.args.beginning.place c.args.beginning.kind found.0 found.1 front c.args.effect c.in-Some.function.arguments are
     ∙ ap (λ (s : State). state_after c.args.effect (scan s)) state_is in
     ap state_of q_is ∙ shows
@@ -129,11 +128,11 @@ returns-clause-state g c =
 pub returns-clause-room : goal.returns-clause-room
 returns-clause-room g c =
     let p = parts_of (g.E.TwoEnds.ends c.self.inside.text) (g.M.TwoEnds.ends c.self.inside.marks) c.self.inside.store c.self.inside.meta c.self.inside.trace c.self.inside.position c.self.inside.output in
-    let q = parts_of (g.E.TwoEnds.ends c.put_value.new.text) (g.M.TwoEnds.ends c.cut_function.new.marks) c.change_forms-change.new.store c.args.effect.meta c.args.effect.trace c.args.effect.position c.append.new.list in
+    let q = parts_of (g.E.TwoEnds.ends c.put_value.new.text) (g.M.TwoEnds.ends c.cut_function.new.marks) c.change_forms-change.new.store c.args.effect.meta c.args.effect.trace c.args.effect.position c.put.new.self in
     let kept = ap (λ (x : Ends ℕ). x.capacity) c.put_value.ensures
     ∙ value_capacity c.args.beginning.kind c.args.effect.forced c.as_slice.result.now (g.E.TwoEnds.ends c.cut_function.new.text)
     ∙ ap (λ (x : Ends ℕ). x.capacity) c.cut_function.ensures.text in
-    IsNoLess-parts p q c.args.self.now c.self.view_is (omega (arith, kept)) (omega (arith, ap (λ (x : Ends Mark). x.capacity) c.cut_function.ensures.marks)) c.append.ensures.room
+    IsNoLess-parts p q c.args.self.now c.self.view_is (omega (arith, kept)) (omega (arith, ap (λ (x : Ends Mark). x.capacity) c.cut_function.ensures.marks)) c.put.ensures.grows
     (λ name h. subst (λ (ns : Names). IsTrue (set.contains ns name)) (sym c.change_forms-change.ensures.names) h)
 
 pub returns-clause-undone : goal.returns-clause-undone

@@ -1,4 +1,4 @@
-use Rattle.std.proofs.Common.{ap, subst, arith}
+use Rattle.std.proofs.Common.{ap, subst}
 use Rattle.trac_rules.specs.Proper.{IsProper}
 use Rattle.trac_step.specs.Layout.{parts_of, Shown}
 use Rattle.trac_step.proofs.Limited.{proper_of_sound}
@@ -13,4 +13,4 @@ returns-clause-proper g c =
 pub returns-clause-room : goal.returns-clause-room
 returns-clause-room g c =
     let p = parts_of (g.E.TwoEnds.ends c.self.inside.text) (g.M.TwoEnds.ends c.self.inside.marks) c.self.inside.store c.self.inside.meta c.self.inside.trace c.self.inside.position c.self.inside.output in
-    HasRoom-parts p c.args.self.now c.self.invariant c.self.view_is (omega (arith, c.self.inside.output.ok.0, c.self.inside.output.ok.1)) c.knows_its_forms.ensures
+    HasRoom-parts p c.args.self.now c.self.invariant c.self.view_is c.capacity-room.ensures.within c.knows_its_forms.ensures

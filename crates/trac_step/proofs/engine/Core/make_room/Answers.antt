@@ -25,6 +25,6 @@ returns-clause-ok g c =
         c.len.ensures,
         c.args.effect.now.value.ok.0,
       );
-      output = omega (arith, c.in_ok-reserve-2.ensures.ok, c.reserve-2.new.self.ok.0, c.len-2.ensures, c.args.effect.now.print.ok.0);
+      output = omega (arith, c.in_ok-reserve-2.ensures.ok, c.len-2.ensures, c.args.effect.now.print.ok.0);
       names = place;
     }) c.make_place.ensures.place

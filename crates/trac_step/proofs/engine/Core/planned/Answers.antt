@@ -57,7 +57,7 @@ returns-in_err-effect-clause-outcome g c =
       text = length c.right.result.now - 1 + f.place;
     })
     (ap (λ (t : State). storage_of t) (sym state_is)) (ap (λ (t : State). t.meta) (sym state_is)) (ap (λ (t : State). t.trace) (sym state_is)) (ap (λ (t : State). t.position) (sym state_is))
-    (ap (λ (t : State). length t.output) (sym state_is) ∙ sym (c.len.ensures ∙ c.self.inside.output.ok.0))
+    (ap (λ (t : State). length t.output) (sym state_is) ∙ sym c.len.ensures.len)
     (ap (λ (t : State). length t.active - 1 + f.place) (sym state_is) ∙ ap (λ (xs : List ℕ). length xs - 1 + f.place) (sym c.right.ensures.right)) in
     let rest = behind s c.neutral.result f.number f.place f.kind f.arguments proper c.neutral.ensures c.in-Some.ensures in
     let e = environment_of c.args.tape in
@@ -81,7 +81,7 @@ returns-clause-outcome g c =
       text = length c.right.result.now - 1 + f.place;
     })
     (ap (λ (t : State). storage_of t) (sym state_is)) (ap (λ (t : State). t.meta) (sym state_is)) (ap (λ (t : State). t.trace) (sym state_is)) (ap (λ (t : State). t.position) (sym state_is))
-    (ap (λ (t : State). length t.output) (sym state_is) ∙ sym (c.len.ensures ∙ c.self.inside.output.ok.0))
+    (ap (λ (t : State). length t.output) (sym state_is) ∙ sym c.len.ensures.len)
     (ap (λ (t : State). length t.active - 1 + f.place) (sym state_is) ∙ ap (λ (xs : List ℕ). length xs - 1 + f.place) (sym c.right.ensures.right)) in
     let rest = behind s c.neutral.result f.number f.place f.kind f.arguments proper c.neutral.ensures c.in-Some.ensures in
     let e = environment_of c.args.tape in
@@ -104,7 +104,7 @@ returns-in_err-arguments-clause-outcome g c =
       text = length c.right.result.now - 1 + f.place;
     })
     (ap (λ (t : State). storage_of t) (sym state_is)) (ap (λ (t : State). t.meta) (sym state_is)) (ap (λ (t : State). t.trace) (sym state_is)) (ap (λ (t : State). t.position) (sym state_is))
-    (ap (λ (t : State). length t.output) (sym state_is) ∙ sym (c.len.ensures ∙ c.self.inside.output.ok.0))
+    (ap (λ (t : State). length t.output) (sym state_is) ∙ sym c.len.ensures.len)
     (ap (λ (t : State). length t.active - 1 + f.place) (sym state_is) ∙ ap (λ (xs : List ℕ). length xs - 1 + f.place) (sym c.right.ensures.right)) in
     let rest = behind s c.neutral.result f.number f.place f.kind f.arguments proper c.neutral.ensures c.in-Some.ensures in
     let e = environment_of c.args.tape in
@@ -134,7 +134,7 @@ returns-clause-proper g c =
       text = length c.right.result.now - 1 + f.place;
     })
     (ap (λ (t : State). storage_of t) (sym state_is)) (ap (λ (t : State). t.meta) (sym state_is)) (ap (λ (t : State). t.trace) (sym state_is)) (ap (λ (t : State). t.position) (sym state_is))
-    (ap (λ (t : State). length t.output) (sym state_is) ∙ sym (c.len.ensures ∙ c.self.inside.output.ok.0))
+    (ap (λ (t : State). length t.output) (sym state_is) ∙ sym c.len.ensures.len)
     (ap (λ (t : State). length t.active - 1 + f.place) (sym state_is) ∙ ap (λ (xs : List ℕ). length xs - 1 + f.place) (sym c.right.ensures.right)) in
     let rest = behind s c.neutral.result f.number f.place f.kind f.arguments proper c.neutral.ensures c.in-Some.ensures in
     let e = environment_of c.args.tape in
@@ -158,7 +158,7 @@ called_by-called-requires g c =
       text = length c.right.result.now - 1 + f.place;
     })
     (ap (λ (t : State). storage_of t) (sym state_is)) (ap (λ (t : State). t.meta) (sym state_is)) (ap (λ (t : State). t.trace) (sym state_is)) (ap (λ (t : State). t.position) (sym state_is))
-    (ap (λ (t : State). length t.output) (sym state_is) ∙ sym (c.len.ensures ∙ c.self.inside.output.ok.0))
+    (ap (λ (t : State). length t.output) (sym state_is) ∙ sym c.len.ensures.len)
     (ap (λ (t : State). length t.active - 1 + f.place) (sym state_is) ∙ ap (λ (xs : List ℕ). length xs - 1 + f.place) (sym c.right.ensures.right)) in
     let rest = behind s c.neutral.result f.number f.place f.kind f.arguments proper c.neutral.ensures c.in-Some.ensures in
     let e = environment_of c.args.tape in
@@ -181,7 +181,7 @@ returns-clause-recorded g c =
       text = length c.right.result.now - 1 + f.place;
     })
     (ap (λ (t : State). storage_of t) (sym state_is)) (ap (λ (t : State). t.meta) (sym state_is)) (ap (λ (t : State). t.trace) (sym state_is)) (ap (λ (t : State). t.position) (sym state_is))
-    (ap (λ (t : State). length t.output) (sym state_is) ∙ sym (c.len.ensures ∙ c.self.inside.output.ok.0))
+    (ap (λ (t : State). length t.output) (sym state_is) ∙ sym c.len.ensures.len)
     (ap (λ (t : State). length t.active - 1 + f.place) (sym state_is) ∙ ap (λ (xs : List ℕ). length xs - 1 + f.place) (sym c.right.ensures.right)) in
     let rest = behind s c.neutral.result f.number f.place f.kind f.arguments proper c.neutral.ensures c.in-Some.ensures in
     let e = environment_of c.args.tape in
@@ -206,7 +206,7 @@ returns-clause-given g c =
       text = length c.right.result.now - 1 + f.place;
     })
     (ap (λ (t : State). storage_of t) (sym state_is)) (ap (λ (t : State). t.meta) (sym state_is)) (ap (λ (t : State). t.trace) (sym state_is)) (ap (λ (t : State). t.position) (sym state_is))
-    (ap (λ (t : State). length t.output) (sym state_is) ∙ sym (c.len.ensures ∙ c.self.inside.output.ok.0))
+    (ap (λ (t : State). length t.output) (sym state_is) ∙ sym c.len.ensures.len)
     (ap (λ (t : State). length t.active - 1 + f.place) (sym state_is) ∙ ap (λ (xs : List ℕ). length xs - 1 + f.place) (sym c.right.ensures.right)) in
     let rest = behind s c.neutral.result f.number f.place f.kind f.arguments proper c.neutral.ensures c.in-Some.ensures in
     let e = environment_of c.args.tape in

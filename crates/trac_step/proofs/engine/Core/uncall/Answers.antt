@@ -2,6 +2,7 @@
 use Rattle.std.proofs.Common.{ℕ, ◌-◌, length, reverse, sym, ap, ◌∙◌, subst}
 use Rattle.std.specs.Prelude.{Some, take}
 use Rattle.trac_gap.specs.Ends.{Ends}
+use Rattle.trac_gap.specs.Window.{Window}
 use Rattle.trac_forms.specs.Stored.{storage_in}
 use Rattle.trac_prims.specs.Neutral.{AreMarks, MarkedText, Neutral, neutral_of}
 use Rattle.trac_step.specs.Layout.{IsSound, Parts, parts_of, state_of}
@@ -60,7 +61,7 @@ invariant_of-self g c =
     let storage = storage_in store in
     let q_is = same_parts c.args.called c.args.arguments.now p (g.E.TwoEnds.ends c.put_call.new.text) (g.M.TwoEnds.ends c.put_call.new.marks) store c.meta_before-self-inside.result c.truncate.new.self
     c.put_call.ensures.text c.put_call.ensures.marks c.put_call.ensures.mark_room c.put_storage.ensures.names c.meta_before-self-inside.ensures
-    (c.truncate.ensures.items ∙ ap (λ (n : ℕ). take (n - c.args.called.printed) c.self.inside.output.items) (c.len.ensures ∙ c.self.inside.output.ok.0)) c.truncate.ensures.capacity in
+    (ap (λ (w : Window ℕ). w.items) c.truncate.ensures ∙ ap (λ (n : ℕ). take (n - c.args.called.printed) c.self.inside.output.items) c.len.ensures.len) (ap (λ (w : Window ℕ). w.capacity) c.truncate.ensures) in
     subst IsSound (sym q_is) (sound_before c.args.called c.args.arguments.now c.args.change p c.args.self.now c.self.invariant c.self.view_is c.requires f.arguments same storage store.spare c.put_storage.ensures.storage)
 
 pub returns-clause-state : goal.returns-clause-state
@@ -75,5 +76,5 @@ returns-clause-state g c =
     let storage = storage_in store in
     let q_is = same_parts c.args.called c.args.arguments.now p (g.E.TwoEnds.ends c.put_call.new.text) (g.M.TwoEnds.ends c.put_call.new.marks) store c.meta_before-self-inside.result c.truncate.new.self
     c.put_call.ensures.text c.put_call.ensures.marks c.put_call.ensures.mark_room c.put_storage.ensures.names c.meta_before-self-inside.ensures
-    (c.truncate.ensures.items ∙ ap (λ (n : ℕ). take (n - c.args.called.printed) c.self.inside.output.items) (c.len.ensures ∙ c.self.inside.output.ok.0)) c.truncate.ensures.capacity in
+    (ap (λ (w : Window ℕ). w.items) c.truncate.ensures ∙ ap (λ (n : ℕ). take (n - c.args.called.printed) c.self.inside.output.items) c.len.ensures.len) (ap (λ (w : Window ℕ). w.capacity) c.truncate.ensures) in
     restores c.args.called c.args.arguments.now c.args.change p c.args.self.now c.self.invariant c.self.view_is c.requires f.arguments same storage store.spare c.put_storage.ensures.storage ∙ ap (λ (x : Parts). Some (state_of x)) (sym q_is)

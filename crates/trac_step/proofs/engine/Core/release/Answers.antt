@@ -1,0 +1,23 @@
+use Rattle.std.proofs.Common.{ℕ, ◌-◌, length, ap, ◌∙◌, arith}
+use Rattle.std.proofs.lemmas.List.{length-drop}
+use Rattle.trac_gap.specs.Window.{Window}
+use Rattle.trac_rules.specs.Session.{released}
+use Rattle.trac_step.specs.Layout.{parts_of, shown_by, Shown}
+use Rattle.trac_step.proofs.engine.Core.release.Goals as goal
+
+pub invariant_of-self : goal.invariant_of-self
+invariant_of-self g c = record {
+  ordered = c.self.invariant.ordered;
+  text_limit = c.self.invariant.text_limit;
+  mark_limit = c.self.invariant.mark_limit;
+  output_limit = omega (arith, c.self.invariant.output_limit, ap (λ (w : Window ℕ). length w.items) c.drop_front.ensures, length-drop c.args.output c.self.inside.output.items);
+  text_room = c.self.invariant.text_room;
+  mark_room = c.self.invariant.mark_room;
+  storage = c.self.invariant.storage;
+}
+
+pub returns : goal.returns
+returns g c =
+    let i = c.self.inside in
+    ap (λ (w : Window ℕ). shown_by (parts_of (g.E.TwoEnds.ends i.text) (g.M.TwoEnds.ends i.marks) i.store i.meta i.trace (i.position - c.args.position) w)) c.drop_front.ensures
+    ∙ ap (λ (m : Shown). record m { state = released c.args.output c.args.position m.state }) c.self.view_is
