@@ -365,10 +365,7 @@ fn take_back<A: Allocator + Copy>(kept: Kept, long: &mut VecDeque<Record<A>, A>)
 }
 
 // Drops the record of which the oldest entry keeps this, and answers what it weighs, and what its step read and printed.
-fn drop_first<A: Allocator + Copy>(
-    kept: Kept,
-    long: &mut VecDeque<Record<A>, A>,
-) -> (u64, Passed)
+fn drop_first<A: Allocator + Copy>(kept: Kept, long: &mut VecDeque<Record<A>, A>) -> (u64, Passed)
     requires there { longs kept ≤ length long.old.items }
     requires light { sum_by weighed (record_of kept long.old.items) < 2 ^ 64 }
     ensures rest { long.new.items ≡ drop (longs kept) long.old.items }

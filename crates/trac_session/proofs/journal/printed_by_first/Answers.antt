@@ -27,7 +27,7 @@ overflow_add-printed g c =
       c.loop-i.invariant.1,
       c.printed_at-printed.ensures,
       entry_passed (printed_of {A = g.row.A.Denot}) (drop c.loop-i.i c.args.entries.now.items) (drop (c.loop-i.i + 1) c.args.entries.now.items) c.index-entry.result.now (drop c.loop-i.at c.args.long.now.items) (drop (longs c.index-entry.result.now.kept) (drop c.loop-i.at c.args.long.now.items)) 0 c.loop-i.left
-      refl cut refl own (omega (arith, c.if-left-entry.false)),
+          refl cut refl own (omega (arith, c.if-left-entry.false)),
     )
 
 pub loop-i-preserved : goal.loop-i-preserved
@@ -43,6 +43,6 @@ loop-i-preserved g c =
         c.loop-i.invariant.1,
         c.printed_at-printed.ensures,
         entry_passed (printed_of {A = g.row.A.Denot}) (drop c.loop-i.i c.args.entries.now.items) (drop (c.loop-i.i + 1) c.args.entries.now.items) c.index-entry.result.now (drop c.loop-i.at c.args.long.now.items) (drop (c.loop-i.at + c.long_records-at.result) c.args.long.now.items) 0 c.loop-i.left
-        refl cut others own (omega (arith, c.if-left-entry.false)),
+            refl cut others own (omega (arith, c.if-left-entry.false)),
       ),
     )

@@ -1,4 +1,4 @@
-use Rattle.std.proofs.Common.{◌≡◌, ◌≤◌, length, ap, ◌∙◌, arith}
+use Rattle.std.proofs.Common.{length, ap, ◌∙◌, arith}
 use Rattle.std.proofs.lemmas.List.{length-drop}
 use Rattle.trac_session.specs.Passed.{printed_of, read_of}
 use Rattle.trac_session.proofs.Dropped.{left_of_left}
@@ -13,7 +13,7 @@ overflow_add-passed g c =
       c.loop-left.invariant.2,
       c.drop_some-dropped.ensures.read,
       sum_by-left (read_of {A = g.row.A.Denot}) c.loop-left.self c.drop_some-dropped.new.self c.drop_some-dropped.result.0 c.loop-left.left
-      c.drop_some-dropped.ensures.most c.drop_some-dropped.ensures.kept,
+          c.drop_some-dropped.ensures.most c.drop_some-dropped.ensures.kept,
     )
 
 pub overflow_add-passed-in-loop-left : goal.overflow_add-passed-in-loop-left
@@ -24,7 +24,7 @@ overflow_add-passed-in-loop-left g c =
       c.loop-left.invariant.3,
       c.drop_some-dropped.ensures.printed,
       sum_by-left (printed_of {A = g.row.A.Denot}) c.loop-left.self c.drop_some-dropped.new.self c.drop_some-dropped.result.0 c.loop-left.left
-      c.drop_some-dropped.ensures.most c.drop_some-dropped.ensures.kept,
+          c.drop_some-dropped.ensures.most c.drop_some-dropped.ensures.kept,
     )
 
 pub loop-left-preserved : goal.loop-left-preserved
@@ -33,7 +33,7 @@ loop-left-preserved g c =
     let fewer = ap length c.drop_some-dropped.ensures.kept ∙ length-drop n c.loop-left.self in (
       omega (arith, c.loop-left.invariant.0, fewer),
       left_of_left c.loop-left.self c.drop_some-dropped.new.self n c.loop-left.left c.drop_some-dropped.ensures.most c.drop_some-dropped.ensures.kept
-      ∙ c.loop-left.invariant.1,
+          ∙ c.loop-left.invariant.1,
       omega (
         arith,
         c.loop-left.invariant.2,
@@ -45,6 +45,6 @@ loop-left-preserved g c =
         c.loop-left.invariant.3,
         c.drop_some-dropped.ensures.printed,
         sum_by-left (printed_of {A = g.row.A.Denot}) c.loop-left.self c.drop_some-dropped.new.self n c.loop-left.left c.drop_some-dropped.ensures.most
-        c.drop_some-dropped.ensures.kept,
+            c.drop_some-dropped.ensures.kept,
       ),
     )

@@ -11,8 +11,7 @@ overflow_sub-self-then-self-gt0 g c =
 
 pub invariant_of-self : goal.invariant_of-self
 invariant_of-self g c =
-    let some : 1 ≤ c.self.inside.moved = omega arith in
-    (
+    let some : 1 ≤ c.self.inside.moved = omega arith in (
       counted_taken c.self.inside.entries.items c.self.inside.long.items c.self.inside.moved c.self.inside.len 1 some c.self.invariant.0,
       weighed_fewer (unrolled c.self.inside.entries.items c.self.inside.long.items c.self.inside.moved) (unrolled c.self.inside.entries.items c.self.inside.long.items (c.self.inside.moved - 1)) 1 c.self.inside.weight (moved_taken c.self.inside.entries.items c.self.inside.long.items c.self.inside.moved 1 some) c.self.invariant.1,
     )
@@ -59,7 +58,7 @@ weight-requires g c =
     omega (
       arith,
       (weighed_less (unrolled c.self.inside.entries.items c.self.inside.long.items c.self.inside.moved) (unrolled c.pop_back.new.self.items c.take_back-newest.new.long.items c.in-Some.entry.moved) c.take_back-newest.result c.self.inside.weight
-      less.newest_one c.self.invariant.1).light,
+          less.newest_one c.self.invariant.1).light,
     )
 
 pub overflow_sub-self-3 : goal.overflow_sub-self-3
@@ -71,7 +70,7 @@ overflow_sub-self-3 g c =
       arith,
       c.weight.ensures,
       (weighed_less (unrolled c.self.inside.entries.items c.self.inside.long.items c.self.inside.moved) (unrolled c.pop_back.new.self.items c.take_back-newest.new.long.items c.in-Some.entry.moved) c.take_back-newest.result c.self.inside.weight
-      less.newest_one c.self.invariant.1).within,
+          less.newest_one c.self.invariant.1).within,
     )
 
 pub invariant_of-self-2 : goal.invariant_of-self-2
@@ -81,7 +80,7 @@ invariant_of-self-2 g c =
     c.take_back-newest.result c.self.inside.moved c.self.inside.len none c.in-Some.ensures.items c.self.invariant.0 c.take_back-newest.ensures in (
       less.counted,
       (weighed_less (unrolled c.self.inside.entries.items c.self.inside.long.items c.self.inside.moved) (unrolled c.pop_back.new.self.items c.take_back-newest.new.long.items c.in-Some.entry.moved) c.take_back-newest.result c.self.inside.weight
-      less.newest_one c.self.invariant.1).left c.weight.result c.weight.ensures,
+          less.newest_one c.self.invariant.1).left c.weight.result c.weight.ensures,
     )
 
 pub returns : goal.returns

@@ -1,4 +1,4 @@
-use Rattle.std.proofs.Common.{◌+◌, refl, sym, ap, ◌∙◌, arith, take}
+use Rattle.std.proofs.Common.{refl, sym, ap, ◌∙◌, arith, take}
 use Rattle.trac_session.specs.Journal.{sum_by}
 use Rattle.trac_session.specs.Passed.{printed_of}
 use Rattle.trac_session.proofs.Dropped.{last_adds_none}

@@ -23,7 +23,7 @@ invariant_of-self-2 g c =
     c.args.newest c.self.inside.len c.in-Ok.ensures.items c.push_back_reserved.ensures.items c.self.invariant.0 c.in_ok-kept.ensures.kept in (
       more.counted,
       weighed_more (unrolled c.self.inside.entries.items c.self.inside.long.items c.self.inside.moved) (unrolled c.push_back_reserved.new.self.items c.keep.new.long.items 0) c.args.newest c.self.inside.weight c.weight-weight.result more.newest_one
-      c.weight-weight.ensures (omega (arith, c.weight-weight.ensures, c.requires.light)) c.self.invariant.1,
+          c.weight-weight.ensures (omega (arith, c.weight-weight.ensures, c.requires.light)) c.self.invariant.1,
     )
 
 pub returns-clause-kept : goal.returns-clause-kept

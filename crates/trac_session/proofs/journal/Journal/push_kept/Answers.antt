@@ -26,7 +26,7 @@ invariant_of-self-2 g c =
     whole.one c.self.inside.len c.in-Ok.ensures.items c.push_back_reserved.ensures.items c.self.invariant.0 whole.kept in (
       more.counted,
       weighed_more (unrolled c.self.inside.entries.items c.self.inside.long.items c.self.inside.moved) (unrolled c.push_back_reserved.new.self.items c.self.inside.long.items 0) whole.one c.self.inside.weight c.weigh_kept.result more.newest_one
-      (c.weigh_kept.ensures ∙ light.0) (omega (arith, c.weigh_kept.ensures, light.1)) c.self.invariant.1,
+          (c.weigh_kept.ensures ∙ light.0) (omega (arith, c.weigh_kept.ensures, light.1)) c.self.invariant.1,
     )
 
 pub returns-clause-kept : goal.returns-clause-kept
