@@ -59,7 +59,7 @@ pub length_of_more : {X : Type 0} (old new : List X) (x : X) → new ≡ old ++ 
 length_of_more old new x more = ap length more ∙ length-append old (x ∷ [])
 
 -- there are so many records of so many moved bytes
-length-all_moved : (A : Type 0) (n : ℕ) → length (all_moved {A = A} n) ≡ n
+pub length-all_moved : (A : Type 0) (n : ℕ) → length (all_moved {A = A} n) ≡ n
 length-all_moved A n = length-replicate n Moved
 
 -- with so many more the length is more by as many

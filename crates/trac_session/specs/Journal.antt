@@ -33,10 +33,10 @@ AreRecords before weigh Holds (r ∷ records) t = (s : State) × IsOfStep before
 abbrev pub Remembers : {R : Type 0} → (R → State → Option State) → (R → ℕ) → List R → List R → State → State → Type 0
 Remembers {R} before weigh old new s t = (r : R) × (new ≡ old ++ r ∷ []) × IsOfStep before weigh r s t
 
--- what records weigh together
-abbrev pub weights_by : {R : Type 0} → (R → ℕ) → List R → ℕ
-weights_by weigh [] = 0
-weights_by weigh (r ∷ records) = weigh r + weights_by weigh records
+-- the sum of what is so counted of each record: of what they weigh, say
+abbrev pub sum_by : {R : Type 0} → (R → ℕ) → List R → ℕ
+sum_by count [] = 0
+sum_by count (r ∷ records) = count r + sum_by count records
 
 -- ---- the fields
 

@@ -4,6 +4,7 @@ pub mod Commands
 pub mod Journal
 pub mod Counted
 pub mod Weighed
+pub mod Passed
 pub mod Goals
 pub mod Directions
 -- How proofs store these values.

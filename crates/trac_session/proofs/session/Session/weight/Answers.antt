@@ -1,10 +1,7 @@
 use Rattle.std.proofs.Common.{◌∙◌, arith}
 use Rattle.trac_rules.proofs.Bounded.{weights_within_losses}
-use Rattle.trac_session.proofs.Summed.{journal_bounded, journal_weighs}
+use Rattle.trac_session.proofs.Summed.{journal_weighs}
 use Rattle.trac_session.proofs.session.Session.weight.Goals as goal
-
-pub weight-requires : goal.weight-requires
-weight-requires g c = journal_bounded _ c.self.inside.journal c.self.inside.machine.state (omega (arith, c.self.invariant.within_limit, c.self.invariant.not_too_many)) c.self.invariant.records
 
 pub returns-clause-together : goal.returns-clause-together
 returns-clause-together g c = c.weight.ensures ∙ journal_weighs _ _ _ _ c.self.inside.journal _ _ c.self.view_is c.self.invariant.records
