@@ -1,7 +1,8 @@
 -- Sessions as their fields show them, and what the calls make of the fields.
 use Rattle.std.proofs.Common.{◌≡◌, ℕ, suc, ◌+◌, ◌-◌, ◌<◌, ◌≤◌, Bool, true, false, List, [], ◌∷◌, ◌++◌, length, take, drop, reverse, refl, sym, ap, subst, ◌∙◌, arith}
 use Rattle.std.specs.Prelude.{Option, Some, Result, Ok, Err, OnOk, IfErr}
-use Rattle.std.proofs.lemmas.List.{length-append, length-reverse}
+use Rattle.std.proofs.Math.Seq.{take-length}
+use Rattle.std.proofs.lemmas.List.{length-append, length-reverse, length-drop, take-append-le}
 use Rattle.trac_rules.specs.declared.limit.TheConstants.{TAPE_LIMIT}
 use Rattle.trac_rules.specs.declared.refusal.Refusal.{Refusal}
 use Rattle.trac_rules.specs.declared.refusal.Refusal.TheVariants.{Memory, TooLong, NeedInput, Ended, JournalFull, AtStart, Closed, NotMet}
@@ -99,6 +100,13 @@ pub Commit_of_fields : {R : Type 0} → (before : R → State → Option State) 
     answer Commit p ≡ done (plain_of before limit rest ended none settled_last)
 Commit_of_fields before limit bytes rest ended journal none last settled_last p view cut empty at =
     rw (cut, empty, at) (ap (answer Commit) (sym view) ∙ answer_Commit (plain_of before limit bytes ended journal last))
+
+-- the tape from the position on, as it is made: turned round, and cut
+pub turned_and_cut : (bytes turned rest : List ℕ) (k n : ℕ) → k ≤ length bytes → turned ≡ drop k bytes ++ take k bytes → n ≡ length bytes - k → rest ≡ take n turned → rest ≡ drop k bytes
+turned_and_cut bytes turned rest k n l turned_is n_is rest_is =
+    let whole : n ≡ length (drop k bytes) = omega (arith, length-drop k bytes) in
+    let fits : n ≤ length (drop k bytes) = omega arith in
+    rest_is ∙ ap (take n) turned_is ∙ take-append-le n (drop k bytes) (take k bytes) fits ∙ ap (λ m. take m (drop k bytes)) whole ∙ take-length (drop k bytes)
 
 -- a feed behind the end
 pub Feed_closed_of_fields : {R : Type 0} → (before : R → State → Option State) (limit : ℕ) (bytes : List ℕ) (ended : Bool) (journal : List R) (last : State) (p : PlainSession) (more : List ℕ) →

@@ -1,5 +1,5 @@
 //! A session: a processor that goes forwards and backwards over an input that is fed to it.
-ghost use Rattle.std.specs.Prelude.{◌≡◌, ◌==◌, ◌≤◌, drop, length, IfOk, IsOkUnless};
+ghost use Rattle.std.specs.Prelude.{◌≡◌, ◌==◌, ◌≤◌, ◌-◌, drop, length, IfOk, IsOkUnless};
 ghost use Rattle.trac_rules.specs.declared.reply.Reply.TheVariants.{Done};
 ghost use Rattle.trac_rules.specs.Reading.{unread};
 ghost use Rattle.trac_rules.specs.Session.{new_session, Feed, End, Step, Back, Commit, answer, Answers, IsWalk, no_goal, settled};
@@ -11,7 +11,7 @@ use crate::keeping::step_kept;
 use crate::walk::Walk;
 use std::alloc::{Allocator, Global};
 use std::marker::Model;
-use trac_gap::{SlidingBuf, TwoEnds};
+use trac_gap::TwoEnds;
 use trac_rules::limit::{JOURNAL_LIMIT, TAPE_LIMIT};
 use trac_rules::refusal::Refusal;
 use trac_step::{Core, Machine, Mark, Tape};
@@ -20,7 +20,7 @@ use trac_step::{Core, Machine, Mark, Tape};
 /// from the last commit on, the last of which is the machine's.
 #[derive(Drop)]
 pub struct Session<A: Allocator + Copy = Global> {
-    pub(crate) tape: SlidingBuf<u8, A>,
+    pub(crate) tape: Vec<u8, A>,
     ended: bool,
     pub(crate) machine: Machine<A>,
     pub(crate) journal: Journal<A>,
@@ -54,7 +54,7 @@ impl<A: Allocator + Copy> Session<A> {
         ensures err { IsOkUnless result Refusal.Memory }
     {
         Ok(Session {
-            tape: SlidingBuf::new(alloc),
+            tape: Vec::new(alloc),
             ended: false,
             machine: Machine::new(alloc)?,
             journal: Journal::new(alloc),
@@ -127,7 +127,7 @@ impl<A: Allocator + Copy> Session<A> {
     pub fn unread(&self) -> &[u8]
         ensures { result.now ≡ unread self.now.tape self.now.last }
     {
-        self.tape.as_slice().split_at(self.machine.position()).1
+        self.tape.split_at(self.machine.position()).1
     }
 
     /// Makes the last state the first one: what is pending is released, so read it before, and what is read of the
@@ -176,12 +176,26 @@ impl<A: Allocator + Copy> Session<A> {
 // proof for a certain one shows anew, at each call, what its lists are.
 fn settle<E: TwoEnds<u8, A>, M: TwoEnds<Mark, A>, A: Allocator + Copy>(
     machine: &mut Core<E, M, A>,
-    tape: &mut SlidingBuf<u8, A>,
+    tape: &mut Vec<u8, A>,
 )
     requires { machine.old.state.position ≤ length tape.old.items }
     ensures state { machine.new.state ≡ settled machine.old.state }
     ensures tape { tape.new.items ≡ drop machine.old.state.position tape.old.items }
 {
-    tape.drop_front(machine.position());
+    let read = machine.position();
+    drop_front(tape, read);
     machine.settle();
+}
+
+// Takes so many bytes off the front. Where there are none to take, the length of the text costs nothing.
+fn drop_front<A: Allocator>(text: &mut Vec<u8, A>, count: usize)
+    requires { count ≤ length text.old.items }
+    ensures items { text.new.items ≡ drop count text.old.items }
+    ensures len { length text.new.items ≡ length text.old.items - count }
+{
+    if count == 0 {
+        return;
+    }
+    text.rotate_left(count);
+    text.truncate(text.len() - count);
 }
