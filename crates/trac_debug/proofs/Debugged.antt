@@ -62,7 +62,7 @@ turn_does number (code.TheVariants.Back n) other = refl
 turn_does number (code.TheVariants.Until name n) other = refl
 turn_does number (code.TheVariants.Return name) other = refl
 turn_does number code.TheVariants.Print other = refl
-turn_does number code.TheVariants.Commit other = refl
+turn_does number (code.TheVariants.Commit keep) other = refl
 turn_does number code.TheVariants.Quit other = absurd (other refl)
 
 -- ---- a turn

@@ -7,8 +7,8 @@ use Rattle.trac_rules.specs.declared.refusal.Refusal.TheVariants.{Memory, TooLon
 use Rattle.trac_rules.specs.declared.reply.Reply.{Reply}
 use Rattle.trac_rules.specs.declared.reply.Reply.TheVariants.{Done, Refused}
 use Rattle.trac_rules.specs.Session as session
-use Rattle.trac_rules.specs.Session.{PlainSession, Goal, Answer, IsWalk, Answers, answer, done, refused, no_goal}
-use Rattle.trac_rules.proofs.Replies.{Step_refusals, answer_Commit, committed}
+use Rattle.trac_rules.specs.Session.{PlainSession, Goal, Answer, IsWalk, Answers, answer, committed, done, first_kept, refused, no_goal}
+use Rattle.trac_rules.proofs.Replies.{Step_refusals, answer_Commit}
 use Rattle.trac_session.specs.Goals.{is_call_of, outcome}
 use Rattle.trac_session.proofs.Walked.{GoesOn, Back_answered, Back_refused_same, Step_refused_same, goes_on_first, goes_on_more, stopped_walk, met_walk, whole_walk}
 use Rattle.trac_run.specs.declared.ending.Ending.{Ending}
@@ -116,7 +116,7 @@ some_reply (Return name) old =
     let why : Option Refusal = outcome (nat_lt 0 walk.0 && is_call_of name walk.2.last) walk.1 in
     (walk_line (codes "return") walk.0 why, walk.2, (walk.0, why, (walk.1, walk.3, refl), refl))
 some_reply Print old = (state_text old, old, (refl, refl))
-some_reply Commit old = (text_line (codes "commit") old.last.output, committed old, (refl, answer_Commit old))
+some_reply (Commit keep) old = (text_line (codes "commit") (first_kept keep old).output, committed keep old, (refl, answer_Commit keep old))
 some_reply Quit old = ([], old, (refl, refl))
 
 -- ---- texts

@@ -17,8 +17,8 @@ pub data Command : Type 0 where
   Return : List ℕ → Command
   -- show the state
   Print : Command
-  -- show what is pending, and commit
-  Commit : Command
+  -- keep so many steps, and show what was released
+  Commit : ℕ → Command
   Quit : Command
 
 -- ---- words
@@ -46,7 +46,7 @@ name_of (b ∷ bs) = Some (b ∷ bs)
 abbrev pub alone : List ℕ → Option Command
 alone word =
     if bytes_eq word (codes "p") then Some Print else
-    if bytes_eq word (codes "c") then Some Commit else
+    if bytes_eq word (codes "c") then Some (Commit 0) else
     if bytes_eq word (codes "q") then Some Quit else
     None
 
@@ -56,6 +56,7 @@ with_one word first =
     if bytes_eq word (codes "s") then option_map Forward (count_of first) else
     if bytes_eq word (codes "b") then option_map Back (count_of first) else
     if bytes_eq word (codes "r") then option_map Return (name_of first) else
+    if bytes_eq word (codes "c") then option_map Commit (count_of first) else
     None
 
 -- until a name is met: where there are both a name and a count

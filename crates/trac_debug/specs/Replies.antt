@@ -3,7 +3,7 @@ use Rattle.std.specs.Prelude.{◌≡◌, ℕ, List, [], ◌++◌, length, max, O
 use Rattle.trac_rules.specs.declared.refusal.Refusal.{Refusal}
 use Rattle.trac_rules.specs.declared.refusal.Refusal.TheVariants as refusals
 use Rattle.trac_rules.specs.Session as session
-use Rattle.trac_rules.specs.Session.{PlainSession, IsWalk, answer, done, no_goal}
+use Rattle.trac_rules.specs.Session.{PlainSession, IsWalk, answer, done, first_kept, no_goal}
 use Rattle.trac_session.specs.Goals.{IsSearch, is_call_of}
 use Rattle.trac_debug.specs.Commands.{Command, Forward, Back, Until, Return, Print, Commit, Quit}
 use Rattle.trac_debug.specs.Texts.{feed, state_text, text_line}
@@ -45,7 +45,7 @@ Replies (Until name n) old reply new = ShowsWalk (λ steps why. IsSearch session
 Replies (Return name) old reply new =
     ShowsWalk (λ steps why. IsSearch session.Back (is_call_of name) (max 1 (length old.earlier)) old steps why new) (codes "return") reply
 Replies Print old reply new = (reply ≡ state_text old) × (new ≡ old)
--- what was pending is shown, and then there is none
-Replies Commit old reply new = (reply ≡ text_line (codes "commit") old.last.output) × (answer session.Commit old ≡ done new)
+-- what was pending at the first state that stays is shown, and released
+Replies (Commit keep) old reply new = (reply ≡ text_line (codes "commit") (first_kept keep old).output) × (answer (session.Commit keep) old ≡ done new)
 -- it is never replied to: the session ends
 Replies Quit old reply new = (reply ≡ []) × (new ≡ old)

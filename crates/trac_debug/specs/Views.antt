@@ -8,5 +8,5 @@ command_seen (code.TheVariants.Back n) = Back n
 command_seen (code.TheVariants.Until name n) = Until name.now n
 command_seen (code.TheVariants.Return name) = Return name.now
 command_seen code.TheVariants.Print = Print
-command_seen code.TheVariants.Commit = Commit
+command_seen (code.TheVariants.Commit keep) = Commit keep
 command_seen code.TheVariants.Quit = Quit

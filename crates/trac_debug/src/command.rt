@@ -25,8 +25,8 @@ pub enum Command<'a> {
     Return(&'a [u8]),
     /// Show the state.
     Print,
-    /// Show what is pending, and commit.
-    Commit,
+    /// Keep so many steps, show what was released.
+    Commit(u64),
     /// End the session.
     Quit,
 }
@@ -58,7 +58,7 @@ fn command_alone(word: &[u8]) -> Option<Command<'static>>
 {
     match word {
         b"p" => Some(Command::Print),
-        b"c" => Some(Command::Commit),
+        b"c" => Some(Command::Commit(0)),
         b"q" => Some(Command::Quit),
         _ => None,
     }
@@ -72,6 +72,7 @@ fn command_with_one<'a>(word: &[u8], first: &'a [u8]) -> Option<Command<'a>>
         b"s" => Some(Command::Forward(count(first)?)),
         b"b" => Some(Command::Back(count(first)?)),
         b"r" => Some(Command::Return(name(first)?)),
+        b"c" => Some(Command::Commit(count(first)?)),
         _ => None,
     }
 }

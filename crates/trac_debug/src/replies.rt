@@ -13,7 +13,7 @@ use trac_rules::byte::LINE_FEED;
 use trac_session::{Refusal, Session, Walk};
 
 /// Carries out a command, and gives the reply to it, which is exact: a word, how many steps were taken, and why no more
-/// were; or what was pending; or the state (this project's profile). To `Quit` nothing is replied. The error is that memory
+/// were; or what was released; or the state (this project's profile). To `Quit` nothing is replied. The error is that memory
 /// was refused for the reply: the command is carried out then, but for `Commit`.
 pub fn reply_to<A: Allocator + Copy>(
     alloc: A,
@@ -28,21 +28,22 @@ pub fn reply_to<A: Allocator + Copy>(
         Command::Until(name, count) => walk_reply(alloc, b"until", session.until(name, count)),
         Command::Return(name) => walk_reply(alloc, b"return", session.back_until(name)),
         Command::Print => state_lines(alloc, session),
-        Command::Commit => commit_reply(alloc, session),
+        Command::Commit(keep) => commit_reply(alloc, session, keep as usize),
         Command::Quit => Ok(Vec::new(alloc)),
     }
 }
 
-// Commits, and shows what was pending, as a line. Nothing is committed where memory is refused for the line.
+// Keeps so many steps, and shows what was released, as a line. Nothing is committed where memory is refused for the line.
 fn commit_reply<A: Allocator + Copy>(
     alloc: A,
     session: &mut Session<A>,
+    keep: usize,
 ) -> Result<Vec<u8, A>, AllocError>
-    ensures { IfOk result (λ reply. Replies Commit session.old reply.items session.new) }
+    ensures { IfOk result (λ reply. Replies (Commit keep) session.old reply.items session.new) }
 {
     let mut reply = Vec::new(alloc);
-    text_line_into(b"commit", session.pending(), &mut reply)?;
-    session.commit();
+    text_line_into(b"commit", session.pending_before(keep), &mut reply)?;
+    session.commit(keep);
     Ok(reply)
 }
 

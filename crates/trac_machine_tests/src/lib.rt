@@ -11,6 +11,8 @@ mod loading;
 #[cfg(test)]
 mod machines;
 #[cfg(test)]
+mod releasing;
+#[cfg(test)]
 mod short_steps;
 pub mod shown;
 #[cfg(test)]

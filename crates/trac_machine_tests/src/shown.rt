@@ -232,12 +232,15 @@ fn add_blocks<A: Allocator + Copy>(out: &mut Vec<u8>, store: &Store<A>) -> Resul
 fn add_state<E: TwoEnds<u8, A>, M: TwoEnds<Mark, A>, A: Allocator + Copy>(
     out: &mut Vec<u8>,
     machine: &Core<E, M, A>,
+    printed: &[u8],
+    read: usize,
 ) -> Result<(), AllocError> {
     add_texts(out, machine)?;
-    add_number(out, machine.position())?;
+    add_number(out, machine.position().saturating_add(read))?;
     add(out, &[machine.meta(), machine.trace() as u8])?;
     add_forms(out, machine.store())?;
     add_blocks(out, machine.store())?;
+    add(out, printed)?;
     add(out, machine.output())
 }
 
@@ -246,7 +249,17 @@ pub fn state_shown<E: TwoEnds<u8, A>, M: TwoEnds<Mark, A>, A: Allocator + Copy>(
     alloc: Global,
     machine: &Core<E, M, A>,
 ) -> Result<Vec<u8>, AllocError> {
+    state_shown_after(alloc, machine, b"", 0)
+}
+
+/// The same with what was released before it: bytes of the output, and so many bytes of the input.
+pub fn state_shown_after<E: TwoEnds<u8, A>, M: TwoEnds<Mark, A>, A: Allocator + Copy>(
+    alloc: Global,
+    machine: &Core<E, M, A>,
+    printed: &[u8],
+    read: usize,
+) -> Result<Vec<u8>, AllocError> {
     let mut out = Vec::new(alloc);
-    add_state(&mut out, machine)?;
+    add_state(&mut out, machine, printed, read)?;
     Ok(out)
 }

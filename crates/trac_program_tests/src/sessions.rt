@@ -30,6 +30,20 @@ const SESSIONS: &[(&[u8], &[u8], &[u8], Ending)] = &[
         b"until 5 NotMet\nreturn 5 NotMet\n",
         Ending::Ended,
     ),
+    // The first state that stays is the one after eleven steps, where `AB` is printed. After the way back to it nothing is left.
+    (
+        b"AB'",
+        b"s 19\nc 8\nb 99\nc\n",
+        b"forward 19\ncommit [AB]\nback 8 AtStart\ncommit []\n",
+        Ending::Ended,
+    ),
+    // The first state that stays is the one before, where nothing is printed.
+    (
+        b"AB'",
+        b"s 19\nc 009\nb 9\nc 999999999\ns 1\nc 0\n",
+        b"forward 19\ncommit []\nback 9\ncommit []\nforward 1\ncommit [AB]\n",
+        Ending::Ended,
+    ),
     (
         b"AB'",
         b"\r\n\ns 007\r\n\nb 1\r",

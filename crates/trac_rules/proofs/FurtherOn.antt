@@ -14,7 +14,7 @@ use Rattle.trac_rules.proofs.Restored.{elsewhere, restored-elsewhere}
 -- ---- records of scanning
 
 -- what is restored stands where the state after stands
-stands_there : (r : Record) (s t : State) → IsOfScanning r → restored r t ≡ Some s → (s.position ≡ t.position) × (s.output ≡ t.output)
+pub stands_there : (r : Record) (s t : State) → IsOfScanning r → restored r t ≡ Some s → (s.position ≡ t.position) × (s.output ≡ t.output)
 stands_there r s t of back =
     let there : Some s ≡ Some (elsewhere t.position t.output s) =
     sym back ∙ restored-elsewhere r t t.position t.output of ∙ ap (option_map (elsewhere t.position t.output)) back in
@@ -72,7 +72,7 @@ rest_further_on k o call rest before back =
     }
 
 -- parts that are put together are all there
-put_together_parts : (texts : Option Texts) (storage : Option Storage) (rest : Option Rest) (s : State) → put_together texts storage rest ≡ Some s →
+pub put_together_parts : (texts : Option Texts) (storage : Option Storage) (rest : Option Rest) (s : State) → put_together texts storage rest ≡ Some s →
     (texts ≡ Some (texts_in s)) × (storage ≡ Some (storage_of s)) × (rest ≡ Some (rest_of s))
 put_together_parts (Some a) (Some b) (Some c) s e =
     let same : state_of a b c ≡ s = cc in

@@ -9,12 +9,12 @@ use Rattle.trac_rules.specs.declared.refusal.Refusal.TheVariants.{TooLong, NeedI
 use Rattle.trac_rules.specs.State.{Environment, State, Tape}
 use Rattle.trac_rules.specs.Reading.{unread}
 use Rattle.trac_rules.specs.Stepping.{step}
-use Rattle.trac_rules.specs.Session.{PlainSession, Feed, End, Step, Commit, done, refused, settled, answer, accepted_by, over, repeated}
+use Rattle.trac_rules.specs.Session.{PlainSession, Feed, End, Step, Commit, done, refused, settled, committed, answer, accepted_by, over, repeated}
 use Rattle.trac_rules.specs.Running.{Output, Stop, BudgetSpent, InputEnded, LimitPassed, stop_of, silent, going_on, output_from}
 use Rattle.trac_rules.specs.GoingOn.{whole, prepended, going_on_from}
 use Rattle.trac_rules.proofs.Steps.{step_within, step-whole, step-silent_Ok, step-silent_Err, silent_of_none, output_from-output, output_from-cut, moved_back}
 use Rattle.trac_rules.proofs.Refusals.{step_hopeless-silent}
-use Rattle.trac_rules.proofs.Replies.{accepted_done, Step_done, Step_refused_TooLong, Step_refused_NeedInput, Step_refused_Ended, Feed_done, End_done, committed, Commit_done}
+use Rattle.trac_rules.proofs.Replies.{accepted_done, Step_done, Step_refused_TooLong, Step_refused_NeedInput, Step_refused_Ended, Feed_done, End_done, Commit_done}
 
 -- ---- outputs
 
@@ -107,9 +107,9 @@ settled_is s =
     λ i. record s { output = output i; position = place i }
 
 -- what a commit leaves
-pub after_Commit : (p q : PlainSession) → answer Commit p ≡ done q → (q.last.output ≡ []) × (q.earlier ≡ []) × (q.last.position ≡ 0) × (q.limit ≡ p.limit)
+pub after_Commit : (p q : PlainSession) → answer (Commit 0) p ≡ done q → (q.last.output ≡ []) × (q.earlier ≡ []) × (q.last.position ≡ 0) × (q.limit ≡ p.limit)
 after_Commit p q h =
-    rw (Commit_done p q h) (ap (λ (s : State). s.output) (settled_is p.last), refl, ap (λ (s : State). s.position) (settled_is p.last), refl)
+    rw (Commit_done 0 p q h) (ap (λ (s : State). s.output) (settled_is p.last), refl, ap (λ (s : State). s.position) (settled_is p.last), refl)
 
 -- a run goes on from a settled state as from the state itself
 pub output_from-settled : (n : ℕ) (tape : Tape) (more : List ℕ) (s : State) → s.position ≤ length tape.bytes →
@@ -120,14 +120,14 @@ output_from-settled n tape more s l =
     ∙ sym (output_from-output n (over (whole (record tape { bytes = drop s.position tape.bytes }) more)) (moved_back s.position s) (drop (length s.output) s.output))
 
 -- a commit writes the pending output
-pub going_on-Commit : (p q : PlainSession) (more : List ℕ) (n : ℕ) → p.last.position ≤ length p.tape.bytes → answer Commit p ≡ done q →
+pub going_on-Commit : (p q : PlainSession) (more : List ℕ) (n : ℕ) → p.last.position ≤ length p.tape.bytes → answer (Commit 0) p ≡ done q →
     going_on_from p more n ≡ prepended p.last.output (going_on_from q more n)
 going_on-Commit p q more n l h =
-    let rest : Output = output_from n (over (whole (committed p).tape more)) (settled p.last) in
+    let rest : Output = output_from n (over (whole (committed 0 p).tape more)) (settled p.last) in
     let nothing : (settled p.last).output ≡ [] = ap (λ (s : State). s.output) (settled_is p.last) in
     ap (prepended p.last.output) (output_from-settled n p.tape more p.last l)
     ∙ ap (λ (text : List ℕ). prepended p.last.output (prepended text rest)) (sym nothing)
-    ∙ ap (λ (s : PlainSession). prepended p.last.output (going_on_from s more n)) (sym (Commit_done p q h))
+    ∙ ap (λ (s : PlainSession). prepended p.last.output (going_on_from s more n)) (sym (Commit_done 0 p q h))
 
 -- what a feed leaves
 pub after_Feed : (p q : PlainSession) (bytes : List ℕ) → p.last.position ≤ length p.tape.bytes → answer (Feed bytes) p ≡ done q →

@@ -33,3 +33,4 @@ pub mod Bounded
 pub mod Losses
 pub mod CallRows
 pub mod MovedOn
+pub mod Released

@@ -1,5 +1,5 @@
 -- What the reply to a command says of the session.
-use Rattle.std.proofs.Common.{◌≡◌, ℕ, ◌+◌, ◌<◌, ◌≤◌, Bool, true, false, ltb, leb, List, [], ◌∷◌, ◌++◌, length, drop, refl, sym, ap, ◌∙◌, inl, inr, ⊎_elim}
+use Rattle.std.proofs.Common.{◌≡◌, ℕ, ◌+◌, ◌<◌, ◌≤◌, Bool, true, false, ltb, leb, List, [], ◌∷◌, ◌++◌, length, refl, sym, ap, ◌∙◌, inl, inr, ⊎_elim}
 use Rattle.std.specs.Prelude.{Some, Result, Ok, Err, if◌then◌else◌, ◌⊎◌}
 use Rattle.std.proofs.lemmas.Bool.{lt-ltb, le-ltb, le-leb, lt-leb, cases_Bool, cond-true, cond-false, cases_lt}
 use Rattle.trac_rules.specs.declared.limit.TheConstants.{TAPE_LIMIT}
@@ -9,7 +9,7 @@ use Rattle.trac_rules.specs.declared.reply.Reply.{Reply}
 use Rattle.trac_rules.specs.declared.reply.Reply.TheVariants.{Done, Refused}
 use Rattle.trac_rules.specs.State.{State}
 use Rattle.trac_rules.specs.Stepping.{step}
-use Rattle.trac_rules.specs.Session.{PlainSession, Feed, End, Step, Back, Commit, Answer, done, refused, stepped_to, backed_to, settled, answer, accepted_by, over}
+use Rattle.trac_rules.specs.Session.{PlainSession, Feed, End, Step, Back, Commit, Answer, done, refused, stepped_to, backed_to, committed, answer, accepted_by, over}
 use Rattle.trac_rules.proofs.Refusals.{step_refusals, step_refused_otherwise}
 
 -- a refused command is not done
@@ -195,22 +195,14 @@ answer_End p = refl
 pub End_done : (p q : PlainSession) → answer End p ≡ done q → q ≡ with_end p
 End_done p q h = sym (ap (λ a. a.session) (sym (answer_End p) ∙ h))
 
--- the session with its last state alone
-abbrev pub committed : PlainSession → PlainSession
-committed p = record p {
-  tape = record p.tape { bytes = drop p.last.position p.tape.bytes };
-  earlier = [];
-  last = settled p.last;
-}
-
 -- a commit is always done
-pub answer_Commit : (p : PlainSession) → answer Commit p ≡ done (committed p)
+pub answer_Commit : (keep : ℕ) (p : PlainSession) → answer (Commit keep) p ≡ done (committed keep p)
 unfolding answer
-answer_Commit p = refl
+answer_Commit keep p = refl
 
--- a commit that was done left the last state alone
-pub Commit_done : (p q : PlainSession) → answer Commit p ≡ done q → q ≡ committed p
-Commit_done p q h = sym (ap (λ a. a.session) (sym (answer_Commit p) ∙ h))
+-- what a commit that was done left
+pub Commit_done : (keep : ℕ) (p q : PlainSession) → answer (Commit keep) p ≡ done q → q ≡ committed keep p
+Commit_done keep p q h = sym (ap (λ a. a.session) (sym (answer_Commit keep p) ∙ h))
 
 -- a step back from the first state is refused
 pub answer_Back_start : (p : PlainSession) → p.earlier ≡ [] → answer Back p ≡ refused AtStart p

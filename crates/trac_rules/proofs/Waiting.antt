@@ -14,13 +14,13 @@ use Rattle.trac_rules.specs.Reading.{read_up_to, rest_read, string_read, unread}
 use Rattle.trac_rules.specs.Performing.{after_call, effect_of, performed, primitive_of, printed_behind, trace_line}
 use Rattle.trac_rules.specs.Stepping.{carried_out, step}
 use Rattle.trac_rules.specs.Running.{silent}
-use Rattle.trac_rules.specs.Session.{PlainSession, Step, Feed, Commit, done, refused, settled, answer, over}
+use Rattle.trac_rules.specs.Session.{PlainSession, Step, Feed, Commit, done, refused, settled, committed, answer, over}
 use Rattle.trac_rules.proofs.Outcomes.{limited_Err, seen_as-Err}
 use Rattle.trac_rules.proofs.Positions.{position-append_neither}
 use Rattle.trac_rules.proofs.Scans.{ScanShows, place_of, scan_keeps_place, scan_shows}
 use Rattle.trac_rules.proofs.Steps.{moved_back, step-cut, step-silent_Err}
 use Rattle.trac_rules.proofs.Refusals.{byte_there, wants_input_of_open, wants_none}
-use Rattle.trac_rules.proofs.Replies.{with_more, committed, answer_Step_Err, Step_refused, Step_refused_NeedInput, Feed_done, Commit_done}
+use Rattle.trac_rules.proofs.Replies.{with_more, answer_Step_Err, Step_refused, Step_refused_NeedInput, Feed_done, Commit_done}
 
 -- the byte that ends a text of the input
 abbrev pub meta_of : State → ℕ
@@ -110,14 +110,14 @@ Feed_waits p q bytes some none h fed =
     rw (Feed_done bytes p q fed).0 still
 
 -- a step of a session that waits goes on waiting after a commit
-pub Commit_waits : (p q : PlainSession) → 1 ≤ p.limit → answer Step p ≡ refused NeedInput p → answer Commit p ≡ done q → answer Step q ≡ refused NeedInput q
+pub Commit_waits : (p q : PlainSession) → 1 ≤ p.limit → answer Step p ≡ refused NeedInput p → answer (Commit 0) p ≡ done q → answer Step q ≡ refused NeedInput q
 Commit_waits p q some h committing =
     let k = p.last.position in
     let silently : step (over p.tape) (silent p.last) ≡ Err NeedInput = step-silent_Err (over p.tape) p.last NeedInput (Step_refused_NeedInput p p h) (λ no. cc) in
     let none_left : [] ≡ drop (length p.last.output) p.last.output = sym (drop_all (length p.last.output) p.last.output (omega arith)) in
-    let settled_step : step (over (committed p).tape) (settled p.last) ≡ Err NeedInput =
-    ap (λ (o : List ℕ). step (over (committed p).tape) (record p.last { output = o; position = p.last.position - k })) (sym none_left)
+    let settled_step : step (over (committed 0 p).tape) (settled p.last) ≡ Err NeedInput =
+    ap (λ (o : List ℕ). step (over (committed 0 p).tape) (record p.last { output = o; position = p.last.position - k })) (sym none_left)
     ∙ step-cut k (over p.tape) (silent p.last) (omega arith)
     ∙ ap (seen_as (moved_back k)) silently in
-    let still : answer Step (committed p) ≡ refused NeedInput (committed p) = answer_Step_Err (committed p) NeedInput (omega (arith, some)) settled_step in
-    rw (Commit_done p q committing) still
+    let still : answer Step (committed 0 p) ≡ refused NeedInput (committed 0 p) = answer_Step_Err (committed 0 p) NeedInput (omega (arith, some)) settled_step in
+    rw (Commit_done 0 p q committing) still

@@ -1,5 +1,5 @@
 -- Words for the worked rows: what a session is, and has replied, after a list of commands, and what a call does with forms.
-use Rattle.std.specs.Prelude.{◌≡◌, ℕ, ◌==◌, List, [], ◌∷◌, Ok, codes}
+use Rattle.std.specs.Prelude.{◌≡◌, ℕ, ◌==◌, List, [], ◌∷◌, ◌++◌, replicate, Ok, codes}
 use Rattle.std.specs.FinMap as map
 use Rattle.std.specs.List.{slice_split}
 use Rattle.trac_rules.specs.declared.byte.TheConstants.{COMMA}
@@ -10,7 +10,7 @@ use Rattle.trac_rules.specs.Effect.{argument, forces, leaves}
 use Rattle.trac_rules.specs.Form.{pointed_at}
 use Rattle.trac_rules.specs.Performing.{effect_of, primitive_of}
 use Rattle.trac_rules.specs.State.{Block, Environment, Held, State, storage_of}
-use Rattle.trac_rules.specs.Session.{PlainSession, Command, answer}
+use Rattle.trac_rules.specs.Session.{PlainSession, Command, Feed, Step, answer, new_session}
 
 -- ---- sessions
 
@@ -27,6 +27,10 @@ replies_to (command ∷ commands) p = (answer command p).reply ∷ replies_to co
 -- the last state after these commands
 abbrev pub state_after : List Command → PlainSession → State
 state_after commands p = (session_after commands p).last
+
+-- the session after nineteen steps over a text of two bytes, and then these commands
+abbrev pub after_nineteen : List Command → PlainSession
+after_nineteen commands = session_after (Feed (codes "AB'") ∷ replicate 19 Step ++ commands) (new_session 64)
 
 -- ---- calls on forms
 

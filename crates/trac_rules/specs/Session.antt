@@ -1,5 +1,5 @@
 -- The plain session: a limit, a tape, and a list of states that is never empty.
-use Rattle.std.specs.Prelude.{◌≡◌, ◌⊎◌, ℕ, zero, suc, ◌+◌, ◌-◌, ◌<◌, ◌≤◌, nat_lt, nat_le, List, [], ◌∷◌, ◌++◌, length, drop, if◌then◌else◌, Bool, true, false, Option, None, Some, Result, Ok, Err, MatchOption, option_and_then}
+use Rattle.std.specs.Prelude.{◌≡◌, ◌⊎◌, ℕ, zero, suc, ◌+◌, ◌-◌, ◌<◌, ◌≤◌, nat_lt, nat_le, List, [], ◌∷◌, ◌++◌, length, map, take, drop, if◌then◌else◌, Bool, true, false, Option, None, Some, Result, Ok, Err, MatchOption, option_and_then}
 use Rattle.trac_rules.specs.declared.limit.TheConstants.{TAPE_LIMIT}
 use Rattle.trac_rules.specs.declared.refusal.Refusal.{Refusal}
 use Rattle.trac_rules.specs.declared.refusal.Refusal.TheVariants.{TooLong, JournalFull, AtStart, Closed}
@@ -10,7 +10,7 @@ use Rattle.trac_rules.specs.Outcomes.{OrMemory}
 use Rattle.trac_rules.specs.Stepping.{step}
 
 pub record PlainSession : Type 0 where
-  -- how many states there may be beside the last one
+  -- how many states there may be before the last one
   pub limit : ℕ
   pub tape : Tape
   -- the states before the last one, the newest first
@@ -25,7 +25,8 @@ pub data Command : Type 0 where
   End : Command
   Step : Command
   Back : Command
-  Commit : Command
+  -- how many states are to stay before the last one
+  Commit : ℕ → Command
 
 -- ---- each command: the reply, and the session after it
 
@@ -60,25 +61,42 @@ backed_to (s ∷ earlier) p = done (record p { earlier = earlier; last = s })
 abbrev pub over : Tape → Environment
 over tape = record { tape = tape }
 
--- the state with so many bytes off the front of its output, over a tape that has lost so many bytes
+-- the state without the first `output` bytes of its output, over a tape that has lost its first `position` bytes
 abbrev pub released : ℕ → ℕ → State → State
 released output position s = record s { output = drop output s.output; position = s.position - position }
 
--- the state with all its output released, over a tape that has lost what is read
+-- the state with all its output released, over a tape that has lost what the state has read
 abbrev pub settled : State → State
 settled s = released (length s.output) s.position s
+
+-- the first of a list of states, which is given by its last state and those before it, the newest first
+abbrev pub first_of : State → List State → State
+first_of s [] = s
+first_of s (t ∷ earlier) = first_of t earlier
+
+-- the first state that a commit keeps: so many states before the last one, or the first of all where there are fewer
+abbrev pub first_kept : ℕ → PlainSession → State
+first_kept keep p = first_of p.last (take keep p.earlier)
+
+-- a state after the output of the first one is released, over a tape that has lost what the first one has read
+abbrev pub released_by : State → State → State
+released_by first s = released (length first.output) first.position s
+
+-- the last state stays, and so many before it, or all where there are fewer. The output of the first of these is released: each of them
+-- loses it from the front of its own output. The tape loses what the first one has read, and each position falls by as much
+abbrev pub committed : ℕ → PlainSession → PlainSession
+committed keep p = record p {
+  tape = record p.tape { bytes = drop (first_kept keep p).position p.tape.bytes };
+  earlier = map (released_by (first_kept keep p)) (take keep p.earlier);
+  last = released_by (first_kept keep p) p.last;
+}
 
 unfoldable pub answer : Command → PlainSession → Answer
 answer (Feed bytes) p = fed bytes p
 answer End p = done (record p { tape = record p.tape { ended = true } })
 answer Step p = if nat_lt (length p.earlier) p.limit then stepped_to (step (over p.tape) p.last) p else refused JournalFull p
 answer Back p = backed_to p.earlier p
--- the last state alone stays, settled; the tape loses what is read
-answer Commit p = done (record p {
-  tape = record p.tape { bytes = drop p.last.position p.tape.bytes };
-  earlier = [];
-  last = settled p.last;
-})
+answer (Commit keep) p = done (committed keep p)
 
 -- ---- the one free choice: memory
 

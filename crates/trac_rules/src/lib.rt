@@ -5,6 +5,7 @@
 pub mod blocks;
 pub mod byte;
 pub mod call_rows;
+pub mod commits;
 pub mod item;
 pub mod kind;
 pub mod laws;

@@ -61,22 +61,22 @@ pub fn worked_rows()
     ensures resumed_position { (state_after (Feed (codes "AB") ∷ replicate 8 Step ++ Feed (codes "'") ∷ Step ∷ []) (new_session 64)).position ≡ 3 }
     ensures resumed_again { state_after (Feed (codes "AB") ∷ replicate 8 Step ++ Feed (codes "'") ∷ Step ∷ Back ∷ Feed (codes "C'") ∷ Step ∷ []) (new_session 64) ≡ state_after (Feed (codes "AB") ∷ replicate 8 Step ++ Feed (codes "'") ∷ Step ∷ []) (new_session 64) }
     // A full journal refuses a step, until it is emptied.
-    ensures full_journal { replies_to (Feed (codes "AB'") ∷ replicate 5 Step ++ Commit ∷ Step ∷ Back ∷ Back ∷ []) (new_session 4) ≡ replicate 5 Done ++ Refused JournalFull ∷ Done ∷ Done ∷ Done ∷ Refused AtStart ∷ [] }
+    ensures full_journal { replies_to (Feed (codes "AB'") ∷ replicate 5 Step ++ Commit 0 ∷ Step ∷ Back ∷ Back ∷ []) (new_session 4) ≡ replicate 5 Done ++ Refused JournalFull ∷ Done ∷ Done ∷ Done ∷ Refused AtStart ∷ [] }
     // Behind the end of the input nothing is fed, and the rest is read without a meta character.
     ensures closed_replies { replies_to (Feed (codes "A") ∷ End ∷ Feed (codes "B") ∷ replicate 8 Step) (new_session 64) ≡ Done ∷ Done ∷ Refused Closed ∷ replicate 8 Done }
     ensures closed_active { (state_after (Feed (codes "A") ∷ End ∷ Feed (codes "B") ∷ replicate 8 Step) (new_session 64)).active ≡ codes "A)" }
     ensures closed_position { (state_after (Feed (codes "A") ∷ End ∷ Feed (codes "B") ∷ replicate 8 Step) (new_session 64)).position ≡ 1 }
     // Every kind of command, with refusals between them.
-    ensures all_kinds_replies { replies_to (Feed (codes "AB'") ∷ replicate 5 Step ++ Back ∷ End ∷ Feed (codes "C") ∷ Commit ∷ Back ∷ []) (new_session 4) ≡ replicate 5 Done ++ Refused JournalFull ∷ Done ∷ Done ∷ Refused Closed ∷ Done ∷ Refused AtStart ∷ [] }
-    ensures all_kinds_active { (state_after (Feed (codes "AB'") ∷ replicate 5 Step ++ Back ∷ End ∷ Feed (codes "C") ∷ Commit ∷ Back ∷ []) (new_session 4)).active ≡ codes ",#(rs))" }
-    ensures all_kinds_run { Run (Feed (codes "AB'") ∷ replicate 5 Step ++ Back ∷ End ∷ Feed (codes "C") ∷ Commit ∷ Back ∷ []) (replicate 5 Done ++ Refused JournalFull ∷ Done ∷ Done ∷ Refused Closed ∷ Done ∷ Refused AtStart ∷ []) (new_session 4) (session_after (Feed (codes "AB'") ∷ replicate 5 Step ++ Back ∷ End ∷ Feed (codes "C") ∷ Commit ∷ Back ∷ []) (new_session 4)) }
+    ensures all_kinds_replies { replies_to (Feed (codes "AB'") ∷ replicate 5 Step ++ Back ∷ End ∷ Feed (codes "C") ∷ Commit 0 ∷ Back ∷ []) (new_session 4) ≡ replicate 5 Done ++ Refused JournalFull ∷ Done ∷ Done ∷ Refused Closed ∷ Done ∷ Refused AtStart ∷ [] }
+    ensures all_kinds_active { (state_after (Feed (codes "AB'") ∷ replicate 5 Step ++ Back ∷ End ∷ Feed (codes "C") ∷ Commit 0 ∷ Back ∷ []) (new_session 4)).active ≡ codes ",#(rs))" }
+    ensures all_kinds_run { Run (Feed (codes "AB'") ∷ replicate 5 Step ++ Back ∷ End ∷ Feed (codes "C") ∷ Commit 0 ∷ Back ∷ []) (replicate 5 Done ++ Refused JournalFull ∷ Done ∷ Done ∷ Refused Closed ∷ Done ∷ Refused AtStart ∷ []) (new_session 4) (session_after (Feed (codes "AB'") ∷ replicate 5 Step ++ Back ∷ End ∷ Feed (codes "C") ∷ Commit 0 ∷ Back ∷ []) (new_session 4)) }
     // The same as walks, whose length and ending are told.
     ensures walk_there { IsWalk Step no_goal 11 (session_after (Feed (codes "AB'") ∷ []) (new_session 64)) 11 None (session_after (Feed (codes "AB'") ∷ replicate 11 Step) (new_session 64)) }
     ensures walk_back { IsWalk Back no_goal 10 (session_after (Feed (codes "AB'") ∷ replicate 11 Step ++ Back ∷ []) (new_session 64)) 10 None (session_after (Feed (codes "AB'") ∷ []) (new_session 64)) }
     ensures walk_at_start { IsWalk Back no_goal 1 (session_after (Feed (codes "AB'") ∷ []) (new_session 64)) 0 (Some AtStart) (session_after (Feed (codes "AB'") ∷ []) (new_session 64)) }
     ensures walk_waiting { IsWalk Step no_goal 8 (session_after (Feed (codes "AB") ∷ []) (new_session 64)) 7 (Some NeedInput) (session_after (Feed (codes "AB") ∷ replicate 7 Step) (new_session 64)) }
     ensures walk_full { IsWalk Step no_goal 5 (session_after (Feed (codes "AB'") ∷ []) (new_session 4)) 4 (Some JournalFull) (session_after (Feed (codes "AB'") ∷ replicate 4 Step) (new_session 4)) }
-    ensures walk_to_start { IsWalk Back no_goal 2 (session_after (Feed (codes "AB'") ∷ replicate 4 Step ++ Commit ∷ Step ∷ []) (new_session 4)) 1 (Some AtStart) (session_after (Feed (codes "AB'") ∷ replicate 4 Step ++ Commit ∷ []) (new_session 4)) }
+    ensures walk_to_start { IsWalk Back no_goal 2 (session_after (Feed (codes "AB'") ∷ replicate 4 Step ++ Commit 0 ∷ Step ∷ []) (new_session 4)) 1 (Some AtStart) (session_after (Feed (codes "AB'") ∷ replicate 4 Step ++ Commit 0 ∷ []) (new_session 4)) }
     ensures walk_to_the_rest { IsWalk Step no_goal 8 (session_after (Feed (codes "A") ∷ End ∷ []) (new_session 64)) 8 None (session_after (Feed (codes "A") ∷ End ∷ replicate 8 Step) (new_session 64)) }
 {}
 

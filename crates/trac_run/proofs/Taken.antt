@@ -75,33 +75,33 @@ pub wanted_open : (q : PlainSession) → answer Step q ≡ refused refusals.Need
 wanted_open q h = wants_input_of_open (over q.tape) q.last (Step_refused_NeedInput q q h)
 
 -- also after the commit
-pub wanted_open_after : (q r : PlainSession) → answer Step q ≡ refused refusals.NeedInput q → answer Commit q ≡ done r → r.tape.ended ≡ false
+pub wanted_open_after : (q r : PlainSession) → answer Step q ≡ refused refusals.NeedInput q → answer (Commit 0) q ≡ done r → r.tape.ended ≡ false
 wanted_open_after q r h e = ended_after_Commit q r e ∙ wanted_open q h
 
 -- the tape after the commit is what was unread
-pub tape_after_Commit : (q r : PlainSession) → answer Commit q ≡ done r → r.tape.bytes ≡ drop q.last.position q.tape.bytes
-tape_after_Commit q r e = ap (λ (s : PlainSession). s.tape.bytes) (Commit_done q r e)
+pub tape_after_Commit : (q r : PlainSession) → answer (Commit 0) q ≡ done r → r.tape.bytes ≡ drop q.last.position q.tape.bytes
+tape_after_Commit q r e = ap (λ (s : PlainSession). s.tape.bytes) (Commit_done 0 q r e)
 
 -- the committed session stands on its tape
-pub on_tape_after_Commit : (q r : PlainSession) → answer Commit q ≡ done r → r.last.position ≤ length r.tape.bytes
+pub on_tape_after_Commit : (q r : PlainSession) → answer (Commit 0) q ≡ done r → r.last.position ≤ length r.tape.bytes
 on_tape_after_Commit q r e = omega (arith, (after_Commit q r e).2)
 
 -- ---- the session goes on
 
 -- what is written from here, where more came
-pub fed_rest : (q r s : PlainSession) (got more : List ℕ) (n : ℕ) → q.last.position ≤ length q.tape.bytes → answer Commit q ≡ done r → answer (Feed got) r ≡ done s →
+pub fed_rest : (q r s : PlainSession) (got more : List ℕ) (n : ℕ) → q.last.position ≤ length q.tape.bytes → answer (Commit 0) q ≡ done r → answer (Feed got) r ≡ done s →
     going_on_from q (got ++ more) n ≡ prepended q.last.output (going_on_from s more n)
 fed_rest q r s got more n on_tape e h =
     going_on-Commit q r (got ++ more) n on_tape e ∙ ap (prepended q.last.output) (going_on-Feed r s got more n h)
 
 -- where the end came
-pub ended_rest : (q r s : PlainSession) (got more : List ℕ) (n : ℕ) → q.last.position ≤ length q.tape.bytes → answer Commit q ≡ done r → got ≡ [] → more ≡ [] → answer End r ≡ done s →
+pub ended_rest : (q r s : PlainSession) (got more : List ℕ) (n : ℕ) → q.last.position ≤ length q.tape.bytes → answer (Commit 0) q ≡ done r → got ≡ [] → more ≡ [] → answer End r ≡ done s →
     going_on_from q (got ++ more) n ≡ prepended q.last.output (going_on_from s more n)
 ended_rest q r s got more n on_tape e none last h =
     rw (none, last) (going_on-Commit q r [] n on_tape e ∙ ap (prepended q.last.output) (going_on-End r s n h))
 
 -- the session goes on from what the reader gave
-pub taken_on : (in_old in_new out_old out_new : Option (List ℕ)) (q r s : PlainSession) (n : ℕ) → answer Step q ≡ refused refusals.NeedInput q → q.last.position ≤ length q.tape.bytes → answer Commit q ≡ done r →
+pub taken_on : (in_old in_new out_old out_new : Option (List ℕ)) (q r s : PlainSession) (n : ℕ) → answer Step q ≡ refused refusals.NeedInput q → q.last.position ≤ length q.tape.bytes → answer (Commit 0) q ≡ done r →
     Appends out_old out_new q.last.output → TakesMore in_old in_new r s → GoesOn in_old in_new out_old out_new q n s n
 taken_on in_old in_new out_old out_new q r s n wanted on_tape e gave taken =
     let shut : q.tape.ended ≡ true → ⊥ = λ over. false≢true (sym (wanted_open q wanted) ∙ over) in
@@ -124,7 +124,7 @@ taken_on in_old in_new out_old out_new q r s n wanted on_tape e gave taken =
     }
 
 -- a session that is as fresh as the committed one
-pub fresh_like : (q r s : PlainSession) → 1 ≤ q.limit → answer Commit q ≡ done r → (s.last ≡ r.last) × (s.earlier ≡ r.earlier) × (s.limit ≡ r.limit) → IsFresh s
+pub fresh_like : (q r s : PlainSession) → 1 ≤ q.limit → answer (Commit 0) q ≡ done r → (s.last ≡ r.last) × (s.earlier ≡ r.earlier) × (s.limit ≡ r.limit) → IsFresh s
 fresh_like q r s some e same =
     let left = after_Commit q r e in
     record {
@@ -135,7 +135,7 @@ fresh_like q r s some e same =
     }
 
 -- it is fresh
-pub taken_fresh : (in_old in_new : Option (List ℕ)) (q r s : PlainSession) → 1 ≤ q.limit → answer Commit q ≡ done r → TakesMore in_old in_new r s → IsFresh s
+pub taken_fresh : (in_old in_new : Option (List ℕ)) (q r s : PlainSession) → 1 ≤ q.limit → answer (Commit 0) q ≡ done r → TakesMore in_old in_new r s → IsFresh s
 taken_fresh in_old in_new q r s some e taken =
     ⊎_elim
     (λ (end : (taken.got ≡ []) × IsAtEnd in_new × (answer End r ≡ done s)).
@@ -152,7 +152,7 @@ pub one_end_turn : (b : Bool) → b ≡ false → ◌≡◌ {A = ℕ} (if b then
 one_end_turn b e = rw e refl
 
 -- with nothing read before, there are fewer turns left: the tape is longer, or it has ended
-pub taken_fewer : (in_old in_new : Option (List ℕ)) (q r s : PlainSession) (n : ℕ) → answer Step q ≡ refused refusals.NeedInput q → answer Commit q ≡ done r → TakesMore in_old in_new r s →
+pub taken_fewer : (in_old in_new : Option (List ℕ)) (q r s : PlainSession) (n : ℕ) → answer Step q ≡ refused refusals.NeedInput q → answer (Commit 0) q ≡ done r → TakesMore in_old in_new r s →
     q.last.position ≡ 0 → turns_left s n < turns_left q n
 taken_fewer in_old in_new q r s n wanted e taken start =
     let kept : length r.tape.bytes ≡ length q.tape.bytes =
@@ -196,7 +196,7 @@ unflushed_finish input out_old out_mid out_new q n ending wanted fault gave kept
     })
 
 -- what an ending without a feed says, with all that is pending written
-pub shows_unfed : (q r : PlainSession) (n : ℕ) (got : List ℕ) (ending : Ending) → answer Step q ≡ refused refusals.NeedInput q → q.last.position ≤ length q.tape.bytes → answer Commit q ≡ done r → EndsFor ending r got →
+pub shows_unfed : (q r : PlainSession) (n : ℕ) (got : List ℕ) (ending : Ending) → answer Step q ≡ refused refusals.NeedInput q → q.last.position ≤ length q.tape.bytes → answer (Commit 0) q ≡ done r → EndsFor ending r got →
     (more : List ℕ) → Shows ending q.last.output (going_on_from q more (n + 1))
 shows_unfed q r n got Ended wanted on_tape e why more = absurd why
 shows_unfed q r n got Budget wanted on_tape e why more = absurd why
@@ -210,7 +210,7 @@ shows_unfed q r n got Write wanted on_tape e why more = absurd why
 shows_unfed q r n got (NotUnderstood line) wanted on_tape e why more = absurd why
 
 -- all that is pending was written, and the run ends for what the reader gave or did not give
-pub unfed_finish : (in_old in_new out_old out_new : Option (List ℕ)) (q r s : PlainSession) (n : ℕ) (ending : Ending) → answer Step q ≡ refused refusals.NeedInput q → q.last.position ≤ length q.tape.bytes → answer Commit q ≡ done r →
+pub unfed_finish : (in_old in_new out_old out_new : Option (List ℕ)) (q r s : PlainSession) (n : ℕ) (ending : Ending) → answer Step q ≡ refused refusals.NeedInput q → q.last.position ≤ length q.tape.bytes → answer (Commit 0) q ≡ done r →
     Appends out_old out_new q.last.output → TakesNone in_old in_new r s ending → Finishes in_old in_new out_old out_new q (n + 1) ending
 unfed_finish in_old in_new out_old out_new q r s n ending wanted on_tape e gave taken =
     let shut : q.tape.ended ≡ true → ⊥ = λ over. false≢true (sym (wanted_open q wanted) ∙ over) in
@@ -233,7 +233,7 @@ closes_nothing out_old out_mid out_new x text ending result none gave closes =
 
 -- then the run ends, after a last flush
 pub unfed_closed : (in_old in_new out_old out_mid out_new : Option (List ℕ)) (q r s : PlainSession) (n : ℕ) (ending result : Ending) → answer Step q ≡ refused refusals.NeedInput q → q.last.position ≤ length q.tape.bytes →
-    answer Commit q ≡ done r → Appends out_old out_mid q.last.output → TakesNone in_old in_new r s ending → Closes out_mid out_new s.last.output ending result → Finishes in_old in_new out_old out_new q (n + 1) result
+    answer (Commit 0) q ≡ done r → Appends out_old out_mid q.last.output → TakesNone in_old in_new r s ending → Closes out_mid out_new s.last.output ending result → Finishes in_old in_new out_old out_new q (n + 1) result
 unfed_closed in_old in_new out_old out_mid out_new q r s n ending result wanted on_tape e gave taken closes =
     let shut : q.tape.ended ≡ true → ⊥ = λ over. false≢true (sym (wanted_open q wanted) ∙ over) in
     let nothing : s.last.output ≡ [] = ap (λ (t : PlainSession). t.last.output) taken.same ∙ (after_Commit q r e).0 in

@@ -12,6 +12,7 @@ use Rattle.trac_rules.specs.Running.{Output, LimitPassed}
 use Rattle.trac_rules.specs.GoingOn.{prepended, going_on_from}
 use Rattle.trac_rules.proofs.GoingOn.{after_repeated, going_on-repeated, after_Commit, going_on-Commit, going_on_spent, going_on_ended, going_on_too_long}
 use Rattle.trac_rules.proofs.Replies.{Commit_done, Step_refused_JournalFull, Step_refusals}
+use Rattle.trac_session.specs.Within.{IsWalkWithin}
 use Rattle.trac_run.specs.declared.ending.Ending.{Ending}
 use Rattle.trac_run.specs.declared.ending.Ending.TheVariants.{Ended, Budget, Limit, Write}
 use Rattle.trac_rules.specs.Fronts.{IsFrontOf}
@@ -37,36 +38,45 @@ unmoved_by_none zero p q h e = cc
 unmoved_by_none (suc k) p q h e = absurd (omega arith)
 
 -- what a walk leaves
-pub after_walk : (p : PlainSession) (m k : ℕ) (why : Option Refusal) (q : PlainSession) → IsFresh p → IsWalk Step no_goal m p k why q → AfterWalk p m k q
-after_walk p m k why q fresh walk =
+pub after_walk : (most : ℕ) (p : PlainSession) (m k : ℕ) (why : Option Refusal) (q : PlainSession) → IsFresh p → IsWalkWithin most m p k why q → AfterWalk p m k q
+after_walk most p m k why q fresh walk =
     let start : p.last.position ≤ length p.tape.bytes = omega (arith, fresh.nothing_read) in
-    let after = after_repeated k p q start walk.walked in
-    let count : m ≡ (m - k) + k = omega (arith, walk.within) in
+    let after = after_repeated k p q start walk.walk.walked in
+    let l : k ≤ m = omega (arith, walk.walk.within, walk.within) in
+    let count : m ≡ (m - k) + k = omega (arith, l) in
     record {
-      within = walk.within;
+      within = l;
       tape = after.tape;
       some_records = omega (arith, after.limit, fresh.some_records);
       on_tape = after.within;
       taken = omega (arith, after.earlier, ap length fresh.first);
-      unmoved = unmoved_by_none k p q walk.walked;
-      rest = λ more none. ap (going_on_from p more) count ∙ going_on-repeated k (m - k) p q more start none walk.walked;
+      unmoved = unmoved_by_none k p q walk.walk.walked;
+      rest = λ more none. ap (going_on_from p more) count ∙ going_on-repeated k (m - k) p q more start none walk.walk.walked;
     }
 
 -- why a walk was stopped
-pub stopped_for : (p : PlainSession) (m k : ℕ) (why : Option Refusal) (q : PlainSession) (refusal r : Refusal) → IsWalk Step no_goal m p k why q → why ≡ Some refusal → refusal ≡ r →
+pub stopped_for : (most : ℕ) (p : PlainSession) (m k : ℕ) (why : Option Refusal) (q : PlainSession) (refusal r : Refusal) → IsWalkWithin most m p k why q → why ≡ Some refusal → refusal ≡ r →
     (k < m) × Answers Step q (Refused r) q
-stopped_for p m k why q refusal r walk e same =
-    let stop = subst (λ w. MatchOption w (HasEnded no_goal m k q) (λ x. (k < m) × (0 < k → no_goal q.last ≡ false) × Answers Step q (Refused x) q))
-    (e ∙ ap (λ x. Some x) same) walk.stopped in
-    (stop.0, stop.2)
+stopped_for most p m k why q refusal r walk e same =
+    let n : ℕ = walk.allowed in
+    let stop = subst (λ w. MatchOption w (HasEnded no_goal n k q) (λ x. (k < n) × (0 < k → no_goal q.last ≡ false) × Answers Step q (Refused x) q))
+    (e ∙ ap (λ x. Some x) same) walk.walk.stopped in
+    (omega (arith, stop.0, walk.within), stop.2)
 
--- a walk that was not stopped
+-- a walk that no refusal stopped
 pub not_stopped : (p : PlainSession) (m k : ℕ) (why : Option Refusal) (q : PlainSession) → IsWalk Step no_goal m p k why q → why ≡ None → k ≡ m
 not_stopped p m k why q walk e =
     ⊎_elim
     (λ (all : k ≡ m). all)
     (λ (met : (0 < k) × (no_goal q.last ≡ true)). absurd (false≢true met.1))
     (subst (λ w. MatchOption w (HasEnded no_goal m k q) (λ x. (k < m) × (0 < k → no_goal q.last ≡ false) × Answers Step q (Refused x) q)) e walk.stopped)
+
+-- a walk that no refusal stopped took a step at least, where it has any left: it stopped for the weight of its records
+pub taken_when_heavy : (most : ℕ) (p : PlainSession) (m k : ℕ) (why : Option Refusal) (q : PlainSession) → IsWalkWithin most m p k why q → why ≡ None → 0 < m - k → 0 < k
+taken_when_heavy most p m k why q walk e some =
+    let all : k ≡ walk.allowed = not_stopped p walk.allowed k why q walk.walk e in
+    let heavy = walk.heavy (omega (arith, all, some)) in
+    omega (arith, all, heavy.0)
 
 -- a step is refused for nothing else
 pub refused_for_none : (q : PlainSession) (refusal : Refusal) → answer Step q ≡ refused refusal q →
@@ -159,17 +169,17 @@ none_taken_of_test q empty is none = grind (arith, nat_tests)
 -- ---- a commit after the walk
 
 -- what was to be written is the pending output, and what is to be written from the committed session on
-pub released_rest : (p : PlainSession) (m k : ℕ) (q r : PlainSession) → AfterWalk p m k q → answer Commit q ≡ done r →
+pub released_rest : (p : PlainSession) (m k : ℕ) (q r : PlainSession) → AfterWalk p m k q → answer (Commit 0) q ≡ done r →
     (more : List ℕ) → (p.tape.ended ≡ true → more ≡ []) → going_on_from p more m ≡ prepended q.last.output (going_on_from r more (m - k))
 released_rest p m k q r after h more none = after.rest more none ∙ going_on-Commit q r more (m - k) after.on_tape h
 
 -- the tape of the committed session has ended where the first one had
-pub ended_after_Commit : (q r : PlainSession) → answer Commit q ≡ done r → r.tape.ended ≡ q.tape.ended
-ended_after_Commit q r h = ap (λ (s : PlainSession). s.tape.ended) (Commit_done q r h)
+pub ended_after_Commit : (q r : PlainSession) → answer (Commit 0) q ≡ done r → r.tape.ended ≡ q.tape.ended
+ended_after_Commit q r h = ap (λ (s : PlainSession). s.tape.ended) (Commit_done 0 q r h)
 
 -- a release
 pub released_on : (input : Option (List ℕ)) (out_old out_new : Option (List ℕ)) (p : PlainSession) (m k : ℕ) (q r : PlainSession) (result : Result (Unit {0}) Ending) →
-    AfterWalk p m k q → (p.tape.ended ≡ true → IsAtEnd input) → OnOk result (Appends out_old out_new q.last.output) → OnOk result (answer Commit q ≡ done r) →
+    AfterWalk p m k q → (p.tape.ended ≡ true → IsAtEnd input) → OnOk result (Appends out_old out_new q.last.output) → OnOk result (answer (Commit 0) q ≡ done r) →
     OnOk result (GoesOn input input out_old out_new p m r (m - k))
 released_on input out_old out_new p m k q r (Err e) after at_end gave h = tt
 released_on input out_old out_new p m k q r (Ok u) after at_end gave h =
@@ -207,7 +217,7 @@ released_failed input out_old out_new p m k q (Ok u) after at_end failed = tt
 released_failed input out_old out_new p m k q (Err e) after at_end failed = finished_front input out_old out_new p m k q e after at_end failed.0 failed.1
 
 -- the committed session is fresh
-pub released_fresh : (p : PlainSession) (m k : ℕ) (q r : PlainSession) (result : Result (Unit {0}) Ending) → AfterWalk p m k q → OnOk result (answer Commit q ≡ done r) → OnOk result (IsFresh r)
+pub released_fresh : (p : PlainSession) (m k : ℕ) (q r : PlainSession) (result : Result (Unit {0}) Ending) → AfterWalk p m k q → OnOk result (answer (Commit 0) q ≡ done r) → OnOk result (IsFresh r)
 released_fresh p m k q r (Err e) after h = tt
 released_fresh p m k q r (Ok u) after h =
     let left = after_Commit q r h in

@@ -18,6 +18,10 @@ use trac_session::Session;
 /// How many bytes one read may give (this project's profile).
 pub const READ_SIZE: usize = 4096;
 
+// How much the records of a run may weigh before it commits: about 64 MiB of records, since an item of a form takes 12 bytes.
+// A run never goes back, so it keeps them for nothing.
+const JOURNAL_WEIGHT: u64 = 64 * 1024 * 1024 / 12;
+
 /// The most steps that a run may be allowed (this project's profile).
 pub const BUDGET_LIMIT: u64 = 1_000_000_000_000;
 
@@ -73,7 +77,7 @@ pub fn run<R: Read, W: Write, A: Allocator + Copy>(
     }
 }
 
-// Goes forward until a step is refused or none is left, and does what the refusal asks for.
+// Goes forward until a step is refused, none is left, or the records weigh enough, and does what this asks for.
 fn take_turn<R: Read, W: Write, A: Allocator + Copy>(
     session: &mut Session<A>,
     input: &mut R,
@@ -89,9 +93,12 @@ fn take_turn<R: Read, W: Write, A: Allocator + Copy>(
     ensures fresh { OnOk result (IsFresh session.new) }
     ensures fewer { OnOk result (turns_left session.new left.new < turns_left session.old left.old) }
 {
-    let walk = session.forward(*left);
+    let walk = session.forward_within(*left, JOURNAL_WEIGHT);
     *left -= walk.done;
     let Some(refusal) = walk.why else {
+        if *left > 0 {
+            return release(session, output);
+        }
         return Err(finish(output, session.pending(), Ending::Budget));
     };
     match refusal {
@@ -111,11 +118,11 @@ fn release<W: Write, A: Allocator + Copy>(
     output: &mut W,
 ) -> Result<(), Ending>
     ensures ok { OnOk result (Appends (W.contents output.old) (W.contents output.new) session.old.last.output) }
-    ensures committed { OnOk result (answer Commit session.old ≡ done session.new) }
+    ensures committed { OnOk result (answer (Commit 0) session.old ≡ done session.new) }
     ensures err { IfErr result (λ ending. (ending ≡ Ending.Write) × WritesFront (W.contents output.old) (W.contents output.new) session.old.last.output) }
 {
     write_whole(output, session.pending())?;
-    session.commit();
+    session.commit(0);
     Ok(())
 }
 
@@ -162,7 +169,7 @@ fn take_piece<R: Read, W: Write, A: Allocator + Copy>(
 {
     write_whole(output, session.pending())?;
     flush(output)?;
-    session.commit();
+    session.commit(0);
     match read_more(session, input) {
         Ok(waits) => Ok(waits),
         Err(Ending::Read) => Err(Ending::Read),

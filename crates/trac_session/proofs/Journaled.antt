@@ -1,8 +1,7 @@
 -- Sessions as their fields show them, and what the calls make of the fields.
 use Rattle.std.proofs.Common.{◌≡◌, ℕ, suc, ◌+◌, ◌-◌, ◌<◌, ◌≤◌, Bool, true, false, List, [], ◌∷◌, ◌++◌, length, take, drop, reverse, refl, sym, ap, subst, ◌∙◌, arith}
 use Rattle.std.specs.Prelude.{Option, Some, Result, Ok, Err, OnOk, IfErr}
-use Rattle.std.proofs.Math.Seq.{take-length}
-use Rattle.std.proofs.lemmas.List.{length-append, length-reverse, length-drop, take-append-le}
+use Rattle.std.proofs.lemmas.List.{length-append, length-reverse}
 use Rattle.trac_rules.specs.declared.limit.TheConstants.{TAPE_LIMIT}
 use Rattle.trac_rules.specs.declared.refusal.Refusal.{Refusal}
 use Rattle.trac_rules.specs.declared.refusal.Refusal.TheVariants.{Memory, TooLong, NeedInput, Ended, JournalFull, AtStart, Closed, NotMet}
@@ -10,9 +9,9 @@ use Rattle.trac_rules.specs.declared.reply.Reply.TheVariants.{Done, Refused}
 use Rattle.trac_rules.specs.State.{State}
 use Rattle.trac_rules.specs.Outcomes.{MayLackMemory, MayRefuse}
 use Rattle.trac_rules.specs.Stepping.{step}
-use Rattle.trac_rules.specs.Session.{PlainSession, Feed, End, Step, Back, Commit, done, refused, settled, stepped_to, answer, MayRunOut, Answers, over}
+use Rattle.trac_rules.specs.Session.{PlainSession, Feed, End, Step, Back, done, refused, stepped_to, answer, MayRunOut, Answers, over}
 use Rattle.trac_rules.proofs.Steps.{step_within}
-use Rattle.trac_rules.proofs.Replies.{answer_Step, answer_Step_Ok, answer_Step_Err, answer_Step_full, answer_Feed_closed, answer_Feed_long, answer_Feed_room, answer_End, answer_Commit, answer_Back_start, answer_Back_from}
+use Rattle.trac_rules.proofs.Replies.{answer_Step, answer_Step_Ok, answer_Step_Err, answer_Step_full, answer_Feed_closed, answer_Feed_long, answer_Feed_room, answer_End, answer_Back_start, answer_Back_from}
 use Rattle.trac_step.proofs.Rules.{reverse_push}
 use Rattle.trac_step.specs.Layout.{Shown}
 use Rattle.trac_step.specs.Room.{HasRoom, IsNoLess}
@@ -51,7 +50,7 @@ AreRecords-more before weigh Holds old new s t kept holds all =
 -- something else holds of each state before, where it follows from what holds
 pub AreRecords-weaker : {R : Type 0} → (before : R → State → Option State) (weigh : R → ℕ) (Holds Still : State → Type 0) (records : List R) (t : State) → ((s : State) → Holds s → Still s) →
     AreRecords before weigh Holds records t → AreRecords before weigh Still records t
-AreRecords-weaker before weigh Holds Still [] t so all = tt
+AreRecords-weaker before weigh Holds Still [] t so all = all
 AreRecords-weaker before weigh Holds Still (r ∷ records) t so all = (all.0, all.1, so all.0 all.2, AreRecords-weaker before weigh Holds Still records all.0 so all.3)
 
 -- what is within reach stays so on a tape that is no shorter, and with no less room
@@ -93,20 +92,6 @@ pub End_of_fields : {R : Type 0} → (before : R → State → Option State) (li
     plain_of before limit bytes ended journal last ≡ p → answer End p ≡ done (plain_of before limit bytes true journal last)
 End_of_fields before limit bytes ended journal last p view =
     ap (answer End) (sym view) ∙ answer_End (plain_of before limit bytes ended journal last)
-
--- a commit: the tape from the position on, no record, the settled state
-pub Commit_of_fields : {R : Type 0} → (before : R → State → Option State) (limit : ℕ) (bytes rest : List ℕ) (ended : Bool) (journal none : List R) (last settled_last : State) (p : PlainSession) →
-    plain_of before limit bytes ended journal last ≡ p → rest ≡ drop last.position bytes → none ≡ [] → settled_last ≡ settled last →
-    answer Commit p ≡ done (plain_of before limit rest ended none settled_last)
-Commit_of_fields before limit bytes rest ended journal none last settled_last p view cut empty at =
-    rw (cut, empty, at) (ap (answer Commit) (sym view) ∙ answer_Commit (plain_of before limit bytes ended journal last))
-
--- the tape from the position on, as it is made: turned round, and cut
-pub turned_and_cut : (bytes turned rest : List ℕ) (k n : ℕ) → k ≤ length bytes → turned ≡ drop k bytes ++ take k bytes → n ≡ length bytes - k → rest ≡ take n turned → rest ≡ drop k bytes
-turned_and_cut bytes turned rest k n l turned_is n_is rest_is =
-    let whole : n ≡ length (drop k bytes) = omega (arith, length-drop k bytes) in
-    let fits : n ≤ length (drop k bytes) = omega arith in
-    rest_is ∙ ap (take n) turned_is ∙ take-append-le n (drop k bytes) (take k bytes) fits ∙ ap (λ m. take m (drop k bytes)) whole ∙ take-length (drop k bytes)
 
 -- a feed behind the end
 pub Feed_closed_of_fields : {R : Type 0} → (before : R → State → Option State) (limit : ℕ) (bytes : List ℕ) (ended : Bool) (journal : List R) (last : State) (p : PlainSession) (more : List ℕ) →

@@ -5,3 +5,6 @@ pub mod Dropped
 pub mod Walked
 pub mod Passed
 pub mod Performed
+pub mod Windowed
+pub mod Told
+pub mod Heavy

@@ -24,9 +24,10 @@ use Rattle.trac_step.specs.declared.record.Record.{Record}
 use Rattle.trac_step.specs.declared.record.Record.TheVariants.{Moved}
 use Rattle.trac_session.specs.Counted.{all_moved}
 use Rattle.trac_session.specs.Weighed.{weighed}
-use Rattle.trac_session.specs.Journal.{earlier_of, AreRecords, plain_of, IsWithinReach, IsSound}
+use Rattle.trac_session.specs.Journal.{earlier_of, AreRecords, plain_of, sum_by, IsWithinReach, IsSound}
 use Rattle.trac_session.proofs.Counted.{length_of_moved}
 use Rattle.trac_session.proofs.Journaled.{led_on-Some, length-earlier, AreRecords-weaker, IsWithinReach-more}
+use Rattle.trac_session.proofs.Summed.{moved_sum, sum_by-append}
 use Rattle.trac_session.proofs.Walked.{repeated-from}
 
 -- ---- records of moved bytes
@@ -252,3 +253,8 @@ IsSound-passed-back {A} limit bytes old new m k n kept back others sound =
           (IsWithinReach-more m k (length bytes) (length bytes) more (omega arith))
           (subst (λ (u : State). AreRecords before weighed Reach (reverse new) u) same says.3);
     }
+
+-- records of moved bytes weigh nothing
+pub moved_weigh_nothing : {A : Type 0} → (old new : List (Record A)) (n : ℕ) → new ≡ old ++ all_moved n → sum_by weighed new ≡ sum_by weighed old
+moved_weigh_nothing {A} old new n kept =
+    omega (arith, ap (sum_by weighed) kept, sum_by-append weighed old (all_moved n), moved_sum (weighed {A = A}) n refl)

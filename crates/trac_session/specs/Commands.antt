@@ -7,4 +7,4 @@ command_of (code.TheVariants.Feed bytes) = Feed bytes.now
 command_of code.TheVariants.End = End
 command_of code.TheVariants.Step = Step
 command_of code.TheVariants.Back = Back
-command_of code.TheVariants.Commit = Commit
+command_of (code.TheVariants.Commit keep) = Commit keep

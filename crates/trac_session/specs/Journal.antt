@@ -24,9 +24,15 @@ pub record IsOfStep {R : Type 0} (before : R → State → Option State) (weigh 
   pub says : before r t ≡ Some s
   pub weighs : weigh r ≡ step_weight s
 
--- each record is that of a step, and of the state before something holds
+-- a state has no output, and stands at the start of its tape
+pub record IsAtStart (s : State) : Type 0 where
+  pub nothing_pending : s.output ≡ []
+  pub nothing_read : s.position ≡ 0
+
+-- each record is that of a step, and of the state before something holds; the first of these states has no output, and stands at the
+-- start of its tape: so it is from the beginning of a session, and after each commit
 abbrev pub AreRecords : {R : Type 0} → (R → State → Option State) → (R → ℕ) → (State → Type 0) → List R → State → Type 0
-AreRecords before weigh Holds [] t = Unit {0}
+AreRecords before weigh Holds [] t = IsAtStart t
 AreRecords before weigh Holds (r ∷ records) t = (s : State) × IsOfStep before weigh r s t × Holds s × AreRecords before weigh Holds records s
 
 -- a journal, its oldest record first, has one record more: of a step from s to t

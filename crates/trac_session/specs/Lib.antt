@@ -7,5 +7,6 @@ pub mod Weighed
 pub mod Passed
 pub mod Goals
 pub mod Directions
+pub mod Within
 -- How proofs store these values.
 pub mod Codes

@@ -20,8 +20,8 @@ pub enum Command<'a> {
     Step,
     /// Go back over the last step.
     Back,
-    /// Release what is pending, and make the last state the first one.
-    Commit,
+    /// Keep the last state and so many steps before it, and release what was pending at the first state that stays.
+    Commit(usize),
 }
 
 /// The replies to a list of commands, one for each, in their order.
@@ -49,8 +49,8 @@ impl<A: Allocator + Copy> Session<A> {
             }
             Command::Step => reply_to(self.step()),
             Command::Back => reply_to(self.step_back()),
-            Command::Commit => {
-                self.commit();
+            Command::Commit(keep) => {
+                self.commit(keep);
                 Reply::Done
             }
         }

@@ -1,6 +1,7 @@
 //! Runs of plain bytes, which a session passes at once.
 ghost use Rattle.std.specs.Prelude.{◌≡◌, ◌≤◌, Some};
 ghost use Rattle.trac_rules.specs.Session.{Step, Back, repeated};
+ghost use Rattle.trac_rules.specs.Weights.{weights_from};
 
 use crate::session::Session;
 use std::alloc::Allocator;
@@ -11,6 +12,7 @@ impl<A: Allocator + Copy> Session<A> {
     pub(crate) fn pass_plain(&mut self, most: u64) -> u64
         ensures passed { repeated Step result self.old ≡ Some self.new }
         ensures most { result ≤ most }
+        ensures weight { weights_from self.new.earlier ≡ weights_from self.old.earlier }
     {
         let room = self.limit - self.journal.len();
         let count = self.machine.move_plain(most.min(room as u64) as usize);

@@ -1,8 +1,10 @@
 //! A session: a processor that goes forwards and backwards over an input that is fed to it.
-ghost use Rattle.std.specs.Prelude.{◌≡◌, ◌==◌, ◌≤◌, ◌-◌, drop, length, IfOk, IsOkUnless};
+ghost use Rattle.std.specs.Prelude.{◌≡◌, ◌==◌, ◌≤◌, ◌∷◌, drop, length, take, IfOk, IsOkUnless};
+ghost use Rattle.std.specs.List.{All};
 ghost use Rattle.trac_rules.specs.declared.reply.Reply.TheVariants.{Done};
+ghost use Rattle.trac_rules.specs.Fronts.{IsFrontOf};
 ghost use Rattle.trac_rules.specs.Reading.{unread};
-ghost use Rattle.trac_rules.specs.Session.{new_session, Feed, End, Step, Back, Commit, answer, Answers, IsWalk, no_goal, settled};
+ghost use Rattle.trac_rules.specs.Session.{new_session, Feed, End, Step, Back, Commit, answer, Answers, first_kept, settled};
 ghost use Rattle.trac_rules.specs.Weights.{losses_from, weights_from};
 ghost use Rattle.trac_session.specs.Replies.{reply_of};
 
@@ -11,7 +13,7 @@ use crate::keeping::step_kept;
 use crate::walk::Walk;
 use std::alloc::{Allocator, Global};
 use std::marker::Model;
-use trac_gap::TwoEnds;
+use trac_gap::{SlidingBuf, TwoEnds};
 use trac_rules::limit::{JOURNAL_LIMIT, TAPE_LIMIT};
 use trac_rules::refusal::Refusal;
 use trac_step::{Core, Machine, Mark, Tape};
@@ -20,7 +22,7 @@ use trac_step::{Core, Machine, Mark, Tape};
 /// from the last commit on, the last of which is the machine's.
 #[derive(Drop)]
 pub struct Session<A: Allocator + Copy = Global> {
-    pub(crate) tape: Vec<u8, A>,
+    pub(crate) tape: SlidingBuf<u8, A>,
     ended: bool,
     pub(crate) machine: Machine<A>,
     pub(crate) journal: Journal<A>,
@@ -54,7 +56,7 @@ impl<A: Allocator + Copy> Session<A> {
         ensures err { IsOkUnless result Refusal.Memory }
     {
         Ok(Session {
-            tape: Vec::new(alloc),
+            tape: SlidingBuf::new(alloc),
             ended: false,
             machine: Machine::new(alloc)?,
             journal: Journal::new(alloc),
@@ -127,16 +129,55 @@ impl<A: Allocator + Copy> Session<A> {
     pub fn unread(&self) -> &[u8]
         ensures { result.now ≡ unread self.now.tape self.now.last }
     {
-        self.tape.split_at(self.machine.position()).1
+        self.tape.as_slice().split_at(self.machine.position()).1
     }
 
-    /// Makes the last state the first one: what is pending is released, so read it before, and what is read of the
-    /// tape is dropped. It takes no memory and always succeeds (this project's profile).
-    pub fn commit(&mut self)
-        ensures { answer Commit self.old ≡ record { reply = Done; session = self.new } }
+    /// What a commit that keeps so many steps releases: the output of the first state that stays. The outputs of the others
+    /// begin with it. It takes no memory, and time for the steps that the commit drops (this project's profile).
+    pub fn pending_before(&self, keep: usize) -> &[u8]
+        ensures released { result.now ≡ (first_kept keep self.now).output }
+        ensures begins { All (λ s. IsFrontOf result.now s.output) (self.now.last ∷ take keep self.now.earlier) }
+    {
+        let output = self.machine.output();
+        let dropped = self.journal.len().saturating_sub(keep);
+        let printed = self.journal.printed_by_oldest(dropped);
+        output.split_at(printed).0
+    }
+
+    /// Keeps the last state and so many steps before it, or all where there are fewer, and forgets what was before: the first
+    /// state that stays becomes the first one of all. Its output is released from it and from all after it, so read
+    /// `pending_before` first, and what it has read of the tape is dropped. With 0 the last state alone stays, all that is
+    /// pending is released, and the names of deleted forms are forgotten. It takes no memory and always succeeds, and takes
+    /// time for what it drops, and none for what it keeps (this project's profile).
+    pub fn commit(&mut self, keep: usize)
+        ensures { answer (Commit keep) self.old ≡ record { reply = Done; session = self.new } }
+    {
+        if keep == 0 {
+            self.keep_none();
+        } else {
+            self.keep_last(keep);
+        }
+    }
+
+    // Keeps the last state alone. With no state before it none needs the name of a deleted form.
+    fn keep_none(&mut self)
+        ensures { answer (Commit 0) self.old ≡ record { reply = Done; session = self.new } }
     {
         settle(&mut self.machine, &mut self.tape);
         self.journal.clear();
+    }
+
+    // Keeps the last state and so many before it. What is released is told by the records that are dropped, since the first
+    // state of a session has no output and has read nothing.
+    fn keep_last(&mut self, keep: usize)
+        ensures { answer (Commit keep) self.old ≡ record { reply = Done; session = self.new } }
+    {
+        // `len` is called for what it says: the sums of what was printed are no longer than the output, and fit a word.
+        let _len = self.machine.output().len();
+        let dropped = self.journal.len().saturating_sub(keep);
+        let passed = self.journal.drop_oldest(dropped);
+        self.tape.drop_front(passed.read);
+        self.machine.release(passed.printed, passed.read);
     }
 
     /// How many steps can be gone back over. It takes no memory (this project's profile).
@@ -176,26 +217,12 @@ impl<A: Allocator + Copy> Session<A> {
 // proof for a certain one shows anew, at each call, what its lists are.
 fn settle<E: TwoEnds<u8, A>, M: TwoEnds<Mark, A>, A: Allocator + Copy>(
     machine: &mut Core<E, M, A>,
-    tape: &mut Vec<u8, A>,
+    tape: &mut SlidingBuf<u8, A>,
 )
     requires { machine.old.state.position ≤ length tape.old.items }
     ensures state { machine.new.state ≡ settled machine.old.state }
     ensures tape { tape.new.items ≡ drop machine.old.state.position tape.old.items }
 {
-    let read = machine.position();
-    drop_front(tape, read);
+    tape.drop_front(machine.position());
     machine.settle();
-}
-
-// Takes so many bytes off the front. Where there are none to take, the length of the text costs nothing.
-fn drop_front<A: Allocator>(text: &mut Vec<u8, A>, count: usize)
-    requires { count ≤ length text.old.items }
-    ensures items { text.new.items ≡ drop count text.old.items }
-    ensures len { length text.new.items ≡ length text.old.items - count }
-{
-    if count == 0 {
-        return;
-    }
-    text.rotate_left(count);
-    text.truncate(text.len() - count);
 }

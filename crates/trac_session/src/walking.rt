@@ -4,6 +4,7 @@ ghost use Rattle.trac_rules.specs.Session.{Step, Back, Answers, IsWalk, no_goal,
 ghost use Rattle.trac_session.specs.Directions.{command_towards};
 ghost use Rattle.trac_session.specs.Goals.{IsSearch, goal_of, is_call_of, outcome};
 ghost use Rattle.trac_session.specs.Replies.{reply_of};
+ghost use Rattle.trac_session.specs.Within.{IsWalkWithin};
 
 use crate::session::Session;
 use crate::walk::Walk;
@@ -126,6 +127,29 @@ impl<A: Allocator + Copy> Session<A> {
         ensures { IsWalk Step no_goal n self.old result.done result.why self.new }
     {
         self.go_far(Direction::Forward, n)
+    }
+
+    /// Goes forward as `forward` does, and stops also after a step after which the records weigh more than `most`
+    /// (`Session::weight`): then no refusal is answered, and fewer than `n` steps may be done. So whoever never goes back can
+    /// commit before the records hold much memory (this project's profile).
+    pub fn forward_within(&mut self, n: u64, most: u64) -> Walk
+        ensures { IsWalkWithin most n self.old result.done result.why self.new }
+    {
+        let mut done = 0;
+        while done < n {
+            if let Err(refusal) = self.step() {
+                return Walk {
+                    done,
+                    why: Some(refusal),
+                };
+            }
+            done += 1;
+            if self.weight() > most {
+                return Walk { done, why: None };
+            }
+            done += self.pass_plain(n - done);
+        }
+        Walk { done, why: None }
     }
 
     /// Goes back over up to `n` steps, until there is no record left, which the walk answers as `AtStart`. It takes no

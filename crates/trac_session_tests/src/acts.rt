@@ -21,7 +21,10 @@ pub(crate) enum Act {
     /// So many letters `a` are fed.
     FeedLetters(usize),
     End,
-    Commit,
+    /// A commit keeps so many steps.
+    Commit(usize),
+    /// So many steps forward are taken, each with a commit after it that keeps the second number of them.
+    ForwardInWindow(u64, usize),
     /// So many steps forward are taken.
     Forward(u64),
     /// Of so many steps forward the second number are taken, and then one is refused.
@@ -37,6 +40,8 @@ pub(crate) enum Act {
     /// What is not scanned yet.
     Active(&'static [u8]),
     Pending(&'static [u8]),
+    /// A commit that keeps so many steps would release this.
+    PendingBefore(usize, &'static [u8]),
     Position(usize),
     Forms(usize),
     /// So many steps can be gone back over.
@@ -84,6 +89,18 @@ fn goes_back(session: &mut Session, n: u64, done: u64, why: Option<Refusal>) -> 
     walk.done == done && walk.why == why
 }
 
+// Whether so many steps are taken, each with a commit after it. Before a commit there is one record more than it keeps at most.
+fn goes_in_window(session: &mut Session, n: u64, keep: usize) -> bool {
+    for _ in 0..n {
+        let is_taken = session.forward(1).why.is_none();
+        if !is_taken || session.len() > keep.saturating_add(1) {
+            return false;
+        }
+        session.commit(keep);
+    }
+    session.len() <= keep
+}
+
 // Carries out one act that may change the session, and says whether it is answered so.
 fn carry_out(alloc: Global, session: &mut Session, act: &Act) -> bool {
     match *act {
@@ -94,10 +111,11 @@ fn carry_out(alloc: Global, session: &mut Session, act: &Act) -> bool {
             session.end();
             true
         }
-        Act::Commit => {
-            session.commit();
+        Act::Commit(keep) => {
+            session.commit(keep);
             true
         }
+        Act::ForwardInWindow(n, keep) => goes_in_window(session, n, keep),
         Act::Forward(n) => goes_forward(session, n, n, None),
         Act::ForwardRefused(n, done, why) => goes_forward(session, n, done, Some(why)),
         Act::ForwardUntil(why) => forward_to_end(session) == Err(why),
@@ -161,6 +179,7 @@ fn look(rt: &impl Abort, alloc: Global, session: &Session, act: &Act) -> bool {
         Act::Records(count) => has_records(session, count),
         Act::Weighs(weight) => weighs(session, weight),
         Act::Pending(text) => session.pending() == text,
+        Act::PendingBefore(keep, text) => session.pending_before(keep) == text,
         _ => look_at(rt, alloc, session.machine(), act),
     }
 }

@@ -17,7 +17,12 @@ const COMMANDS: &[Command<'static>] = &[
     Command::Back,
     Command::End,
     Command::Feed(b"C"),
-    Command::Commit,
+    Command::Commit(0),
+    Command::Back,
+    // one step, which a commit keeps
+    Command::Step,
+    Command::Commit(1),
+    Command::Back,
     Command::Back,
 ];
 
@@ -31,6 +36,10 @@ const REPLIES: &[Reply] = &[
     Reply::Done,
     Reply::Done,
     Reply::Refused(Refusal::Closed),
+    Reply::Done,
+    Reply::Refused(Refusal::AtStart),
+    Reply::Done,
+    Reply::Done,
     Reply::Done,
     Reply::Refused(Refusal::AtStart),
 ];

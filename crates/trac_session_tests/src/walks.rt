@@ -112,7 +112,7 @@ const A_COMMIT_KEEPS_WHAT_IS_UNREAD: &[Act] = &[
     Feed(b"AB'C'"),
     Forward(11),
     Position(3),
-    Commit,
+    Commit(0),
     Pending(b""),
     Position(0),
     BackToStart(1, 0),
@@ -171,7 +171,7 @@ const A_TEXT_WEIGHS: &[Act] = &[
     Weighs(7),
     Back(9),
     Weighs(2),
-    Commit,
+    Commit(0),
     Weighs(0),
 ];
 
@@ -209,6 +209,155 @@ const A_DELETED_FORM_WEIGHS: &[Act] = &[
     Forms(1),
 ];
 
+// Whoever keeps steps keeps the first of their states as the start: what was printed until then is released, and what was
+// read until then is dropped. After nine steps nothing is printed and three bytes are read, after eleven `AB` is printed.
+const A_WINDOW_OF_TEN: &[Act] = &[
+    Feed(b"AB'"),
+    Forward(19),
+    PendingBefore(10, b""),
+    Commit(10),
+    Records(10),
+    Pending(b"AB"),
+    Position(0),
+    BackToStart(99, 10),
+    Active(b"B)"),
+    Shows(b"#(ps,A^B)"),
+    Position(0),
+    Pending(b""),
+];
+
+const A_WINDOW_OF_EIGHT: &[Act] = &[
+    Feed(b"AB'"),
+    Forward(19),
+    Pending(b"AB"),
+    PendingBefore(8, b"AB"),
+    Commit(8),
+    Records(8),
+    Pending(b""),
+    Position(0),
+    BackToStart(9, 8),
+    Shows(b"^"),
+    Pending(b""),
+    Position(0),
+];
+
+// The first state that stays is before `rs` reads, so the tape loses nothing, and it is read again.
+const A_WINDOW_OF_TWELVE: &[Act] = &[
+    Feed(b"AB'"),
+    Forward(19),
+    PendingBefore(12, b""),
+    Commit(12),
+    Back(12),
+    Position(0),
+    Forward(1),
+    Active(b"AB)"),
+    Position(3),
+];
+
+// A window that is wider than the way back changes nothing.
+const A_WINDOW_OF_ALL: &[Act] = &[
+    Feed(b"AB'"),
+    Forward(19),
+    PendingBefore(99, b""),
+    Commit(99),
+    Records(19),
+    Weighs(7),
+    Shows(b"#(ps,#(rs^))"),
+    Pending(b"AB"),
+    Position(3),
+    BackToStart(99, 19),
+    Initial,
+];
+
+// Of the records that stay `ps` with `AB` weighs 5. The second commit releases what the first one kept, and what was not read
+// before is read after it.
+const A_WINDOW_AFTER_A_WINDOW: &[Act] = &[
+    Feed(b"AB'C'"),
+    Forward(11),
+    Commit(3),
+    Records(3),
+    Weighs(5),
+    Pending(b"AB"),
+    Position(0),
+    Forward(1),
+    Records(4),
+    PendingBefore(2, b""),
+    PendingBefore(1, b"AB"),
+    PendingBefore(0, b"AB"),
+    Commit(1),
+    Records(1),
+    Weighs(0),
+    Pending(b""),
+    BackToStart(2, 1),
+    Shows(b"^"),
+    Forward(9),
+    Shows(b"#(ps,^C)"),
+    Position(2),
+    Commit(1),
+    Position(2),
+    Back(1),
+    Position(0),
+    Shows(b"#(ps,#(rs^))"),
+];
+
+// Ten steps before the end the form is not deleted yet. Its name stays known in the window, so the way back takes no memory;
+// a commit that keeps the last state alone forgets it. Of the records that stay `dd` weighs 7, and `ps` 3.
+const A_DELETED_FORM_IN_A_WINDOW: &[Act] = &[
+    Feed(b"#(ds,a,1)'#(dd,a)'"),
+    ForwardRefused(99, 41, NeedInput),
+    Commit(10),
+    Records(10),
+    Weighs(10),
+    Forms(0),
+    BackToStart(11, 10),
+    Forms(1),
+    Position(0),
+    Weighs(0),
+    Forward(10),
+    Weighs(10),
+    Forms(0),
+    Commit(0),
+    Weighs(0),
+    BackToStart(1, 0),
+    Feed(b"#(ds,a,2)'#(cl,a)'"),
+    ForwardRefused(99, 35, NeedInput),
+    Pending(b"2"),
+    Forms(1),
+];
+
+// With a commit after each step the journal never holds more than one record beside those that it keeps, and is never full.
+// `AB` is printed by the eleventh step: five steps later the window has passed it.
+const A_COMMIT_AFTER_EACH_STEP: &[Act] = &[
+    Feed(b"AB'"),
+    ForwardInWindow(15, 5),
+    Pending(b"AB"),
+    ForwardInWindow(1, 5),
+    Pending(b""),
+    ForwardInWindow(3, 5),
+    Records(5),
+    Position(0),
+    ForwardRefused(1, 0, NeedInput),
+    BackToStart(99, 5),
+    Shows(b"#(p^s,#(rs))"),
+    Pending(b""),
+];
+
+// The same without any window.
+const NOTHING_IS_KEPT: &[Act] = &[
+    Feed(b"AB'"),
+    ForwardInWindow(10, 0),
+    Shows(b"#(ps,AB^)"),
+    Forward(1),
+    PendingBefore(1, b""),
+    Pending(b"AB"),
+    Commit(0),
+    Pending(b""),
+    ForwardInWindow(8, 0),
+    Shows(b"#(ps,#(rs^))"),
+    Position(0),
+    BackToStart(1, 0),
+];
+
 // Ten plain bytes behind eight steps, over which walks of each length go: to the end of the run, to within it, and past it.
 const A_RUN_OF_PLAIN_BYTES: &[Act] = &[
     Feed(b"ABCDEFGHIJ'"),
@@ -240,7 +389,7 @@ const A_RUN_FILLS_THE_JOURNAL: &[Act] = &[
     Back(3),
     Shows(b"#(ps,A^BCDEFGHIJ)"),
     ForwardRefused(19, 3, JournalFull),
-    Commit,
+    Commit(0),
     Records(0),
     Forward(7),
     Pending(b"ABCDEFGHIJ"),
@@ -254,7 +403,7 @@ const A_FULL_JOURNAL: &[Act] = &[
     Feed(b"AB'"),
     ForwardRefused(5, 4, JournalFull),
     Records(4),
-    Commit,
+    Commit(0),
     Records(0),
     Forward(1),
     BackToStart(2, 1),
@@ -308,6 +457,14 @@ const WALKS: &[(usize, &[Act])] = &[
     (JOURNAL_LIMIT, A_TEXT_WEIGHS),
     (JOURNAL_LIMIT, A_STRAY_CLOSING_WEIGHS),
     (JOURNAL_LIMIT, A_DELETED_FORM_WEIGHS),
+    (JOURNAL_LIMIT, A_WINDOW_OF_TEN),
+    (JOURNAL_LIMIT, A_WINDOW_OF_EIGHT),
+    (JOURNAL_LIMIT, A_WINDOW_OF_TWELVE),
+    (JOURNAL_LIMIT, A_WINDOW_OF_ALL),
+    (JOURNAL_LIMIT, A_WINDOW_AFTER_A_WINDOW),
+    (JOURNAL_LIMIT, A_DELETED_FORM_IN_A_WINDOW),
+    (6, A_COMMIT_AFTER_EACH_STEP),
+    (1, NOTHING_IS_KEPT),
     (JOURNAL_LIMIT, A_RUN_OF_PLAIN_BYTES),
     (12, A_RUN_FILLS_THE_JOURNAL),
     (4, A_FULL_JOURNAL),

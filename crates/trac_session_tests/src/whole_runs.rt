@@ -1,11 +1,12 @@
 //! Whole runs of a session: to the end, and all the way back, where each state is the one on the way out. Each request for
-//! memory is refused in turn, and all of them on the way back.
+//! memory is refused in turn, and all of them on the way back. With a commit after each step that keeps so many, the states
+//! are the same but for what was released, and the way back goes so far.
 use crate::sessions::{Memory, expect_each, let_go, made};
 use std::alloc::Global;
 use std::process::Abort;
 use std::test::Fail;
 use trac_faults::Refusing;
-use trac_machine_tests::shown::{PROGRAMS, state_shown};
+use trac_machine_tests::shown::{PROGRAMS, state_shown_after};
 use trac_rules::limit::JOURNAL_LIMIT;
 use trac_rules::refusal::Refusal;
 use trac_session::{Session, Walk};
@@ -30,9 +31,55 @@ const SHORT_RUNS: &[(&[u8], &[u8])] = &[
     ),
 ];
 
-// What the session shows of its last state.
-fn shown(rt: &impl Abort, plain: Global, session: &Session<Memory<'_>>) -> Vec<u8> {
-    state_shown(plain, session.machine()).expect(rt, "there was no memory")
+// How many steps the commits keep in further runs of each program.
+const WINDOWS: &[usize] = &[0, 1, 5, 1_000];
+
+// The runs in which each request for memory is refused: without a commit, and with one after each step.
+const REFUSED_RUNS: &[Option<usize>] = &[None, Some(5)];
+
+/// What a run is over.
+#[derive(Clone, Copy)]
+struct Run<'a> {
+    plain: Global,
+    memory: Memory<'a>,
+    input: &'a [u8],
+    output: &'a [u8],
+    // how many steps the commit keeps that is made after each step; none is made without it
+    window: Option<usize>,
+}
+
+/// How many bytes commits have released of the output, and dropped of the input.
+#[derive(Clone, Copy)]
+struct Released {
+    printed: usize,
+    read: usize,
+}
+
+const NOTHING_RELEASED: Released = Released {
+    printed: 0,
+    read: 0,
+};
+
+// The first bytes of a text, so many or all.
+fn front(text: &[u8], count: usize) -> &[u8] {
+    text.split_at(count.min(text.len())).0
+}
+
+// The bytes after these.
+fn rest(text: &[u8], count: usize) -> &[u8] {
+    text.split_at(count.min(text.len())).1
+}
+
+// What the session shows of its last state, with all that was released before it.
+fn shown(
+    rt: &impl Abort,
+    run: &Run<'_>,
+    session: &Session<Memory<'_>>,
+    released: Released,
+) -> Vec<u8> {
+    let printed = front(run.output, released.printed);
+    state_shown_after(run.plain, session.machine(), printed, released.read)
+        .expect(rt, "there was no memory")
 }
 
 fn forward(session: &mut Session<Memory<'_>>, n: u64) -> Walk {
@@ -63,101 +110,179 @@ fn feed_all(rt: &impl Abort, session: &mut Session<Memory<'_>>, input: &[u8]) {
     session.end();
 }
 
+// Takes a step, where one request may be refused: nothing has changed then, and the next try is accepted. Answers why no
+// step is taken.
+fn step(session: &mut Session<Memory<'_>>) -> Option<Refusal> {
+    match forward(session, 1).why {
+        Some(Refusal::Memory) => forward(session, 1).why,
+        why => why,
+    }
+}
+
+// Makes the commit of this run, where there is one, and answers what is released by then. What the commit says to release is
+// what the program prints next.
+fn commit(
+    rt: &impl Abort,
+    run: &Run<'_>,
+    session: &mut Session<Memory<'_>>,
+    released: Released,
+) -> Released {
+    let Some(keep) = run.window else {
+        return released;
+    };
+    let more = session.pending_before(keep).len();
+    let wanted = front(rest(run.output, released.printed), more);
+    expect_text(rt, session.pending_before(keep), wanted, run.input);
+    let position = session.machine().position();
+    session.commit(keep);
+    let dropped = position.saturating_sub(session.machine().position());
+    Released {
+        printed: released.printed.saturating_add(more),
+        read: released.read.saturating_add(dropped),
+    }
+}
+
 // Keeps what a session shows behind the states that were kept before.
-fn keep(rt: &impl Abort, plain: Global, session: &Session<Memory<'_>>, states: &mut Vec<Vec<u8>>) {
-    let state = shown(rt, plain, session);
+fn keep(
+    rt: &impl Abort,
+    run: &Run<'_>,
+    session: &Session<Memory<'_>>,
+    released: Released,
+    states: &mut Vec<Vec<u8>>,
+) {
+    let state = shown(rt, run, session, released);
     states.push(state).expect(rt, "there was no memory");
 }
 
-// To the end, step by step: the state before each step, and the last one.
+// To the end, step by step: the state before each step, and the last one. Answers what is released.
 fn to_end(
     rt: &impl Abort,
-    plain: Global,
+    run: &Run<'_>,
     session: &mut Session<Memory<'_>>,
     states: &mut Vec<Vec<u8>>,
-) {
+) -> Released {
+    let mut released = NOTHING_RELEASED;
     let mut why = None;
     for _ in 0..5_000 {
         if why.is_none() {
-            keep(rt, plain, session, states);
-            why = forward(session, 1).why;
+            keep(rt, run, session, released, states);
+            why = step(session);
+            released = commit(rt, run, session, released);
         }
     }
     assert!(rt; why == Some(Refusal::Ended));
+    released
 }
 
-// A session shows this.
+// A session shows this, with what was released.
 fn expect_shown(
     rt: &impl Abort,
-    plain: Global,
+    run: &Run<'_>,
     session: &Session<Memory<'_>>,
+    released: Released,
     state: &[u8],
-    input: &[u8],
 ) {
-    let text = shown(rt, plain, session);
-    expect_text(rt, text.as_slice(), state, input);
+    let text = shown(rt, run, session, released);
+    expect_text(rt, text.as_slice(), state, run.input);
 }
 
-// All the way back, step by step, while every request for memory is refused: none is made.
+// All the way back, step by step, while every request for memory is refused: none is made. The first state has no output, and
+// has read nothing.
 fn to_start(
     rt: &impl Abort,
-    plain: Global,
-    memory: Memory<'_>,
+    run: &Run<'_>,
     session: &mut Session<Memory<'_>>,
+    released: Released,
     states: &[Vec<u8>],
-    input: &[u8],
 ) {
-    let requests = memory.requests();
-    memory.refuse_all();
+    let requests = run.memory.requests();
+    run.memory.refuse_all();
     for state in states.iter().rev() {
-        expect_shown(rt, plain, session, state.as_slice(), input);
+        expect_shown(rt, run, session, released, state.as_slice());
         back(session, 1);
     }
     expect_walk(rt, back(session, 1), 0, Refusal::AtStart);
-    assert!(rt; memory.requests() == requests);
-    memory.accept_all();
+    assert!(rt; session.pending().is_empty() && session.machine().position() == 0);
+    assert!(rt; run.memory.requests() == requests);
+    run.memory.accept_all();
 }
 
-// To the end and all the way back: each state is the one on the way out.
-fn there_and_back(
-    rt: &impl Abort,
-    plain: Global,
-    memory: Memory<'_>,
-    session: &mut Session<Memory<'_>>,
-    input: &[u8],
-    output: &[u8],
-    states: &mut Vec<Vec<u8>>,
-) {
-    feed_all(rt, session, input);
-    to_end(rt, plain, session, states);
-    expect_text(rt, session.pending(), output, input);
-    to_start(rt, plain, memory, session, states.as_slice(), input);
-}
-
-// The states of such a run, the first one first.
-fn states_of(
-    rt: &impl Abort,
-    plain: Global,
-    memory: Memory<'_>,
-    input: &[u8],
-    output: &[u8],
-) -> Result<Vec<Vec<u8>>, Fail> {
-    let mut session = made(memory, JOURNAL_LIMIT)?;
-    let mut states = Vec::new(plain);
-    there_and_back(rt, plain, memory, &mut session, input, output, &mut states);
-    let_go(session);
-    Ok(states)
+// Of the states on the way out, those that the commits have kept.
+fn kept_of(states: &[Vec<u8>], window: Option<usize>) -> &[Vec<u8>] {
+    let Some(keep) = window else {
+        return states;
+    };
+    let dropped = states.len().saturating_sub(keep.saturating_add(1));
+    states.split_at(dropped).1
 }
 
 fn steps_over(states: &[Vec<u8>]) -> u64 {
     states.len().saturating_sub(1) as u64
 }
 
+// To the end and all the way back: each state is the one on the way out. The same steps lead to the end again.
+fn there_and_back(
+    rt: &impl Abort,
+    run: &Run<'_>,
+    session: &mut Session<Memory<'_>>,
+    states: &mut Vec<Vec<u8>>,
+) {
+    feed_all(rt, session, run.input);
+    let released = to_end(rt, run, session, states);
+    expect_text(rt, session.pending(), rest(run.output, released.printed), run.input);
+    let kept = kept_of(states.as_slice(), run.window);
+    to_start(rt, run, session, released, kept);
+    expect_walk(rt, forward(session, u64::MAX), steps_over(kept), Refusal::Ended);
+}
+
+// How many records the journal of a run has to hold: with commits one more than they keep.
+fn journal_of(window: Option<usize>) -> usize {
+    match window {
+        Some(keep) => keep.saturating_add(1),
+        None => JOURNAL_LIMIT,
+    }
+}
+
+// The states of such a run, the first one first.
+fn states_of(rt: &impl Abort, run: &Run<'_>) -> Result<Vec<Vec<u8>>, Fail> {
+    let limit = journal_of(run.window);
+    assert!(rt; 1 <= limit && limit <= JOURNAL_LIMIT);
+    let mut session = made(run.memory, limit)?;
+    let mut states = Vec::new(run.plain);
+    there_and_back(rt, run, &mut session, &mut states);
+    let_go(session);
+    Ok(states)
+}
+
+// A run with commits has the states of the one without.
+fn expect_states(rt: &impl Abort, run: &Run<'_>, states: &[Vec<u8>]) -> Result<(), Fail> {
+    let others = states_of(rt, run)?;
+    assert!(rt; others.as_slice() == states);
+    Ok(())
+}
+
+// A run without a commit, and one with each window.
+fn expect_windows(rt: &impl Abort, mut run: Run<'_>) -> Result<(), Fail> {
+    let states = states_of(rt, &run)?;
+    for keep in WINDOWS.iter() {
+        run.window = Some(*keep);
+        expect_states(rt, &run, states.as_slice())?;
+    }
+    Ok(())
+}
+
 #[test]
 fn each_state_on_the_way_back(rt: HostRuntime) -> Result<(), Fail> {
     let memory = Refusing::new(rt.alloc());
     for (input, output) in PROGRAMS.iter() {
-        states_of(&rt, rt.alloc(), &memory, input, output)?;
+        let run = Run {
+            plain: rt.alloc(),
+            memory: &memory,
+            input: *input,
+            output: *output,
+            window: None,
+        };
+        expect_windows(&rt, run)?;
     }
     Ok(())
 }
@@ -173,82 +298,86 @@ fn is_state(states: &[Vec<u8>], steps: u64, text: &[u8]) -> bool {
 // A session shows the state after so many steps.
 fn expect_state(
     rt: &impl Abort,
-    plain: Global,
+    run: &Run<'_>,
     session: &Session<Memory<'_>>,
     states: &[Vec<u8>],
     steps: u64,
 ) {
-    let text = shown(rt, plain, session);
+    let text = shown(rt, run, session, NOTHING_RELEASED);
     assert!(rt; is_state(states, steps, text.as_slice()));
 }
 
 // To the end, where one request may be refused: nothing has changed then, and the next try goes on.
 fn to_end_at_once(
     rt: &impl Abort,
-    plain: Global,
+    run: &Run<'_>,
     session: &mut Session<Memory<'_>>,
     states: &[Vec<u8>],
 ) {
     let steps = steps_over(states);
     let walk = forward(session, u64::MAX);
-    expect_state(rt, plain, session, states, walk.done);
+    expect_state(rt, run, session, states, walk.done);
     if walk.why == Some(Refusal::Memory) {
         let left = steps.saturating_sub(walk.done);
         expect_walk(rt, forward(session, u64::MAX), left, Refusal::Ended);
     } else {
         expect_walk(rt, walk, steps, Refusal::Ended);
     }
-    expect_state(rt, plain, session, states, steps);
+    expect_state(rt, run, session, states, steps);
 }
 
 // To the end, where one request may be refused, and all the way back while every request is refused.
 fn there_and_back_at_once(
     rt: &impl Abort,
-    plain: Global,
-    memory: Memory<'_>,
+    run: &Run<'_>,
     session: &mut Session<Memory<'_>>,
-    input: &[u8],
     states: &[Vec<u8>],
 ) {
-    feed_all(rt, session, input);
-    to_end_at_once(rt, plain, session, states);
-    memory.refuse_all();
+    feed_all(rt, session, run.input);
+    to_end_at_once(rt, run, session, states);
+    run.memory.refuse_all();
     let walk = back(session, u64::MAX);
     expect_walk(rt, walk, steps_over(states), Refusal::AtStart);
-    expect_state(rt, plain, session, states, 0);
+    expect_state(rt, run, session, states, 0);
 }
 
-fn again(
-    rt: &impl Abort,
-    plain: Global,
-    memory: Memory<'_>,
-    input: &[u8],
-    states: &[Vec<u8>],
-) -> Result<(), Fail> {
-    let mut session = made(memory, JOURNAL_LIMIT)?;
-    there_and_back_at_once(rt, plain, memory, &mut session, input, states);
+fn at_once(rt: &impl Abort, run: &Run<'_>, states: &[Vec<u8>]) -> Result<(), Fail> {
+    let mut session = made(run.memory, JOURNAL_LIMIT)?;
+    there_and_back_at_once(rt, run, &mut session, states);
     let_go(session);
     Ok(())
 }
 
-fn expect_short_run(
-    rt: &(impl Abort + AllocGlobal),
-    memory: Memory<'_>,
-    input: &[u8],
-    output: &[u8],
-) -> Result<(), Fail> {
-    let states = states_of(rt, rt.alloc(), memory, input, output)?;
-    // A moved byte takes no memory, so there may be fewer requests than steps.
-    expect_each(rt, memory, 10, |_| {
-        again(rt, rt.alloc(), memory, input, states.as_slice())
-    })
+// A run again: without a commit all steps at once, and else step by step.
+fn again(rt: &impl Abort, run: &Run<'_>, states: &[Vec<u8>]) -> Result<(), Fail> {
+    match run.window {
+        Some(_) => expect_states(rt, run, states),
+        None => at_once(rt, run, states),
+    }
+}
+
+fn expect_short_run(rt: &impl Abort, mut run: Run<'_>) -> Result<(), Fail> {
+    let states = states_of(rt, &run)?;
+    for window in REFUSED_RUNS.iter() {
+        run.window = *window;
+        // A moved byte takes no memory, so there may be fewer requests than steps.
+        expect_each(rt, run.memory, 10, |_| again(rt, &run, states.as_slice()))?;
+    }
+    Ok(())
 }
 
 #[test]
 fn each_request(rt: HostRuntime) -> Result<(), Fail> {
     let memory = Refusing::new(rt.alloc());
     for (input, output) in SHORT_RUNS.iter() {
-        expect_short_run(&rt, &memory, input, output)?;
+        let run = Run {
+            plain: rt.alloc(),
+            memory: &memory,
+            input: *input,
+            output: *output,
+            window: None,
+        };
+        expect_short_run(&rt, run)?;
     }
     Ok(())
 }
@@ -263,7 +392,14 @@ fn single_bytes(rt: HostRuntime) -> Result<(), Fail> {
             b'\'' | b'(' | b')' | b',' | b'\r' | b'\n' | b'\t' => b"".as_slice(),
             _ => input.as_slice(),
         };
-        states_of(&rt, rt.alloc(), &memory, &input, output)?;
+        let run = Run {
+            plain: rt.alloc(),
+            memory: &memory,
+            input: &input,
+            output,
+            window: None,
+        };
+        states_of(&rt, &run)?;
     }
     Ok(())
 }

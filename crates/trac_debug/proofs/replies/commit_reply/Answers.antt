@@ -1,5 +1,6 @@
 use Rattle.std.proofs.Common.{◌≡◌, List, ℕ, [], ◌++◌, ap, ◌∙◌}
 use Rattle.std.specs.Prelude.{codes}
+use Rattle.trac_rules.specs.Session.{first_kept}
 use Rattle.trac_debug.specs.Texts.{text_line}
 use Rattle.trac_debug.proofs.replies.commit_reply.Goals as goal
 
@@ -9,7 +10,7 @@ put_first word lent pending empty reply none is adds = adds ∙ ap (λ e. e ++ t
 
 pub returns : goal.returns
 returns g c = (
-  put_first (codes "commit") c.pending.result.now c.args.session.now.last.output c.new-reply.result.items c.text_line_into.new.out.items c.new-reply.ensures.items c.pending.ensures
+  put_first (codes "commit") c.pending_before.result.now (first_kept c.args.keep c.args.session.now).output c.new-reply.result.items c.text_line_into.new.out.items c.new-reply.ensures.items c.pending_before.ensures.released
       c.in_ok-text_line_into.ensures,
   c.commit.ensures,
 )

@@ -161,7 +161,7 @@ returns-clause-all_kinds_active c = refl
 
 pub returns-clause-all_kinds_run : goal.returns-clause-all_kinds_run
 unfolding match_of scan texts_fit performed step answer
-returns-clause-all_kinds_run c = (session_after (Feed (codes "AB'") ∷ []) (new_session 4), refl, (session_after (Feed (codes "AB'") ∷ Step ∷ []) (new_session 4), refl, (session_after (Feed (codes "AB'") ∷ Step ∷ Step ∷ []) (new_session 4), refl, (session_after (Feed (codes "AB'") ∷ Step ∷ Step ∷ Step ∷ []) (new_session 4), refl, (session_after (Feed (codes "AB'") ∷ Step ∷ Step ∷ Step ∷ Step ∷ []) (new_session 4), refl, (session_after (Feed (codes "AB'") ∷ Step ∷ Step ∷ Step ∷ Step ∷ Step ∷ []) (new_session 4), refl, (session_after (Feed (codes "AB'") ∷ Step ∷ Step ∷ Step ∷ Step ∷ Step ∷ Back ∷ []) (new_session 4), refl, (session_after (Feed (codes "AB'") ∷ Step ∷ Step ∷ Step ∷ Step ∷ Step ∷ Back ∷ End ∷ []) (new_session 4), refl, (session_after (Feed (codes "AB'") ∷ Step ∷ Step ∷ Step ∷ Step ∷ Step ∷ Back ∷ End ∷ Feed (codes "C") ∷ []) (new_session 4), refl, (session_after (Feed (codes "AB'") ∷ Step ∷ Step ∷ Step ∷ Step ∷ Step ∷ Back ∷ End ∷ Feed (codes "C") ∷ Commit ∷ []) (new_session 4), refl, (session_after (Feed (codes "AB'") ∷ Step ∷ Step ∷ Step ∷ Step ∷ Step ∷ Back ∷ End ∷ Feed (codes "C") ∷ Commit ∷ Back ∷ []) (new_session 4), refl, refl)))))))))))
+returns-clause-all_kinds_run c = (session_after (Feed (codes "AB'") ∷ []) (new_session 4), refl, (session_after (Feed (codes "AB'") ∷ Step ∷ []) (new_session 4), refl, (session_after (Feed (codes "AB'") ∷ Step ∷ Step ∷ []) (new_session 4), refl, (session_after (Feed (codes "AB'") ∷ Step ∷ Step ∷ Step ∷ []) (new_session 4), refl, (session_after (Feed (codes "AB'") ∷ Step ∷ Step ∷ Step ∷ Step ∷ []) (new_session 4), refl, (session_after (Feed (codes "AB'") ∷ Step ∷ Step ∷ Step ∷ Step ∷ Step ∷ []) (new_session 4), refl, (session_after (Feed (codes "AB'") ∷ Step ∷ Step ∷ Step ∷ Step ∷ Step ∷ Back ∷ []) (new_session 4), refl, (session_after (Feed (codes "AB'") ∷ Step ∷ Step ∷ Step ∷ Step ∷ Step ∷ Back ∷ End ∷ []) (new_session 4), refl, (session_after (Feed (codes "AB'") ∷ Step ∷ Step ∷ Step ∷ Step ∷ Step ∷ Back ∷ End ∷ Feed (codes "C") ∷ []) (new_session 4), refl, (session_after (Feed (codes "AB'") ∷ Step ∷ Step ∷ Step ∷ Step ∷ Step ∷ Back ∷ End ∷ Feed (codes "C") ∷ Commit 0 ∷ []) (new_session 4), refl, (session_after (Feed (codes "AB'") ∷ Step ∷ Step ∷ Step ∷ Step ∷ Step ∷ Back ∷ End ∷ Feed (codes "C") ∷ Commit 0 ∷ Back ∷ []) (new_session 4), refl, refl)))))))))))
 
 pub returns-clause-walk_there : goal.returns-clause-walk_there
 unfolding match_of scan texts_fit performed step answer

@@ -18,7 +18,8 @@ sound_at_first {R} before weigh limit bytes journal m some most none first at = 
   within_limit = omega (arith, ap (λ (records : List R). length records) first);
   tape_limit = omega (arith, ap (λ (xs : List ℕ). length xs) none);
   on_tape = omega (arith, ap (λ (s : State). s.position) at);
-  records = subst (λ (records : List R). AreRecords before weigh (IsWithinReach m (length bytes)) (reverse records) m.state) (sym first) tt;
+  records = subst (λ (records : List R). AreRecords before weigh (IsWithinReach m (length bytes)) (reverse records) m.state) (sym first)
+      (record { nothing_pending = ap (λ (s : State). s.output) at; nothing_read = ap (λ (s : State). s.position) at });
 }
 
 plain_at_first : {R : Type 0} → (before : R → State → Option State) (limit : ℕ) (bytes : List ℕ) (journal : List R) (last : State) → bytes ≡ [] → journal ≡ [] → last ≡ initial →
