@@ -1,17 +1,17 @@
-//! A machine is released of what stood before its last step, and goes back over that step then: its record has no place in
-//! the whole output or the whole input.
+//! A machine is released of the front of its output and of what it has read. That it goes back over its last steps then, the
+//! tests of sessions say.
 use crate::machines::{Memory, let_go, made, take_step};
 use crate::shown::texts_shown;
 use std::alloc::{Allocator, Global};
 use std::process::Abort;
 use trac_faults::Refusing;
 use trac_gap::{GapBuf, PlainEnds, TwoEnds};
-use trac_step::{Core, Mark, Tape};
+use trac_step::{Core, Mark};
 
 const INPUT: &[u8] = b"AB'C'";
 
-/// How many steps there are before the one that is taken and undone, how many bytes of the output and of the input are
-/// released between, and what is shown after both: the texts, the output and the position.
+/// How many steps there are before, how many bytes of the output and of the input are released, and what is shown after: the
+/// texts, the output and the position.
 type Row = (u64, usize, usize, &'static [u8], &'static [u8], usize);
 
 const RELEASES: &[Row] = &[
@@ -33,9 +33,8 @@ const RELEASES: &[Row] = &[
     (21, 2, 5, b"#(ps,C^)", b"", 0),
 ];
 
-// Takes a step, releases so many bytes of the output and of the input that were there before it, and undoes the step. No
-// memory is asked for in the release and on the way back.
-fn release_and_undo<E: TwoEnds<u8, A>, M: TwoEnds<Mark, A>, A: Allocator + Copy>(
+// Releases so many bytes of the output and of the input, for which no memory is asked.
+fn release<E: TwoEnds<u8, A>, M: TwoEnds<Mark, A>, A: Allocator + Copy>(
     rt: &impl Abort,
     memory: Memory<'_>,
     machine: &mut Core<E, M, A>,
@@ -43,17 +42,9 @@ fn release_and_undo<E: TwoEnds<u8, A>, M: TwoEnds<Mark, A>, A: Allocator + Copy>
     read: usize,
 ) {
     assert!(rt; printed <= machine.output().len() && read <= machine.position());
-    assert!(rt; machine.position() <= INPUT.len());
-    let tape = Tape {
-        bytes: INPUT,
-        ended: true,
-    };
-    let taken = machine.step(tape).expect(rt, "the step was refused");
-    assert!(rt; printed <= machine.output().len() && read <= machine.position());
     memory.refuse_all();
     let requests = memory.requests();
     machine.release(printed, read);
-    machine.undo(taken);
     assert!(rt; memory.requests() == requests);
     memory.accept_all();
 }
@@ -69,7 +60,7 @@ fn expect_released<E: TwoEnds<u8, A>, M: TwoEnds<Mark, A>, A: Allocator + Copy>(
     for _ in 0..steps {
         take_step(rt, machine, INPUT);
     }
-    release_and_undo(rt, memory, machine, printed, read);
+    release(rt, memory, machine, printed, read);
     let shown = texts_shown(plain, machine).expect(rt, "there was no memory");
     assert!(rt; shown.as_slice() == text, "after {steps} steps");
     assert!(rt; machine.output() == output && machine.position() == position);
@@ -89,7 +80,7 @@ fn expect_each_released<E: TwoEnds<u8, A>, M: TwoEnds<Mark, A>, A: Allocator + C
 }
 
 #[test]
-fn back_over_a_step_after_a_release(rt: HostRuntime) {
+fn releases_read_and_printed_bytes(rt: HostRuntime) {
     let memory = Refusing::new(rt.alloc());
     expect_each_released::<GapBuf<u8, Memory<'_>>, GapBuf<Mark, Memory<'_>>, Memory<'_>>(
         &rt,
