@@ -23,7 +23,7 @@ sum_by-append count [] others = omega arith
 sum_by-append count (r ∷ records) others = omega (arith, sum_by-append count records others)
 
 -- in whichever order
-sum_by-reverse : {R : Type 0} → (count : R → ℕ) (records : List R) → sum_by count (reverse records) ≡ sum_by count records
+pub sum_by-reverse : {R : Type 0} → (count : R → ℕ) (records : List R) → sum_by count (reverse records) ≡ sum_by count records
 sum_by-reverse count [] = refl
 sum_by-reverse count (r ∷ records) =
     ap (sum_by count) (reverse-append (r ∷ []) records)

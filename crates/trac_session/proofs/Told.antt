@@ -1,5 +1,5 @@
 -- What a record of the machine tells of its step: how much it read and printed, and that it leads on from a released state.
-use Rattle.std.proofs.Common.{◌≡◌, ℕ, ◌+◌, ◌-◌, ◌≤◌, Bool, true, false, List, [], ◌++◌, length, take, drop, refl, sym, ap, ◌∙◌, arith}
+use Rattle.std.proofs.Common.{◌≡◌, ℕ, ◌+◌, ◌-◌, ◌≤◌, Bool, true, false, List, [], ◌++◌, length, take, drop, reverse, refl, sym, ap, ◌∙◌, arith}
 use Rattle.std.specs.Prelude.{Option, None, Some, nat_le, ◌&&◌}
 use Rattle.std.specs.Bool.{then_some}
 use Rattle.std.specs.Option.{unwrap_or}
@@ -13,7 +13,10 @@ use Rattle.trac_rules.proofs.Released.{before-released}
 use Rattle.trac_rules.proofs.Restored.{restored_of_before}
 use Rattle.trac_step.specs.Record.{before, recorded_by}
 use Rattle.trac_session.specs.Passed.{printed_by, printed_of, read_by, read_of}
-use Rattle.trac_session.proofs.Windowed.{AreTold, Passes}
+use Rattle.trac_step.specs.declared.record.Record as machine
+use Rattle.trac_session.specs.Journal.{AreRecords, sum_by}
+use Rattle.trac_session.specs.Weighed.{weighed}
+use Rattle.trac_session.proofs.Windowed.{AreTold, IsKept, Passes}
 
 -- the rest of a state tells what the call read and printed
 record RestPasses (call : CallRecord) (before after : Rest) : Type 0 where
@@ -73,3 +76,10 @@ machine_told A = record {
   passes = λ r s t says. restored_passes (recorded_by r) s t (restored_of_before (recorded_by r) s t says).0;
   released = λ o k r s t read printed says. before-released o k (recorded_by r) s t read printed says;
 }
+
+-- what `drop_oldest` keeps of a journal is what a commit keeps
+pub kept_of : {A : Type 0} → (Holds : State → Type 0) (keep count : ℕ) (old new : List (machine.Record A)) (last : State) (o k : ℕ) →
+    AreRecords before weighed Holds (reverse old) last → count ≡ length old - keep → new ≡ drop count old → o ≡ sum_by printed_of (take count old) → k ≡ sum_by read_of (take count old) →
+    IsKept before weighed read_of printed_of Holds keep count old new last o k
+kept_of {A} Holds keep count old new last o k all dropped rest printed read =
+    record { told = machine_told A; all = all; dropped = dropped; rest = rest; printed = printed; read = read }

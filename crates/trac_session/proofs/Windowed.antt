@@ -155,12 +155,13 @@ pub fronts_kept : {R : Type 0} → (before : R → State → Option State) (weig
     AreTold before reads prints → AreRecords before weigh Holds (kept ++ dropped) t → u ≡ first_before before kept t →
     All (λ (s : State). IsFrontOf u.output s.output) (t ∷ earlier_of before kept t)
 fronts_kept before weigh reads prints Holds [] dropped t u told all first =
-    All-cons (front_of_first before weigh reads prints Holds [] dropped t u told all first) All-nil
+    let begins : State → Type 0 = λ s. IsFrontOf u.output s.output in
+    All-cons begins t [] (front_of_first before weigh reads prints Holds [] dropped t u told all first) (All-nil begins)
 fronts_kept before weigh reads prints Holds (r ∷ kept) dropped t u told all first =
     let s = all.0 in
     let says : before r t ≡ Some s = all.1.says in
     let rest = fronts_kept before weigh reads prints Holds kept dropped s u told all.3 (first ∙ first_before-more before r kept s t says) in
-    All-cons (front_of_first before weigh reads prints Holds (r ∷ kept) dropped t u told all first)
+    All-cons (λ (v : State). IsFrontOf u.output v.output) t (earlier_of before (r ∷ kept) t) (front_of_first before weigh reads prints Holds (r ∷ kept) dropped t u told all first)
     (subst (λ (states : List State). All (λ (v : State). IsFrontOf u.output v.output) states) (sym (led_on-Some (before r t) s (λ v. earlier_of before kept v) says)) rest)
 
 -- ---- the journal
@@ -171,7 +172,7 @@ turned journal count = ap reverse (sym (take-append-drop count journal)) ∙ rev
 
 -- so many states at the front of these are the first ones, where there are so many, or these are all
 front_taken : {X : Type 0} → (keep : ℕ) (xs ys : List X) → length ys ≡ (length xs + length ys) - keep → take keep (xs ++ ys) ≡ xs
-front_taken keep [] ys counted = nil_from_length (take keep ys) (none keep ys counted)
+front_taken {X} keep [] ys counted = nil_from_length (take keep ys) (none keep ys (omega (arith, counted)))
   where
     none : (n : ℕ) (zs : List X) → length zs ≡ length zs - n → length (take n zs) ≡ 0
     none zero zs c = refl

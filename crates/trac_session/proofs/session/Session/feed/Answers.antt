@@ -1,4 +1,5 @@
-use Rattle.std.proofs.Common.{◌≡◌, ◌∙◌, length, arith}
+use Rattle.std.proofs.Common.{◌≡◌, ℕ, length, ap, arith}
+use Rattle.trac_gap.specs.Window.{Window}
 use Rattle.trac_step.specs.Record.{before}
 use Rattle.trac_session.specs.Weighed.{weighed}
 use Rattle.trac_session.proofs.Journaled.{Feed_closed_of_fields, Feed_long_of_fields, Feed_room_of_fields, Feed_memory_of_fields, IsSound-feed}
@@ -9,20 +10,20 @@ returns-then-self g c = Feed_closed_of_fields before _ _ _ c.self.inside.journal
 
 pub returns-then-bytes-len : goal.returns-then-bytes-len
 returns-then-bytes-len g c =
-    let count : c.len.result ≡ length c.self.inside.tape.items = c.len.ensures ∙ c.self.inside.tape.ok.0 in
+    let count : c.len.result ≡ length c.self.inside.tape.items = c.len.ensures.len in
     Feed_long_of_fields before _ _ _ c.self.inside.journal _ _ _ c.self.view_is c.if-self.false (omega (arith, c.self.invariant.tape_limit))
 
 pub returns-in_default : goal.returns-in_default
 returns-in_default g c =
-    let count : c.len.result ≡ length c.self.inside.tape.items = c.len.ensures ∙ c.self.inside.tape.ok.0 in
-    Feed_memory_of_fields before _ _ _ _ c.self.inside.journal _ _ _ c.self.view_is c.if-self.false (omega (arith, c.self.invariant.tape_limit)) c.in_default.ensures.items
+    let count : c.len.result ≡ length c.self.inside.tape.items = c.len.ensures.len in
+    Feed_memory_of_fields before _ _ _ _ c.self.inside.journal _ _ _ c.self.view_is c.if-self.false (omega (arith, c.self.invariant.tape_limit)) (ap (λ (w : Window ℕ). w.items) c.in_default.ensures.err)
 
 pub returns : goal.returns
 returns g c =
-    let count : c.len.result ≡ length c.self.inside.tape.items = c.len.ensures ∙ c.self.inside.tape.ok.0 in
-    Feed_room_of_fields before _ _ _ _ c.self.inside.journal _ _ _ c.self.view_is c.if-self.false (omega (arith, c.self.invariant.tape_limit)) c.in-Ok.ensures.items
+    let count : c.len.result ≡ length c.self.inside.tape.items = c.len.ensures.len in
+    Feed_room_of_fields before _ _ _ _ c.self.inside.journal _ _ _ c.self.view_is c.if-self.false (omega (arith, c.self.invariant.tape_limit)) c.in-Ok.ensures.ok
 
 pub invariant_of-self-2 : goal.invariant_of-self-2
 invariant_of-self-2 g c =
-    let count : c.len.result ≡ length c.self.inside.tape.items = c.len.ensures ∙ c.self.inside.tape.ok.0 in
-    IsSound-feed before weighed _ _ _ c.args.bytes.now c.self.inside.journal _ c.in-Ok.ensures.items (omega (arith, c.self.invariant.tape_limit)) c.self.invariant
+    let count : c.len.result ≡ length c.self.inside.tape.items = c.len.ensures.len in
+    IsSound-feed before weighed _ _ _ c.args.bytes.now c.self.inside.journal _ c.in-Ok.ensures.ok (omega (arith, c.self.invariant.tape_limit)) c.self.invariant

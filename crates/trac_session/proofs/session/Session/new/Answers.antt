@@ -3,6 +3,7 @@ use Rattle.std.specs.Prelude.{Option}
 use Rattle.trac_rules.specs.declared.limit.TheConstants.{JOURNAL_LIMIT}
 use Rattle.trac_rules.specs.State.{State, initial}
 use Rattle.trac_rules.specs.Session.{new_session}
+use Rattle.trac_gap.specs.Window.{Window}
 use Rattle.trac_step.specs.Layout.{Shown}
 use Rattle.trac_step.specs.Record.{before}
 use Rattle.trac_session.specs.Journal.{AreRecords, IsSound, IsWithinReach, plain_of}
@@ -28,8 +29,8 @@ plain_at_first before limit bytes journal last none first at i = plain_of before
 
 pub invariant_of-result : goal.invariant_of-result
 invariant_of-result g c =
-    sound_at_first before weighed c.args.limit c.new.result.items c.new-3.result c.in_ok-new.field-0 c.requires.some c.requires.most c.new.ensures.items c.new-3.ensures c.in_ok-new.ensures.made
+    sound_at_first before weighed c.args.limit c.new.result.items c.new-3.result c.in_ok-new.field-0 c.requires.some c.requires.most (ap (λ (w : Window ℕ). w.items) c.new.ensures) c.new-3.ensures c.in_ok-new.ensures.made
 
 pub returns-clause-made : goal.returns-clause-made
 returns-clause-made g c =
-    plain_at_first before c.args.limit c.new.result.items c.new-3.result c.in_ok-new.field-0.state c.new.ensures.items c.new-3.ensures c.in_ok-new.ensures.made
+    plain_at_first before c.args.limit c.new.result.items c.new-3.result c.in_ok-new.field-0.state (ap (λ (w : Window ℕ). w.items) c.new.ensures) c.new-3.ensures c.in_ok-new.ensures.made
