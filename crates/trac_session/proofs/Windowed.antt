@@ -70,12 +70,11 @@ parted before weigh Holds (r ∷ kept) dropped t all =
     let s = all.0 in
     let says : before r t ≡ Some s = all.1.says in
     let rest = parted before weigh Holds kept dropped s all.3 in
-    let first = sym (first_before-more before r kept s t says) in
-    (
+    let first = sym (first_before-more before r kept s t says) in (
       subst (λ (f : State). AreRecords before weigh Holds dropped f) first rest.0,
       led_on-Some (before r t) s (λ u. earlier_of before (kept ++ dropped) u) says
-      ∙ ap (λ (states : List State). s ∷ states) rest.1
-      ∙ (λ i. sym (led_on-Some (before r t) s (λ u. earlier_of before kept u) says) i ++ earlier_of before dropped (first i)),
+          ∙ ap (λ (states : List State). s ∷ states) rest.1
+          ∙ (λ i. sym (led_on-Some (before r t) s (λ u. earlier_of before kept u) says) i ++ earlier_of before dropped (first i)),
     )
 
 -- what the records that are dropped tell of the first state that stays: the states begin without output, at the start of the tape
@@ -142,8 +141,7 @@ records_released before weigh reads prints Holds Still (r ∷ kept) dropped t u 
     let same = first ∙ first_before-more before r kept s t says in
     let far = beyond before weigh reads prints Holds kept dropped s u told all.3 same in
     let reads_less : k ≤ s.position = omega (arith, far.0, read) in
-    let prints_less : o ≤ length s.output = omega (arith, far.1, printed) in
-    (
+    let prints_less : o ≤ length s.output = omega (arith, far.1, printed) in (
       released o k s,
       record { says = told.released o k r s t reads_less prints_less says; weighs = all.1.weighs ∙ sym (step_weight-released o k s) },
       so s all.2 reads_less prints_less,
@@ -222,7 +220,15 @@ stays_first {R} before weigh reads prints Holds keep count old new last o k kept
     let told = first_told before weigh reads prints Holds dropped u kept.told parts.0 in
     let counted : length ys ≡ (length xs + length ys) - keep =
     omega (
-      arith, d, n, kept.dropped, length-reverse (take count old), length-take-le count old fits, length-reverse old, ap length both_states, length-append xs ys,
+      arith,
+      d,
+      n,
+      kept.dropped,
+      length-reverse (take count old),
+      length-take-le count old fits,
+      length-reverse old,
+      ap length both_states,
+      length-append xs ys,
     ) in
     record {
       records = all;
@@ -279,11 +285,10 @@ released_begins {R} before weigh reads prints Holds keep count limit bytes ended
     cut ∙ ap (λ (n : ℕ). take n last.output) first.printed ∙ ap (take (length u.output)) front.1 ∙ take-append-le (length u.output) u.output front.0 (omega arith) ∙ take_all (length u.output) u.output (omega arith) in
     let u_is : first_kept keep p ≡ u = ap (first_kept keep) (sym view) ∙ ap (first_of last) first.states in
     let states : p.last ∷ take keep p.earlier ≡ last ∷ earlier_of before (reverse new) last =
-    ap (λ (q : PlainSession). q.last ∷ take keep q.earlier) (sym view) ∙ ap (λ (xs : List State). last ∷ xs) first.states in
-    (
+    ap (λ (q : PlainSession). q.last ∷ take keep q.earlier) (sym view) ∙ ap (λ (xs : List State). last ∷ xs) first.states in (
       is ∙ ap (λ (s : State). s.output) (sym u_is),
       subst (λ (xs : List State). All (λ (s : State). IsFrontOf text s.output) xs) (sym states)
-      (subst (λ (front_text : List ℕ). All (λ (s : State). IsFrontOf front_text s.output) (last ∷ earlier_of before (reverse new) last)) (sym is) fronts),
+          (subst (λ (front_text : List ℕ). All (λ (s : State). IsFrontOf front_text s.output) (last ∷ earlier_of before (reverse new) last)) (sym is) fronts),
     )
 
 -- the fields stay sound

@@ -19,7 +19,7 @@ pub drop_oldest-passed-requires-clause-printed_fits : goal.drop_oldest-passed-re
 drop_oldest-passed-requires-clause-printed_fits g c =
     let kept = kept_of (IsWithinReach c.self.inside.machine (length c.self.inside.tape.items)) c.args.keep c.saturating_sub-dropped.result c.self.inside.journal _ c.self.inside.machine.state _ _ c.self.invariant.records
     (omega (arith, c.saturating_sub-dropped.ensures, c.len.ensures)) refl refl refl in
-    omega (arith, (released_there before weighed read_of printed_of (IsWithinReach c.self.inside.machine (length c.self.inside.tape.items)) c.args.keep c.saturating_sub-dropped.result c.self.inside.journal _ c.self.inside.machine.state _ _ kept).1)
+    omega (arith, (released_there before weighed read_of printed_of (IsWithinReach c.self.inside.machine (length c.self.inside.tape.items)) c.args.keep c.saturating_sub-dropped.result c.self.inside.journal _ c.self.inside.machine.state _ _ kept).1, ap length c.output-len.ensures, c.output-len.type_inv.0)
 
 pub drop_front-requires : goal.drop_front-requires
 drop_front-requires g c =
