@@ -2,13 +2,33 @@ use Rattle.std.proofs.Common.{◌≡◌, ◌-◌, arith, ⊎_elim}
 use Rattle.std.specs.Prelude.{◌⊎◌}
 use Rattle.trac_rules.specs.declared.refusal.Refusal.TheVariants as refusals
 use Rattle.trac_run.specs.declared.ending.Ending.TheVariants.{Ended, Budget, Limit, Memory}
-use Rattle.trac_run.proofs.Turned.{AfterWalk, after_walk, stopped_for, not_stopped, closed_run, shows_spent, shows_ended, shows_limit, nothing_pending_unmoved, taken_of_test, none_taken_of_test, released_on, released_failed, released_fresh, released_fewer, taken_when_full, walked_on, walked_finish_one, walked_fewer, refused_for_none}
+use Rattle.trac_run.proofs.Turned.{AfterWalk, after_walk, stopped_for, taken_when_heavy, closed_run, shows_spent, shows_ended, shows_limit, nothing_pending_unmoved, taken_of_test, none_taken_of_test, released_on, released_failed, released_fresh, released_fewer, taken_when_full, walked_on, walked_finish_one, walked_fewer, refused_for_none}
 use Rattle.trac_run.proofs.running.take_turn.Goals as goal
+
+pub returns-then-left-gt0-clause-ok : goal.returns-then-left-gt0-clause-ok
+returns-then-left-gt0-clause-ok g c =
+    let after : AfterWalk c.args.session.now c.args.left.now c.forward_within-walk.result.done c.forward_within-walk.new.self = after_walk _ c.args.session.now c.args.left.now c.forward_within-walk.result.done c.forward_within-walk.result.why c.forward_within-walk.new.self c.requires.fresh c.forward_within-walk.ensures in
+    released_on _ _ _ c.args.session.now c.args.left.now c.forward_within-walk.result.done c.forward_within-walk.new.self c.release.new.session c.release.result after c.requires.at_end c.release.ensures.ok c.release.ensures.committed
+
+pub returns-then-left-gt0-clause-err : goal.returns-then-left-gt0-clause-err
+returns-then-left-gt0-clause-err g c =
+    let after : AfterWalk c.args.session.now c.args.left.now c.forward_within-walk.result.done c.forward_within-walk.new.self = after_walk _ c.args.session.now c.args.left.now c.forward_within-walk.result.done c.forward_within-walk.result.why c.forward_within-walk.new.self c.requires.fresh c.forward_within-walk.ensures in
+    released_failed _ _ _ c.args.session.now c.args.left.now c.forward_within-walk.result.done c.forward_within-walk.new.self c.release.result after c.requires.at_end c.release.ensures.err
+
+pub returns-then-left-gt0-clause-fresh : goal.returns-then-left-gt0-clause-fresh
+returns-then-left-gt0-clause-fresh g c =
+    let after : AfterWalk c.args.session.now c.args.left.now c.forward_within-walk.result.done c.forward_within-walk.new.self = after_walk _ c.args.session.now c.args.left.now c.forward_within-walk.result.done c.forward_within-walk.result.why c.forward_within-walk.new.self c.requires.fresh c.forward_within-walk.ensures in
+    released_fresh c.args.session.now c.args.left.now c.forward_within-walk.result.done c.forward_within-walk.new.self c.release.new.session c.release.result after c.release.ensures.committed
+
+pub returns-then-left-gt0-clause-fewer : goal.returns-then-left-gt0-clause-fewer
+returns-then-left-gt0-clause-fewer g c =
+    let after : AfterWalk c.args.session.now c.args.left.now c.forward_within-walk.result.done c.forward_within-walk.new.self = after_walk _ c.args.session.now c.args.left.now c.forward_within-walk.result.done c.forward_within-walk.result.why c.forward_within-walk.new.self c.requires.fresh c.forward_within-walk.ensures in
+    released_fewer c.args.session.now c.forward_within-walk.new.self c.release.new.session c.args.left.now c.forward_within-walk.result.done c.release.result after
+    (taken_when_heavy _ c.args.session.now c.args.left.now c.forward_within-walk.result.done c.forward_within-walk.result.why c.forward_within-walk.new.self c.forward_within-walk.ensures c.in_default.is (omega arith))
 
 pub returns-in_default-clause-err : goal.returns-in_default-clause-err
 returns-in_default-clause-err g c =
     let after : AfterWalk c.args.session.now c.args.left.now c.forward_within-walk.result.done c.forward_within-walk.new.self = after_walk _ c.args.session.now c.args.left.now c.forward_within-walk.result.done c.forward_within-walk.result.why c.forward_within-walk.new.self c.requires.fresh c.forward_within-walk.ensures in
-    let all = not_stopped c.args.session.now c.args.left.now c.forward_within-walk.result.done c.forward_within-walk.result.why c.forward_within-walk.new.self c.forward_within-walk.ensures c.in_default.is in
     closed_run _ _ _ c.args.session.now c.args.left.now c.forward_within-walk.result.done c.forward_within-walk.new.self c.pending.result.now Budget c.finish.result after c.requires.at_end c.pending.ensures c.finish.ensures
     (shows_spent c.forward_within-walk.new.self (c.args.left.now - c.forward_within-walk.result.done) (omega arith))
 
@@ -41,23 +61,23 @@ returns-in-NeedInput-clause-fewer g c =
 pub returns-in-JournalFull-clause-ok : goal.returns-in-JournalFull-clause-ok
 returns-in-JournalFull-clause-ok g c =
     let after : AfterWalk c.args.session.now c.args.left.now c.forward_within-walk.result.done c.forward_within-walk.new.self = after_walk _ c.args.session.now c.args.left.now c.forward_within-walk.result.done c.forward_within-walk.result.why c.forward_within-walk.new.self c.requires.fresh c.forward_within-walk.ensures in
-    released_on _ _ _ c.args.session.now c.args.left.now c.forward_within-walk.result.done c.forward_within-walk.new.self c.release.new.session c.release.result after c.requires.at_end c.release.ensures.ok c.release.ensures.committed
+    released_on _ _ _ c.args.session.now c.args.left.now c.forward_within-walk.result.done c.forward_within-walk.new.self c.release-in-JournalFull.new.session c.release-in-JournalFull.result after c.requires.at_end c.release-in-JournalFull.ensures.ok c.release-in-JournalFull.ensures.committed
 
 pub returns-in-JournalFull-clause-err : goal.returns-in-JournalFull-clause-err
 returns-in-JournalFull-clause-err g c =
     let after : AfterWalk c.args.session.now c.args.left.now c.forward_within-walk.result.done c.forward_within-walk.new.self = after_walk _ c.args.session.now c.args.left.now c.forward_within-walk.result.done c.forward_within-walk.result.why c.forward_within-walk.new.self c.requires.fresh c.forward_within-walk.ensures in
-    released_failed _ _ _ c.args.session.now c.args.left.now c.forward_within-walk.result.done c.forward_within-walk.new.self c.release.result after c.requires.at_end c.release.ensures.err
+    released_failed _ _ _ c.args.session.now c.args.left.now c.forward_within-walk.result.done c.forward_within-walk.new.self c.release-in-JournalFull.result after c.requires.at_end c.release-in-JournalFull.ensures.err
 
 pub returns-in-JournalFull-clause-fresh : goal.returns-in-JournalFull-clause-fresh
 returns-in-JournalFull-clause-fresh g c =
     let after : AfterWalk c.args.session.now c.args.left.now c.forward_within-walk.result.done c.forward_within-walk.new.self = after_walk _ c.args.session.now c.args.left.now c.forward_within-walk.result.done c.forward_within-walk.result.why c.forward_within-walk.new.self c.requires.fresh c.forward_within-walk.ensures in
-    released_fresh c.args.session.now c.args.left.now c.forward_within-walk.result.done c.forward_within-walk.new.self c.release.new.session c.release.result after c.release.ensures.committed
+    released_fresh c.args.session.now c.args.left.now c.forward_within-walk.result.done c.forward_within-walk.new.self c.release-in-JournalFull.new.session c.release-in-JournalFull.result after c.release-in-JournalFull.ensures.committed
 
 pub returns-in-JournalFull-clause-fewer : goal.returns-in-JournalFull-clause-fewer
 returns-in-JournalFull-clause-fewer g c =
     let after : AfterWalk c.args.session.now c.args.left.now c.forward_within-walk.result.done c.forward_within-walk.new.self = after_walk _ c.args.session.now c.args.left.now c.forward_within-walk.result.done c.forward_within-walk.result.why c.forward_within-walk.new.self c.requires.fresh c.forward_within-walk.ensures in
     let stop = stopped_for _ c.args.session.now c.args.left.now c.forward_within-walk.result.done c.forward_within-walk.result.why c.forward_within-walk.new.self c.in-Some.refusal refusals.JournalFull c.forward_within-walk.ensures c.in-Some.is c.in-JournalFull.is in
-    released_fewer c.args.session.now c.forward_within-walk.new.self c.release.new.session c.args.left.now c.forward_within-walk.result.done c.release.result after (taken_when_full c.args.session.now c.forward_within-walk.new.self c.args.left.now c.forward_within-walk.result.done after stop.1)
+    released_fewer c.args.session.now c.forward_within-walk.new.self c.release-in-JournalFull.new.session c.args.left.now c.forward_within-walk.result.done c.release-in-JournalFull.result after (taken_when_full c.args.session.now c.forward_within-walk.new.self c.args.left.now c.forward_within-walk.result.done after stop.1)
 
 pub returns-in-TooLong-clause-ok : goal.returns-in-TooLong-clause-ok
 returns-in-TooLong-clause-ok g c =
