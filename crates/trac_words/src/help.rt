@@ -8,6 +8,7 @@ pub const VERSION: &str = "0.1.0 (rattle-kit-13b logic dac8208d650f15bf)";
 
 /// What stands at the end of the help of `trac`.
 pub const USE: &str = "\
+Examples:
   trac run < FILE                   runs the program in FILE
   printf \"#(ps,Hello)'\" | trac run  runs a program that another command prints
   trac debug FILE                   steps through the program in FILE, by commands
@@ -22,7 +23,7 @@ Exit status:
   6    the input cannot be read
   7    the output cannot be written
   8    a command of the debugger is not understood
-  70   a checkout's ./trac could not build the program
+  70   ./trac of a checkout could not build the program
   130  Ctrl-C was typed";
 
 /// What stands at the end of the help of `trac run`.
