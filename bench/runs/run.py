@@ -31,9 +31,9 @@ def protected(count):
     return b"(" + words(count) + b")"
 
 
-def form(count, behind):
+def form(count, after):
     """A program that defines a form of so many bytes, and then has this text."""
-    return b"#(ds,F," + protected(count) + b")'" + behind + b"'"
+    return b"#(ds,F," + protected(count) + b")'" + after + b"'"
 
 
 ROWS = [
@@ -44,7 +44,7 @@ ROWS = [
     ("200 KB of plain text", words(200_000) + b"'", []),
     ("1 MB of plain text", words(1_000_000) + b"'", []),
     ("16 MB of plain text", words(16_000_000) + b"'", []),
-    ("1 MB of plain text, a `'` behind each 99 bytes", (words(99) + b"'") * 10_000, []),
+    ("1 MB of plain text, a `'` after each 99 bytes", (words(99) + b"'") * 10_000, []),
     ("1 MB of text in parentheses", protected(1_000_000) + b"'", []),
     ("4 MB of text in parentheses", protected(4_000_000) + b"'", []),
     ("16 MB of text in parentheses", protected(16_000_000) + b"'", []),

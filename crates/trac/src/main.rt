@@ -14,6 +14,7 @@ use std::{env, fs, io};
 use trac_debug::{debug, read_tape};
 use trac_rules::limit::JOURNAL_LIMIT;
 use trac_run::{Ending, Options, run};
+use trac_words::help::NOT_TEXT;
 use trac_words::words::{Line, read_line};
 
 /// The status of a command line that is not understood.
@@ -49,8 +50,8 @@ fn asked_line(rt: &(impl Env + AllocGlobal)) -> Result<Line, AllocError>
         Ok(words) => line_in(rt.alloc(), words),
         Err(error) if error.kind() == io::ErrorKind::OutOfMemory => Err(AllocError),
         Err(_) => {
-            let text = "error: invalid UTF-8 was detected in one or more arguments\n";
-            Ok(Line::Bad(String::from_str(rt.alloc(), text)?))
+            let text = String::from_str(rt.alloc(), NOT_TEXT)?;
+            Ok(Line::Bad(text))
         }
     }
 }

@@ -1,48 +1,16 @@
 //! The command line.
-ghost use Rattle.std.specs.Prelude.{◌≤◌, IfOk};
+ghost use Rattle.std.specs.Prelude.{◌≤◌, IfOk, IfSome};
 ghost use Rattle.trac_words.specs.Words.{IsLine};
 
+use crate::help::{DEBUG_TIP, DEBUG_USE, RUN_TIP, RUN_USE, USE, VERSION};
 use clap::error::ErrorKind;
-use clap::{Arg, ArgMatches, Command, Error, value_parser};
+use clap::{Arg, ArgMatches, Command, Error};
 use std::alloc::{AllocError, Global};
 use trac_rules::limit::JOURNAL_LIMIT;
-use trac_run::{BUDGET_LIMIT, DEFAULT_BUDGET, Options, budget_of};
+use trac_run::{BUDGET_LIMIT, DEFAULT_BUDGET, Options};
 
 /// How many records a run's journal may hold where nothing else is said (this project's profile).
 pub const DEFAULT_JOURNAL: usize = 65_536;
-
-/// What `--version` shows behind the program's name: the program's version, and what `rt version` prints of the toolchain
-/// that proves and builds it. No crate can ask for that line, so it is written here, and `tests/launcher` compares the two:
-/// with another toolchain this text is changed too.
-pub const VERSION: &str = "0.1.0 (rattle-kit-13b logic dac8208d650f15bf)";
-
-// What stands at the end of each help: where a program comes from, and what each exit status says.
-const USE: &str = "\
-trac run takes the program from standard input, so a file is given by `<` and not named:
-  trac run < FILE
-  printf \"#(ps,Hello)'\" | trac run
-
-Each text of the program ends in '. At a terminal, type ' and then Enter; the end of the input
-(Ctrl-D) ends the run.
-
-trac debug names the FILE that holds the program, and takes commands from standard input, one a line:
-  s COUNT       COUNT steps forward
-  b COUNT       COUNT steps back
-  u NAME COUNT  forward to a call of NAME, by COUNT steps at most
-  r NAME        back to a call of NAME
-  p             show the state
-  c             show what was printed, and forget the steps so far
-  q             end
-
-Exit status:
-  0  the input or the commands have ended, or help or the version is shown
-  2  the command line is not understood
-  3  the budget is spent
-  4  a limit is passed
-  5  there is no memory
-  6  the input cannot be read
-  7  the output cannot be written
-  8  a command of the debugger is not understood";
 
 /// What a command line asks for.
 #[derive(Drop)]
@@ -64,22 +32,37 @@ pub fn read_line(alloc: Global, words: &[&str]) -> Result<Line, AllocError>
 {
     match command(alloc)?.try_get_matches_from(words) {
         Ok(matches) => line_of(alloc, &matches),
-        Err(error) => line_without(alloc, &error),
+        Err(error) => line_without(alloc, words, &error),
     }
 }
 
 // What is said where a command line asks for no run and for no debugger.
-fn line_without(alloc: Global, error: &Error) -> Result<Line, AllocError>
+fn line_without(alloc: Global, words: &[&str], error: &Error) -> Result<Line, AllocError>
     ensures { IfOk result IsLine }
 {
     let kind = error.kind();
     if kind == ErrorKind::OutOfMemory {
         return Err(AllocError);
     }
-    let text = error.to_string(alloc)?;
+    let mut text = error.to_string(alloc)?;
     match kind {
         ErrorKind::DisplayHelp | ErrorKind::DisplayVersion => Ok(Line::Help(text)),
-        _ => Ok(Line::Bad(text)),
+        _ => {
+            let tip = tip_for(words.get(1).copied().unwrap_or(""), kind, text.as_str());
+            text.push_str(tip)?;
+            Ok(Line::Bad(text))
+        }
+    }
+}
+
+// What may help after this text of clap, by the first word of the command line.
+fn tip_for(first: &str, kind: ErrorKind, text: &str) -> &'static str {
+    let is_option = text.contains("argument '-");
+    match (kind, first) {
+        (ErrorKind::InvalidSubcommand, _) => RUN_TIP,
+        (ErrorKind::UnknownArgument, "run") if !is_option => RUN_TIP,
+        (ErrorKind::UnknownArgument, "debug") if is_option => DEBUG_TIP,
+        _ => "",
     }
 }
 
@@ -89,10 +72,7 @@ fn line_of(alloc: Global, matches: &ArgMatches<'_>) -> Result<Line, AllocError>
 {
     match matches.subcommand() {
         Some(("debug", found)) => debug_line(alloc, found),
-        Some((_, found)) => Ok(Line::Run(Options {
-            budget: budget_in(found),
-            journal: journal_in(found),
-        })),
+        Some((_, found)) => run_line(alloc, found),
         None => Ok(Line::Run(Options {
             budget: DEFAULT_BUDGET,
             journal: DEFAULT_JOURNAL,
@@ -100,34 +80,76 @@ fn line_of(alloc: Global, matches: &ArgMatches<'_>) -> Result<Line, AllocError>
     }
 }
 
+fn run_line(alloc: Global, found: &ArgMatches<'_>) -> Result<Line, AllocError>
+    ensures { IfOk result IsLine }
+{
+    let Some(budget) = number_in(found, "budget", DEFAULT_BUDGET, BUDGET_LIMIT) else {
+        return out_of_range(alloc, found, "budget", BUDGET_LIMIT);
+    };
+    let Some(journal) = journal_in(found) else {
+        return out_of_range(alloc, found, "journal", JOURNAL_LIMIT as u64);
+    };
+    Ok(Line::Run(Options { budget, journal }))
+}
+
 fn debug_line(alloc: Global, found: &ArgMatches<'_>) -> Result<Line, AllocError>
     ensures { IfOk result IsLine }
 {
+    let Some(journal) = journal_in(found) else {
+        return out_of_range(alloc, found, "journal", JOURNAL_LIMIT as u64);
+    };
     let path = String::from_str(alloc, found.get_str("FILE").unwrap_or(""))?;
     let options = Options {
         budget: DEFAULT_BUDGET,
-        journal: journal_in(found),
+        journal,
     };
     Ok(Line::Debug(path, options))
 }
 
-// The budget that was asked for, or the default one. `clap` has judged its range.
-fn budget_in(matches: &ArgMatches<'_>) -> u64
-    ensures some { 1 ≤ result }
-    ensures most { result ≤ BUDGET_LIMIT }
+// How many records were asked for, or the default number; none where that is out of range.
+fn journal_in(found: &ArgMatches<'_>) -> Option<usize>
+    ensures { IfSome result (λ journal. (1 ≤ journal) × (journal ≤ JOURNAL_LIMIT)) }
 {
-    budget_of(matches.get_one::<u64>("budget"))
+    let journal = number_in(
+        found,
+        "journal",
+        DEFAULT_JOURNAL as u64,
+        JOURNAL_LIMIT as u64,
+    )?;
+    Some(journal as usize)
 }
 
-// How many records were asked for, or the default number. `clap` has judged its range; the bounds here only say so again.
-fn journal_in(matches: &ArgMatches<'_>) -> usize
-    ensures some { 1 ≤ result }
-    ensures most { result ≤ JOURNAL_LIMIT }
+// The number that this option has, or the default one where it is not given; none where it is no number from 1 to the most.
+fn number_in(found: &ArgMatches<'_>, option: &str, default: u64, most: u64) -> Option<u64>
+    requires some { 1 ≤ default }
+    requires within { default ≤ most }
+    ensures { IfSome result (λ number. (1 ≤ number) × (number ≤ most)) }
 {
-    match matches.get_one::<u64>("journal") {
-        Some(journal) => (journal as usize).clamp(1, JOURNAL_LIMIT),
-        None => DEFAULT_JOURNAL,
+    if found.get_str(option).is_none() {
+        return Some(default);
     }
+    let number = found.get_one::<u64>(option)?;
+    if 1 <= number && number <= most {
+        Some(number)
+    } else {
+        None
+    }
+}
+
+// What is said of an option whose value is no number from 1 to the most.
+fn out_of_range(
+    alloc: Global,
+    found: &ArgMatches<'_>,
+    option: &str,
+    most: u64,
+) -> Result<Line, AllocError>
+    ensures { IfOk result IsLine }
+{
+    let value = found.get_str(option).unwrap_or("");
+    Ok(Line::Bad(format!(in alloc;
+        "error: invalid value '{value}' for '--{option} <N>': it has to be a number from 1 to {most}\n\n\
+         For more information, try '--help'.\n"
+    )?))
 }
 
 // The program's commands. What can be refused is made before what would have to be let go then.
@@ -145,15 +167,16 @@ fn whole_command<'a>(alloc: Global) -> Command<'a> {
     Command::new(alloc, "trac")
         .about("A processor for TRAC T-64")
         .version(VERSION)
+        .propagate_version(true)
         .after_help(USE)
         .subcommand_required(true)
-        .disable_help_subcommand(true)
 }
 
 fn run_command<'a>(alloc: Global) -> Result<Command<'a>, AllocError> {
     Command::new(alloc, "run")
+        .display_name("trac")?
         .about("Runs the program on standard input")
-        .after_help(USE)
+        .after_help(RUN_USE)
         .arg(budget(alloc))?
         .arg(journal(
             alloc,
@@ -163,8 +186,9 @@ fn run_command<'a>(alloc: Global) -> Result<Command<'a>, AllocError> {
 
 fn debug_command<'a>(alloc: Global) -> Result<Command<'a>, AllocError> {
     Command::new(alloc, "debug")
+        .display_name("trac")?
         .about("Steps through the program in FILE, forwards and backwards")
-        .after_help(USE)
+        .after_help(DEBUG_USE)
         .arg(file(alloc))?
         .arg(journal(
             alloc,
@@ -183,7 +207,6 @@ fn budget<'a>(alloc: Global) -> Arg<'a> {
     Arg::new(alloc, "budget")
         .long("budget")
         .value_name("N")
-        .value_parser(value_parser!(u64).range(1..=BUDGET_LIMIT as i64))
         .help("How many steps the run may take: 1 to 1000000000000 [default: 1000000000]")
 }
 
@@ -192,6 +215,5 @@ fn journal<'a>(alloc: Global, help: &'a str) -> Arg<'a> {
     Arg::new(alloc, "journal")
         .long("journal")
         .value_name("N")
-        .value_parser(value_parser!(u64).range(1..=JOURNAL_LIMIT as i64))
         .help(help)
 }

@@ -1,0 +1,24 @@
+# Completion of trac for bash: subcommands, options, and a FILE for debug.
+_trac() {
+    local word=${COMP_WORDS[COMP_CWORD]} before=${COMP_WORDS[COMP_CWORD - 1]} words=''
+    COMPREPLY=()
+    case $before in
+        --budget | --journal) return ;;
+    esac
+    if [ "$COMP_CWORD" = 1 ]; then
+        words='run debug help --help --version'
+    else
+        case ${COMP_WORDS[1]} in
+            run) words='--budget --journal --help --version' ;;
+            debug) words='--journal --help --version' ;;
+            help) words='run debug' ;;
+        esac
+    fi
+    if [ "${COMP_WORDS[1]}" = debug ] && [ "$COMP_CWORD" -gt 1 ] && [[ $word != -* ]]; then
+        compopt -o filenames 2>/dev/null
+        mapfile -t COMPREPLY < <(compgen -f -- "$word")
+    else
+        mapfile -t COMPREPLY < <(compgen -W "$words" -- "$word")
+    fi
+}
+complete -F _trac trac
