@@ -31,7 +31,7 @@ use Rattle.trac_debug.proofs.Splitting.{first_line}
 
 -- ---- what becomes of a line
 
--- a null line is passed over
+-- an empty line is passed over
 pub turn_null : (number : ℕ) → number ≤ LINE_COUNT_LIMIT → turn_at number [] ≡ Passes
 turn_null number l = cond-true (nat_le number LINE_COUNT_LIMIT) Passes (Ends Budget) (le-leb number LINE_COUNT_LIMIT l)
 
@@ -49,7 +49,7 @@ turn_long number (b ∷ bs) few long =
     cond-true (nat_le number LINE_COUNT_LIMIT) (if is_within (b ∷ bs) then turn_of number (command_of (b ∷ bs)) else Ends (NotUnderstood number)) (Ends Budget) (le-leb number LINE_COUNT_LIMIT few)
     ∙ cond-false (is_within (b ∷ bs)) (turn_of number (command_of (b ∷ bs))) (Ends (NotUnderstood number)) (lt-leb (length (b ∷ bs)) LINE_LIMIT long)
 
--- a line behind the last one that there may be
+-- a line after the last one that there may be
 pub turn_late : (number : ℕ) (line : List ℕ) → LINE_COUNT_LIMIT < number → turn_at number line ≡ Ends Budget
 turn_late number [] late = cond-false (nat_le number LINE_COUNT_LIMIT) Passes (Ends Budget) (lt-leb number LINE_COUNT_LIMIT late)
 turn_late number (b ∷ bs) late =
@@ -144,7 +144,7 @@ write_unless ending Fact is = subst (λ e. UnlessWrite e Fact) (sym is) tt
 wrote_nothing : (ending : Ending) (written : List ℕ) → written ≡ [] → UnlessWrite ending (written ≡ [])
 wrote_nothing ending written none = always_unless ending (written ≡ []) none
 
--- a front of a front, with more behind it
+-- a front of a front, with more after it
 front_before : (written text rest : List ℕ) → IsFrontOf written text → IsFrontOf written (text ++ rest)
 front_before written text rest front = front_of_front written text (text ++ rest) front (rest, refl)
 
@@ -283,7 +283,7 @@ halts_long number mid p len whole few front long more none =
 some_line : (bytes more : List ℕ) → 0 < length bytes → (line : List ℕ) × (rest : List (List ℕ)) × (lines_of (bytes ++ more) ≡ line ∷ rest)
 some_line bytes more some = first_line (bytes ++ more) (omega (arith, length-append bytes more))
 
--- behind the last line that there may be
+-- after the last line that there may be
 pub halts_late : (number : ℕ) (mid : Pending) (p : PlainSession) → LINE_COUNT_LIMIT < number → 0 < length mid.bytes →
     (more : List ℕ) → (mid.ended ≡ true → more ≡ []) → MayWrite (lines_of (mid.bytes ++ more)) number p [] Budget
 halts_late number mid p late some more none =
@@ -369,7 +369,7 @@ so_far_more in_old in_now in_new out_old out_now out_new start number lines afte
       (subst (λ w. MayWrite (far.before ++ (on.line ∷ behind)) 1 start w stop) (sym (append_assoc far.written on.written text)) here);
 }
 
--- what is said of an ending without a fault, behind what was written
+-- what is said of an ending without a fault, after what was written
 unless_behind : (ending : Ending) (Fact Other : Type 0) → (Fact → Other) → UnlessFault ending Fact → UnlessFault ending Other
 unless_behind Ended Fact Other go fact = go fact
 unless_behind Budget Fact Other go fact = go fact
@@ -379,7 +379,7 @@ unless_behind Read Fact Other go fact = tt
 unless_behind Write Fact Other go fact = tt
 unless_behind (NotUnderstood line) Fact Other go fact = go fact
 
--- the first lines of all, and nothing behind the replies to them
+-- the first lines of all, and nothing after the replies to them
 first_replied : (start : PlainSession) (before behind lines : List (List ℕ)) (written nothing : List ℕ) → lines ≡ before ++ behind → nothing ≡ [] →
     MayWrite (before ++ []) 1 start (written ++ []) Ended → MayWrite (take (length before) lines) 1 start (written ++ nothing) Ended
 first_replied start before behind lines written nothing splits none may =

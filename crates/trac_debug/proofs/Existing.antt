@@ -121,7 +121,7 @@ some_reply Quit old = ([], old, (refl, refl))
 
 -- ---- texts
 
--- a turn may write something, where the lines behind it may
+-- a turn may write something, where the lines after it may
 takes_some : (turn : Turn) (lines : List (List ℕ)) (number : ℕ) (p : PlainSession) →
     ((q : PlainSession) → (text : List ℕ) × (stop : Ending) × MayWrite lines number q text stop) →
     (text : List ℕ) × (stop : Ending) × Takes turn p (λ q rest. MayWrite lines number q rest stop) text stop

@@ -35,7 +35,7 @@ gathers_more a b c old mid new first second = record {
   at_end = second.at_end;
 }
 
--- a read that failed behind others
+-- a read that failed after others
 pub fails_later : (a b c : Option (List ℕ)) (old mid : Pending) (ending : Ending) → Gathers a b old mid → MayFail b c mid ending → MayFail a c old ending
 fails_later a b c old mid ending first failed = record {
   fault = failed.fault;

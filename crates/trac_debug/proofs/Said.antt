@@ -9,7 +9,7 @@ use Rattle.trac_debug.specs.Commands.{words_of, said_by, command_of, alone, with
 use Rattle.trac_debug.specs.Reading.{IsPlace}
 use Rattle.trac_debug.proofs.Splitting.{split_at, split_none}
 
--- a first word, and those behind its space
+-- a first word, and those after its space
 words_at : (text : List ℕ) (place : ℕ) → IsPlace SPACE text (Some place) → words_of text ≡ take place text ∷ words_of (drop (place + 1) text)
 words_at text place found = ap words_of found.2 ∙ split_at (λ b. b == SPACE) (take place text) SPACE (drop (place + 1) text) found.1 refl
 
@@ -30,7 +30,7 @@ said_with_one line word rest place found is_word is_rest none =
     ap said_by (words_at line place found ∙ ap (λ w. w ∷ words_of (drop (place + 1) line)) (sym is_word) ∙ ap (λ r. word ∷ words_of r) (sym is_rest)
     ∙ ap (λ ws. word ∷ ws) (words_none rest none))
 
--- the first two words, and those behind them
+-- the first two words, and those after them
 words_two : (line word rest first last : List ℕ) (place second : ℕ) → IsPlace SPACE line (Some place) → word ≡ take place line → rest ≡ drop (place + 1) line →
     IsPlace SPACE rest (Some second) → first ≡ take second rest → last ≡ drop (second + 1) rest → words_of line ≡ word ∷ first ∷ words_of last
 words_two line word rest first last place second found is_word is_rest found_second is_first is_last =

@@ -36,7 +36,7 @@ flat_map_more {X} {A} f (y ∷ ys) (suc i) x there =
     ∙ ap (λ t. f y ++ t) (flat_map_more f ys i x there)
     ∙ sym (append_assoc (f y) (flat_map f (take i ys)) (f x))
 
--- behind what was there
+-- after what was there
 pub shown_more : {X : Type 0} (f : X → List ℕ) (xs : List X) (i : ℕ) (x : X) (old now after : List ℕ) → slice_get xs i ≡ Some x → now ≡ old ++ flat_map f (take i xs) →
     after ≡ now ++ f x → after ≡ old ++ flat_map f (take (i + 1) xs)
 shown_more f xs i x old now after there so_far adds =

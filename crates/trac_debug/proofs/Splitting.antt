@@ -69,7 +69,7 @@ begins_any : (b : ℕ) (lines : List (List ℕ)) → (tail : List ℕ) × (rest 
 begins_any b [] = ([], [], refl)
 begins_any b (line ∷ lines) = (line, lines, refl)
 
--- bytes without a line feed begin a line, whatever comes behind them
+-- bytes without a line feed begin a line, whatever comes after them
 begins_line : (b : ℕ) (bs more : List ℕ) → HasNone is_feed (b ∷ bs) → (tail : List ℕ) × (rest : List (List ℕ)) × (between_feeds ((b ∷ bs) ++ more) ≡ (b ∷ (bs ++ tail)) ∷ rest)
 begins_line b [] more none =
     let at = begins_any b (between_feeds more) in
@@ -122,7 +122,7 @@ line_too_long (b ∷ bs) more long none =
       ap (map without_return) at.2,
     )
 
--- a text that is not null has a first line
+-- a text that is not empty has a first line
 pub first_line : (bytes : List ℕ) → 0 < length bytes → (line : List ℕ) × (rest : List (List ℕ)) × (lines_of bytes ≡ line ∷ rest)
 first_line [] some = absurd (omega arith)
 first_line (b ∷ bs) some = ⊎_elim

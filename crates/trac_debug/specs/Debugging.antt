@@ -26,8 +26,8 @@ turn_of number None = Ends (NotUnderstood number)
 turn_of number (Some Quit) = Ends Ended
 turn_of number (Some command) = Does command
 
--- what becomes of a line of this number, which counts from 1, null lines too: a line past the limit on their number ends the session,
--- whatever it holds; a null line is passed over; a line that is too long is not understood
+-- what becomes of a line of this number, which counts from 1, empty lines too: a line past the limit on their number ends the session,
+-- whatever it holds; an empty line is passed over; a line that is too long is not understood
 abbrev pub turn_at : ℕ → List ℕ → Turn
 turn_at number [] = if nat_le number LINE_COUNT_LIMIT then Passes else Ends Budget
 turn_at number (b ∷ bs) =
@@ -37,7 +37,7 @@ turn_at number (b ∷ bs) =
 -- ---- all lines
 
 -- where the next line comes to this turn, this text in all may be written from this session on, and then the session ends so; `Rest` says
--- it of the lines behind, from the session after the turn
+-- it of the lines after, from the session after the turn
 abbrev pub Takes : Turn → PlainSession → (PlainSession → List ℕ → Type 0) → List ℕ → Ending → Type 0
 Takes Passes p Rest text ending = Rest p text
 Takes (Does command) p Rest text ending =

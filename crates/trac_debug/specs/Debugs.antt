@@ -26,7 +26,7 @@ abbrev pub UnlessWrite : Ending → Type 0 → Type 0
 UnlessWrite Write Fact = Unit {0}
 UnlessWrite ending Fact = Fact
 
--- a session read some commands, and perhaps saw the end of them, and wrote some bytes: however the commands go on behind what was
+-- a session read some commands, and perhaps saw the end of them, and wrote some bytes: however the commands go on after what was
 -- read (not at all where the end was seen), what was written is a front of a text that is stated for all of the commands; where its
 -- ending is not a fault or want of memory it is a whole one, with that ending; and unless the writer failed, what was written are whole
 -- replies, those to the first so many lines: so a reply for which memory was refused is not written in part
@@ -81,7 +81,7 @@ Stops Passes old out_old out_new ending = ⊥
 Stops (Does command) old out_old out_new ending = IsNotReplied command old out_old out_new ending
 Stops (Ends stop) old out_old out_new ending = (ending ≡ stop) × Keeps out_old out_new
 
--- a line stands at the front of the text, whatever comes behind it; and what may be written from the next line on, behind what was
+-- a line stands at the front of the text, whatever comes after it; and what may be written from the next line on, after what was
 -- written, may be written from the line of this number on
 pub record Advances (in_old in_new out_old out_new : Option (List ℕ)) (number : ℕ) (lines_old : Pending) (p : PlainSession) (lines_new : Pending) (q : PlainSession) : Type 0 where
   pub got : List ℕ

@@ -3,7 +3,7 @@ use Rattle.std.specs.Prelude.{ℕ, List, Bool, refl}
 use Rattle.std.specs.Coded.{Coded, code_by, coded×, coded_bool}
 use Rattle.trac_rules.specs.Codes.{text_code}
 
--- bytes that were read and are not taken yet, and whether the text ends behind them
+-- bytes that were read and are not taken yet, and whether the text ends after them
 pub record Pending : Type 0 where
   pub bytes : List ℕ
   pub ended : Bool

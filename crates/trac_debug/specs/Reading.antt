@@ -9,7 +9,7 @@ use Rattle.trac_debug.specs.declared.lines.TheConstants.{LINE_LIMIT}
 use Rattle.trac_debug.specs.Lines.{lines_of}
 use Rattle.trac_debug.specs.Pending.{Pending}
 
--- what stands at the front of these bytes, whatever more comes behind them: nothing, where they have ended
+-- what stands at the front of these bytes, whatever more comes after them: nothing, where they have ended
 abbrev pub IsFront : List ℕ → Bool → Front → Type 0
 IsFront bytes ended (Line len whole) =
     (len ≤ length bytes) × (whole ≤ length bytes)
@@ -37,7 +37,7 @@ IsPlace wanted bytes None = HasNone (λ b. b == wanted) bytes
 IsPlace wanted bytes (Some place) =
     (place < length bytes) × HasNone (λ b. b == wanted) (take place bytes) × (bytes ≡ take place bytes ++ wanted ∷ drop (place + 1) bytes)
 
--- the reader gave some bytes, which came behind those that were there, and perhaps its end was seen
+-- the reader gave some bytes, which came after those that were there, and perhaps its end was seen
 pub record Gathers (in_old in_new : Option (List ℕ)) (old new : Pending) : Type 0 where
   pub got : List ℕ
   pub took : Consumes in_old in_new got

@@ -20,7 +20,7 @@ refusal_name refusals.AtStart = codes "AtStart"
 refusal_name refusals.Closed = codes "Closed"
 refusal_name refusals.NotMet = codes "NotMet"
 
--- behind how many steps were taken: why no more were, where there is a reason
+-- after how many steps were taken: why no more were, where there is a reason
 abbrev pub reason : Option Refusal → List ℕ
 reason None = []
 reason (Some refusal) = codes " " ++ refusal_name refusal

@@ -20,7 +20,7 @@ pub record IsNoTape (in_old in_new : Option (List ℕ)) (ending : Ending) : Type
 
 -- ---- one read
 
--- what it gave came behind the bytes that were there; nothing comes at the end
+-- what it gave came after the bytes that were there; nothing comes at the end
 pub record AddsPart (in_old in_new : Option (List ℕ)) (old new : List ℕ) (count : ℕ) : Type 0 where
   pub got : List ℕ
   pub took : Consumes in_old in_new got

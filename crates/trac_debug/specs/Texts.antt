@@ -37,7 +37,7 @@ abbrev pub escaped_item : Item → List ℕ
 escaped_item (Byte b) = escaped_byte b
 escaped_item (Gap ordinal width) = codes "<" ++ (decimal ordinal ++ codes ">")
 
--- items, one behind another
+-- items, one after another
 abbrev pub escaped_items : List Item → List ℕ
 escaped_items items = flat_map escaped_item items
 
@@ -72,7 +72,7 @@ arguments_line kind arguments = codes "call " ++ (sharps kind ++ (codes " " ++ (
 abbrev pub frame_line : Frame → List ℕ
 frame_line frame = arguments_line frame.kind (frame.arguments ++ frame.gathered ∷ [])
 
--- a word, and a form behind its name
+-- a word, and a form after its name
 abbrev pub form_line : List ℕ → List ℕ × Form → List ℕ
 form_line word named = word ++ (codes " " ++ (bracketed named.0 ++ (codes " " ++ (bracketed_form named.1 ++ feed))))
 

@@ -20,7 +20,7 @@ use trac_session::Session;
 /// at most 4,096 bytes at a time.
 ///
 /// The session ends with `Ended` at the end of the commands, and where it is asked to; with `NotUnderstood` at a line that
-/// says no command; with `Budget` where there is a line behind the first 1,048,576; with `Limit`, and nothing written, where
+/// says no command; with `Budget` where there is a line after the first 1,048,576; with `Limit`, and nothing written, where
 /// the tape has more than 33,554,432 bytes; with `Read` and `Write` where the reader or the writer fails; and with `Memory`
 /// where there is no memory for the session, for a line or for a reply, of which nothing is written then. A walk for which
 /// memory was refused is replied to as any other (this project's profile).
@@ -121,7 +121,7 @@ fn take_line<R: Read, W: Write, A: Allocator + Copy>(
     }
 }
 
-// Carries out what a line says, and replies to it. A null line is passed over.
+// Carries out what a line says, and replies to it. An empty line is passed over.
 fn carry_out<W: Write, A: Allocator + Copy>(
     alloc: A,
     number: u64,

@@ -37,7 +37,7 @@ pub enum Front {
 }
 
 /// Takes a text apart into its lines, as its bytes are read. It is seen as the bytes that were read and are not taken yet,
-/// and whether the text ends behind them.
+/// and whether the text ends after them.
 #[derive(Drop)]
 pub struct Lines<A: Allocator + Copy> {
     // as they were read, from the last read on that found too few of them
@@ -163,7 +163,7 @@ fn drop_front<A: Allocator>(bytes: &mut Vec<u8, A>, n: usize)
     bytes.truncate(bytes.len() - n);
 }
 
-// What stands at the front of these bytes, where the text ends behind them or may go on.
+// What stands at the front of these bytes, where the text ends after them or may go on.
 fn front_of(bytes: &[u8], ended: bool) -> Front
     ensures { IsFront bytes.now ended result }
 {

@@ -8,7 +8,7 @@ use trac_rules::limit::TAPE_LIMIT;
 use trac_run::Ending;
 use trac_run::running::READ_SIZE;
 
-/// All bytes of a reader, as the tape of a session. Each read asks for at most 4,096 bytes, and none is read behind the
+/// All bytes of a reader, as the tape of a session. Each read asks for at most 4,096 bytes, and none is read after the
 /// first that is too many (this project's profile).
 ///
 /// `Ending::Limit`: there are more than 33,554,432. `Ending::Read`: the reader failed. `Ending::Memory`: memory was refused.
@@ -29,7 +29,7 @@ pub fn read_tape<R: Read, A: Allocator + Copy>(
     Err(Ending::Limit)
 }
 
-// Reads once, and answers how many bytes that gave; none at the end.
+// Reads once, and returns how many bytes that gave; none at the end.
 fn read_part<R: Read, A: Allocator>(tape: &mut Vec<u8, A>, input: &mut R) -> Result<usize, Ending>
     requires { length tape.old.items ≤ TAPE_LIMIT }
     ensures part { IfOk result (AddsPart (R.remaining input.old) (R.remaining input.new) tape.old.items tape.new.items) }

@@ -131,7 +131,7 @@ pub fn text_line_into<A: Allocator>(
     Ok(out.push(LINE_FEED)?)
 }
 
-// Puts a word and a text behind it at the end of a text.
+// Puts a word and a text after it at the end of a text.
 fn lead_into<A: Allocator>(word: &[u8], text: &[u8], out: &mut Vec<u8, A>) -> Result<(), AllocError>
     ensures { OnOk result (out.new.items ≡ out.old.items ++ (word.now ++ (codes " " ++ bracketed text.now))) }
 {

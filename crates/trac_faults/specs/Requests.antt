@@ -1,4 +1,4 @@
--- What one request for memory meets and leaves behind.
+-- What one request for memory meets and leaves after.
 use Rattle.std.specs.Prelude.{◌-◌, ◌==◌, Bool, true, false, if◌then◌else◌}
 use Rattle.trac_faults.specs.Schedule.{counted}
 use Rattle.trac_faults.specs.declared.requests.Requests.{Requests}
@@ -11,13 +11,13 @@ refuses_next AcceptAll = false
 refuses_next (RefuseNth n) = n == 1
 refuses_next RefuseAll = true
 
--- the rule for the requests behind the next one
+-- the rule for the requests after the next one
 abbrev pub rule_after : Rule → Rule
 rule_after AcceptAll = AcceptAll
 rule_after (RefuseNth n) = RefuseNth (n - 1)
 rule_after RefuseAll = RefuseAll
 
--- the rule and the counts behind one request
+-- the rule and the counts after one request
 abbrev pub after_request : Requests → Requests
 after_request r = record {
   rule = rule_after r.rule;

@@ -45,7 +45,7 @@ impl<B: Allocator> Refusing<B> {
 }
 
 /// Calls `run` with 1, with 2, and so on, until one of these calls says that it met no fault. It is for faults of readers
-/// and writers: `run` makes them anew, to fail at the call of the number that it is given, and answers whether that call
+/// and writers: `run` makes them anew, to fail at the call of the number that it is given, and returns whether that call
 /// was reached.
 ///
 /// `Ok(Some(runs))`: there were `runs` calls, and the last one alone answered `false`. A test compares this number with

@@ -31,13 +31,13 @@ entry_at {K} {V} name entries read i entry same within is =
 
 -- ---- names
 
--- a name behind others that are told apart from it
+-- a name after others that are told apart from it
 one_more : (P : List ℕ → Type 0) (held : Held) (name : List ℕ) (form : Form) → P name → AllByRecursion P (map (λ entry. entry.0) held) →
     AllByRecursion P (map (λ entry. entry.0) (held ++ (name, form) ∷ []))
 one_more P [] name form last all = (last, tt)
 one_more P (entry ∷ held) name form last all = (all.0, one_more P held name form last all.1)
 
--- a new name behind others
+-- a new name after others
 pub apart_pushed : (held : Held) (name : List ℕ) (form : Form) → list_any (λ entry. bytes_eq name entry.0) held ≡ false → AreApart held →
     AreApart (held ++ (name, form) ∷ [])
 unfolding IsDistinct
@@ -66,7 +66,7 @@ none_apart = tt
 -- ---- entries of a vector, read with their names
 
 module _ {K V : Type 0} (name : K → List ℕ) where
-  -- one behind another
+  -- one after another
   pub named-append : (xs ys : List (K × V)) → named name (xs ++ ys) ≡ named name xs ++ named name ys
   named-append xs ys = map-append (λ (e : K × V). (name e.0, e.1)) xs ys
 

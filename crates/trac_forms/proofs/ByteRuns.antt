@@ -56,7 +56,7 @@ module _ (texts : List (List ℕ)) (items run behind : List Item) (seam : items 
   pub run_counted : length (all_filled texts items) ≡ length run + length (all_filled texts behind)
   run_counted = omega (arith, ap length both, length-append (all_filled texts run) (all_filled texts behind), run_length texts run bytes)
 
-  -- behind what was put so far
+  -- after what was put so far
   pub run_put : (old middle : List ℕ) → middle ≡ old ++ bytes_in run → old ++ all_filled texts items ≡ middle ++ all_filled texts behind
   run_put old middle put =
       ap (λ (xs : List ℕ). old ++ xs) (both ∙ ap (λ (xs : List ℕ). xs ++ all_filled texts behind) (run_filled texts run bytes))

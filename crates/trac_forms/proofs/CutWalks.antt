@@ -40,7 +40,7 @@ module _ (old new : Ends Item) (n : ℕ) (count : n ≡ length old.left)
 
 -- ---- the next gap that is made
 
--- the first of these gaps, the items before it, and what stands behind it in both lists
+-- the first of these gaps, the items before it, and what stands after it in both lists
 pub record IsNext (texts : List (List ℕ)) (place : ℕ) (old new : List Item) (gap : CutGap) (cut : List CutGap) : Type 0 where
   pub front : List Item
   pub old_rest : List Item
@@ -133,7 +133,7 @@ next_to_come texts new old gap cut so_far = next_made texts (length old.left) ga
 
 module _ (texts : List (List ℕ)) (new : List Item) (old : Ends Item) (gap : CutGap) (cut : List CutGap) (so_far : IsCutSoFar texts new old (gap ∷ cut))
     (next : IsNext texts (length old.left) old.right so_far.rest gap cut) where
-  -- stands behind what is done
+  -- stands after what is done
   pub made_behind : length old.left ≤ gap.place
   made_behind = omega (arith, next.place_is)
 
@@ -231,7 +231,7 @@ pub there_is : (o : Option (List Item)) → IsTrue (is_some o) → o ≡ Some (u
 there_is None h = absurd cc
 there_is (Some items) h = refl
 
--- the first gap of a cut, the items before it, and what stands behind it, with gaps and filled
+-- the first gap of a cut, the items before it, and what stands after it, with gaps and filled
 pub record IsNextFilled (texts : List (List ℕ)) (place : ℕ) (items full : List Item) (gap : CutGap) (cut : List CutGap) : Type 0 where
   pub front : List Item
   pub rest : List Item
@@ -333,7 +333,7 @@ module _ (texts : List (List ℕ)) (full : List Item) (place : ℕ) (old : Ends 
   pub filled_there : gap.place - place < length old.right
   filled_there = omega (arith, next.place_is, right_count)
 
-  -- has a place behind it
+  -- has a place after it
   pub filled_counted : gap.place + 1 + length next.rest ≤ FORM_LIMIT
   filled_counted = omega (arith, next.place_is, right_count, so_far.counted)
 

@@ -13,7 +13,7 @@ use Rattle.trac_rules.proofs.Cutting.{part_found, part_without, cut_out_gap, cut
 
 -- ---- a run
 
--- a text occurs behind what is before it
+-- a text occurs after what is before it
 occurs_behind : (front text back : List ℕ) → OccursAt (front ++ (text ++ back)) text (length front)
 occurs_behind front text back = record {
   fits = omega (arith, length-append front (text ++ back), length-append text back);

@@ -19,7 +19,7 @@ kept_again old new same roomy kept = record {
   room = omega (arith, ap extent same, kept.room, roomy);
 }
 
--- the last n items before the pointer go behind it
+-- the last n items before the pointer go after it
 module _ (old new : Ends Item) (place n : ℕ) (within : place ≤ length old.left) (count : n ≡ length old.left - place)
     (moved : new ≡ record old { left = take (length old.left - n) old.left; right = drop (length old.left - n) old.left ++ old.right }) where
   kept : length old.left - n ≡ place
@@ -78,7 +78,7 @@ kept_text items text e short roomy =
       room = omega (arith, ap extent all, extent-as_items text);
     }
 
--- all bytes of a text go behind the pointer
+-- all bytes of a text go after the pointer
 module _ (old new : Ends Item) (text : List ℕ) (i : ℕ) (all : length text ≤ i) (left : old.left ≡ as_items (take i text)) (right : old.right ≡ [])
     (moved : new ≡ record old { left = take (length old.left - length text) old.left; right = drop (length old.left - length text) old.left ++ old.right }) where
   whole : old.left ≡ as_items text

@@ -174,7 +174,7 @@ parted_none {K} {X} es new same i = ap (λ (xs : List (K × Option X)). is_some 
     none (x ∷ xs) zero = refl
     none (x ∷ xs) (suc j) = none xs j
 
--- after a call that puts an entry without a value behind the others, or changes nothing
+-- after a call that puts an entry without a value after the others, or changes nothing
 pub parted_added : {K X E : Type 0} (r : Result Unit E) (es new : List (K × Option X)) (n : ℕ) (k : K) → IsParted es n → OnOk r (new ≡ es ++ (k, None) ∷ []) → OnErr r (new ≡ es) → IsParted new n
 parted_added {K} {X} (Ok u) es new n k parted added unchanged = subst (λ (xs : List (K × Option X)). IsParted xs n) (sym added) (parted_push es n parted k)
 parted_added {K} {X} (Err e) es new n k parted added unchanged = subst (λ (xs : List (K × Option X)). IsParted xs n) (sym unchanged) parted

@@ -29,7 +29,7 @@ bytes_in-append xs ys = flat_map-append byte_of xs ys
 pub count-append : (xs ys : List Item) → count (xs ++ ys) ≡ count xs + count ys
 count-append xs ys = ap length (bytes_in-append xs ys) ∙ length-append (bytes_in xs) (bytes_in ys)
 
--- all bytes are those up to a place and those behind it
+-- all bytes are those up to a place and those after it
 pub count-split : (k : ℕ) (items : List Item) → count items ≡ count (take k items) + count (drop k items)
 count-split k items = ap count (sym (take-append-drop k items)) ∙ count-append (take k items) (drop k items)
 
@@ -42,7 +42,7 @@ first_bytes k n items e =
     split = ap bytes_in (sym (take-append-drop k items)) ∙ bytes_in-append (take k items) (drop k items)
 
 module _ (form : Form) (piece : Measured) where
-  -- ahead: the bytes among the first k items after the pointer, the pointer behind the first j
+  -- ahead: the bytes among the first k items after the pointer, the pointer after the first j
   module _ (k j : ℕ) (before : k ≤ j) (within : j ≤ length form.after) (place : ℕ) (at : place ≡ length form.before + j) (goes : piece.pointer ≡ place)
       (long : piece.len ≡ count (take k form.after)) where
     from_ahead : items_from piece form ≡ form.after
@@ -112,7 +112,7 @@ count_grows (item ∷ items) (suc j) (suc k) h =
 pub count_falls : (items : List Item) (j k : ℕ) → j ≤ k → count (drop k items) ≤ count (drop j items)
 count_falls items j k h = omega (arith, count-split j items, count-split k items, count_grows items j k h)
 
--- ---- the place behind the first n bytes, and the place before the last n
+-- ---- the place after the first n bytes, and the place before the last n
 
 -- a place with so many bytes before it, and with fewer before each earlier one, is the first such
 pub place_behind_is : (n place : ℕ) (items : List Item) → place ≤ length items → count (take place items) ≡ n → ((k : ℕ) → k < place → count (take k items) < n) → Some place ≡ place_behind n items
@@ -131,7 +131,7 @@ last_place_some passes (suc n) k l here behind =
     cond-true (passes n) (Some n) (last_place passes n) (subst (λ m. passes m ≡ true) same here) ∙ ap Some (sym same))
     (cases_lt k n)
 
--- a place with so many bytes behind it, and with fewer behind each later one, is the last such
+-- a place with so many bytes after it, and with fewer after each later one, is the last such
 pub place_before_is : (n place : ℕ) (items : List Item) → place ≤ length items → count (drop place items) ≡ n → ((k : ℕ) → place < k → k ≤ length items → count (drop k items) < n) →
     Some place ≡ place_before n items
 place_before_is n place items within here behind =
@@ -204,7 +204,7 @@ count_above (pos zero) count form l e = absurd (omega (arith, ints))
 count_above (pos (suc n)) count form l e = ap (λ k. next_bytes k form) e
 count_above (negsuc n) count form l e = absurd (omega (arith, ints))
 
--- ---- two lists of items, one behind the other
+-- ---- two lists of items, one after the other
 
 -- the first n bytes of both
 pub take_both : (xs ys : List Item) (n put : ℕ) → put ≡ at_most_all n xs → take n (bytes_in xs) ++ take (n - put) (bytes_in ys) ≡ take n (bytes_in (xs ++ ys))

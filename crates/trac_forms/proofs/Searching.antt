@@ -15,7 +15,7 @@ use Rattle.trac_forms.specs.declared.reading.Reached.{Reached}
 use Rattle.trac_forms.proofs.Cuts.{occurs_in}
 use Rattle.trac_forms.proofs.Passing.{count, count-append, count_gap, count_next}
 
--- items that begin with no byte, as they stand behind a run
+-- items that begin with no byte, as they stand after a run
 abbrev pub IsBound : List Item → Type 0
 IsBound items = (b : ℕ) (rest : List Item) → items ≡ Byte b ∷ rest → ⊥
 
@@ -94,7 +94,7 @@ module _ (text : List ℕ) (items : List Item) (start : ℕ) (run : List ℕ) (t
       )
 
   module _ (bound : IsBound tail) where
-    -- where a search finds nothing, the text begins at no place of the run, nor right behind it
+    -- where a search finds nothing, the text begins at no place of the run, nor right after it
     pub not_in_run : FindsNeedle run text 0 None → (j : ℕ) → j ≤ length run → begin_with text (drop (start + j) items) ≡ false
     not_in_run none j l =
         false_from_ne_true _ (λ e.
@@ -170,13 +170,13 @@ run_more items start i run b l is so_far =
     ∙ sym (append_assoc (as_items run) (Byte b ∷ []) (drop (i + 1) items))
     ∙ ap (λ (xs : List Item). xs ++ drop (i + 1) items) (sym (map-append Byte run (b ∷ [])))
 
--- a null text occurs at once
+-- an empty text occurs at once
 pub at_once : (text : List ℕ) (items : List Item) → text ≡ [] → Some 0 ≡ place_of_text text items
 at_once text items e =
     sym (first_place_some (λ k. begin_with [] (drop k items)) (length items + 1) 0 (omega arith) refl (λ k l. absurd (omega arith)))
     ∙ ap (λ (t : List ℕ). place_of_text t items) (sym e)
 
--- the bytes up to the gap behind a run
+-- the bytes up to the gap after a run
 pub count_over_gap : (text : List ℕ) (items : List Item) (start : ℕ) (run : List ℕ) (i : ℕ) → start ≤ length items → drop start items ≡ as_items run ++ drop i items →
     ((b : ℕ) → get_or items i (Byte 0) ≡ Byte b → ⊥) → (start + length run ≡ i) × (i < length items) → count (take (i + 1) items) ≡ count (take start items) + length run
 count_over_gap text items start run i within rest other here =

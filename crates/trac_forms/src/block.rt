@@ -41,7 +41,7 @@ impl<A: Allocator + Copy> Block<A> {
         })
     }
 
-    /// Puts a form under a name behind all others. A place has to be spare, which it takes, and no form of the block may
+    /// Puts a form under a name after all others. A place has to be spare, which it takes, and no form of the block may
     /// have this name. It takes no memory (this project's profile).
     pub fn push(&mut self, name: Vec<u8, A>, form: Form<A>)
         requires room { 0 < self.old.room }
@@ -51,7 +51,7 @@ impl<A: Allocator + Copy> Block<A> {
         self.entries.push_reserved((name, form));
     }
 
-    /// Takes the last form away with its name, and answers both; `None` where the block holds no forms. It takes no memory,
+    /// Takes the last form away with its name, and returns both; `None` where the block holds no forms. It takes no memory,
     /// and no spare place (this project's profile).
     pub fn pop(&mut self) -> Option<(Vec<u8, A>, Form<A>)>
         ensures last { MatchOption result ((self.old.held ≡ []) × (self.new.held ≡ [])) (λ entry. self.old.held ≡ self.new.held ++ (entry.0.items, entry.1) ∷ []) }

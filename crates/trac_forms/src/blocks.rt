@@ -30,7 +30,7 @@ impl<A: Allocator + Copy> Store<A> {
         self.blocks.push_reserved(Some(block));
     }
 
-    /// Takes the last block off the list, and answers it; `None` where it is an erased one, or where there are no blocks. It
+    /// Takes the last block off the list, and returns it; `None` where it is an erased one, or where there are no blocks. It
     /// takes no memory, and no spare place (this project's profile).
     pub fn pop_block(&mut self) -> Option<Block<A>>
         ensures last { option_map (λ b. b.held) result ≡ block_at (length self.old.blocks - 1) self.old.blocks }
@@ -40,7 +40,7 @@ impl<A: Allocator + Copy> Store<A> {
         self.blocks.pop()?
     }
 
-    /// Takes the block of this number away and answers it; its place stays, as that of an erased block. `None` where it is
+    /// Takes the block of this number away and returns it; its place stays, as that of an erased block. `None` where it is
     /// erased already, and past the last, and then nothing has changed. It takes no memory (this project's profile).
     pub fn take_block(&mut self, i: usize) -> Option<Block<A>>
         ensures taken { option_map (λ b. b.held) result ≡ block_at i self.old.blocks }

@@ -63,7 +63,7 @@ impl<A: Allocator + Copy> Form<A> {
 
     /// Cuts these texts out of the form: for each text in turn, every run of bytes between gaps is searched from the left,
     /// and the leftmost occurrences that do not overlap become gaps of that text's number, which counts from 1. Earlier gaps
-    /// stay, a null text uses up its number, and the pointer goes to the start. `cut` has to be what `cut_for` answers for
+    /// stay, an empty text uses up its number, and the pointer goes to the start. `cut` has to be what `cut_for` returns for
     /// this form and these texts. This is the rule of `ss`, in this project's profile. It takes no memory.
     pub fn segment<T: Texts>(&mut self, cut: &Cut<A>, texts: &T)
         requires { cut.now ≡ cut_of (T.texts texts.now) self.old }
@@ -159,7 +159,7 @@ fn cut_gaps<T: Texts, A: Allocator + Copy>(items: &mut Items<A>, gaps: &[CutGap]
     items.shift_right(made);
 }
 
-// Passes so many items, and puts a gap in place of those behind them, as many as it is wide.
+// Passes so many items, and puts a gap in place of those after them, as many as it is wide.
 fn cut_gap<A: Allocator + Copy>(items: &mut Items<A>, passed: usize, ordinal: u32, width: usize)
     requires some { 0 < width }
     requires fits { width ≤ FORM_LIMIT }
@@ -197,7 +197,7 @@ fn fill_gaps<T: Texts, A: Allocator + Copy>(items: &mut Items<A>, gaps: &[CutGap
     items.shift_right(joined);
 }
 
-// Passes so many items, and puts the bytes of a text in place of the item behind them.
+// Passes so many items, and puts the bytes of a text in place of the item after them.
 fn fill_gap<A: Allocator + Copy>(items: &mut Items<A>, passed: usize, text: &[u8])
     requires there { passed < length items.old.right }
     requires room { length items.old.left + length items.old.right + length text.now ≤ items.old.capacity + 1 }

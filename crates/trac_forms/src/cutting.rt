@@ -32,7 +32,7 @@ impl<A: Allocator + Copy> Form<A> {
     }
 }
 
-// The items with the text of this number cut out; a null text cuts nothing.
+// The items with the text of this number cut out; an empty text cuts nothing.
 fn without_text<A: Allocator + Copy>(
     alloc: A,
     number: u32,
@@ -77,7 +77,7 @@ fn without<A: Allocator + Copy>(
     Ok(out)
 }
 
-// Ends a run of bytes at a gap: what comes behind it is searched by itself.
+// Ends a run of bytes at a gap: what comes after it is searched by itself.
 pub(crate) fn end_run<A: Allocator>(run: &mut Vec<u8, A>)
     ensures { run.new.items ≡ [] }
 {

@@ -37,8 +37,8 @@ impl<A: Allocator + Copy> Form<A> {
         }
     }
 
-    /// Puts the value of a call with these texts at the end of `out`: the bytes behind the pointer, with each gap replaced
-    /// by the text of its number, which counts from 1. A text that is missing is null. The pointer stays.
+    /// Puts the value of a call with these texts at the end of `out`: the bytes after the pointer, with each gap replaced
+    /// by the text of its number, which counts from 1. A text that is missing is empty. The pointer stays.
     /// This is the rule of `cl`; that it starts at the pointer is this project's profile.
     ///
     /// Refused with `Memory` where the allocator refuses; then `out` still begins with what it held.
@@ -94,7 +94,7 @@ fn fill_into<T: Texts, B: Allocator>(
     }
 }
 
-// The text of this number, the first being number 1; null where it is missing.
+// The text of this number, the first being number 1; empty where it is missing.
 pub(crate) fn text<T: Texts>(texts: &T, number: u32) -> &[u8]
     ensures { result.now ≡ text_numbered number (T.texts texts.now) }
 {

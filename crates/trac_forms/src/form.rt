@@ -119,7 +119,7 @@ impl<A: Allocator + Copy> Form<A> {
         })
     }
 
-    /// Sets the pointer before the item at this place, or at the end, and answers its old place.
+    /// Sets the pointer before the item at this place, or at the end, and returns its old place.
     /// The form has to have at least as many items. It takes no memory (this project's profile).
     pub fn set_pointer(&mut self, place: usize) -> usize
         requires { place ≤ length (all_items self.old) }

@@ -1,4 +1,4 @@
-//! Reading a form at its pointer: what is given, and where the pointer goes. A pointer before a gap and one behind it are
+//! Reading a form at its pointer: what is given, and where the pointer goes. A pointer before a gap and one after it are
 //! two places. Each call is measured before anything is built or moved.
 ghost use Rattle.std.specs.Prelude.{◌≡◌, ◌+◌, ◌-◌, ◌^◌, ◌++◌, ◌∷◌, [], ◌≤◌, ◌<◌, length, take, drop, position, option_map, IfOk, IfSome, OnOk, OnErr, IsOkUnless};
 ghost use Rattle.memchr.specs.Find.{FindsNeedle};
@@ -25,7 +25,7 @@ pub struct Piece {
 }
 
 impl<A: Allocator + Copy> Form<A> {
-    /// The bytes from the pointer up to the next gap, the pointer behind that gap; without a gap all bytes, the pointer at
+    /// The bytes from the pointer up to the next gap, the pointer after that gap; without a gap all bytes, the pointer at
     /// the end. `None` where nothing stands after the pointer, no gap either. This is the rule of `cs`. It takes no memory.
     pub fn read_segment(&self) -> Option<Piece>
         ensures read { option_map (λ p. taken p self.now) result ≡ segment_read self.now }
@@ -42,7 +42,7 @@ impl<A: Allocator + Copy> Form<A> {
         })
     }
 
-    /// The next byte, the pointer right behind it; gaps before it are passed (this project's profile). `None` where no byte
+    /// The next byte, the pointer right after it; gaps before it are passed (this project's profile). `None` where no byte
     /// stands after the pointer. This is the rule of `cc`. It takes no memory.
     pub fn read_char(&self) -> Option<Piece>
         ensures read { option_map (λ p. taken p self.now) result ≡ char_read self.now }
@@ -51,8 +51,8 @@ impl<A: Allocator + Copy> Form<A> {
         self.read_next(1)
     }
 
-    /// For `n` above 0 the next `n` bytes, or as many as there are, the pointer right behind the last of them. For `n` below
-    /// 0 as many bytes before the pointer, in the order of the text, the pointer right before the first of them. For 0 null,
+    /// For `n` above 0 the next `n` bytes, or as many as there are, the pointer right after the last of them. For `n` below
+    /// 0 as many bytes before the pointer, in the order of the text, the pointer right before the first of them. For 0 empty,
     /// the pointer unmoved. Gaps are passed and not given (this project's profile). `None` where `n` is not 0 and no byte
     /// stands on that side. This is the rule of `cn`. It takes no memory.
     pub fn read_count(&self, n: i64) -> Option<Piece>
@@ -73,8 +73,8 @@ impl<A: Allocator + Copy> Form<A> {
         self.read_next(count)
     }
 
-    /// The bytes before the first occurrence of `text` after the pointer, the pointer right behind that occurrence. No
-    /// occurrence crosses a gap; a null text occurs at once, also at the end (this project's profile). `None` where it does
+    /// The bytes before the first occurrence of `text` after the pointer, the pointer right after that occurrence. No
+    /// occurrence crosses a gap; an empty text occurs at once, also at the end (this project's profile). `None` where it does
     /// not occur. This is the rule of `in`.
     ///
     /// Refused with `Memory` where the allocator refuses: runs of bytes between gaps are copied for the search, in growing
@@ -191,7 +191,7 @@ fn segment(items: &[Item]) -> Reached
     }
 }
 
-// The place right behind the first `n` bytes of these items, or behind all bytes where there are fewer.
+// The place right after the first `n` bytes of these items, or after all bytes where there are fewer.
 fn reach(items: &[Item], n: usize) -> Reached
     ensures place { Some result.items ≡ place_behind (at_most_all n items.now) items.now }
     ensures bytes { result.bytes ≡ at_most_all n items.now }
@@ -263,7 +263,7 @@ fn place_of<A: Allocator>(
 // How many bytes are read at least before they are searched for the first time.
 const FIRST_ROOM: usize = 16;
 
-// The first place of a text that is not null among these items, if it occurs.
+// The first place of a text that is not empty among these items, if it occurs.
 fn first_place_of<A: Allocator>(
     alloc: A,
     text: &[u8],
@@ -319,7 +319,7 @@ fn place_in_run(finder: &Finder<'_>, run: &[u8], start: Reached) -> Option<Reach
     })
 }
 
-// Puts the first `most` bytes of these items, or as many as there are, at the end of `out`, and answers how many.
+// Puts the first `most` bytes of these items, or as many as there are, at the end of `out`, and returns how many.
 fn first_bytes_into<B: Allocator>(
     items: &[Item],
     most: usize,

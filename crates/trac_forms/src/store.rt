@@ -119,7 +119,7 @@ impl<A: Allocator + Copy> Store<A> {
         add_entry(&mut self.table, key, None)
     }
 
-    /// Puts a form under a name that is known, and answers the one that it replaces. It takes no memory
+    /// Puts a form under a name that is known, and returns the one that it replaces. It takes no memory
     /// (this project's profile).
     pub fn put(&mut self, name: &[u8], form: Form<A>) -> Option<Form<A>>
         requires { IsTrue (set.contains self.old.known name.now) }
@@ -132,7 +132,7 @@ impl<A: Allocator + Copy> Store<A> {
         }
     }
 
-    /// Takes the form of this name away, if there is one, and answers it. The name stays known. It takes no memory
+    /// Takes the form of this name away, if there is one, and returns it. The name stays known. It takes no memory
     /// (this project's profile).
     pub fn take(&mut self, name: &[u8]) -> Option<Form<A>>
         ensures taken { result ≡ finite.get self.old.forms name.now }
@@ -160,7 +160,7 @@ impl<A: Allocator + Copy> Store<A> {
     }
 }
 
-// Puts an entry behind all others.
+// Puts an entry after all others.
 pub(crate) fn add_entry<A: Allocator + Copy>(
     table: &mut Table<A>,
     name: Vec<u8, A>,
@@ -177,7 +177,7 @@ pub(crate) fn add_entry<A: Allocator + Copy>(
     }
 }
 
-// Puts a value into an entry, and answers the one that it replaces. An entry that had none takes the place after those that
+// Puts a value into an entry, and returns the one that it replaces. An entry that had none takes the place after those that
 // have one.
 fn put_at<K: Eq + Hash, V, S: BuildHasher, A: Allocator>(
     table: &mut IndexMap<K, Option<V>, S, A>,
@@ -201,7 +201,7 @@ fn put_at<K: Eq + Hash, V, S: BuildHasher, A: Allocator>(
     replaced
 }
 
-// Takes the value of an entry away, if it has one, and answers it. The entry takes the place of the last one with a value.
+// Takes the value of an entry away, if it has one, and returns it. The entry takes the place of the last one with a value.
 fn take_at<K: Eq + Hash, V, S: BuildHasher, A: Allocator>(
     table: &mut IndexMap<K, Option<V>, S, A>,
     live: &mut usize,

@@ -13,7 +13,7 @@ pub trait Texts {
     fn count(&self) -> usize
         ensures { result ≡ length (texts self.now) };
 
-    /// The text at this place; null past the last. It takes no memory.
+    /// The text at this place; empty past the last. It takes no memory.
     fn get(&self, i: usize) -> &[u8]
         ensures { result.now ≡ get_or (texts self.now) i [] };
 }
@@ -46,7 +46,7 @@ impl<'a, A: Allocator> Texts for Vec<&'a [u8], A> {
     }
 }
 
-// The text at this place; null past the last.
+// The text at this place; empty past the last.
 fn text_at<'a>(texts: &[&'a [u8]], i: usize) -> &'a [u8]
     ensures { result.now ≡ get_or (map (λ text. text.now) texts.now) i [] }
 {

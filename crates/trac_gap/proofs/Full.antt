@@ -20,7 +20,7 @@ module _ {X : Type 0} where
   pub length-items_of : (a : List (Option X)) → IsFull a → length (items_of a) ≡ length a
   length-items_of a full = sym (ap length full ∙ length-map (items_of a) Some)
 
-  -- full rows, one behind the other
+  -- full rows, one after the other
   pub full_both : (a b c : List (Option X)) → c ≡ a ++ b → IsFull a → IsFull b → IsFull c × (items_of c ≡ items_of a ++ items_of b)
   full_both a b c e f g =
       let items : items_of c ≡ items_of a ++ items_of b = ap items_of e ∙ items_of-append a b in

@@ -18,7 +18,7 @@ module _ {T : Type 0} where
   same_row : (cs ds : List (Option T)) → ds ≡ cs → IsFull cs → Holds ds (items_of cs)
   same_row cs ds e full = (subst IsFull (sym e) full, ap items_of e)
 
-  -- a row that is xs behind or before what another has
+  -- a row that is xs after or before what another has
   behind : (cs ds : List (Option T)) (xs : List T) → ds ≡ cs ++ map Some xs → IsFull cs → Holds ds (items_of cs ++ xs)
   behind cs ds xs e full = let both = full_both cs (map Some xs) ds e full (IsFull-map xs) in (both.0, both.1 ∙ ap (λ ys. items_of cs ++ ys) (items_of-map xs))
 

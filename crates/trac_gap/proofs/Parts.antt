@@ -6,7 +6,7 @@ use Rattle.trac_gap.specs.Places.{IsFull, run, pasted}
 use Rattle.trac_gap.proofs.Full.{IsFull-take, IsFull-drop}
 use Rattle.trac_gap.proofs.Pasted.{length-pasted, take-pasted, drop-pasted, take-pasted_before, drop-pasted_behind}
 
--- one part is written right behind others, or right before them
+-- one part is written right after others, or right before them
 module _ {X : Type 0} (cs : List X) (ws vs : List X) where
   pasted_behind : (i j : ℕ) → j ≡ i + length ws → i + length (ws ++ vs) ≤ length cs → pasted (pasted cs i ws) j vs ≡ pasted cs i (ws ++ vs)
   unfolding pasted

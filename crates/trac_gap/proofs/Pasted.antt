@@ -1,4 +1,4 @@
--- What a row has before, in and behind the places that were written.
+-- What a row has before, in and after the places that were written.
 use Rattle.std.proofs.Common.{◌≡◌, ℕ, suc, ◌+◌, ◌-◌, ◌≤◌, ◌<◌, ◌++◌, List, [], ◌∷◌, length, take, drop, set, sym, ap, ◌∙◌, append_assoc, add-zero, arith, length-append, length-drop}
 use Rattle.std.proofs.lemmas.List.{take-append-drop, set_split, take-append-le, take-take}
 use Rattle.std.proofs.Math.Seq.{take-append_seam, drop-append_seam, take-append-add, drop-append-add, length-take-le, drop-drop}
@@ -45,7 +45,7 @@ unfolding pasted
 pasted_none cs i = ap (λ k. take i cs ++ drop k cs) (add-zero i) ∙ take-append-drop i cs
 
 module _ {X : Type 0} (cs : List X) (i : ℕ) (ws : List X) (c : X) where
-  -- one more place is written, behind those that were
+  -- one more place is written, after those that were
   pub set-pasted_behind : (j : ℕ) → j ≡ i + length ws → j < length cs → set (pasted cs i ws) j c ≡ pasted cs i (ws ++ c ∷ [])
   unfolding pasted
   set-pasted_behind j at within =

@@ -48,7 +48,7 @@ fn add_block(out: &mut Vec<u8>, block: &Block<Memory<'_>>) -> Result<(), FormErr
     Ok(add(out, b"]")?)
 }
 
-/// The blocks in order: `-` for an erased one, else its forms as they are printed, each behind its name and `=` and
+/// The blocks in order: `-` for an erased one, else its forms as they are printed, each after its name and `=` and
 /// before `;`, between `[` and `]`.
 pub(crate) fn blocks_shown(rt: &impl Abort, plain: Global, store: &Store<Memory<'_>>) -> Vec<u8> {
     let mut out = Vec::new(plain);
@@ -82,7 +82,7 @@ pub(crate) fn put_aside<'a>(
     Ok(())
 }
 
-/// Takes the last block off the list, and says whether the name of its last form was this; null for none.
+/// Takes the last block off the list, and says whether the name of its last form was this; empty for none.
 pub(crate) fn pop(store: &mut Store<Memory<'_>>, name: &[u8]) -> bool {
     let Some(mut block) = store.pop_block() else {
         return name.is_empty();

@@ -16,7 +16,7 @@ const UNREAD: Input = Input {
     trace: false,
 };
 
-// A call over the forms `B`, `F` and `R` (`with_forms`): its arguments one behind another, the places where the further ones
+// A call over the forms `B`, `F` and `R` (`with_forms`): its arguments one after another, the places where the further ones
 // begin, and what is planned. Each makes a request for memory.
 const CALLS: &[(&[u8], &[usize], &[u8])] = &[
     (b"adapples5pears3", &[2, 9], b"apples8||keep 0"),
@@ -49,7 +49,7 @@ const CALLS: &[(&[u8], &[usize], &[u8])] = &[
     (b"inFabZ", &[2, 3, 5], b"Z!||point F 1 0"),
     (b"ln;", &[2], b";B;F;R||keep 0"),
     (b"pfF", &[2], b"|a<^><1>bc<2>|keep 0"),
-    // The names that the call gives, the null name among them, and no other.
+    // The names that the call gives, the empty name among them, and no other.
     (b"ddF", &[2], b"||remove F; 0"),
     (b"ddF", &[2, 3], b"||remove F;; 0"),
     (b"ddFG", &[2, 3], b"||remove F;G; 0"),
@@ -61,7 +61,7 @@ const CALLS: &[(&[u8], &[usize], &[u8])] = &[
     (b"ebF", &[2], b"||keep 0"),
 ];
 
-// Calls that make no request for memory. Where there is no form of the name, the value is null and nothing changes.
+// Calls that make no request for memory. Where there is no form of the name, the value is empty and nothing changes.
 const CALLS_WITHOUT_MEMORY: &[(&[u8], &[usize], &[u8])] = &[
     (b"ssGb", &[2, 3], b"||keep 0"),
     (b"crGb", &[2, 3], b"||keep 0"),

@@ -84,7 +84,7 @@ const CASES: &[Case] = &[
         fillings: &[b"b", b"ca"],
         value: b"abcabc",
     },
-    // A null text uses up its number; a text that is not given is null.
+    // An empty text uses up its number; a text that is not given is empty.
     Case {
         text: b"banana",
         cuts: &[&[b"", b"a"]],
@@ -135,7 +135,7 @@ pub(crate) fn set_pointer(rt: &impl Abort, form: &mut Form<Memory<'_>>, place: u
     form.set_pointer(place)
 }
 
-// The texts are cut out in turn. The pointer, which was behind two bytes, is at the start then.
+// The texts are cut out in turn. The pointer, which was after two bytes, is at the start then.
 fn cut_all(
     rt: &impl Abort,
     form: &mut Form<Memory<'_>>,
@@ -248,7 +248,7 @@ fn each_request_at_pointers(rt: HostRuntime) -> Result<(), Fail> {
     expect_trials(&rt, 3, &[Pointers])
 }
 
-// A vector of texts that has one too few: the second is null.
+// A vector of texts that has one too few: the second is empty.
 #[test]
 fn texts_in_a_vector(rt: HostRuntime) -> Result<(), Fail> {
     let form = divided(rt.alloc())?;

@@ -42,7 +42,7 @@ fn with_gaps<A: Allocator + Copy>(alloc: A) -> Result<Store<A>, FormError> {
     Ok(store)
 }
 
-// A call of that form with so many letters, its arguments one behind another.
+// A call of that form with so many letters, its arguments one after another.
 fn call_text(plain: Global, count: usize) -> Result<Vec<u8>, AllocError> {
     let mut text = Vec::from_slice(plain, b"clF")?;
     text.resize(count.saturating_add(3), b'x')?;
@@ -87,7 +87,7 @@ fn called_with<'a>(
 
 // How many letters a call has, whether all memory is refused, and the length of what is planned for it, or the refusal.
 const LONG_CALLS: &[(usize, bool, Result<usize, Refusal>)] = &[
-    // the value, and `||keep 0` behind it
+    // the value, and `||keep 0` after it
     (4_096, false, Ok(16_777_224)),
     (4_097, false, Err(Refusal::TooLong)),
     (4_096, true, Err(Refusal::Memory)),

@@ -10,7 +10,7 @@ fn print(out: &mut Vec<u8, Memory<'_>>, number: i64) -> Result<(), NumError> {
     print_into(number, out)
 }
 
-// A number is printed behind what is there, which may be refused once: what was there is still there then, and the next try
+// A number is printed after what is there, which may be refused once: what was there is still there then, and the next try
 // is accepted.
 fn expect_printed(
     rt: &impl Abort,
@@ -27,7 +27,7 @@ fn expect_printed(
     Ok(())
 }
 
-// A number is printed behind what is there: each of these behind those before it.
+// A number is printed after what is there: each of these after those before it.
 const PRINTED: &[(i64, &[u8], &[u8])] = &[
     (i64::MIN, b"", b"-9223372036854775808"),
     (0, b"-9223372036854775808", b"-92233720368547758080"),
@@ -42,7 +42,7 @@ fn printed_one_by_one(rt: &impl Abort, memory: Memory<'_>) -> Result<(), NumErro
     Ok(())
 }
 
-// The numbers of `PRINTED`, one behind another.
+// The numbers of `PRINTED`, one after another.
 #[derive(Clone, Copy)]
 struct Printed;
 

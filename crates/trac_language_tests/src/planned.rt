@@ -19,7 +19,7 @@ pub(crate) struct Input {
     pub(crate) trace: bool,
 }
 
-/// A call: its arguments one behind another, the places where the second and each further one begins, and its input.
+/// A call: its arguments one after another, the places where the second and each further one begins, and its input.
 #[derive(Clone, Copy)]
 pub(crate) struct Call<'a> {
     pub(crate) text: &'a [u8],
@@ -92,7 +92,7 @@ fn add(out: &mut Vec<u8>, text: &[u8]) -> Result<(), AllocError> {
     Ok(out.extend_from_slice(text)?)
 }
 
-// Names, each with a `;` behind it.
+// Names, each with a `;` after it.
 fn add_names<A: Allocator + Copy>(
     out: &mut Vec<u8>,
     names: &[Vec<u8, A>],
@@ -185,8 +185,8 @@ fn add_number(out: &mut Vec<u8>, number: usize) -> Result<(), AllocError> {
     add(out, &[b' ', b'0' + number.min(9) as u8])
 }
 
-// What is planned, as a text: the value, with `!` behind it where it is scanned in any case; behind `|` what is printed;
-// behind `|` what becomes of the forms; how many bytes of the input are read by then; and the meta character, where it is
+// What is planned, as a text: the value, with `!` after it where it is scanned in any case; after `|` what is printed;
+// after `|` what becomes of the forms; how many bytes of the input are read by then; and the meta character, where it is
 // another one than `'`, and whether the trace is on.
 fn effect_into<A: Allocator + Copy>(
     out: &mut Vec<u8>,
@@ -247,7 +247,7 @@ fn expect_argument(rt: &impl Abort, args: &Args<'_>, number: usize, wanted: &[u8
     expect_text(rt, args.get(number), wanted);
 }
 
-// The arguments of `adapples5pears3` by their numbers, and one behind the last.
+// The arguments of `adapples5pears3` by their numbers, and one after the last.
 const ARGUMENTS: &[(usize, &[u8])] = &[(0, b"ad"), (1, b"apples5"), (2, b"pears3"), (3, b"")];
 
 #[test]

@@ -23,13 +23,13 @@ pub(crate) enum Act {
     Shows(&'static [u8], &'static [u8]),
     /// There is no form of this name.
     Lacks(&'static [u8]),
-    /// The names, each with a `;` behind it.
+    /// The names, each with a `;` after it.
     Names(&'static [u8]),
     /// So many names have a form.
     Count(usize),
     /// The form of this name, if there is one, is moved into a new block.
     PutAside(&'static [u8]),
-    /// The last block is taken off the list, and the name of its last form was this; null for none.
+    /// The last block is taken off the list, and the name of its last form was this; empty for none.
     Pop(&'static [u8]),
     /// The block of this number is erased, and held so many forms.
     Erase(usize, usize),
@@ -45,7 +45,7 @@ const FORMS: &[Act] = &[
     Act::Names(b"a;b;"),
     Act::Count(2),
     Act::Shows(b"a", b"<^>22"),
-    // the null name
+    // the empty name
     Act::Define(b"", b"1"),
     Act::Define(b"", b"2"),
     Act::Count(3),
@@ -65,7 +65,7 @@ const FORMS: &[Act] = &[
     Act::Shows(b"b", b"<^>44"),
 ];
 
-/// Puts a text behind another one.
+/// Puts a text after another one.
 pub(crate) fn add(out: &mut Vec<u8>, text: &[u8]) -> Result<(), AllocError> {
     Ok(out.extend_from_slice(text)?)
 }

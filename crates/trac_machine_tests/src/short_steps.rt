@@ -8,7 +8,7 @@ use trac_gap::{GapBuf, TwoEnds};
 use trac_rules::refusal::Refusal;
 use trac_step::{Core, Mark, Short, Tape};
 
-// Takes a short step, and answers its record in a letter; `-` where none is taken.
+// Takes a short step, and returns its record in a letter; `-` where none is taken.
 fn step_briefly<E: TwoEnds<u8, A>, M: TwoEnds<Mark, A>, A: Allocator + Copy>(
     machine: &mut Core<E, M, A>,
 ) -> u8 {
@@ -27,7 +27,7 @@ fn step_briefly<E: TwoEnds<u8, A>, M: TwoEnds<Mark, A>, A: Allocator + Copy>(
     }
 }
 
-// Takes a step over a null tape.
+// Takes a step over an empty tape.
 fn step_whole<E: TwoEnds<u8, A>, M: TwoEnds<Mark, A>, A: Allocator + Copy>(
     rt: &impl Abort,
     machine: &mut Core<E, M, A>,

@@ -18,7 +18,7 @@ type Kept = (Kind, &'static [u8], &'static [usize]);
 /// keeps, and the begun functions.
 const EMPTIED: &[(&[u8], u64, &[u8], &[Kept])] = &[
     (b"AB'", 12, b"", &[]),
-    // A stray `)` ends the idle program's `ps`: what is read behind it goes to the base text.
+    // A stray `)` ends the idle program's `ps`: what is read after it goes to the base text.
     (b"a)b,c'", 15, b"bc", &[]),
     (b"x(A#(B'", 11, b"", &[(Kind::Active, b"psxA#(B)", &[2])]),
     (
@@ -77,7 +77,7 @@ pub(crate) fn is_among(numbers: &[u64], number: u64) -> bool {
 }
 
 // Takes up to so many steps, until the end is found, and goes back over all of them while every request for
-// memory is refused. Answers how many they are. A step for which a request is refused is taken again, but for
+// memory is refused. Returns how many they are. A step for which a request is refused is taken again, but for
 // those that have to do with none.
 fn there_and_back<E: TwoEnds<u8, A>, M: TwoEnds<Mark, A>, A: Allocator + Copy>(
     rt: &impl Abort,

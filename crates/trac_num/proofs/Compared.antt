@@ -1,4 +1,4 @@
--- Two numerals compared by their signs and by the digits behind them.
+-- Two numerals compared by their signs and by the digits after them.
 use Rattle.std.proofs.Common.{◌≡◌, ℕ, zero, suc, ◌+◌, ◌<◌, true, false, not, ◌==◌, ltb, List, [], ◌∷◌, length, refl, sym, ap, ◌∙◌, arith, ⊎_elim, pos, neg_ℤ, int_lt}
 use Rattle.std.proofs.Math.Nat.{one-le-pow}
 use Rattle.std.proofs.lemmas.Bool.{lt-ltb, le-ltb, eq-eqb, ne_eqb, cases_eq}

@@ -9,7 +9,7 @@ use Rattle.trac_rules.proofs.Numerals.{longest_tail_whole, longest_tail_rest, nu
 use Rattle.trac_rules.specs.Bytes.{longest_tail}
 use Rattle.trac_rules.specs.Number.{IsNumeralOrNull, is_numeral, numeral_of, prefix_of}
 
--- the first tail that is a numeral is the longest one; without one it is null
+-- the first tail that is a numeral is the longest one; without one it is empty
 pub first_numeral : (text : List ℕ) (n : ℕ) → ((is_numeral (drop n text) ≡ true) ⊎ (n ≡ length text)) → n ≤ length text → ((j : ℕ) → j < n → is_numeral (drop j text) ≡ false) → longest_tail is_numeral text ≡ drop n text
 first_numeral [] zero found within before = refl
 first_numeral [] (suc n) found within before = refl

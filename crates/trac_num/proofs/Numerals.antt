@@ -46,13 +46,13 @@ numeral_of_digits text l t =
     let same : without_leading_sign text ≡ text = without_sign text (λ e. omega (arith, first.0, e)) (λ e. omega (arith, first.0, e)) in
     rw same (and_from _ _ (lt-ltb 0 (length text) l) t)
 
--- a numeral has something behind its sign, and digits alone
+-- a numeral has something after its sign, and digits alone
 pub numeral_parts : (text : List ℕ) → is_numeral text ≡ true → (0 < length (without_leading_sign text)) × (all_ascii_digits (without_leading_sign text) ≡ true)
 numeral_parts text t =
     let both = and_parts _ _ t in
     (ltb-true 0 (length (without_leading_sign text)) both.0, both.1)
 
--- behind the first byte of a numeral there are digits alone
+-- after the first byte of a numeral there are digits alone
 pub digit_inside : (text : List ℕ) (i : ℕ) → is_numeral text ≡ true → 0 < i → i < length text → is_ascii_digit (get_or text i 0) ≡ true
 digit_inside text i t p l =
     let parts = numeral_parts text t in

@@ -67,7 +67,7 @@ not_of_digit x h =
 
 -- ---- three of the six bits of two digits
 
--- the digit of them, behind so many skipped bits
+-- the digit of them, after so many skipped bits
 abbrev pub across : ℕ → ℕ → ℕ → ℕ
 across x y s = ZERO + ((x - ZERO) * 8 + (y - ZERO)) / 2 ^ (3 - s) % 8
 

@@ -10,7 +10,7 @@ use Rattle.trac_num.proofs.Numerals.{numeral_parts, ascii_numeral}
 use Rattle.trac_num.proofs.Range.{in_range, held_if_fits}
 use Rattle.trac_rules.specs.Number.{IsNumeralOrNull, is_numeral, number_of, whole_number}
 
--- a null numeral writes 0
+-- an empty numeral writes 0
 pub null_number : (numeral : List ℕ) → length numeral ≡ 0 → Some (pos 0) ≡ number_of numeral
 unfolding number_of whole_number
 null_number numeral e = rw (nil_from_length numeral e) refl

@@ -26,7 +26,7 @@ take-add (suc m) zero [] = let e : suc m + zero ≡ suc m = omega arith in rw e 
 take-add (suc m) (suc n) [] = let e : suc m + suc n ≡ suc (m + suc n) = omega arith in rw e refl
 take-add (suc m) n (x ∷ xs) = let e : suc m + n ≡ suc (m + n) = omega arith in rw e (ap (λ t. x ∷ t) (take-add m n xs))
 
--- three of the bits of two digits, whatever stands behind them
+-- three of the bits of two digits, whatever stands after them
 three_of_two : (x y r : ℕ) (rest : List Bool) → r ≤ 3 → take 3 (drop r (digit_bits x ++ (digit_bits y ++ rest))) ≡ take 3 (drop r (digit_bits x ++ digit_bits y))
 three_of_two x y zero rest l = refl
 three_of_two x y (suc zero) rest l = refl
@@ -34,7 +34,7 @@ three_of_two x y (suc (suc zero)) rest l = refl
 three_of_two x y (suc (suc (suc zero))) rest l = refl
 three_of_two x y (suc (suc (suc (suc r)))) rest l = absurd (omega arith)
 
--- the three bits of a place, behind r skipped ones, are those of two digits
+-- the three bits of a place, after r skipped ones, are those of two digits
 bits_at : (s : List ℕ) (k r : ℕ) → k + 1 < length s → r ≤ 3 → take 3 (drop (3 * k) (drop r (bits_of s))) ≡ take 3 (drop r (digit_bits (get_or s k 0) ++ digit_bits (get_or s (k + 1) 0)))
 bits_at s k r l w =
     let turn : r + 3 * k ≡ 3 * k + r = omega arith in
@@ -83,7 +83,7 @@ zeros_at zero i = refl
 zeros_at (suc m) zero = refl
 zeros_at (suc m) (suc i) = zeros_at m i
 
--- zeros behind a list change no bit of it
+-- zeros after a list change no bit of it
 before_zeros : (xs : List Bool) (m i : ℕ) → get_or (xs ++ replicate m false) i false ≡ get_or xs i false
 before_zeros [] m i = zeros_at m i
 before_zeros (x ∷ xs) m zero = refl
@@ -95,7 +95,7 @@ before_zeros (x ∷ xs) m (suc i) = before_zeros xs m i
 left_at : (xs : List Bool) (n i : ℕ) → get_or (shifted_left n xs) i false ≡ get_or xs (n + i) false
 left_at xs n i = before_zeros (drop n xs) (min n (length xs)) i ∙ get_or-drop n xs i false
 
--- the bits behind the first c, zeros behind them, and then r more to the left
+-- the bits after the first c, zeros after them, and then r more to the left
 left_by_parts : (xs : List Bool) (n c r m : ℕ) → c ≤ length xs → c + r ≤ m → (c + r ≡ n) ⊎ ((c ≡ length xs) × (length xs ≤ n)) →
     take (length xs) (drop r (drop c xs ++ replicate m false)) ≡ shifted_left n xs
 left_by_parts xs n c r m within room how =

@@ -6,7 +6,7 @@ use Rattle.std.proofs.lemmas.List.{length-append}
 use Rattle.trac_rules.specs.Octal.{IsOctal, is_octal, is_octal_digit, octal_tail}
 use Rattle.trac_rules.proofs.OctalTexts.{octal_tail-octal}
 
--- behind a byte that is no octal digit
+-- after a byte that is no octal digit
 pub octal_tail-behind : (front : List ℕ) (b : ℕ) (tail : List ℕ) → is_octal_digit b ≡ false → IsOctal tail → octal_tail (front ++ b ∷ tail) ≡ tail
 octal_tail-behind [] b tail n h = rw n (octal_tail-octal tail h)
 octal_tail-behind (x ∷ front) b tail n h =
@@ -22,7 +22,7 @@ octal_tail_from text i l n h =
     ap octal_tail (sym (take-append-drop i text) ∙ ap (λ t. take i text ++ t) (drop_more text i 0 l))
     ∙ octal_tail-behind (take i text) (get_or text i 0) (drop (i + 1) text) n h
 
--- the same, counted from behind it
+-- the same, counted from after it
 pub octal_tail_behind_place : (text : List ℕ) (n : ℕ) → 0 < n → n ≤ length text → is_octal_digit (get_or text (n - 1) 0) ≡ false → IsOctal (drop n text) → octal_tail text ≡ drop n text
 octal_tail_behind_place text n some within other h =
     let next : n - 1 + 1 ≡ n = omega (arith, some) in

@@ -5,7 +5,7 @@ ghost use Rattle.std.specs.Str.Parse.{digits_value, starts_with_minus, without_l
 ghost use Rattle.trac_num.specs.Magnitude.{IsMagnitude, IsMagnitudeOf};
 ghost use Rattle.trac_rules.specs.Number.{IsNumeralOrNull, is_greater};
 
-// The digits behind a sign, or all of them.
+// The digits after a sign, or all of them.
 fn unsigned(numeral: &[u8]) -> &[u8]
     ensures { result.now ≡ without_leading_sign numeral.now }
 {
@@ -36,7 +36,7 @@ fn without_zeros(digits: &[u8]) -> &[u8]
     digits.split_at(place).1
 }
 
-// The digits of a numeral without its sign and its leading zeros: null for 0.
+// The digits of a numeral without its sign and its leading zeros: empty for 0.
 fn magnitude(numeral: &[u8]) -> &[u8]
     requires { IsNumeralOrNull numeral.now }
     ensures { IsMagnitudeOf numeral.now result.now }

@@ -6,7 +6,7 @@ use crate::error::NumError;
 use std::alloc::Allocator;
 use trac_rules::octals::ZERO;
 
-// The digit of three of the six bits of two neighbours, behind so many skipped bits.
+// The digit of three of the six bits of two neighbours, after so many skipped bits.
 fn across(first: u8, second: u8, skipped: u8) -> u8
     requires octal_first { IsTrue (is_octal_digit first) }
     requires octal_second { IsTrue (is_octal_digit second) }
@@ -95,7 +95,7 @@ pub fn shift<A: Allocator + Copy>(alloc: A, by: i64, a: &[u8]) -> Result<Vec<u8,
     shifted_left(alloc, by.unsigned_abs(), a)
 }
 
-/// An octal text whose bits are rotated by so many places, to the left where positive. A null text stays null.
+/// An octal text whose bits are rotated by so many places, to the left where positive. An empty text stays empty.
 ///
 /// `NumError::Memory`: memory was refused.
 pub fn rotate<A: Allocator + Copy>(alloc: A, by: i64, a: &[u8]) -> Result<Vec<u8, A>, NumError>

@@ -1,4 +1,4 @@
--- A result behind a prefix.
+-- A result after a prefix.
 use Rattle.std.proofs.Common.{◌≡◌, List, ℕ, ◌++◌, ap, ◌∙◌}
 use Rattle.std.specs.Prelude.{ℤ, Option, None, Some}
 use Rattle.trac_rules.specs.Number.{behind_prefix, calculated, number_of, number_text, numeral_of, on_both, prefix_of}

@@ -55,7 +55,7 @@ pub start_within : (from : ℕ) (marks : List Mark) (end : ℕ) → AreCuts from
 start_within from [] end cuts = cuts
 start_within from (m ∷ marks) end cuts = omega (arith, cuts.0, start_within m.place marks end cuts.1)
 
--- joined again, they are the text behind it
+-- joined again, they are the text after it
 pub concat-cut : (from : ℕ) (marks : List Mark) (text : List ℕ) → AreCuts from marks (length text) → concat (cut from marks text) ≡ drop from text
 concat-cut from [] text cuts = append-nil (drop from text)
 concat-cut from (m ∷ marks) text cuts =

@@ -24,7 +24,7 @@ AreCuts-within from (k ∷ ms) n cuts = let rest : k.place ≤ n = AreCuts-withi
 between_short : (text : List ℕ) (from place end : ℕ) → place ≤ end → take (place - from) (drop from (take end text)) ≡ take (place - from) (drop from text)
 between_short text from place end h = between_is (take end text) from place ∙ ap (drop from) (take-take place end text h) ∙ sym (between_is text from place)
 
--- a further argument is what stands behind its mark
+-- a further argument is what stands after its mark
 cut-push : (from : ℕ) (ms : List Mark) (m : Mark) (text : List ℕ) → AreCuts from ms m.place →
     cut from (ms ++ m ∷ []) text ≡ cut from ms (take m.place text) ++ drop m.place text ∷ []
 cut-push from [] m text cuts = ap (λ (first : List ℕ). first ∷ drop m.place text ∷ []) (between_is text from m.place)

@@ -3,7 +3,7 @@ use Rattle.std.proofs.Common.{◌≡◌, ℕ, ◌+◌, ◌<◌, List, [], ◌∷
 use Rattle.std.specs.List.{join_with_byte}
 use Rattle.std.proofs.lemmas.List.{append_assoc, length-take-le, take_more}
 
--- a further text stands behind the byte that joins
+-- a further text stands after the byte that joins
 join-push : (b : ℕ) (text : List ℕ) (texts : List (List ℕ)) (last : List ℕ) → join_with_byte b ((text ∷ texts) ++ last ∷ []) ≡ join_with_byte b (text ∷ texts) ++ b ∷ last
 join-push b text [] last = refl
 join-push b text (next ∷ texts) last = ap (λ rest. text ++ (b ∷ rest)) (join-push b next texts last) ∙ sym (append_assoc text (b ∷ join_with_byte b (next ∷ texts)) (b ∷ last))

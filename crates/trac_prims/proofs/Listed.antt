@@ -7,7 +7,7 @@ use Rattle.std.specs.Borrow.{Bor}
 use Rattle.trac_rules.specs.Listing.{listed, names_of}
 use Rattle.trac_rules.specs.State.{Forms}
 
--- texts behind references, each with a text before it
+-- texts after references, each with a text before it
 behind_references : (text : List ℕ) (names : List (Bor (List ℕ))) → flat_map (λ name. text ++ name.now) names ≡ flat_map (λ name. text ++ name) (map (λ name. name.now) names)
 behind_references text [] = refl
 behind_references text (name ∷ names) = ap (λ rest. (text ++ name.now) ++ rest) (behind_references text names)

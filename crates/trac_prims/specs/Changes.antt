@@ -31,7 +31,7 @@ undone_of (MoveIn held name address) storage = MoveOut (finite.get (without (tex
 undone_of (Bring number forms) storage = Unbring number (moved_out (names_in (named_forms forms.items)) storage.forms)
 undone_of (Erase number name) storage = block_lost (Some number) (finite.get storage.forms name.items) storage.blocks
 
--- a change names what a call of these arguments gives: a form by the first argument behind the name, in which just these gaps are made
+-- a change names what a call of these arguments gives: a form by the first argument after the name, in which just these gaps are made
 -- where texts are cut out; the forms that go into a new block, each that is there once; and a block that is not erased
 abbrev pub NamesGiven : {A : Type 0} → List (List ℕ) → Storage → code.Change A → Type 0
 NamesGiven arguments storage (Put name form) = name.items ≡ argument 1 arguments

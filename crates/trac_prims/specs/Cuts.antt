@@ -34,7 +34,7 @@ abbrev pub AreArguments : List Mark → Type 0
 AreArguments [] = Unit {0}
 AreArguments (m ∷ marks) = (m.frame ≡ None) × AreArguments marks
 
--- the mark of this number begins a function of this kind, and those behind it begin only arguments
+-- the mark of this number begins a function of this kind, and those after it begin only arguments
 pub record BeginsFunction (marks : List Mark) (k : ℕ) (kind : Kind) : Type 0 where
   pub within : k < length marks
   pub begins : (get_or marks k no_mark).frame ≡ Some kind

@@ -19,7 +19,7 @@ abbrev pub with_argument : List ℕ → List Frame → List Frame
 with_argument text [] = []
 with_argument text (f ∷ fs) = record (with_next_argument f) { gathered = text } ∷ fs
 
--- a mark, and the text behind it: it begins a function, or a further argument of the innermost one
+-- a mark, and the text after it: it begins a function, or a further argument of the innermost one
 abbrev pub marked : Option Kind → List ℕ → Neutral → Neutral
 marked (Some kind) text n = record n { frames = record { kind = kind; arguments = []; gathered = text } ∷ n.frames }
 marked None text n = record n { frames = with_argument text n.frames }

@@ -7,7 +7,7 @@ use crate::mark::Mark;
 use std::marker::Model;
 use trac_forms::Texts;
 
-/// Arguments that lie one behind another in a text: seen as the list of these texts.
+/// Arguments that lie one after another in a text: seen as the list of these texts.
 #[derive(Drop)]
 pub struct Args<'a> {
     text: &'a [u8],
@@ -36,7 +36,7 @@ impl<'a> Args<'a> {
         Args { text, marks, from }
     }
 
-    /// How many arguments there are, at least one: as T-64 has it, a call without text has one null argument.
+    /// How many arguments there are, at least one: as T-64 has it, a call without text has one empty argument.
     pub fn count(&self) -> usize
         ensures { result ≡ length self.now }
     {
@@ -50,7 +50,7 @@ impl<'a> Args<'a> {
         self.marks.len()
     }
 
-    /// The argument of this number, from 0 on; null past the last, as T-64 has it.
+    /// The argument of this number, from 0 on; empty past the last, as T-64 has it.
     pub fn get(&self, i: usize) -> &'a [u8]
         ensures { result.now ≡ get_or self.now i [] }
     {
@@ -62,7 +62,7 @@ impl<'a> Args<'a> {
         part(self.text, start, end)
     }
 
-    /// The bytes of all arguments, one behind another. Nothing is copied (this project's profile).
+    /// The bytes of all arguments, one after another. Nothing is copied (this project's profile).
     pub fn joined(&self) -> &'a [u8]
         ensures { result.now ≡ concat self.now }
     {

@@ -48,7 +48,7 @@ pub(crate) fn complement_of<A: Allocator + Copy>(
     })
 }
 
-// `bs`: an octal string with its bits moved; null where the number does not fit (this project's profile).
+// `bs`: an octal string with its bits moved; empty where the number does not fit (this project's profile).
 pub(crate) fn shift_of<A: Allocator + Copy>(alloc: A, args: &Args<'_>) -> Result<Made<A>, Refusal>
     ensures { (storage : Storage) → IsMade storage (Ok (computed Shift args.now storage)) result }
 {
@@ -62,7 +62,7 @@ pub(crate) fn shift_of<A: Allocator + Copy>(alloc: A, args: &Args<'_>) -> Result
     })
 }
 
-// `br`: an octal string with its bits rotated; null where the number does not fit (this project's profile).
+// `br`: an octal string with its bits rotated; empty where the number does not fit (this project's profile).
 pub(crate) fn rotation_of<A: Allocator + Copy>(
     alloc: A,
     args: &Args<'_>,

@@ -180,7 +180,7 @@ fn decimal_of<A: Allocator + Copy>(alloc: A, number: usize) -> Result<Vec<u8, A>
 
 // ---- the block that a form names
 
-// The block whose address is the form that the first argument behind the name names, if there is one, and its number.
+// The block whose address is the form that the first argument after the name names, if there is one, and its number.
 fn named_block<'a, A: Allocator + Copy>(
     alloc: A,
     args: &Args<'_>,

@@ -9,7 +9,7 @@ pub enum Change<A: Allocator + Copy = Global> {
     Keep,
     /// A form is put under a name, in place of an earlier one.
     Put(Vec<u8, A>, Form<A>),
-    /// The texts that the call gives behind this name are cut out of the form of this name:
+    /// The texts that the call gives after this name are cut out of the form of this name:
     /// these are the gaps that this makes.
     Cut(Vec<u8, A>, Cut<A>),
     /// The forms of these names are deleted; names without a form are passed over.

@@ -45,7 +45,7 @@ pub(crate) fn number_at(args: &Args<'_>, k: usize) -> Option<i64>
     value(read_tail(args.get(k)).numeral)
 }
 
-// The result of an operation on the numbers of the two arguments behind the name, if it fits.
+// The result of an operation on the numbers of the two arguments after the name, if it fits.
 fn result_on(operation: Operation, args: &Args<'_>) -> Option<i64>
     ensures { result ≡ on_both (result_of operation) (number_argument 1 args.now) (number_argument 2 args.now) }
 {

@@ -174,7 +174,7 @@ fn may_put<A: Allocator + Copy>(store: &Store<A>, name: &[u8]) -> bool
     store.has_fewer_forms(FORM_COUNT_LIMIT + 1)
 }
 
-// A form is put under this name, the first argument behind that of the call.
+// A form is put under this name, the first argument after that of the call.
 fn put<A: Allocator + Copy>(
     alloc: A,
     store: &Store<A>,

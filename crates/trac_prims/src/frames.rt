@@ -125,7 +125,7 @@ impl<'a> NeutralText<'a> {
     }
 }
 
-// The last of the marks that begins a function, and its kind: behind it only arguments begin.
+// The last of the marks that begins a function, and its kind: after it only arguments begin.
 fn last_function(marks: &[Mark]) -> Option<(usize, Kind)>
     ensures { MatchOption result (AreArguments marks.now) (λ r. BeginsFunction marks.now r.0 r.1) }
 {

@@ -13,7 +13,7 @@ use memchr::memchr;
 use std::alloc::Allocator;
 use trac_rules::refusal::Refusal;
 
-// `ps`: prints the argument behind its name.
+// `ps`: prints the argument after its name.
 pub(crate) fn print_string<A: Allocator + Copy>(
     alloc: A,
     args: &Args<'_>,
@@ -87,7 +87,7 @@ pub(crate) fn read_byte<A: Allocator + Copy>(
     })
 }
 
-// `cm`: the first byte of the argument behind its name becomes the meta character.
+// `cm`: the first byte of the argument after its name becomes the meta character.
 pub(crate) fn set_meta<A: Allocator + Copy>(alloc: A, args: &Args<'_>) -> Made<A>
     ensures { (storage : Storage) → effect_on storage result ≡ meta_set (argument 1 args.now) storage }
 {
@@ -98,7 +98,7 @@ pub(crate) fn set_meta<A: Allocator + Copy>(alloc: A, args: &Args<'_>) -> Made<A
 }
 
 /// Whether a call of these arguments sets the meta character, as the rule of T-64 for `cm` has it: its name is one of the
-/// primitive, each letter in either case, and the text behind it is not null (that a null one sets nothing, and the cases,
+/// primitive, each letter in either case, and the text after it is not empty (that an empty one sets nothing, and the cases,
 /// are this project's profile). It takes no memory, and looks at the name alone and not at the table of names.
 pub fn sets_meta(args: &Args<'_>) -> bool
     ensures { (environment : Environment) (s : State) (e : Effect) → effect_of (primitive_of (argument 0 args.now)) environment args.now s ≡ Ok e → is_some e.meta ≡ result }

@@ -38,7 +38,7 @@ pub(crate) struct Done<A: Allocator + Copy> {
 }
 
 impl<A: Allocator + Copy> Made<A> {
-    // A null value, nothing printed and nothing read, and all else as it is. It takes no memory.
+    // An empty value, nothing printed and nothing read, and all else as it is. It takes no memory.
     pub(crate) fn keeping(alloc: A) -> Self
         ensures effect { (storage : Storage) → effect_on storage result ≡ leaves storage }
         // The same of each part.
@@ -61,7 +61,7 @@ impl<A: Allocator + Copy> Made<A> {
 }
 
 impl<A: Allocator + Copy> Done<A> {
-    // A null value, and this change of the forms. It takes no memory.
+    // An empty value, and this change of the forms. It takes no memory.
     pub(crate) fn changing(alloc: A, change: Change<A>) -> Self
         ensures change { result.change ≡ change }
         ensures effect { (arguments : List (List ℕ)) (storage : Storage) → done_on arguments storage result ≡ leaves (changed arguments change storage) }

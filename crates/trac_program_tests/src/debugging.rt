@@ -8,7 +8,7 @@ use trac_faults::{Call, CallLog, FaultyReader, FaultyWriter, Logged, Refusing};
 use trac_run::Ending;
 
 // Two lines, the second of which has no line feed, one byte a read: the first reply is written before the fifth read, and
-// the second behind the eighth, which finds the end.
+// the second after the eighth, which finds the end.
 const COMMANDS: &[u8; 7] = b"s 3\nb 1";
 
 const FAULTS: &[(Fault, &[u8], Ending)] = &[
@@ -38,7 +38,7 @@ fn each_fault(rt: HostRuntime) -> Result<(), Fail> {
     Ok(())
 }
 
-// "s 1", "forward 1", a null line, "b 1", "back 1", and the end.
+// "s 1", "forward 1", an empty line, "b 1", "back 1", and the end.
 const CALLS: &[Call] = &[
     Call::Read(4),
     Call::Write(10),

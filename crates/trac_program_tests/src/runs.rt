@@ -44,7 +44,7 @@ fn expect_run(
     Ok(())
 }
 
-// The first line makes `+` the meta character, the second reads the byte behind it, the third has what was the meta
+// The first line makes `+` the meta character, the second reads the byte after it, the third has what was the meta
 // character before, and the last has no end but that of the input.
 const LINES: &[u8; 33] = b"#(cm,+)'#(ps,<##(rc)>)+'it's+tail";
 
@@ -114,7 +114,7 @@ const FAULTS: &[(Fault, &[u8], Ending)] = &[
     (Fault::Flush(13), b"AB", Ending::Ended),
 ];
 
-// With three bytes a read the second line ends in the eighth, which has the byte behind it too, and the third in the tenth.
+// With three bytes a read the second line ends in the eighth, which has the byte after it too, and the third in the tenth.
 const FAULTS_IN_LINES: &[(Fault, &[u8], Ending)] = &[
     (Fault::Read(2), b"", Ending::Read),
     (Fault::Read(8), b"", Ending::Read),

@@ -51,7 +51,7 @@ fn each_read(rt: HostRuntime) {
     }
 }
 
-// Of a program that is too long one byte is read behind the most that a tape may have, and no more. A session over such a
+// Of a program that is too long one byte is read after the most that a tape may have, and no more. A session over such a
 // tape is none, and over the longest one it is as ever.
 fn expect_tapes(
     rt: &(impl Abort + AllocGlobal),

@@ -154,7 +154,7 @@ balanced_before text k is below l = record {
       (cases_lt n k);
 }
 
--- no place of a balanced text closes, whatever stands behind it
+-- no place of a balanced text closes, whatever stands after it
 pub open_within : (inner more : List ℕ) → IsBalanced inner → (j : ℕ) → j < length inner → closes_at (inner ++ more) j ≡ false
 open_within inner more balanced j l =
     false_from_ne_true (closes_at (inner ++ more) j) (λ t.

@@ -40,7 +40,7 @@ module _ (texts : List (List ℕ)) where
   same_items [] = done
   same_items (item ∷ items) = kept (same_items items)
 
-  -- one list behind another
+  -- one list after another
   pub one_behind : {a b c d : List Item} → IsCut texts a b → IsCut texts c d → IsCut texts (a ++ c) (b ++ d)
   one_behind done i = i
   one_behind (kept h) i = kept (one_behind h i)
@@ -175,7 +175,7 @@ made_is texts form = omega (arith, count_is texts form)
 
 -- ---- how they are filled again
 
--- the first of these gaps, if there is one, is at this place or behind it
+-- the first of these gaps, if there is one, is at this place or after it
 abbrev IsFrom : ℕ → List CutGap → Type 0
 IsFrom place [] = Unit
 IsFrom place (gap ∷ cut) = place ≤ gap.place
@@ -264,7 +264,7 @@ pub mapped_some : (f : List Item → List Item) (o : Option (List Item)) (after 
 mapped_some f None after h = absurd cc
 mapped_some f (Some rest) after h = (rest, refl, same_Some (f rest) after h)
 
--- one item of what is filled, where what is behind it was cut out
+-- one item of what is filled, where what is after it was cut out
 filled_first : (texts : List (List ℕ)) (place : ℕ) (gap : CutGap) (cut : List CutGap) (item : Item) (items before : List Item) (here : Bool) →
     ((rest : List Item) → joined_from texts (place + 1) cut items ≡ Some rest → IsCut texts rest items) →
     ((rest : List Item) → joined_from texts (place + 1) (gap ∷ cut) items ≡ Some rest → IsCut texts rest items) →

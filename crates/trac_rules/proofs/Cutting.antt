@@ -15,7 +15,7 @@ use Rattle.trac_rules.proofs.Balanced.{first_place_some, first_place_none, first
 
 -- ---- where a text stands
 
--- a text stands behind what is before it
+-- a text stands after what is before it
 pub stands_behind : (text front back : List ℕ) → stands_at text (front ++ (text ++ back)) (length front) ≡ true
 stands_behind text front back =
     let here : drop (length front) (front ++ (text ++ back)) ≡ text ++ back = drop_at front (text ++ back) (length front) refl in
@@ -53,7 +53,7 @@ leftmost_stands text run place h =
     ap (stands_at text run) (sym same) ∙ some.2)
     (first_place_cases (stands_at text run) (length run + 1))
 
--- a run is as long as what is before a leftmost place, the text, and what is behind it
+-- a run is as long as what is before a leftmost place, the text, and what is after it
 leftmost_length : (text run : List ℕ) (place : ℕ) → leftmost text run ≡ Some place →
     length run ≡ length (take place run) + (length text + length (drop (place + length text) run))
 leftmost_length text run place h =
@@ -68,7 +68,7 @@ leftmost_length text run place h =
 
 -- ---- one run
 
--- two ways to go on that agree behind the cut give the same
+-- two ways to go on that agree after the cut give the same
 pub cut_at_same : (o : Option ℕ) (k : ℕ) (text run : List ℕ) (cut cut' : List ℕ → List Item) →
     ((place : ℕ) → o ≡ Some place → cut (drop (place + length text) run) ≡ cut' (drop (place + length text) run)) → cut_at o k text run cut ≡ cut_at o k text run cut'
 cut_at_same None k text run cut cut' same = refl
@@ -134,7 +134,7 @@ part_found k text front back some first =
         ∙ ap (drop (length text)) (drop_at front (text ++ back) (length front) refl)
         ∙ drop_at text back (length text) refl
 
--- a null text is cut out nowhere
+-- an empty text is cut out nowhere
 pub part_null : (k : ℕ) (run : List ℕ) → part k [] run ≡ as_items run
 unfolding part
 part_null k run = refl
@@ -189,7 +189,7 @@ pub extent-as_items : (text : List ℕ) → extent (as_items text) ≡ length te
 extent-as_items [] = refl
 extent-as_items (b ∷ text) = omega (arith, extent-as_items text)
 
--- a run cut at a place stands for as many bytes as before, where what is behind the cut does
+-- a run cut at a place stands for as many bytes as before, where what is after the cut does
 extent-cut_at : (o : Option ℕ) (k : ℕ) (text run : List ℕ) (cut : List ℕ → List Item) → leftmost text run ≡ o → ((r : List ℕ) → extent (cut r) ≡ length r) →
     extent (cut_at o k text run cut) ≡ length run
 extent-cut_at None k text run cut h keeps = extent-as_items run
@@ -371,7 +371,7 @@ filled-segmented_from texts earlier (text ∷ later) k items e n =
 pub filled-segmented : (texts : List (List ℕ)) (form : Form) → all_filled texts (all_items (segmented texts form)) ≡ all_filled texts (all_items form)
 filled-segmented texts form = filled-segmented_from texts [] texts 1 (all_items form) refl refl
 
--- ---- null texts
+-- ---- empty texts
 
 -- two ways to cut that agree on each run give the same
 pub replaced_alike : (cut cut' : List ℕ → List Item) → ((run : List ℕ) → cut run ≡ cut' run) → (r : Runs) → replaced cut r ≡ replaced cut' r
@@ -383,7 +383,7 @@ replaced_alike cut cut' same r =
     others (gap ∷ gaps) =
         ap (λ f. gap.0 ∷ (f ++ flat_map (λ g. g.0 ∷ cut g.1) gaps)) (same gap.1) ∙ ap (λ f. gap.0 ∷ (cut' gap.1 ++ f)) (others gaps)
 
--- a null text leaves all items
+-- an empty text leaves all items
 pub cut_out_null : (k : ℕ) (items : List Item) → cut_out k [] items ≡ items
 unfolding cut_out
 cut_out_null k items = replaced_alike (part k []) as_items (part_null k) (runs_of items) ∙ replaced_none items

@@ -24,7 +24,7 @@ longest_tail_parts passes (b ∷ bs) =
     (b ∷ ih.0, ap (λ r. b ∷ r) ih.1 ∙ ap (λ r. b ∷ (ih.0 ++ r)) (sym (longest_tail_rest passes b bs f))))
     (cases_Bool (passes (b ∷ bs)))
 
--- it passes, or is null
+-- it passes, or is empty
 pub longest_tail_passes : (passes : List ℕ → Bool) (text : List ℕ) → (longest_tail passes text ≡ []) ⊎ (passes (longest_tail passes text) ≡ true)
 longest_tail_passes passes [] = inl refl
 longest_tail_passes passes (b ∷ bs) =
@@ -56,7 +56,7 @@ prefix_and_numeral text =
     ap (λ n. take n text) shorter ∙ ap (λ t. take (length parts.0) t) parts.1 ∙ take_at parts.0 (longest_tail is_numeral text) (length parts.0) refl in
     ap (λ p. p ++ longest_tail is_numeral text) front ∙ sym parts.1
 
--- the numeral is one, or null
+-- the numeral is one, or empty
 pub numeral_or_null : (text : List ℕ) → IsNumeralOrNull (numeral_of text)
 unfolding numeral_of
 numeral_or_null text = longest_tail_passes is_numeral text

@@ -220,7 +220,7 @@ output-placed Active forced value s = refl
 output-placed Neutral true value s = refl
 output-placed Neutral false value s = gathered_in_shows (λ t. t.output) (λ t active base frames. refl) s.frames value s
 
--- the output after a call is what it printed behind that before it
+-- the output after a call is what it printed after that before it
 pub output-after_call : (call : Call) (e : Effect) → (after_call call e).output ≡ call.state.output ++ e.printed
 output-after_call call e = output-placed call.kind e.forced e.value (changed_by e call.state)
 

@@ -131,7 +131,7 @@ Step_refusals p q r h =
 abbrev pub with_more : PlainSession → List ℕ → PlainSession
 with_more p bytes = record p { tape = record p.tape { bytes = p.tape.bytes ++ bytes } }
 
--- behind the end a feed is refused
+-- after the end a feed is refused
 pub answer_Feed_closed : (bytes : List ℕ) (p : PlainSession) → p.tape.ended ≡ true → answer (Feed bytes) p ≡ refused Closed p
 unfolding answer
 answer_Feed_closed d p e = rw e refl
@@ -164,7 +164,7 @@ Feed_done d p q h =
     (cases_lt TAPE_LIMIT (length p.tape.bytes + length d)))
     (cases_Bool p.tape.ended)
 
--- a feed that was refused came behind the end, or found no room
+-- a feed that was refused came after the end, or found no room
 pub Feed_refused : (bytes : List ℕ) (p q : PlainSession) (refusal : Refusal) → answer (Feed bytes) p ≡ refused refusal q →
     (q ≡ p) × (((refusal ≡ Closed) × (p.tape.ended ≡ true)) ⊎ ((refusal ≡ TooLong) × (p.tape.ended ≡ false) × (TAPE_LIMIT < length p.tape.bytes + length bytes)))
 Feed_refused d p q r h =

@@ -106,7 +106,7 @@ match_splits text k found =
     subst (λ (j : ℕ). text ≡ take j text ++ CLOSING ∷ drop (j + 1) text) same (split_at_closing text some.0 some.2 some.1))
     (first_place_cases (closes_at text) (length text))
 
--- a text is what is protected in it, the match, and what is behind that
+-- a text is what is protected in it, the match, and what is after that
 protected_parts : (text : List ℕ) → text ≡ (protected text).inner ++ (ending_of (is_some (match_of text)) ++ (protected text).rest)
 protected_parts text = by_match (match_of text) refl
   where

@@ -196,7 +196,7 @@ position-placed Active forced value s = refl
 position-placed Neutral true value s = refl
 position-placed Neutral false value s = gathered_in_shows place_of (λ t active base frames. refl) s.frames value s
 
--- the state after a call has the position behind what was read
+-- the state after a call has the position after what was read
 pub position-after_call : (call : Call) (e : Effect) → (after_call call e).position ≡ call.state.position + e.read
 position-after_call call e = position-placed call.kind e.forced e.value (changed_by e call.state)
 

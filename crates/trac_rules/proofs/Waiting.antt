@@ -30,7 +30,7 @@ meta_of s = s.meta
 abbrev pub IsWithoutMeta : State → List ℕ → Type 0
 IsWithoutMeta s text = position (λ b. b == s.meta) text ≡ None
 
--- the same environment over a tape with so much more, which has not ended behind it
+-- the same environment over a tape with so much more, which has not ended after it
 abbrev pub fed_more : List ℕ → Environment → Environment
 fed_more more e = record e { tape = record e.tape { bytes = e.tape.bytes ++ more } }
 

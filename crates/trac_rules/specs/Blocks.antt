@@ -62,7 +62,7 @@ is_address form blocks number = is_some (block_at number blocks) && bytes_eq (de
 abbrev pub number_addressed : Form → List Block → Option ℕ
 number_addressed form blocks = first_place (is_address form blocks) (length blocks)
 
--- the number of the block whose address is the form that the first argument behind the name names, if there is one
+-- the number of the block whose address is the form that the first argument after the name names, if there is one
 abbrev pub named_block_number : List (List ℕ) → Storage → Option ℕ
 named_block_number arguments storage = option_and_then (λ form. number_addressed form storage.blocks) (named_form arguments storage)
 
@@ -95,13 +95,13 @@ erased number name storage = record { forms = map.remove storage.forms name; blo
 
 -- ---- calls
 
--- a block, where there is one, acted upon by its number; where there is none the value is null and nothing changes
+-- a block, where there is one, acted upon by its number; where there is none the value is empty and nothing changes
 abbrev pub on_block : Option ℕ → (ℕ → Result Effect Refusal) → Storage → Result Effect Refusal
 on_block None act storage = Ok (leaves storage)
 on_block (Some number) act storage = act number
 
--- argument 0 is the primitive's own name, argument 1 the name of the form that is or becomes the address; a missing one is the null name.
--- Behind it `sb` takes the names that the call gives, and no others
+-- argument 0 is the primitive's own name, argument 1 the name of the form that is or becomes the address; a missing one is the empty name.
+-- After it `sb` takes the names that the call gives, and no others
 abbrev pub block_handled : BlockAction → List (List ℕ) → Storage → Result Effect Refusal
 block_handled StoreBlock arguments storage = storing (argument 1 arguments) (drop 2 arguments) storage
 block_handled FetchBlock arguments storage = on_block (named_block_number arguments storage) (λ number. fetching number storage) storage

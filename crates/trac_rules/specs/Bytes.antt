@@ -1,4 +1,4 @@
--- Texts are lists of bytes. Null is the empty list.
+-- Texts are lists of bytes. Empty is the empty list.
 use Rattle.std.specs.Prelude.{ℕ, zero, suc, ◌==◌, List, [], ◌∷◌, if◌then◌else◌, Bool, cond, Option, None, Some, codes}
 
 -- how often a byte stands in a text
@@ -6,7 +6,7 @@ abbrev pub count_of : ℕ → List ℕ → ℕ
 count_of b [] = 0
 count_of b (x ∷ xs) = if x == b then suc (count_of b xs) else count_of b xs
 
--- the longest tail of a text that passes the test; null where none does
+-- the longest tail of a text that passes the test; empty where none does
 abbrev pub longest_tail : (List ℕ → Bool) → List ℕ → List ℕ
 longest_tail passes [] = []
 longest_tail passes (b ∷ bs) = if passes (b ∷ bs) then b ∷ bs else longest_tail passes bs

@@ -10,7 +10,7 @@ use Rattle.trac_rules.specs.Effect.{Effect, argument, gives, gives_or_forces}
 use Rattle.trac_rules.specs.Number.{calculated, difference_of, is_greater, number_of, numeral_of, product_of, quotient_of, sum_of}
 use Rattle.trac_rules.specs.Octal.{bits_of, complement, meet, octal_tail, rotate, shift, text_of, union}
 
--- a decision gives the argument behind the two that it looks at, or the one behind that
+-- a decision gives the argument after the two that it looks at, or the one after that
 abbrev pub chosen : Bool → List (List ℕ) → List ℕ
 chosen true arguments = argument 3 arguments
 chosen false arguments = argument 4 arguments
@@ -26,7 +26,7 @@ result_of Divide a b = quotient_of a b
 abbrev pub octal_argument : ℕ → List (List ℕ) → List Bool
 octal_argument k arguments = bits_of (octal_tail (argument k arguments))
 
--- bits moved by a number; null where there is none, since it does not fit (this project's profile)
+-- bits moved by a number; empty where there is none, since it does not fit (this project's profile)
 abbrev pub moved : (ℤ → List Bool → List Bool) → Option ℤ → List Bool → List ℕ
 moved by (Some n) bits = text_of (by n bits)
 moved by None bits = []

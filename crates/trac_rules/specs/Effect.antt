@@ -2,7 +2,7 @@
 use Rattle.std.specs.Prelude.{ℕ, List, [], get_or, Bool, true, false, Option, None, Some}
 use Rattle.trac_rules.specs.State.{Storage}
 
--- the argument of this number, the name being number 0; null where it is missing
+-- the argument of this number, the name being number 0; empty where it is missing
 abbrev pub argument : ℕ → List (List ℕ) → List ℕ
 argument k arguments = get_or arguments k []
 
@@ -21,7 +21,7 @@ pub record Effect : Type 0 where
   -- forms and blocks afterwards
   pub storage : Storage
 
--- a null value, and nothing else but this storage
+-- an empty value, and nothing else but this storage
 abbrev pub leaves : Storage → Effect
 leaves storage = record { value = []; forced = false; printed = []; read = 0; meta = None; trace = None; storage = storage }
 
@@ -33,11 +33,11 @@ gives value storage = record (leaves storage) { value = value }
 abbrev pub forces : List ℕ → Storage → Effect
 forces value storage = record (leaves storage) { value = value; forced = true }
 
--- a null value, and this meta character from now on
+-- an empty value, and this meta character from now on
 abbrev pub sets_meta : ℕ → Storage → Effect
 sets_meta meta storage = record (leaves storage) { meta = Some meta }
 
--- a null value, and each call is printed from now on, or none is
+-- an empty value, and each call is printed from now on, or none is
 abbrev pub sets_trace : Bool → Storage → Effect
 sets_trace trace storage = record (leaves storage) { trace = Some trace }
 

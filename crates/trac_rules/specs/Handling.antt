@@ -32,7 +32,7 @@ abbrev pub without : List (List ℕ) → Forms → Forms
 without [] forms = forms
 without (name ∷ names) forms = without names (map.remove forms name)
 
--- a form, where there is one, acted upon; where there is none the value is null and nothing changes (this project's profile)
+-- a form, where there is one, acted upon; where there is none the value is empty and nothing changes (this project's profile)
 abbrev pub on_form : Option Form → (Form → Result Effect Refusal) → Storage → Result Effect Refusal
 on_form None act storage = Ok (leaves storage)
 on_form (Some form) act storage = act form
@@ -41,7 +41,7 @@ on_form (Some form) act storage = act form
 abbrev pub pointing : List ℕ → ℕ → Form → Storage → Storage
 pointing name place form storage = keeping (map.insert storage.forms name (pointed_at place (all_items form))) storage
 
--- the form that the first argument behind the name names, if there is one
+-- the form that the first argument after the name names, if there is one
 abbrev pub named_form : List (List ℕ) → Storage → Option Form
 named_form arguments storage = map.get storage.forms (argument 1 arguments)
 
@@ -71,7 +71,7 @@ form_read reading arguments form storage =
     gives_piece (piece_read reading arguments form) (default_argument reading arguments) (argument 1 arguments) form storage
 
 -- argument 0 is the primitive's own name. `ln` is given a text, `dd` names, and the others but `da` the name of a form, then texts. A missing
--- argument is null; but `dd` deletes only the names that the call gives (this project's profile)
+-- argument is empty; but `dd` deletes only the names that the call gives (this project's profile)
 abbrev pub handled : FormAction → List (List ℕ) → Storage → Result Effect Refusal
 handled Define arguments storage = putting (argument 1 arguments) (defined (argument 2 arguments)) storage
 handled Delete arguments storage = Ok (leaves (keeping (without (drop 1 arguments) storage.forms) storage))

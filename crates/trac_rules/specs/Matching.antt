@@ -7,11 +7,11 @@ use Rattle.trac_rules.specs.Bytes.{count_of, first_place}
 abbrev pub closes_at : List ℕ → ℕ → Bool
 closes_at text k = (slice_index text k == CLOSING) && (count_of OPENING (take k text) == count_of CLOSING (take k text))
 
--- the place of the match, in the text behind the protecting `(`
+-- the place of the match, in the text after the protecting `(`
 unfoldable pub match_of : List ℕ → Option ℕ
 match_of text = first_place (closes_at text) (length text)
 
--- what a `(` protects, and what stands behind its match
+-- what a `(` protects, and what stands after its match
 pub record Protected : Type 0 where
   pub inner : List ℕ
   pub rest : List ℕ

@@ -16,7 +16,7 @@ is_numeral text = nat_lt 0 (length (without_leading_sign text)) && all_ascii_dig
 unfoldable pub numeral_of : List ℕ → List ℕ
 numeral_of text = longest_tail is_numeral text
 
--- what a numeral of a text can be: one of this form, or null
+-- what a numeral of a text can be: one of this form, or empty
 abbrev pub IsNumeralOrNull : List ℕ → Type 0
 IsNumeralOrNull numeral = (numeral ≡ []) ⊎ (is_numeral numeral ≡ true)
 
@@ -24,7 +24,7 @@ IsNumeralOrNull numeral = (numeral ≡ []) ⊎ (is_numeral numeral ≡ true)
 unfoldable pub prefix_of : List ℕ → List ℕ
 prefix_of text = take (length text - length (numeral_of text)) text
 
--- the whole number that a numeral, or null in place of one, writes; null writes 0
+-- the whole number that a numeral, or empty in place of one, writes; empty writes 0
 unfoldable pub whole_number : List ℕ → ℤ
 whole_number numeral = signed_digits_value 10 numeral
 
@@ -42,7 +42,7 @@ fits n = int_le (neg_ℤ (pos number_bound)) n && int_lt n (pos number_bound)
 abbrev pub if_fits : ℤ → Option ℤ
 if_fits n = if fits n then Some n else None
 
--- the number that a numeral, or null in place of one, writes, if it fits
+-- the number that a numeral, or empty in place of one, writes, if it fits
 unfoldable pub number_of : List ℕ → Option ℤ
 number_of numeral = if_fits (whole_number numeral)
 
@@ -84,7 +84,7 @@ on_both operation None b = None
 on_both operation (Some a) None = None
 on_both operation (Some a) (Some b) = operation a b
 
--- a result behind a prefix; none where there is no result
+-- a result after a prefix; none where there is no result
 abbrev pub behind_prefix : List ℕ → Option ℤ → Option (List ℕ)
 behind_prefix prefix (Some n) = Some (prefix ++ number_text n)
 behind_prefix prefix None = None

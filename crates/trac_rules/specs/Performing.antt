@@ -38,7 +38,7 @@ primitive_of name = looked_up NAMES name
 
 -- ---- primitives
 
--- the first byte of a text becomes the meta character; a null text leaves it (this project's profile)
+-- the first byte of a text becomes the meta character; an empty text leaves it (this project's profile)
 abbrev pub meta_set : List ℕ → Storage → Effect
 meta_set [] storage = leaves storage
 meta_set (b ∷ bytes) storage = sets_meta b storage

@@ -1,5 +1,5 @@
 -- Reading a form at its pointer: what is given, and where the pointer stands afterwards. The items of the form never change. A pointer
--- before a gap and one behind it are two places.
+-- before a gap and one after it are two places.
 use Rattle.std.specs.Prelude.{ℕ, zero, suc, ◌+◌, ◌==◌, ◌&&◌, min, ℤ, pos, negsuc, List, [], ◌∷◌, length, take, drop, position, Bool, true, false, Option, None, Some, option_map}
 use Rattle.std.specs.List.{flat_map}
 use Rattle.trac_rules.specs.declared.item.Item.{Item}
@@ -21,11 +21,11 @@ byte_of (Gap ordinal width) = []
 abbrev pub bytes_in : List Item → List ℕ
 bytes_in items = flat_map byte_of items
 
--- nothing is read: null, the pointer unmoved
+-- nothing is read: empty, the pointer unmoved
 abbrev pub nothing_read : Form → Piece
 nothing_read form = record { value = []; place = length form.before }
 
--- the next k items are read, the pointer behind them
+-- the next k items are read, the pointer after them
 abbrev pub read_on : ℕ → Form → Piece
 read_on k form = record { value = bytes_in (take k form.after); place = length form.before + k }
 
@@ -49,17 +49,17 @@ abbrev pub segment_items : Option ℕ → List Item → ℕ
 segment_items (Some k) items = k + 1
 segment_items None items = length items
 
--- the bytes up to the next gap, the pointer behind that gap; so null right before a gap. None where nothing stands behind the pointer
+-- the bytes up to the next gap, the pointer after that gap; so empty right before a gap. None where nothing stands after the pointer
 abbrev pub segment_read : Form → Option Piece
 segment_read form = where_any form.after (Some (read_on (segment_items (position is_gap form.after) form.after) form))
 
 -- ---- `cn` and `cc`: gaps are passed (this project's profile)
 
--- the first place among items that has n bytes before it: right behind the last of these bytes, where n is not 0
+-- the first place among items that has n bytes before it: right after the last of these bytes, where n is not 0
 abbrev pub place_behind : ℕ → List Item → Option ℕ
 place_behind n items = first_place (λ k. length (bytes_in (take k items)) == n) (length items + 1)
 
--- the last place among items that has n bytes behind it: right before the first of these bytes, where n is not 0
+-- the last place among items that has n bytes after it: right before the first of these bytes, where n is not 0
 abbrev pub place_before : ℕ → List Item → Option ℕ
 place_before n items = last_place (λ k. length (bytes_in (drop k items)) == n) (length items + 1)
 
@@ -67,7 +67,7 @@ place_before n items = last_place (λ k. length (bytes_in (drop k items)) == n) 
 abbrev pub at_most_all : ℕ → List Item → ℕ
 at_most_all n items = min n (length (bytes_in items))
 
--- the next n bytes, or as many as there are, the pointer right behind the last of them. None where no byte stands behind the pointer
+-- the next n bytes, or as many as there are, the pointer right after the last of them. None where no byte stands after the pointer
 abbrev pub next_bytes : ℕ → Form → Option Piece
 next_bytes n form =
     where_any (bytes_in form.after) (option_map (λ k. read_on k form) (place_behind (at_most_all n form.after) form.after))
@@ -82,33 +82,33 @@ last_bytes n form =
 abbrev pub char_read : Form → Option Piece
 char_read form = next_bytes 1 form
 
--- `cn`: for a number above zero so many bytes behind the pointer, for one below zero so many before it; for zero null, the pointer
+-- `cn`: for a number above zero so many bytes after the pointer, for one below zero so many before it; for zero empty, the pointer
 -- unmoved, whatever stands on its sides (this project's profile)
 abbrev pub count_read : ℤ → Form → Option Piece
 count_read (pos zero) form = Some (nothing_read form)
 count_read (pos (suc n)) form = next_bytes (suc n) form
 count_read (negsuc n) form = last_bytes (suc n) form
 
--- the same for the number of a call, if it fits; where it does not, null, the pointer unmoved (this project's profile)
+-- the same for the number of a call, if it fits; where it does not, empty, the pointer unmoved (this project's profile)
 abbrev pub fitting_count_read : Option ℤ → Form → Option Piece
 fitting_count_read None form = Some (nothing_read form)
 fitting_count_read (Some n) form = count_read n form
 
 -- ---- `in`
 
--- whether items begin with a text: with its bytes one behind another, and so with no gap between them
+-- whether items begin with a text: with its bytes one after another, and so with no gap between them
 abbrev pub begin_with : List ℕ → List Item → Bool
 begin_with [] items = true
 begin_with (b ∷ text) [] = false
 begin_with (b ∷ text) (Byte c ∷ items) = b == c && begin_with text items
 begin_with (b ∷ text) (Gap ordinal width ∷ items) = false
 
--- the first place among items at which a text occurs; no occurrence crosses a gap, and a null text occurs at once, also at the end
+-- the first place among items at which a text occurs; no occurrence crosses a gap, and an empty text occurs at once, also at the end
 -- (both this project's profile)
 abbrev pub place_of_text : List ℕ → List Item → Option ℕ
 place_of_text text items = first_place (λ k. begin_with text (drop k items)) (length items + 1)
 
--- the bytes before the first occurrence of a text behind the pointer, the pointer right behind that occurrence. None where it does not occur
+-- the bytes before the first occurrence of a text after the pointer, the pointer right after that occurrence. None where it does not occur
 abbrev pub until_read : List ℕ → Form → Option Piece
 until_read text form =
     option_map (λ k. record (read_on k form) { place = length form.before + k + length text }) (place_of_text text form.after)

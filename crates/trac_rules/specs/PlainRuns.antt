@@ -4,7 +4,7 @@ use Rattle.trac_rules.specs.declared.byte.TheConstants.{OPENING, CLOSING, COMMA,
 use Rattle.trac_rules.specs.Scanning.{deleted, gather, is_layout}
 use Rattle.trac_rules.specs.State.{State}
 
--- whether a byte goes to the current text, whatever stands behind it
+-- whether a byte goes to the current text, whatever stands after it
 abbrev pub is_plain : ℕ → Bool
 is_plain b = not (b == OPENING) && not (b == CLOSING) && not (b == COMMA) && not (b == SHARP) && not (is_layout b)
 

@@ -51,7 +51,7 @@ pub record IsProperOn (tape : Tape) (s : State) : Type 0 where
 abbrev pub is_proper_form : List ℕ → Form → Bool
 is_proper_form name form = form_fits name form && list_all (λ item. nat_le 1 (width_of item)) (all_items form)
 
--- whether no name of a list stands again behind it
+-- whether no name of a list stands again after it
 abbrev pub are_distinct : List (List ℕ) → Bool
 are_distinct [] = true
 are_distinct (name ∷ names) = not (list_any (bytes_eq name) names) && are_distinct names

@@ -21,7 +21,7 @@ abbrev pub read_up_to : Option ℕ → List ℕ → Bool → Storage → Result 
 read_up_to (Some k) text ended storage = Ok (reads (take k text) (k + 1) storage)
 read_up_to None text ended storage = rest_read text ended storage
 
--- `rs`: unread input, whether the input has ended behind it, and the meta character
+-- `rs`: unread input, whether the input has ended after it, and the meta character
 abbrev pub string_read : List ℕ → Bool → ℕ → Storage → Result Effect Refusal
 string_read text ended meta storage = read_up_to (position (λ b. b == meta) text) text ended storage
 

@@ -43,7 +43,7 @@ abbrev pub weights_of : List Record → ℕ
 weights_of [] = 0
 weights_of (r ∷ records) = weight r + weights_of records
 
--- the record of a call of an active function with a null value that prints nothing, reads nothing and sets no meta character, while the
+-- the record of a call of an active function with an empty value that prints nothing, reads nothing and sets no meta character, while the
 -- trace is off
 abbrev pub silent_call : List (List ℕ) → Undone → CallRecord
 silent_call arguments undone = record {

@@ -44,7 +44,7 @@ pub record CallRecord : Type 0 where
 pub data Record : Type 0 where
   -- a byte went to the current text
   Moved : Record
-  -- an argument was finished, and a null one begun
+  -- an argument was finished, and an empty one begun
   Comma : Record
   -- a function was begun
   Begun : Record
@@ -161,7 +161,7 @@ abbrev pub frame_of : Kind → List (List ℕ) → Option Frame
 frame_of kind arguments = frame_backward kind (reverse arguments)
 
 -- the argument that was finished last is gathered again, and its `,` is back; none outside any function, where no argument is finished,
--- and where the one behind it is not null. The first argument is the state's frames
+-- and where the one after it is not empty. The first argument is the state's frames
 abbrev pub gathered_again_in : List Frame → State → Option State
 gathered_again_in [] s = None
 gathered_again_in (f ∷ fs) s =
@@ -268,7 +268,7 @@ restored_call call t =
 -- ---- the state before a step
 
 -- the state before, from a record and the state after, before the limits are looked at; none where the state after does not show what
--- the record names. Of a protected text without a match it is not asked that the active text behind it is null
+-- the record names. Of a protected text without a match it is not asked that the active text after it is empty
 abbrev pub restored : Record → State → Option State
 restored Moved t = moved_back 1 t
 restored Comma t = gathered_again_in t.frames t

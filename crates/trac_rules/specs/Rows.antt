@@ -58,7 +58,7 @@ Does arguments before value printed after =
     effect_of (primitive_of (argument 0 arguments)) environment arguments (with_forms before s)
     ≡ Ok (record (leaves (storage_of (with_forms after s))) { value = value; printed = printed })
 
--- a call with a null value that prints nothing turns these forms into those
+-- a call with an empty value that prints nothing turns these forms into those
 abbrev pub Leaves : List (List ℕ) → Named → Named → Type 0
 Leaves arguments before after = Does arguments before [] [] after
 
@@ -66,7 +66,7 @@ Leaves arguments before after = Does arguments before [] [] after
 abbrev pub Gives : List (List ℕ) → Named → List ℕ → Type 0
 Gives arguments forms value = Does arguments forms value [] forms
 
--- a call with a null value prints this and changes nothing
+-- a call with an empty value prints this and changes nothing
 abbrev pub Prints : List (List ℕ) → Named → List ℕ → Type 0
 Prints arguments forms text = Does arguments forms [] text forms
 
@@ -86,7 +86,7 @@ example_at place = pointing_at place (codes "F") (Byte 97 ∷ Gap 1 1 ∷ Byte 9
 
 -- ---- calls on blocks
 
--- a call with a null value that prints nothing turns these forms and blocks into those
+-- a call with an empty value that prints nothing turns these forms and blocks into those
 abbrev pub Turns : List (List ℕ) → Named → List Block → Named → List Block → Type 0
 Turns arguments before blocks after blocks_after =
     (environment : Environment) → (s : State) →

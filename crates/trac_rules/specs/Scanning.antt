@@ -48,11 +48,11 @@ gather text s = gathered_in s.frames text s
 abbrev pub deleted : ℕ → State → State
 deleted n s = record s { active = drop n s.active }
 
--- the state with a begun function of this kind, which has a null argument
+-- the state with a begun function of this kind, which has an empty argument
 abbrev pub begun : Kind → State → State
 begun kind s = record s { frames = record { kind = kind; arguments = []; gathered = [] } ∷ s.frames }
 
--- a frame whose gathered argument is finished, and a null one begun
+-- a frame whose gathered argument is finished, and an empty one begun
 abbrev pub with_next_argument : Frame → Frame
 with_next_argument f = record f { arguments = f.arguments ++ f.gathered ∷ []; gathered = [] }
 
@@ -69,13 +69,13 @@ pub data Scanned : Type 0 where
   Moves : State → Scanned
   Calls : Call → Scanned
 
--- behind a deleted `,`, the first argument being the state's frames: an argument is ended, or, outside any function,
+-- after a deleted `,`, the first argument being the state's frames: an argument is ended, or, outside any function,
 -- nothing more happens (this project's profile)
 abbrev pub comma_in : List Frame → State → State
 comma_in [] s = s
 comma_in (f ∷ fs) s = record s { frames = with_next_argument f ∷ fs }
 
--- behind a deleted `)`, the first argument being the state's frames: the innermost function is ended, or, outside any function,
+-- after a deleted `)`, the first argument being the state's frames: the innermost function is ended, or, outside any function,
 -- nothing more happens (this project's profile)
 abbrev pub closing_in : List Frame → State → Scanned
 closing_in [] s = Moves s

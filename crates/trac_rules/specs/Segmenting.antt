@@ -1,5 +1,5 @@
 -- Segmenting: how texts are cut out of a form, the leftmost occurrences that do not overlap each leaving a gap. That occurrences are
--- the leftmost, what null texts do and that none crosses a gap is this project's profile.
+-- the leftmost, what empty texts do and that none crosses a gap is this project's profile.
 use Rattle.std.specs.Prelude.{ℕ, zero, suc, ◌+◌, List, [], ◌∷◌, ◌++◌, length, take, drop, Bool, Option, None, Some}
 use Rattle.std.specs.List.{flat_map}
 use Rattle.std.specs.Str.{bytes_eq}
@@ -14,11 +14,11 @@ use Rattle.trac_rules.specs.Bytes.{first_place}
 abbrev pub stands_at : List ℕ → List ℕ → ℕ → Bool
 stands_at text run place = bytes_eq (take (length text) (drop place run)) text
 
--- the leftmost place at which a text stands in a run; a null text stands at its start
+-- the leftmost place at which a text stands in a run; an empty text stands at its start
 abbrev pub leftmost : List ℕ → List ℕ → Option ℕ
 leftmost text run = first_place (stands_at text run) (length run + 1)
 
--- a run with the text of number k cut out at this place, if there is one, and what is behind it as `cut` leaves it
+-- a run with the text of number k cut out at this place, if there is one, and what is after it as `cut` leaves it
 abbrev pub cut_at : Option ℕ → ℕ → List ℕ → List ℕ → (List ℕ → List Item) → List Item
 cut_at None k text run cut = as_items run
 cut_at (Some place) k text run cut = as_items (take place run) ++ Gap k (length text) ∷ cut (drop (place + length text) run)
@@ -28,7 +28,7 @@ abbrev pub cut_up_to : ℕ → ℕ → List ℕ → List ℕ → List Item
 cut_up_to zero k text run = as_items run
 cut_up_to (suc n) k text run = cut_at (leftmost text run) k text run (cut_up_to n k text)
 
--- a run with the leftmost occurrences of the text of number k that do not overlap cut out, of a null text none: a run has no more
+-- a run with the leftmost occurrences of the text of number k that do not overlap cut out, of an empty text none: a run has no more
 -- of them than bytes, so one round for each byte is enough, and the law `leftmost_is_cut_first` says the same without rounds
 unfoldable pub part : ℕ → List ℕ → List ℕ → List Item
 part k [] run = as_items run
@@ -36,7 +36,7 @@ part k (b ∷ text) run = cut_up_to (length run) k (b ∷ text) run
 
 -- ---- one text in a form: no occurrence crosses a gap (this project's profile)
 
--- items as runs of bytes between gaps: the first run, and each gap with the run behind it
+-- items as runs of bytes between gaps: the first run, and each gap with the run after it
 pub record Runs : Type 0 where
   pub first : List ℕ
   pub others : List (Item × List ℕ)
@@ -66,7 +66,7 @@ cut_out k text items = replaced (part k text) (runs_of items)
 -- ---- all texts
 
 -- items with these texts cut out in turn, the first of them having the number k: each text is searched in what those before it left,
--- and a null text uses up its number
+-- and an empty text uses up its number
 abbrev pub segmented_from : ℕ → List (List ℕ) → List Item → List Item
 segmented_from k [] items = items
 segmented_from k (text ∷ texts) items = segmented_from (k + 1) texts (cut_out k text items)

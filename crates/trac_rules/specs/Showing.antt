@@ -10,7 +10,7 @@ abbrev pub shown_item : Item → List ℕ
 shown_item (Byte b) = b ∷ []
 shown_item (Gap ordinal width) = codes "<" ++ (decimal ordinal ++ codes ">")
 
--- items, one behind another
+-- items, one after another
 abbrev pub shown_items : List Item → List ℕ
 shown_items items = flat_map shown_item items
 

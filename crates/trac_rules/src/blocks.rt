@@ -20,7 +20,7 @@ pub fn worked_block_calls()
     ensures first_erased { Turns (texts_of (codes "eb,E")) ((codes "E", defined (codes "0")) ∷ (codes "F", defined (codes "1")) ∷ []) (Some [] ∷ Some [] ∷ []) ((codes "F", defined (codes "1")) ∷ []) (None ∷ Some [] ∷ []) }
     ensures next_number { Turns (texts_of (codes "sb,E")) ((codes "F", defined (codes "1")) ∷ []) (None ∷ Some [] ∷ []) ((codes "E", defined (codes "2")) ∷ (codes "F", defined (codes "1")) ∷ []) (None ∷ Some [] ∷ Some [] ∷ []) }
     ensures erased_block_fetched { Turns (texts_of (codes "fb,E")) ((codes "E", defined (codes "0")) ∷ []) (None ∷ Some ((codes "A", defined (codes "1")) ∷ []) ∷ []) ((codes "E", defined (codes "0")) ∷ []) (None ∷ Some ((codes "A", defined (codes "1")) ∷ []) ∷ []) }
-    // Only the names that the call gives are put aside; a null one is the null name.
+    // Only the names that the call gives are put aside; an empty one is the empty name.
     ensures no_name { Turns (texts_of (codes "sb")) ((codes "A", defined (codes "1")) ∷ []) [] (([], defined (codes "0")) ∷ (codes "A", defined (codes "1")) ∷ []) (Some [] ∷ []) }
     ensures null_name { Turns (texts_of (codes "sb,G,")) (([], defined (codes "x")) ∷ (codes "A", defined (codes "1")) ∷ []) [] ((codes "G", defined (codes "0")) ∷ (codes "A", defined (codes "1")) ∷ []) (Some (([], defined (codes "x")) ∷ []) ∷ []) }
     // Gaps and pointers are kept; of an address they do not count.

@@ -3,7 +3,7 @@
 ghost use Rattle.std.specs.Prelude.{◌≡◌, ◌≤◌, ◌++◌, [], List, ℕ, length, codes, true, false, None, Some, ℤ, pos, neg_ℤ};
 ghost use Rattle.trac_rules.specs.Number.{IsCutQuotient, IsNumeralOrNull, calculated, difference_of, fits, is_greater, is_numeral, number_of, number_text, numeral_of, prefix_of, product_of, quotient_of, sum_of};
 
-/// The numeral of a text, which is found as the first tail of the form, is its longest one: a tail of the form or null,
+/// The numeral of a text, which is found as the first tail of the form, is its longest one: a tail of the form or empty,
 /// with the prefix before it, and no tail of the form is longer.
 pub fn numeral_is_longest()
     ensures parts { (text : List ℕ) → prefix_of text ++ numeral_of text ≡ text }
@@ -24,7 +24,7 @@ pub fn printed_is_read_back()
 
 /// What stands at the end of texts, and what is calculated from it.
 pub fn worked_numerals()
-    // A numeral with and without a sign, behind a prefix.
+    // A numeral with and without a sign, after a prefix.
     ensures plain { numeral_of (codes "apples5") ≡ codes "5" }
     ensures plain_prefix { prefix_of (codes "apples5") ≡ codes "apples" }
     ensures plain_number { number_of (numeral_of (codes "apples5")) ≡ Some (pos 5) }

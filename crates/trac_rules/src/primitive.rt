@@ -11,7 +11,7 @@ ghost use Rattle.trac_rules.specs.declared.primitive.Primitive.TheVariants.{Comp
 /// What a name stands for. Each letter of a primitive's name may be in either case (this project's profile).
 #[derive(Clone, Copy, Debug, PartialEq, Eq)]
 pub enum Primitive {
-    /// `ps`: prints the argument behind its name.
+    /// `ps`: prints the argument after its name.
     PrintString,
     /// `rs`: reads the input up to the meta character.
     ReadString,
@@ -29,7 +29,7 @@ pub enum Primitive {
     Handle(FormAction),
     /// A primitive that puts forms aside in a block, brings copies of them back, or erases a block.
     HandleBlock(BlockAction),
-    /// Any other name: the value is null, and nothing is done (this project's profile).
+    /// Any other name: the value is empty, and nothing is done (this project's profile).
     Unknown,
 }
 

@@ -27,7 +27,7 @@ pub enum Refusal {
     /// There is no record to go back over.
     #[error("this is the first state")]
     AtStart = 6,
-    /// Something was fed behind the end of the input.
+    /// Something was fed after the end of the input.
     #[error("the input was closed")]
     Closed = 7,
     /// The name that was looked for was not met.

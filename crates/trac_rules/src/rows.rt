@@ -50,7 +50,7 @@ pub fn worked_rows()
     ensures back_output { (state_after (Feed (codes "AB'") ∷ replicate 11 Step ++ Back ∷ []) (new_session 64)).output ≡ [] }
     ensures back_active { (state_after (Feed (codes "AB'") ∷ replicate 11 Step ++ Back ∷ []) (new_session 64)).active ≡ codes ")" }
     ensures back_frames { (state_after (Feed (codes "AB'") ∷ replicate 11 Step ++ Back ∷ []) (new_session 64)).frames ≡ record { kind = Active; arguments = codes "ps" ∷ []; gathered = codes "AB" } ∷ [] }
-    // Ten more steps back: the initial state, behind which there is none.
+    // Ten more steps back: the initial state, after which there is none.
     ensures start { state_after (Feed (codes "AB'") ∷ replicate 11 Step ++ replicate 11 Back) (new_session 64) ≡ initial }
     ensures start_replies { replies_to (Feed (codes "AB'") ∷ replicate 11 Step ++ replicate 11 Back ++ Back ∷ []) (new_session 64) ≡ replicate 23 Done ++ Refused AtStart ∷ [] }
     ensures start_stays { state_after (Feed (codes "AB'") ∷ replicate 11 Step ++ replicate 11 Back ++ Back ∷ []) (new_session 64) ≡ initial }
@@ -62,7 +62,7 @@ pub fn worked_rows()
     ensures resumed_again { state_after (Feed (codes "AB") ∷ replicate 8 Step ++ Feed (codes "'") ∷ Step ∷ Back ∷ Feed (codes "C'") ∷ Step ∷ []) (new_session 64) ≡ state_after (Feed (codes "AB") ∷ replicate 8 Step ++ Feed (codes "'") ∷ Step ∷ []) (new_session 64) }
     // A full journal refuses a step, until it is emptied.
     ensures full_journal { replies_to (Feed (codes "AB'") ∷ replicate 5 Step ++ Commit 0 ∷ Step ∷ Back ∷ Back ∷ []) (new_session 4) ≡ replicate 5 Done ++ Refused JournalFull ∷ Done ∷ Done ∷ Done ∷ Refused AtStart ∷ [] }
-    // Behind the end of the input nothing is fed, and the rest is read without a meta character.
+    // After the end of the input nothing is fed, and the rest is read without a meta character.
     ensures closed_replies { replies_to (Feed (codes "A") ∷ End ∷ Feed (codes "B") ∷ replicate 8 Step) (new_session 64) ≡ Done ∷ Done ∷ Refused Closed ∷ replicate 8 Done }
     ensures closed_active { (state_after (Feed (codes "A") ∷ End ∷ Feed (codes "B") ∷ replicate 8 Step) (new_session 64)).active ≡ codes "A)" }
     ensures closed_position { (state_after (Feed (codes "A") ∷ End ∷ Feed (codes "B") ∷ replicate 8 Step) (new_session 64)).position ≡ 1 }
@@ -93,9 +93,9 @@ pub fn worked_calls()
     // A result has no `+` and no leading zeros; a product and an operand may not fit; a text without a numeral is 0.
     ensures results { output_of (codes "#(ad,+0012,0);#(dv,-1,2);#(dv,-7,-2);#(dv,5,x,Z);#(ml,9223372036854775808,0,Z);#(ad,1,9223372036854775808,Z)'") 1000000000 ≡ record { bytes = codes "12;0;3;Z;Z;Z"; stop = InputEnded } }
     ensures comparisons { output_of (codes "#(gr,-0,0,y,n)#(gr,a10,b9,y,n)#(gr,-1,-2,y,n)#(gr,-2,-1,y,n)'") 1000000000 ≡ record { bytes = codes "nyyn"; stop = InputEnded } }
-    // The prefix of a number of places is dropped, and one that does not fit gives null.
+    // The prefix of a number of places is dropped, and one that does not fit gives empty.
     ensures places { output_of (codes "#(bs,x3,12);#(bs,9223372036854775808,7);#(br,-9223372036854775809,7);#(bs,-3,8);'") 1000000000 ≡ record { bytes = codes "20;;;;"; stop = InputEnded } }
-    // A name may be in either letter case, and another name gives null.
+    // A name may be in either letter case, and another name gives empty.
     ensures names { output_of (codes "#(AD,1,2)#(aD,1,2)#(Br,1,4)#(adx,1,2)#(,1,2)'") 1000000000 ≡ record { bytes = codes "331"; stop = InputEnded } }
 {}
 
@@ -104,7 +104,7 @@ pub fn worked_forms()
     // Each text in turn; the second one only where the first one left bytes.
     ensures two_texts { shown (segmented (codes "b" ∷ codes "ca" ∷ []) (defined (codes "abcabc"))) ≡ codes "<^>a<1><2><1>c" }
     ensures two_texts_called { called (codes "-" ∷ codes "+" ∷ []) (segmented (codes "b" ∷ codes "ca" ∷ []) (defined (codes "abcabc"))) ≡ codes "a-+-c" }
-    // A null text cuts nothing, and uses up its number.
+    // An empty text cuts nothing, and uses up its number.
     ensures null_text { shown (segmented ([] ∷ codes "a" ∷ []) (defined (codes "banana"))) ≡ codes "<^>b<2>n<2>n<2>" }
     // The leftmost occurrence is cut first, and none overlaps another.
     ensures leftmost { shown (segmented (codes "aa" ∷ []) (defined (codes "aaa"))) ≡ codes "<^><1>a" }
@@ -121,7 +121,7 @@ pub fn worked_forms()
     ensures pointer_from_behind { shown (segmented (codes "z" ∷ []) (pointed_at 2 (as_items (codes "abc")))) ≡ codes "<^>abc" }
     // The pointer bounds no run.
     ensures across_the_pointer { shown (segmented (codes "bc" ∷ []) (pointed_at 2 (as_items (codes "abc")))) ≡ codes "<^>a<1>" }
-    // A call begins at the pointer, and a text that is missing is null.
+    // A call begins at the pointer, and a text that is missing is empty.
     ensures from_the_pointer { called (codes "X" ∷ codes "Y" ∷ []) (pointed_at 1 (Byte 97 ∷ Gap 1 1 ∷ Byte 98 ∷ Byte 99 ∷ Gap 2 1 ∷ [])) ≡ codes "XbcY" }
     ensures missing_texts { called [] (pointed_at 1 (Byte 97 ∷ Gap 1 1 ∷ Byte 98 ∷ Byte 99 ∷ Gap 2 1 ∷ [])) ≡ codes "bc" }
     // The pointer is shown wherever it is.
@@ -147,7 +147,7 @@ pub fn worked_form_calls()
     ensures defined_first { Leaves (texts_of (codes "ds,F,abcabc")) [] ((codes "F", at_start (as_items (codes "abcabc"))) ∷ []) }
     ensures defined_again { Leaves (texts_of (codes "ds,F,abcabc")) ((codes "F", pointed_at 2 (Byte 97 ∷ Gap 1 1 ∷ Byte 98 ∷ [])) ∷ []) ((codes "F", at_start (as_items (codes "abcabc"))) ∷ []) }
     ensures defined_beside { Leaves (texts_of (codes "ds,a,2")) ((codes "b", pointed_at 1 (as_items (codes "1"))) ∷ []) ((codes "a", at_start (as_items (codes "2"))) ∷ (codes "b", pointed_at 1 (as_items (codes "1"))) ∷ []) }
-    // A text that is missing is null, and so is a name that is missing; surplus texts are ignored.
+    // A text that is missing is empty, and so is a name that is missing; surplus texts are ignored.
     ensures without_text { Leaves (texts_of (codes "ds,F")) ((codes "F", at_start (as_items (codes "abcabc"))) ∷ []) ((codes "F", at_start []) ∷ []) }
     ensures without_name { Leaves (texts_of (codes "ds")) [] (([], at_start []) ∷ []) }
     ensures surplus_text { Leaves (texts_of (codes "ds,F,a,b")) [] ((codes "F", at_start (as_items (codes "a"))) ∷ []) }
@@ -161,7 +161,7 @@ pub fn worked_form_calls()
     ensures cut_called_with_one_text { Gives (texts_of (codes "cl,F,-")) ((codes "F", at_start (Byte 97 ∷ Gap 1 1 ∷ Gap 2 2 ∷ Gap 1 1 ∷ Byte 99 ∷ [])) ∷ []) (codes "a--c") }
     ensures cut_called_with_a_null_text { Gives (texts_of (codes "cl,F,,+")) ((codes "F", at_start (Byte 97 ∷ Gap 1 1 ∷ Gap 2 2 ∷ Gap 1 1 ∷ Byte 99 ∷ [])) ∷ []) (codes "a+c") }
     ensures cut_called_with_a_surplus_text { Gives (texts_of (codes "cl,F,-,+,*")) ((codes "F", at_start (Byte 97 ∷ Gap 1 1 ∷ Gap 2 2 ∷ Gap 1 1 ∷ Byte 99 ∷ [])) ∷ []) (codes "a-+-c") }
-    // A null text cuts nothing, and uses up its number.
+    // An empty text cuts nothing, and uses up its number.
     ensures null_text { Leaves (texts_of (codes "ss,F,,a")) ((codes "F", at_start (as_items (codes "banana"))) ∷ []) ((codes "F", at_start (Byte 98 ∷ Gap 2 1 ∷ Byte 110 ∷ Gap 2 1 ∷ Byte 110 ∷ Gap 2 1 ∷ [])) ∷ []) }
     ensures null_text_printed { Prints (texts_of (codes "pf,F")) ((codes "F", at_start (Byte 98 ∷ Gap 2 1 ∷ Byte 110 ∷ Gap 2 1 ∷ Byte 110 ∷ Gap 2 1 ∷ [])) ∷ []) (codes "<^>b<2>n<2>n<2>") }
     // The leftmost occurrence is cut first, and none overlaps another.
@@ -183,7 +183,7 @@ pub fn worked_form_calls()
     ensures restored_beside_another { Leaves (texts_of (codes "cr,F")) ((codes "F", pointed_at 3 (as_items (codes "abc"))) ∷ (codes "G", pointed_at 2 (as_items (codes "abc"))) ∷ []) ((codes "F", at_start (as_items (codes "abc"))) ∷ (codes "G", pointed_at 2 (as_items (codes "abc"))) ∷ []) }
     ensures restored_and_called { Gives (texts_of (codes "cl,F,X,Y")) ((codes "F", at_start (Byte 97 ∷ Gap 1 1 ∷ Byte 98 ∷ Byte 99 ∷ Gap 2 1 ∷ [])) ∷ []) (codes "aXbcY") }
     ensures pointer_printed { Prints (texts_of (codes "pf,F")) ((codes "F", pointed_at 1 (Byte 97 ∷ Gap 1 1 ∷ Byte 98 ∷ Byte 99 ∷ Gap 2 1 ∷ [])) ∷ []) (codes "a<^><1>bc<2>") }
-    // A name without a form gives null and changes nothing. Names are compared byte by byte.
+    // A name without a form gives empty and changes nothing. Names are compared byte by byte.
     ensures no_form_called { Gives (texts_of (codes "cl,f,X")) ((codes "F", at_start (as_items (codes "abcabc"))) ∷ []) [] }
     ensures no_form_segmented { Gives (texts_of (codes "ss,f,a")) ((codes "F", at_start (as_items (codes "abcabc"))) ∷ []) [] }
     ensures no_form_restored { Gives (texts_of (codes "cr,f")) ((codes "F", pointed_at 2 (as_items (codes "abc"))) ∷ []) [] }
@@ -201,7 +201,7 @@ pub fn worked_form_calls()
     ensures defined_after_deleting { Leaves (texts_of (codes "ds,a,2")) [] ((codes "a", at_start (as_items (codes "2"))) ∷ []) }
     ensures all_deleted { Leaves (texts_of (codes "da")) (([], at_start (as_items (codes "x"))) ∷ (codes "a", at_start (as_items (codes "1"))) ∷ []) [] }
     ensures all_deleted_whatever_is_named { Leaves (texts_of (codes "da,a")) (([], at_start (as_items (codes "x"))) ∷ (codes "a", at_start (as_items (codes "1"))) ∷ []) [] }
-    // Names are listed by their bytes, each behind the text; no names give null.
+    // Names are listed by their bytes, each after the text; no names give empty.
     ensures names { Gives (codes "ln" ∷ codes "," ∷ []) ((codes "b", at_start (as_items (codes "1"))) ∷ (codes "a", at_start (as_items (codes "2"))) ∷ []) (codes ",a,b") }
     ensures names_without_text { Gives (texts_of (codes "ln")) ((codes "b", at_start (as_items (codes "1"))) ∷ (codes "a", at_start (as_items (codes "2"))) ∷ []) (codes "ab") }
     ensures names_by_bytes { Gives (texts_of (codes "ln,;")) ((codes "ab", at_start (as_items (codes "1"))) ∷ (codes "b", at_start (as_items (codes "2"))) ∷ (codes "a", at_start (as_items (codes "3"))) ∷ (codes "B", at_start (as_items (codes "4"))) ∷ ([], at_start (as_items (codes "5"))) ∷ []) (codes ";;B;a;ab;b") }
@@ -237,14 +237,14 @@ pub fn worked_readings()
     ensures none_left { Forces (texts_of (codes "cn,F,1,Z")) (pointing_at 5 (codes "F") (as_items (codes "abcde"))) (codes "Z") }
     ensures none_before { Forces (texts_of (codes "cn,F,-1,Z")) (pointing_at 0 (codes "F") (as_items (codes "abcde"))) (codes "Z") }
     ensures all_bytes_before { Does (texts_of (codes "cn,F,-9223372036854775808,Z")) (pointing_at 3 (codes "F") (as_items (codes "abcde"))) (codes "abc") [] (pointing_at 0 (codes "F") (as_items (codes "abcde"))) }
-    // A number that does not fit and a text without a number give null before anything else is
+    // A number that does not fit and a text without a number give empty before anything else is
     // thought of; a prefix is dropped.
     ensures number_too_great { Does (texts_of (codes "cn,F,9223372036854775808,Z")) (pointing_at 5 (codes "F") (as_items (codes "abcde"))) [] [] (pointing_at 5 (codes "F") (as_items (codes "abcde"))) }
     ensures number_too_small { Does (texts_of (codes "cn,F,-9223372036854775809,Z")) (pointing_at 0 (codes "F") (as_items (codes "abcde"))) [] [] (pointing_at 0 (codes "F") (as_items (codes "abcde"))) }
     ensures zero_at_the_end { Does (texts_of (codes "cn,F,0,Z")) (pointing_at 5 (codes "F") (as_items (codes "abcde"))) [] [] (pointing_at 5 (codes "F") (as_items (codes "abcde"))) }
     ensures no_number { Does (texts_of (codes "cn,F,x,Z")) (pointing_at 5 (codes "F") (as_items (codes "abcde"))) [] [] (pointing_at 5 (codes "F") (as_items (codes "abcde"))) }
     ensures number_behind_a_prefix { Does (texts_of (codes "cn,F,x2,Z")) (pointing_at 0 (codes "F") (as_items (codes "abcde"))) (codes "ab") [] (pointing_at 2 (codes "F") (as_items (codes "abcde"))) }
-    // The pointer stops right behind the last byte given, or going back right before the first
+    // The pointer stops right after the last byte given, or going back right before the first
     // one, whatever gaps stand there.
     ensures stops_before_a_gap { Does (texts_of (codes "cn,F,1,Z")) (pointing_at 0 (codes "F") (Gap 1 1 ∷ Byte 97 ∷ Gap 1 2 ∷ Gap 2 1 ∷ Byte 98 ∷ [])) (codes "a") [] (pointing_at 2 (codes "F") (Gap 1 1 ∷ Byte 97 ∷ Gap 1 2 ∷ Gap 2 1 ∷ Byte 98 ∷ [])) }
     ensures passes_gaps { Does (texts_of (codes "cn,F,2,Z")) (pointing_at 0 (codes "F") (Gap 1 1 ∷ Byte 97 ∷ Gap 1 2 ∷ Gap 2 1 ∷ Byte 98 ∷ [])) (codes "ab") [] (pointing_at 5 (codes "F") (Gap 1 1 ∷ Byte 97 ∷ Gap 1 2 ∷ Gap 2 1 ∷ Byte 98 ∷ [])) }
@@ -252,7 +252,7 @@ pub fn worked_readings()
     ensures passes_gaps_back { Does (texts_of (codes "cn,F,-2,Z")) (pointing_at 5 (codes "F") (Gap 1 1 ∷ Byte 97 ∷ Gap 1 2 ∷ Gap 2 1 ∷ Byte 98 ∷ [])) (codes "ab") [] (pointing_at 1 (codes "F") (Gap 1 1 ∷ Byte 97 ∷ Gap 1 2 ∷ Gap 2 1 ∷ Byte 98 ∷ [])) }
     ensures only_a_gap_before { Forces (texts_of (codes "cn,F,-1,Z")) (pointing_at 1 (codes "F") (Gap 1 1 ∷ Byte 97 ∷ Gap 1 2 ∷ Gap 2 1 ∷ Byte 98 ∷ [])) (codes "Z") }
     ensures null_segments { Does (texts_of (codes "cs,F,Z")) (pointing_at 0 (codes "F") (Gap 1 1 ∷ Byte 97 ∷ Gap 1 2 ∷ Gap 2 1 ∷ Byte 98 ∷ [])) [] [] (pointing_at 1 (codes "F") (Gap 1 1 ∷ Byte 97 ∷ Gap 1 2 ∷ Gap 2 1 ∷ Byte 98 ∷ [])) }
-    // A text is looked for behind the pointer; a null text occurs at once, also at the end.
+    // A text is looked for after the pointer; an empty text occurs at once, also at the end.
     ensures first_occurrence { Does (texts_of (codes "in,F,c,none")) (pointing_at 0 (codes "F") (as_items (codes "abcabc"))) (codes "ab") [] (pointing_at 3 (codes "F") (as_items (codes "abcabc"))) }
     ensures second_occurrence { Does (texts_of (codes "in,F,c,none")) (pointing_at 3 (codes "F") (as_items (codes "abcabc"))) (codes "ab") [] (pointing_at 6 (codes "F") (as_items (codes "abcabc"))) }
     ensures no_occurrence { Forces (texts_of (codes "in,F,c,none")) (pointing_at 6 (codes "F") (as_items (codes "abcabc"))) (codes "none") }
@@ -263,7 +263,7 @@ pub fn worked_readings()
     ensures occurrence_behind_gaps { Does (texts_of (codes "in,G,c,no")) (pointing_at 0 (codes "G") (Byte 97 ∷ Gap 1 1 ∷ Byte 98 ∷ Gap 1 1 ∷ Byte 99 ∷ [])) (codes "ab") [] (pointing_at 5 (codes "G") (Byte 97 ∷ Gap 1 1 ∷ Byte 98 ∷ Gap 1 1 ∷ Byte 99 ∷ [])) }
     ensures end_behind_the_occurrence { Forces (texts_of (codes "cs,G,end")) (pointing_at 5 (codes "G") (Byte 97 ∷ Gap 1 1 ∷ Byte 98 ∷ Gap 1 1 ∷ Byte 99 ∷ [])) (codes "end") }
     ensures longer_text_than_form { Forces (texts_of (codes "in,F,abcabcabc,none")) (pointing_at 0 (codes "F") (as_items (codes "abcabc"))) (codes "none") }
-    // A name without a form gives null, and a default argument that is missing is null.
+    // A name without a form gives empty, and a default argument that is missing is empty.
     ensures no_form { Leaves (texts_of (codes "cn,f,1,Z")) (pointing_at 0 (codes "F") (as_items (codes "abcde"))) (pointing_at 0 (codes "F") (as_items (codes "abcde"))) }
     ensures no_default { Forces (texts_of (codes "cc,F")) (pointing_at 0 (codes "F") []) [] }
 {}
@@ -278,11 +278,11 @@ pub fn worked_bytes()
     ensures one_byte { output_of (codes "#(rc)'x'") 1000000000 ≡ record { bytes = codes "x"; stop = InputEnded } }
     ensures meta_character_as_a_byte { output_of (codes "#(ps,##(rc)##(rc))'''x") 1000000000 ≡ record { bytes = codes "''x"; stop = InputEnded } }
     ensures no_byte_at_the_end { output_of (codes "#(ps,a)#(rc)b'") 1000000000 ≡ record { bytes = codes "a"; stop = InputEnded } }
-    // Another meta character; a null text leaves it, and of a longer text the first byte counts.
+    // Another meta character; an empty text leaves it, and of a longer text the first byte counts.
     ensures other_meta { output_of (codes "#(cm,;)'A;B;") 1000000000 ≡ record { bytes = codes "AB"; stop = InputEnded } }
     ensures first_byte_of_a_text { output_of (codes "#(cm,;x)'AxB;") 1000000000 ≡ record { bytes = codes "AxB"; stop = InputEnded } }
     ensures null_meta { output_of (codes "#(cm,)#(cm)'A'") 1000000000 ≡ record { bytes = codes "A"; stop = InputEnded } }
-    // A halted processor leaves what is behind the call, whatever input is left; and the line of the trace is not printed.
+    // A halted processor leaves what is after the call, whatever input is left; and the line of the trace is not printed.
     ensures halted { output_of (codes "#(ps,a)#(hl)#(ps,b)'c'") 1000000000 ≡ record { bytes = codes "a"; stop = InputEnded } }
     ensures halted_traced { output_of (codes "#(tn)#(hl)'c'") 1000000000 ≡ record { bytes = []; stop = InputEnded } }
     // A call that waits for input prints no line either, however often it is tried.

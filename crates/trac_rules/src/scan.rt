@@ -3,7 +3,7 @@
 /// What the active text begins with. Each rule of scanning is for one of these.
 #[derive(Clone, Copy, Debug, PartialEq, Eq)]
 pub enum Front {
-    /// The active text is null.
+    /// The active text is empty.
     Nothing,
     /// `(`
     Opening,

@@ -10,8 +10,8 @@ ghost use Rattle.trac_rules.specs.declared.item.CutGap.{CutGap};
 ghost use Rattle.trac_rules.specs.declared.item.Item.{Item};
 ghost use Rattle.trac_rules.specs.declared.item.Item.TheVariants.{Byte, Gap};
 
-/// Of a run the leftmost occurrence of a text is cut out first, and what stands behind it is cut in the same way.
-/// A run without an occurrence stays, and so does each run where the text is null.
+/// Of a run the leftmost occurrence of a text is cut out first, and what stands after it is cut in the same way.
+/// A run without an occurrence stays, and so does each run where the text is empty.
 pub fn leftmost_is_cut_first()
     ensures cut { (k : ℕ) (text front back : List ℕ) → ¬ (text ≡ []) →
         ((sooner rest : List ℕ) → front ++ (text ++ back) ≡ sooner ++ (text ++ rest) → length front ≤ length sooner) →
@@ -21,7 +21,7 @@ pub fn leftmost_is_cut_first()
     ensures null { (k : ℕ) (run : List ℕ) → part k [] run ≡ as_items run }
 {}
 
-/// A gap stays as it is, and the runs before and behind it are cut each by itself.
+/// A gap stays as it is, and the runs before and after it are cut each by itself.
 pub fn gaps_bound_runs()
     ensures gap { (k ordinal width : ℕ) (text run : List ℕ) (items : List Item) →
         cut_out k text (as_items run ++ Gap ordinal width ∷ items) ≡ part k text run ++ Gap ordinal width ∷ cut_out k text items }
@@ -57,7 +57,7 @@ pub fn worked_cuts()
     // Two texts, the second one searched in what the first one left.
     ensures two_texts { cut_of (codes "b" ∷ codes "ca" ∷ []) (defined (codes "abcabc")) ≡ record { place = 1; ordinal = 1 } ∷ record { place = 2; ordinal = 2 } ∷ record { place = 3; ordinal = 1 } ∷ [] }
     ensures two_texts_back { joined (codes "b" ∷ codes "ca" ∷ []) (record { place = 1; ordinal = 1 } ∷ record { place = 2; ordinal = 2 } ∷ record { place = 3; ordinal = 1 } ∷ []) (Byte 97 ∷ Gap 1 1 ∷ Gap 2 2 ∷ Gap 1 1 ∷ Byte 99 ∷ []) ≡ Some (as_items (codes "abcabc")) }
-    // A null text makes no gap, and uses up its number.
+    // An empty text makes no gap, and uses up its number.
     ensures null_text { cut_of ([] ∷ codes "na" ∷ []) (defined (codes "ban")) ≡ [] }
     ensures behind_null_text { cut_of ([] ∷ codes "an" ∷ []) (defined (codes "ban")) ≡ record { place = 1; ordinal = 2 } ∷ [] }
     // An earlier gap is none of them, though it is like them in all, and stays when they are filled.

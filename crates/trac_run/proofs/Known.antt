@@ -63,13 +63,13 @@ front_of_front x y z first second = (first.0 ++ second.0, second.1 ∙ ap (λ t.
 pub front_taken : (n : ℕ) (text : List ℕ) → IsFrontOf (take n text) text
 front_taken n text = (drop n text, sym (take-append-drop n text))
 
--- a part that is taken behind a part that was taken
+-- a part that is taken after a part that was taken
 pub taken_behind : (a n : ℕ) (text : List ℕ) → take a text ++ take n (take (length text - a) (drop a text)) ≡ take (a + n) text
 taken_behind a n text =
     let whole : length (drop a text) ≤ length text - a = omega (arith, length-drop a text) in
     ap (λ t. take a text ++ take n t) (take_all (length text - a) (drop a text) whole) ∙ sym (take-add a n text)
 
--- what stands before a null text is null
+-- what stands before an empty text is empty
 pub nothing_before : (a b : List ℕ) → a ++ b ≡ [] → a ≡ []
 nothing_before [] b h = refl
 nothing_before (x ∷ a) b h = absurd (cc)

@@ -56,11 +56,11 @@ so_far_turn in_old in_now in_new out_old out_now out_new budget p q m n far on f
       ∙ prepended-prepended far.written on.written (going_on_from q more n);
 }
 
--- a front behind what was written
+-- a front after what was written
 pub front_behind : (text front whole : List ℕ) → IsFrontOf front whole → IsFrontOf (text ++ front) (text ++ whole)
 front_behind text front whole f = (f.0, ap (λ t. text ++ t) f.1 ∙ sym (append_assoc text front f.0))
 
--- what an ending says behind what was written
+-- what an ending says after what was written
 pub Shows-prepended : (ending : Ending) (text written : List ℕ) (o : Output) → Shows ending written o → Shows ending (text ++ written) (prepended text o)
 Shows-prepended Ended text written o shows = ap (prepended text) shows
 Shows-prepended Budget text written o shows = ap (prepended text) shows

@@ -225,7 +225,7 @@ unfed_finish in_old in_new out_old out_new q r s n ending wanted on_tape e gave 
       shows = λ more none. shows_unfed q r n taken.got ending wanted on_tape e taken.why (taken.got ++ more);
     }
 
--- what is written when the pending text is null: nothing
+-- what is written when the pending text is empty: nothing
 pub closes_nothing : (out_old out_mid out_new : Option (List ℕ)) (x text : List ℕ) (ending result : Ending) → text ≡ [] → Appends out_old out_mid x → Closes out_mid out_new text ending result → Appends out_old out_new x
 closes_nothing out_old out_mid out_new x text ending result none gave closes =
     let empty : closes.written ≡ [] = empty_front closes.written text closes.front none in

@@ -287,7 +287,7 @@ walked_finish in_old in_new out_old out_new p m k q (Err e) after on =
       shows = λ more none. subst (λ (o : Output). Shows e on.written o) (sym (all more none)) (on.shows more (λ over. none (sym ended ∙ over)));
     }
 
--- the same with at least one step left, which the input says with a number behind it
+-- the same with at least one step left, which the input says with a number after it
 pub walked_finish_one : (in_old in_new out_old out_new : Option (List ℕ)) (p : PlainSession) (m k : ℕ) (q : PlainSession) (result : Result (Unit {0}) Ending) →
     AfterWalk p m k q → k < m → ((n : ℕ) → IfErr result (Finishes in_old in_new out_old out_new q (n + 1))) → IfErr result (Finishes in_old in_new out_old out_new p m)
 walked_finish_one in_old in_new out_old out_new p m k q result after l on =

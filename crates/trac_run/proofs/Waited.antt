@@ -16,7 +16,7 @@ use Rattle.trac_run.proofs.Known.{Appends-both, Consumes-both}
 use Rattle.trac_run.proofs.Taken.{wanted_open}
 use Rattle.trac_run.proofs.Ran.{front_behind, Shows-prepended}
 
--- ---- one part of a run behind another
+-- ---- one part of a run after another
 
 -- going on twice
 pub goes_on_twice : (in_old in_now in_new out_old out_now out_new : Option (List ℕ)) (p q r : PlainSession) (l m n : ℕ) →
@@ -87,7 +87,7 @@ has_taken_all in_old in_now in_new out_old out_now out_new p q waits n ending be
 
 -- ---- whether the step is sure to go on waiting
 
--- a text that is tested not to be null has a byte
+-- a text that is tested not to be empty has a byte
 pub some_by_test : (n : ℕ) (empty : Bool) → empty ≡ (n == 0) → empty ≡ false → 0 < n
 some_by_test n empty is e = grind (arith, nat_tests)
 

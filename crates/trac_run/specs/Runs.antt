@@ -40,7 +40,7 @@ Shows (NotUnderstood line) written o = ⊥
 
 -- ---- a whole run
 
--- a run read some bytes, and perhaps saw the end of the input, and wrote some: however the input goes on behind what
+-- a run read some bytes, and perhaps saw the end of the input, and wrote some: however the input goes on after what
 -- was read (not at all where the end was seen), what was written is a front of the output that is stated for all of
 -- the input, and its ending is the stated one where it is not a fault or want of memory: all is written then
 pub record Runs (in_old in_new out_old out_new : Option (List ℕ)) (stated : List ℕ → Output) (ending : Ending) : Type 0 where

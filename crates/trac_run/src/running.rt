@@ -150,7 +150,7 @@ fn take_input<R: Read, W: Write, A: Allocator + Copy>(
     Ok(())
 }
 
-// Writes and flushes what is pending, commits, and reads once. Answers whether the step is sure to go on waiting.
+// Writes and flushes what is pending, commits, and reads once. Returns whether the step is sure to go on waiting.
 fn take_piece<R: Read, W: Write, A: Allocator + Copy>(
     session: &mut Session<A>,
     input: &mut R,
@@ -177,7 +177,7 @@ fn take_piece<R: Read, W: Write, A: Allocator + Copy>(
     }
 }
 
-// Reads once, and feeds what the reader gives; nothing is the end of the input. Answers whether a step that
+// Reads once, and feeds what the reader gives; nothing is the end of the input. Returns whether a step that
 // waits is sure to go on waiting.
 fn read_more<R: Read, A: Allocator + Copy>(
     session: &mut Session<A>,

@@ -6,7 +6,7 @@ ghost use Rattle.trac_run.specs.Written.{WritesFront, Closes};
 use crate::ending::Ending;
 use std::io::Write;
 
-/// Writes a whole text. A null text makes no call of `write`.
+/// Writes a whole text. An empty text makes no call of `write`.
 /// Any error of the writer, an interrupted call too, and a call that takes nothing end the run as `Write`.
 pub fn write_whole<W: Write>(output: &mut W, text: &[u8]) -> Result<(), Ending>
     ensures ok { OnOk result (Appends (W.contents output.old) (W.contents output.new) text.now) }

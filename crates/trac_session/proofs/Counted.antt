@@ -8,9 +8,9 @@ use Rattle.trac_session.specs.declared.journal.Kept.{Kept}
 use Rattle.trac_session.specs.declared.journal.Kept.TheVariants as variant
 use Rattle.trac_session.specs.Counted.{all_moved, longs, longs_of, record_of, unrolled, IsCounted, IsKept}
 
--- ---- what stands behind
+-- ---- what stands after
 
--- behind a front there are these records more where there are so without it
+-- after a front there are these records more where there are so without it
 more_behind : {X : Type 0} → (front old new more : List X) → new ≡ old ++ more → front ++ new ≡ (front ++ old) ++ more
 more_behind front old new more e = ap (λ records. front ++ records) e ∙ sym (append_assoc front old more)
 
@@ -23,12 +23,12 @@ more_moved {A} (entry ∷ entries) long moved n =
     more_behind (all_moved entry.moved ++ record_of entry.kept long) (unrolled entries others moved) (unrolled entries others (moved + n)) (all_moved n)
     (more_moved entries others moved n)
 
--- long records behind an entry's own change nothing of its record
+-- long records after an entry's own change nothing of its record
 record_before : {A : Type 0} → (k : Kept) (long more : List (Record A)) → longs k ≤ length long → record_of k (long ++ more) ≡ record_of k long
 record_before variant.Long long more own = take-append-le 1 long more own
 record_before other long more own = refl
 
--- one entry more is one record more, behind as many moved bytes as it says
+-- one entry more is one record more, after as many moved bytes as it says
 entry_behind : {A : Type 0} → (entries : List Entry) (long more : List (Record A)) (newest : Entry) (r : Record A) → length long ≡ longs_of entries →
     record_of newest.kept more ≡ r ∷ [] → unrolled (entries ++ newest ∷ []) (long ++ more) 0 ≡ unrolled entries long newest.moved ++ r ∷ []
 entry_behind [] long more newest r as_many one =
@@ -96,7 +96,7 @@ counted_moved entries long moved count n counted = record {
   long_ones = counted.long_ones;
 }
 
--- the newest records are of moved bytes, as many as are counted behind the last entry
+-- the newest records are of moved bytes, as many as are counted after the last entry
 pub moved_taken : {A : Type 0} → (entries : List Entry) (long : List (Record A)) (moved n : ℕ) → n ≤ moved →
     unrolled entries long moved ≡ unrolled entries long (moved - n) ++ all_moved n
 moved_taken entries long moved n few =
@@ -116,7 +116,7 @@ counted_taken entries long moved count n few counted = record {
   long_ones = counted.long_ones;
 }
 
--- without an entry, and with no moved byte behind, there is no record
+-- without an entry, and with no moved byte after, there is no record
 pub no_record : {A : Type 0} → (entries : List Entry) (long : List (Record A)) (moved : ℕ) → moved ≡ 0 → entries ≡ [] → unrolled entries long moved ≡ []
 no_record entries long moved none empty = ap (λ n. unrolled entries long n) none ∙ ap (λ es. unrolled es long 0) empty
 

@@ -93,7 +93,7 @@ pub End_of_fields : {R : Type 0} → (before : R → State → Option State) (li
 End_of_fields before limit bytes ended journal last p view =
     ap (answer End) (sym view) ∙ answer_End (plain_of before limit bytes ended journal last)
 
--- a feed behind the end
+-- a feed after the end
 pub Feed_closed_of_fields : {R : Type 0} → (before : R → State → Option State) (limit : ℕ) (bytes : List ℕ) (ended : Bool) (journal : List R) (last : State) (p : PlainSession) (more : List ℕ) →
     plain_of before limit bytes ended journal last ≡ p → ended ≡ true → answer (Feed more) p ≡ refused Closed p
 Feed_closed_of_fields before limit bytes ended journal last p more view over =

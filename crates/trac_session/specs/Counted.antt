@@ -40,7 +40,7 @@ pub record IsCounted {A : Type 0} (entries : List Entry) (long : List (Record A)
   pub all : count ≡ length (unrolled entries long moved)
   pub long_ones : length long ≡ longs_of entries
 
--- a record is kept as this, with what stands behind the long records then
+-- a record is kept as this, with what stands after the long records then
 pub record IsKept {A : Type 0} (kept : Kept) (r : Record A) (old new : List (Record A)) : Type 0 where
   pub more : List (Record A)
   pub behind : new ≡ old ++ more

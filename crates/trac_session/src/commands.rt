@@ -14,7 +14,7 @@ pub use trac_rules::reply::Reply;
 pub enum Command<'a> {
     /// Add these bytes to the end of the tape.
     Feed(&'a [u8]),
-    /// End the input behind what was fed.
+    /// End the input after what was fed.
     End,
     /// Go forward by one step.
     Step,
@@ -57,7 +57,7 @@ impl<A: Allocator + Copy> Session<A> {
     }
 
     /// Carries out these commands one after another, and gives the reply to each: done, or refused with nothing changed
-    /// by that command. A refused command does not keep those behind it from being carried out.
+    /// by that command. A refused command does not keep those after it from being carried out.
     ///
     /// After any list of commands, from any session, the session's states are those of the plain list to which each
     /// accepted step adds the next state of the scanning rules, and from which each step back takes the last away

@@ -158,7 +158,7 @@ impl<A: Allocator + Copy> Journal<A> {
         }
     }
 
-    // Keeps one record more in an entry that holds all of it, behind the bytes that were moved before its step.
+    // Keeps one record more in an entry that holds all of it, after the bytes that were moved before its step.
     fn push_kept(&mut self, kept: Kept) -> Result<(), Refusal>
         requires not_full { length self.old < JOURNAL_LIMIT }
         requires whole { longs kept ≡ 0 }
@@ -188,7 +188,7 @@ impl<A: Allocator + Copy> Journal<A> {
         self.len += n;
     }
 
-    // Keeps one record more in an entry of its own, behind the bytes that were moved before its step.
+    // Keeps one record more in an entry of its own, after the bytes that were moved before its step.
     fn push_entry(&mut self, newest: Record<A>) -> Result<(), Record<A>>
         requires not_full { length self.old < JOURNAL_LIMIT }
         requires light { weighed newest ≤ 2 ^ 42 }
@@ -230,7 +230,7 @@ impl<A: Allocator + Copy> Journal<A> {
         Some(newest)
     }
 
-    /// Takes out the records of the bytes that were moved last, up to `most` of them, and answers how many
+    /// Takes out the records of the bytes that were moved last, up to `most` of them, and returns how many
     /// these are. It takes no memory.
     pub(crate) fn pop_moved(&mut self, most: usize) -> usize
         ensures taken { self.old ≡ self.new ++ all_moved result }
@@ -251,7 +251,7 @@ impl<A: Allocator + Copy> Journal<A> {
         printed_by_first(&self.entries, &self.long, count)
     }
 
-    /// Drops so many of the oldest records, and answers how many bytes of the tape their steps read and how many they
+    /// Drops so many of the oldest records, and returns how many bytes of the tape their steps read and how many they
     /// printed. It takes no memory, and no time for what is kept.
     pub(crate) fn drop_oldest(&mut self, count: usize) -> Passed
         requires there { count ≤ length self.old }
@@ -276,7 +276,7 @@ impl<A: Allocator + Copy> Journal<A> {
     }
 
     // Drops some of the oldest records, `most` at most: those of bytes that were moved one after another, or these and that
-    // of the entry after them. Answers how many these are too.
+    // of the entry after them. Returns how many these are too.
     fn drop_some(&mut self, most: usize) -> (usize, Passed)
         requires there { most ≤ length self.old }
         requires some { 0 < most }
@@ -317,7 +317,7 @@ impl<A: Allocator + Copy> Journal<A> {
     }
 }
 
-// What an entry is to keep of a record. A long one is put behind the long ones; where there is no memory for it, nothing is
+// What an entry is to keep of a record. A long one is put after the long ones; where there is no memory for it, nothing is
 // changed, and it is given back.
 fn keep<A: Allocator + Copy>(
     newest: Record<A>,
@@ -364,7 +364,7 @@ fn take_back<A: Allocator + Copy>(kept: Kept, long: &mut VecDeque<Record<A>, A>)
     }
 }
 
-// Drops the record of which the oldest entry keeps this, and answers what it weighs, and what its step read and printed.
+// Drops the record of which the oldest entry keeps this, and returns what it weighs, and what its step read and printed.
 fn drop_first<A: Allocator + Copy>(kept: Kept, long: &mut VecDeque<Record<A>, A>) -> (u64, Passed)
     requires there { longs kept ≤ length long.old.items }
     requires light { sum_by weighed (record_of kept long.old.items) < 2 ^ 64 }

@@ -8,7 +8,7 @@ use std::alloc::Allocator;
 
 impl<A: Allocator + Copy> Session<A> {
     /// Goes forward over plain bytes at the front of the active text, up to `most` of them and as many as the journal has
-    /// room for. Answers how many these are: as many steps. It takes no memory (this project's profile).
+    /// room for. Returns how many these are: as many steps. It takes no memory (this project's profile).
     pub(crate) fn pass_plain(&mut self, most: u64) -> u64
         ensures passed { repeated Step result self.old ≡ Some self.new }
         ensures most { result ≤ most }
@@ -20,7 +20,7 @@ impl<A: Allocator + Copy> Session<A> {
         count as u64
     }
 
-    /// Goes back over steps that moved a byte each, up to `most` of them, until one that did something else. Answers how
+    /// Goes back over steps that moved a byte each, up to `most` of them, until one that did something else. Returns how
     /// many these are. It takes no memory (this project's profile).
     pub(crate) fn pass_back(&mut self, most: u64) -> u64
         ensures passed { repeated Back result self.old ≡ Some self.new }

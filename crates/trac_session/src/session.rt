@@ -46,7 +46,7 @@ impl<A: Allocator + Copy> Model for Session<A> {
 }
 
 impl<A: Allocator + Copy> Session<A> {
-    /// A session in the initial state, with a null tape. Its journal may hold so many records:
+    /// A session in the initial state, with an empty tape. Its journal may hold so many records:
     /// 1 to 1,048,576 (this project's profile).
     /// Refused with `Memory` where the allocator refuses.
     pub fn new(alloc: A, limit: usize) -> Result<Self, Refusal>
@@ -82,7 +82,7 @@ impl<A: Allocator + Copy> Session<A> {
         Ok(())
     }
 
-    /// The input ends behind what was fed. A second time this changes nothing (this project's profile).
+    /// The input ends after what was fed. A second time this changes nothing (this project's profile).
     pub fn end(&mut self)
         ensures { answer End self.old ≡ record { reply = Done; session = self.new } }
     {

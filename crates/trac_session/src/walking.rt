@@ -49,7 +49,7 @@ impl<A: Allocator + Copy> Session<A> {
         }
     }
 
-    // Goes this way by up to `n` steps, until one is refused, which the walk answers, or the goal is met.
+    // Goes this way by up to `n` steps, until one is refused, which the walk returns, or the goal is met.
     fn walk(&mut self, direction: Direction, name: Option<&[u8]>, n: u64) -> Walk
         ensures { IsWalk (command_towards direction) (goal_of (option_copied name.entry)) n self.old result.done result.why self.new }
     {
@@ -70,7 +70,7 @@ impl<A: Allocator + Copy> Session<A> {
         Walk { done: n, why: None }
     }
 
-    // Goes this way over bytes that a step each moves, at most so many, all at once. Answers how many steps these are.
+    // Goes this way over bytes that a step each moves, at most so many, all at once. Returns how many steps these are.
     fn pass(&mut self, direction: Direction, most: u64) -> u64
         ensures passed { repeated (command_towards direction) result self.old ≡ Some self.new }
         ensures most { result ≤ most }
@@ -81,7 +81,7 @@ impl<A: Allocator + Copy> Session<A> {
         }
     }
 
-    // Goes this way by up to `n` steps, until one is refused, which the walk answers. It looks for no name, so bytes that a
+    // Goes this way by up to `n` steps, until one is refused, which the walk returns. It looks for no name, so bytes that a
     // step each moves are passed at once.
     fn go_far(&mut self, direction: Direction, n: u64) -> Walk
         ensures { IsWalk (command_towards direction) no_goal n self.old result.done result.why self.new }
@@ -122,7 +122,7 @@ impl<A: Allocator + Copy> Session<A> {
     }
 
     /// Goes forward by up to `n` steps, until one is refused: as `JournalFull`, `NeedInput`, `Ended`, `TooLong` or `Memory`,
-    /// which the walk answers (this project's profile).
+    /// which the walk returns (this project's profile).
     pub fn forward(&mut self, n: u64) -> Walk
         ensures { IsWalk Step no_goal n self.old result.done result.why self.new }
     {
@@ -152,7 +152,7 @@ impl<A: Allocator + Copy> Session<A> {
         Walk { done, why: None }
     }
 
-    /// Goes back over up to `n` steps, until there is no record left, which the walk answers as `AtStart`. It takes no
+    /// Goes back over up to `n` steps, until there is no record left, which the walk returns as `AtStart`. It takes no
     /// memory (this project's profile).
     pub fn back(&mut self, n: u64) -> Walk
         ensures { IsWalk Back no_goal n self.old result.done result.why self.new }
@@ -162,7 +162,7 @@ impl<A: Allocator + Copy> Session<A> {
 
     /// Goes forward by up to `n` steps, until the next step would perform a function of this name, which is compared
     /// byte for byte. That it would do so already, before any step, does not count. A refused step ends the walk as
-    /// in `forward`; where `n` steps were taken and the name was not met, the walk answers `NotMet`, also where `n`
+    /// in `forward`; where `n` steps were taken and the name was not met, the walk returns `NotMet`, also where `n`
     /// is 0 (this project's profile).
     pub fn until(&mut self, name: &[u8], n: u64) -> Walk
         ensures { IsSearch Step (is_call_of name.now) n self.old result.done result.why self.new }
@@ -173,7 +173,7 @@ impl<A: Allocator + Copy> Session<A> {
 
     /// Goes back over steps, until the next step would perform a function of this name, which is compared byte for byte.
     /// That it would do so already, before any step back, does not count; the first state is tested too. Where all steps are
-    /// gone back over and the name was not met, the walk answers `NotMet`, and where there is no step to go back over,
+    /// gone back over and the name was not met, the walk returns `NotMet`, and where there is no step to go back over,
     /// `AtStart`. It takes no memory (this project's profile).
     pub fn back_until(&mut self, name: &[u8]) -> Walk
         ensures { IsSearch Back (is_call_of name.now) (max 1 (length self.old.earlier)) self.old result.done result.why self.new }

@@ -22,7 +22,7 @@ const ELEVEN_STEPS_AND_BACK: &[Act] = &[
     Initial,
 ];
 
-// A stray `)` ends the idle program's `ps`: what is read behind it goes to the base text.
+// A stray `)` ends the idle program's `ps`: what is read after it goes to the base text.
 const A_STRAY_CLOSING: &[Act] = &[Feed(b"a)b,c'"), Forward(14), Shows(b"bc^"), Pending(b"a")];
 
 // The idle step empties the base text, which comes back from its record.
@@ -358,7 +358,7 @@ const NOTHING_IS_KEPT: &[Act] = &[
     BackToStart(1, 0),
 ];
 
-// Ten plain bytes behind eight steps, over which walks of each length go: to the end of the run, to within it, and past it.
+// Ten plain bytes after eight steps, over which walks of each length go: to the end of the run, to within it, and past it.
 const A_RUN_OF_PLAIN_BYTES: &[Act] = &[
     Feed(b"ABCDEFGHIJ'"),
     Forward(12),

@@ -110,7 +110,7 @@ fn feed_all(rt: &impl Abort, session: &mut Session<Memory<'_>>, input: &[u8]) {
     session.end();
 }
 
-// Takes a step, where one request may be refused: nothing has changed then, and the next try is accepted. Answers why no
+// Takes a step, where one request may be refused: nothing has changed then, and the next try is accepted. Returns why no
 // step is taken.
 fn step(session: &mut Session<Memory<'_>>) -> Option<Refusal> {
     match forward(session, 1).why {
@@ -119,7 +119,7 @@ fn step(session: &mut Session<Memory<'_>>) -> Option<Refusal> {
     }
 }
 
-// Makes the commit of this run, where there is one, and answers what is released by then. What the commit says to release is
+// Makes the commit of this run, where there is one, and returns what is released by then. What the commit says to release is
 // what the program prints next.
 fn commit(
     rt: &impl Abort,
@@ -142,7 +142,7 @@ fn commit(
     }
 }
 
-// Keeps what a session shows behind the states that were kept before.
+// Keeps what a session shows after the states that were kept before.
 fn keep(
     rt: &impl Abort,
     run: &Run<'_>,
@@ -154,7 +154,7 @@ fn keep(
     states.push(state).expect(rt, "there was no memory");
 }
 
-// To the end, step by step: the state before each step, and the last one. Answers what is released.
+// To the end, step by step: the state before each step, and the last one. Returns what is released.
 fn to_end(
     rt: &impl Abort,
     run: &Run<'_>,

@@ -80,7 +80,7 @@ functions_with (function ∷ functions) base frames =
     (sym (ap (λ (fs : List Frame). fs ++ frames) (reverse_first (frame_of function.0 function.1) (map (λ f. frame_of f.0 f.1) functions))
     ∙ append_assoc (frames_of functions) (frame_of function.0 function.1 ∷ []) frames))
 
--- behind a base text alone
+-- after a base text alone
 pub functions_of_base : (functions : List (Kind × List (List ℕ))) (base : List ℕ) →
     with_functions functions (record { base = base; frames = [] }) ≡ record { base = base; frames = frames_of functions }
 functions_of_base functions base =

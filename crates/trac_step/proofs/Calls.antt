@@ -20,7 +20,7 @@ use Rattle.trac_prims.proofs.Planned.{planned_step}
 use Rattle.trac_step.specs.Calling.{state_after}
 use Rattle.trac_step.proofs.Scans.{scan_front}
 
--- the call of this frame, behind which these stand
+-- the call of this frame, after which these stand
 abbrev pub call_of : State → Frame → List Frame → Call
 call_of s f fs = record { kind = f.kind; arguments = all_arguments f; state = record (deleted 1 s) { frames = fs } }
 

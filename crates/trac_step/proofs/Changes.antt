@@ -35,7 +35,7 @@ sound_push p n o room sound within place above = record {
   storage = sound.storage;
 }
 
--- the front of the active text is gone, and a mark stands behind all others, at the end of the text
+-- the front of the active text is gone, and a mark stands after all others, at the end of the text
 pub marked_parts : (old cut : Ends ℕ) (ms kept : Ends Mark) (store : Stored) (meta : ℕ) (trace : Bool) (position : ℕ) (output : Window ℕ) (n : ℕ) (o : Option Kind) →
     cut ≡ record old { right = drop n old.right } → kept.left ≡ ms.left ++ mark_at (length old.left) o ∷ [] →
     parts_of cut kept store meta trace position output
@@ -62,7 +62,7 @@ gather_parts p active more sound = gathers (record p { active = active }) more s
 
 -- ---- what a `(` protects
 
--- what is protected and what stands behind it are no longer than the text
+-- what is protected and what stands after it are no longer than the text
 pub protected_length : (text : List ℕ) → length (protected text).rest + length (protected text).inner ≤ length text
 protected_length text = up_to (match_of text)
   where

@@ -36,7 +36,7 @@ both : (a b : Bool) → T (a && b) → T a × T b
 both true b h = (tt, h)
 both false b h = absurd h
 
--- so the entries behind the first are what is found when its form is taken
+-- so the entries after the first are what is found when its form is taken
 all_behind : (e : List ℕ × Form) (es : Held) (forms : Forms) → AreAll (e ∷ es) forms → AreAll es (finite.remove forms e.0)
 all_behind e es forms all = record { sorted = parts.1; found = λ q. ⊎_elim (at q) (aside q) (cases_Bool (eq_by_cmp (slice_cmp nat_cmp) q e.0)) }
   where

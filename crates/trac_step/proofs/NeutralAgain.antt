@@ -97,7 +97,7 @@ pub function_bytes : (finished : List (List ℕ)) (gathered : List ℕ) → leng
 function_bytes [] gathered = omega (arith, ap length (append-nil gathered))
 function_bytes (text ∷ finished) gathered = omega (arith, length-append text (concat (finished ++ gathered ∷ [])), function_bytes finished gathered)
 
--- a function behind those that are left, and those that are put back already, are no more than all together
+-- a function after those that are left, and those that are put back already, are no more than all together
 pub function_fits : (left back : List (Kind × Arguments)) (kind : Kind) (a : Arguments) →
     (length (concat (all_texts a)) + argument_bytes (frames_in back) ≤ argument_bytes (frames_in (left ++ (kind, a) ∷ back)))
     × (1 + length a.finished + marks (frames_in back) ≤ marks (frames_in (left ++ (kind, a) ∷ back)))

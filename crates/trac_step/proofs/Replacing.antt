@@ -59,7 +59,7 @@ replaced_next so_far forms name form held all apart is =
     (moved_alike (names_in held) name (finite.insert forms name form) (finite.remove forms name) (put_or_taken forms name form) (IsDistinct-head bytes_eq name (names_in held) apart))
     ∙ is
 
--- the names behind the first are apart
+-- the names after the first are apart
 pub apart_next : (name : List ℕ) (form : Form) (held : Held) → AreApart ((name, form) ∷ held) → AreApart held
 apart_next name form held apart = IsDistinct-tail bytes_eq name (names_in held) apart
 

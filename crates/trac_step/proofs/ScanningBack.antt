@@ -59,7 +59,7 @@ some_map f (Some x) h = refl
 abbrev with_neutral : State → Neutral → State
 with_neutral s n = record s { base = n.base; frames = n.frames }
 
--- of the text behind a mark so many bytes can go back as it has
+-- of the text after a mark so many bytes can go back as it has
 marked_within : (o : Option Kind) (text : List ℕ) (n : Neutral) (k : ℕ) (s : State) → (o ≡ None → 0 < length n.frames) →
     IsSome (moved_back_in (marked o text n).frames k (with_neutral s (marked o text n))) → k ≤ length text
 marked_within (Some kind) text n k s inner h = leb-true k (length text) (some_then _ _ h)
@@ -109,7 +109,7 @@ is_moved_back n p a h =
 abbrev back_to : State → Neutral → List ℕ → Option State
 back_to s n bytes = Some (put_before bytes (with_neutral s n))
 
--- a null argument is gone, and the one before it is gathered again
+-- an empty argument is gone, and the one before it is gathered again
 abbrev again_where : Bool → State → Neutral → Frame → List Frame → Option State
 again_where b s n f fs =
     if b
@@ -138,7 +138,7 @@ gathered_marked None text n s inner h = again n.frames (inner refl) h
     again [] some is = absurd (omega arith)
     again (f ∷ fs) some is = gathered_where (length text == 0) (length text) s n f fs refl is
 
--- a begun function is gone, where it has one null argument
+-- a begun function is gone, where it has one empty argument
 record BeginsWith (o : Option Kind) (size : ℕ) (x : Option State) (s : State) (n : Neutral) : Type 0 where
   begins : IsSome o
   null : size ≡ 0

@@ -127,7 +127,7 @@ next_gone store taken held i entry name all is same gone so_far =
 
 -- ---- erased blocks
 
--- a test holds where there is something behind it whose names are known
+-- a test holds where there is something after it whose names are known
 pub tested : (b : Bool) (known : Names) (storage : Storage) → KnowsBefore known (then_some b storage) →
     (b ≡ true) × KnowsAll known storage.forms × (then_some b storage ≡ Some storage)
 tested true known storage knows = (refl, knows, refl)

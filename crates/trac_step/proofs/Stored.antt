@@ -28,11 +28,11 @@ abbrev pub with_more : Held → Stored → Stored
 with_more held store = record store { forms = with_all held store.forms }
 
 module _ {A : Type 0} (forms : List (Vec ℕ A × Form)) (i : ℕ) (entry : Vec ℕ A × Form) (within : i < length forms) (is : entry ≡ get_or forms i entry) where
-  -- the next name is known, and those behind it
+  -- the next name is known, and those after it
   pub known_rest : (known : Names) → KnowsNamed (named_forms (drop i forms)) known → IsTrue (set.contains known entry.0.items) × KnowsNamed (named_forms (drop (i + 1) forms)) known
   known_rest known knows = subst (λ (held : Held). KnowsNamed held known) (map_rest (λ (e : Vec ℕ A × Form). (e.0.items, e.1)) forms i entry within is) knows
 
-  -- the next form goes in, and those behind it are still to go
+  -- the next form goes in, and those after it are still to go
   pub form_put : (first old new : Stored) (name : List ℕ) (form : Form) → name ≡ entry.0.items → form ≡ entry.1 → new ≡ record old { forms = finite.insert old.forms name form } →
       with_more (named_forms (drop i forms)) old ≡ first → with_more (named_forms (drop (i + 1) forms)) new ≡ first
   form_put first old new name form name_is form_is put so_far =
@@ -58,7 +58,7 @@ module _ {A : Type 0} (items rest : List (Vec ℕ A × Form)) (name : Vec ℕ A)
 abbrev pub with_less : List (List ℕ) → Stored → Stored
 with_less names store = record store { forms = without names store.forms }
 
--- the next form is gone, and those behind it are still to go
+-- the next form is gone, and those after it are still to go
 pub form_gone : {A : Type 0} (names : List (Vec ℕ A)) (i : ℕ) (name : Vec ℕ A) → i < length names → name ≡ get_or names i name → (first old new : Stored) (now : List ℕ) → now ≡ name.items →
     new ≡ record old { forms = finite.remove old.forms now } → with_less (texts_of (drop i names)) old ≡ first → with_less (texts_of (drop (i + 1) names)) new ≡ first
 form_gone {A} names i name within is first old new now named gone so_far =
@@ -74,7 +74,7 @@ pub erased_last : (blocks : List Block) (block : Block) → slice_set (blocks ++
 erased_last [] block = refl
 erased_last (b ∷ blocks) block = ap (λ (bs : List Block). b ∷ bs) (erased_last blocks block)
 
--- one more block behind others
+-- one more block after others
 pub pushed_next : (first old new : Stored) (blocks : List Block) (block : Block) → storage_in old ≡ record (storage_in first) { blocks = first.blocks ++ blocks } →
     storage_in new ≡ record (storage_in old) { blocks = old.blocks ++ block ∷ [] } → storage_in new ≡ record (storage_in first) { blocks = first.blocks ++ (blocks ++ block ∷ []) }
 pushed_next first old new blocks block so_far is =
@@ -93,7 +93,7 @@ module _ {A : Type 0} (blocks : List (Option (Vec (Vec ℕ A × Form) A))) (i : 
       list_all-map block_few block_of (take (i + 1) blocks)
       ∙ all_next (λ b. block_few (block_of b)) blocks i forms within is_at (sym (list_all-map block_few block_of (take i blocks)) ∙ so_far) passes
 
-  -- one that goes in behind the others, as `pushed` in code
+  -- one that goes in after the others, as `pushed` in code
   pub block_pushed : (first old new : Stored) (pushed : Block) → limited block_few (Ok (block_of forms)) ≡ Ok pushed →
       storage_in old ≡ record (storage_in first) { blocks = first.blocks ++ map block_of (take i blocks) } → new ≡ record old { blocks = old.blocks ++ pushed ∷ []; spare = old.spare - 1 } →
       list_all block_few (map block_of (take i blocks)) ≡ true →
@@ -115,7 +115,7 @@ module _ {A : Type 0} (parts : code.Parts A) (forms : List (Vec ℕ A × Form)) 
   abbrev with_forms : List (Vec ℕ A × Form) → List Block → Storage
   with_forms fs bs = record { forms = forms_of (named_forms fs); blocks = bs }
 
-  -- the forms, and behind none the blocks
+  -- the forms, and after none the blocks
   pub whole_storage : storage_in pushed ≡ record (storage_in store) { blocks = store.blocks ++ map block_of blocks } → storage_in last ≡ storage_in pushed →
       storage_in last ≡ storage_of (state_in parts)
   whole_storage pushed_is last_is =

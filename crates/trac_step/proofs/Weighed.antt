@@ -18,7 +18,7 @@ pub held_next : (held : Held) (i : ℕ) (entry : List ℕ × Form) → slice_get
 held_next held i entry is = ap held_weight (next_held held i entry is)
 
 -- ---- the arguments of a call
--- their bytes one behind another
+-- their bytes one after another
 pub arguments_bytes : (a : Arguments) → total_length (all_texts a) ≡ length (concat (all_texts a))
 arguments_bytes a = each (all_texts a)
   where

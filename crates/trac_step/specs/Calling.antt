@@ -45,7 +45,7 @@ with_mark None s = comma_in s.frames s
 abbrev pub mark_at : ℕ → Option Kind → Mark
 mark_at place o = record { place = place; frame = o }
 
--- the texts with what is protected at the end of the one on the left, and what stands behind it on the right
+-- the texts with what is protected at the end of the one on the left, and what stands after it on the right
 abbrev pub with_protected : Protected → Ends ℕ → Ends ℕ
 with_protected p e = record e { left = e.left ++ p.inner; right = p.rest }
 
@@ -76,7 +76,7 @@ pub record HasRoomFor {A : Type 0} (e : code.Effect A) (m : Shown) : Type 0 wher
   pub output : length m.state.output + length e.print.items ≤ m.output_room
   pub names : HasPlaceFor e.change m.known m.spare
 
--- the texts with a value where it goes: behind the neutral text for a neutral function, where it is not forced, else before the active text
+-- the texts with a value where it goes: after the neutral text for a neutral function, where it is not forced, else before the active text
 abbrev pub with_value : Kind → Bool → List ℕ → Ends ℕ → Ends ℕ
 with_value Active forced value e = record e { right = value ++ e.right }
 with_value Neutral true value e = record e { right = value ++ e.right }

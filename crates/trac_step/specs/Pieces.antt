@@ -17,7 +17,7 @@ arguments_code =
     code_by (List (List ℕ) × List ℕ) (coded× (coded_list text_code) text_code)
     (λ a. (a.finished, a.gathered)) (λ p. record { finished = p.0; gathered = p.1 }) (λ _. refl)
 
--- a text that holds them one behind another, cut by the lengths of all but the last
+-- a text that holds them one after another, cut by the lengths of all but the last
 abbrev pub cut_at : List ℕ → List ℕ → Arguments
 cut_at [] text = record { finished = []; gathered = text }
 cut_at (n ∷ lengths) text =

@@ -31,7 +31,7 @@ abbrev pub last_begun : List Mark → Option Kind
 last_begun [] = None
 last_begun (m ∷ marks) = m.frame
 
--- how a function of this kind begins; null where none is named
+-- how a function of this kind begins; empty where none is named
 abbrev pub beginning_by : Option Kind → List ℕ
 beginning_by None = []
 beginning_by (Some kind) = beginning_of kind

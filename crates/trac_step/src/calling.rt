@@ -96,7 +96,7 @@ fn cut_function<E: TwoEnds<u8, A>, M: TwoEnds<Mark, A>, A: Allocator + Copy>(
     marks.cut_left(marks.left().len() - beginning.number);
 }
 
-// Puts a value where it goes: behind the neutral text for a neutral function, where it is not
+// Puts a value where it goes: after the neutral text for a neutral function, where it is not
 // forced, else before the active text.
 fn put_value<E: TwoEnds<u8, A>, A: Allocator + Copy>(
     text: &mut E,
@@ -191,7 +191,7 @@ impl<E: TwoEnds<u8, A>, M: TwoEnds<Mark, A>, A: Allocator + Copy> Core<E, M, A> 
     }
 
     // Performs the call: forms and blocks change, the function is gone, what it prints is printed, and its value is where it
-    // goes. Answers what was destroyed of forms and blocks. It takes no memory.
+    // goes. Returns what was destroyed of forms and blocks. It takes no memory.
     fn finish_call(
         &mut self,
         beginning: Beginning,
@@ -227,7 +227,7 @@ impl<E: TwoEnds<u8, A>, M: TwoEnds<Mark, A>, A: Allocator + Copy> Core<E, M, A> 
         change
     }
 
-    // Performs the call that is planned, and answers its record. It is refused memory alone, and then the state stays.
+    // Performs the call that is planned, and returns its record. It is refused memory alone, and then the state stays.
     fn carry_out(
         &mut self,
         plan: Plan,

@@ -21,7 +21,7 @@ use std::alloc::Allocator;
 use trac_forms::{Block, Cut, Form, Store};
 use trac_prims::{Args, Change};
 
-// Changes forms and blocks as a call of these arguments planned it, and answers what that destroyed; what leaves the store
+// Changes forms and blocks as a call of these arguments planned it, and returns what that destroyed; what leaves the store
 // goes into what was made for this change. It takes no memory, and forgets no name.
 pub(crate) fn change_forms<A: Allocator + Copy>(
     store: &mut Store<A>,
@@ -57,7 +57,7 @@ pub(crate) fn change_forms<A: Allocator + Copy>(
     }
 }
 
-// Cuts the texts that the arguments give behind the name out of the form of this name, if there is one:
+// Cuts the texts that the arguments give after the name out of the form of this name, if there is one:
 // these are the gaps that this makes.
 fn cut_out<A: Allocator + Copy>(
     store: &mut Store<A>,
@@ -94,7 +94,7 @@ fn set_pointer<A: Allocator + Copy>(store: &mut Store<A>, name: &[u8], place: us
     }
 }
 
-// Moves the forms of these names into a new block, puts its address under a name, and answers what that replaces.
+// Moves the forms of these names into a new block, puts its address under a name, and returns what that replaces.
 fn put_aside<A: Allocator + Copy>(
     store: &mut Store<A>,
     held: Vec<Vec<u8, A>, A>,
@@ -136,7 +136,7 @@ fn erase<A: Allocator + Copy>(store: &mut Store<A>, number: usize, name: &[u8]) 
 }
 
 // Sets the pointer of the form of this name, if there is one: before the item at this place, or at the end where there
-// is none. Answers where it stood.
+// is none. Returns where it stood.
 pub(crate) fn point<A: Allocator + Copy>(
     store: &mut Store<A>,
     name: &[u8],

@@ -60,7 +60,7 @@ pub(crate) fn mark_count<A: Allocator + Copy>(functions: &[Function<A>]) -> usiz
     total
 }
 
-// Puts a mark at the end of the text on the left, and an argument behind it: of a function of this kind, which is begun, or,
+// Puts a mark at the end of the text on the left, and an argument after it: of a function of this kind, which is begun, or,
 // where none is named, a further one of the innermost.
 fn put_argument<A: Allocator + Copy, E: TwoEnds<u8, A>, M: TwoEnds<Mark, A>>(
     text: &mut E,

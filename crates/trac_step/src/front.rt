@@ -41,7 +41,7 @@ pub(crate) fn front_at(active: &[u8]) -> Front
     }
 }
 
-// Whether a byte goes to the current text, whatever stands behind it.
+// Whether a byte goes to the current text, whatever stands after it.
 fn is_plain(b: u8) -> bool
     ensures { result ≡ is_plain_byte b }
 {

@@ -22,7 +22,7 @@ use trac_prims::{Kind, Mark, NeutralText, Refusal};
 pub(crate) type Functions<A> = Vec<(Kind, Pieces<A>), A>;
 
 impl<E: TwoEnds<u8, A>, M: TwoEnds<Mark, A>, A: Allocator + Copy> Core<E, M, A> {
-    // The active text is null: all other text goes, and the idle program is loaded. Answers what went: the text outside
+    // The active text is empty: all other text goes, and the idle program is loaded. Returns what went: the text outside
     // all begun functions, and these.
     pub(crate) fn reload(&mut self) -> Result<(Vec<u8, A>, Functions<A>), Refusal>
         requires { self.old.state.active ≡ [] }

@@ -46,7 +46,7 @@ impl<E: TwoEnds<u8, A>, M: TwoEnds<Mark, A>, A: Allocator + Copy> Core<E, M, A> 
     }
 
     // Carries out the rule for this front, which asks for no call and does not empty all
-    // texts, and answers what it destroys.
+    // texts, and returns what it destroys.
     fn move_briefly(&mut self, front: Front) -> Result<Short, Refusal>
         requires front { front ≡ front_of self.old.state.active }
         requires moves { IsMove (scan self.old.state) }
@@ -79,7 +79,7 @@ impl<E: TwoEnds<u8, A>, M: TwoEnds<Mark, A>, A: Allocator + Copy> Core<E, M, A> 
         }
     }
 
-    // Carries out the rule for this front, which asks for no call, and answers what it destroys.
+    // Carries out the rule for this front, which asks for no call, and returns what it destroys.
     fn move_on(&mut self, front: Front) -> Result<Record<A>, Refusal>
         requires front { front ≡ front_of self.old.state.active }
         requires moves { IsMove (scan self.old.state) }

@@ -8,7 +8,7 @@ use std::marker::Model;
 use trac_prims::{Args, Refusal};
 
 /// All arguments of a begun function, of which the last is being gathered: seen as these texts.
-/// They stand one behind another in one block of memory, and the lengths of all but the last in another.
+/// They stand one after another in one block of memory, and the lengths of all but the last in another.
 #[derive(Drop)]
 pub struct Pieces<A: Allocator + Copy = Global> {
     text: Vec<u8, A>,
@@ -50,7 +50,7 @@ impl<A: Allocator + Copy> Pieces<A> {
         Ok(Pieces { text, commas })
     }
 
-    /// The bytes of all arguments, one behind another.
+    /// The bytes of all arguments, one after another.
     pub fn text(&self) -> &[u8]
         ensures { result.now ≡ concat (all_texts self.now) }
     {

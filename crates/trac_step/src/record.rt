@@ -18,7 +18,7 @@ use trac_prims::{Kind, Mark};
 pub enum Record<A: Allocator + Copy = Global> {
     /// A byte went to the current text.
     Moved,
-    /// An argument was finished, and a null one begun.
+    /// An argument was finished, and an empty one begun.
     Comma,
     /// A function was begun.
     Begun,
@@ -68,7 +68,7 @@ pub enum Record<A: Allocator + Copy = Global> {
 pub enum Short {
     /// A byte went to the current text.
     Moved,
-    /// An argument was finished, and a null one begun.
+    /// An argument was finished, and an empty one begun.
     Comma,
     /// A function was begun.
     Begun,

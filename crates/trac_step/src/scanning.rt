@@ -22,7 +22,7 @@ use trac_rules::limit::MARK_LIMIT;
 use trac_rules::refusal::Refusal;
 
 impl<E: TwoEnds<u8, A>, M: TwoEnds<Mark, A>, A: Allocator + Copy> Core<E, M, A> {
-    // A `(`: what it protects goes to the current text. Answers how many bytes that is, and whether there was a match.
+    // A `(`: what it protects goes to the current text. Returns how many bytes that is, and whether there was a match.
     pub(crate) fn protect(&mut self) -> (usize, bool)
         requires { 0 < length self.old.state.active }
         ensures shown { self.new ≡ record self.old { state = protect (protected (drop 1 self.old.state.active)) self.old.state } }
@@ -41,7 +41,7 @@ impl<E: TwoEnds<u8, A>, M: TwoEnds<Mark, A>, A: Allocator + Copy> Core<E, M, A> 
         take_first(&mut self.text)
     }
 
-    // A `,`: inside a function an argument is finished, and a null one begun.
+    // A `,`: inside a function an argument is finished, and an empty one begun.
     pub(crate) fn comma(&mut self) -> Result<Short, Refusal>
         requires front { 0 < length self.old.state.active }
         requires room { 0 < length self.old.state.frames → marks self.old.state.frames < MARK_LIMIT }
@@ -75,7 +75,7 @@ impl<E: TwoEnds<u8, A>, M: TwoEnds<Mark, A>, A: Allocator + Copy> Core<E, M, A> 
         Ok(())
     }
 
-    // The first byte of the active text goes to the current text. Answers the record of that.
+    // The first byte of the active text goes to the current text. Returns the record of that.
     pub(crate) fn gather_first(&mut self) -> Short
         requires { 0 < length self.old.state.active }
         ensures shown { self.new ≡ record self.old { state = gather_first self.old.state } }
@@ -85,7 +85,7 @@ impl<E: TwoEnds<u8, A>, M: TwoEnds<Mark, A>, A: Allocator + Copy> Core<E, M, A> 
         Short::Moved
     }
 
-    /// Moves the plain bytes with which the active text begins, counted up to `most`, to the current text, and answers how
+    /// Moves the plain bytes with which the active text begins, counted up to `most`, to the current text, and returns how
     /// many these are: as many steps of T-64's rules of scanning, each of which would answer the record `Moved`. It takes no
     /// memory, and the machine has room for each state on the way (this project's profile).
     pub fn move_plain(&mut self, most: usize) -> usize

@@ -48,7 +48,7 @@ pub(crate) fn put_storage<A: Allocator + Copy>(
     }
 }
 
-// Fills the gaps of a cut, in the form that the arguments name, with the texts that they give behind
+// Fills the gaps of a cut, in the form that the arguments name, with the texts that they give after
 // the name, and sets its pointer.
 fn join<A: Allocator + Copy>(
     store: &mut Store<A>,

@@ -94,7 +94,7 @@ fn copied_block<A: Allocator + Copy>(
     Ok(Some(block))
 }
 
-// Puts a block behind all others, or, where there is none, an erased one. A place has to be spare.
+// Puts a block after all others, or, where there is none, an erased one. A place has to be spare.
 fn push_any<A: Allocator + Copy>(
     alloc: A,
     store: &mut Store<A>,
@@ -114,7 +114,7 @@ fn push_any<A: Allocator + Copy>(
     Ok(())
 }
 
-// Puts copies of these blocks behind all others.
+// Puts copies of these blocks after all others.
 fn push_copies<A: Allocator + Copy>(
     alloc: A,
     store: &mut Store<A>,

@@ -14,7 +14,7 @@ use trac_prims::Mark;
 use trac_rules::kind::Kind;
 use trac_rules::refusal::Refusal;
 
-// Takes a `(` away: what it protects goes to the left. Answers how many bytes these are, and whether there was a match.
+// Takes a `(` away: what it protects goes to the left. Returns how many bytes these are, and whether there was a match.
 pub(crate) fn take_protected<A: Allocator + Copy, E: TwoEnds<u8, A>>(text: &mut E) -> (usize, bool)
     requires { 0 < length (E.ends text.old).right }
     ensures taken { E.ends text.new ≡ with_protected (protected (drop 1 (E.ends text.old).right)) (E.ends text.old) }
@@ -32,7 +32,7 @@ pub(crate) fn take_protected<A: Allocator + Copy, E: TwoEnds<u8, A>>(text: &mut 
     (place, true)
 }
 
-// Takes the first byte on the right away, and answers it.
+// Takes the first byte on the right away, and returns it.
 pub(crate) fn take_first<A: Allocator + Copy, E: TwoEnds<u8, A>>(text: &mut E) -> u8
     requires { 0 < length (E.ends text.old).right }
     ensures taken { E.ends text.new ≡ record (E.ends text.old) { right = drop 1 (E.ends text.old).right } }
@@ -43,7 +43,7 @@ pub(crate) fn take_first<A: Allocator + Copy, E: TwoEnds<u8, A>>(text: &mut E) -
     first
 }
 
-// Takes the first n bytes on the right away, and puts a mark behind all others, at the end of the text on the left.
+// Takes the first n bytes on the right away, and puts a mark after all others, at the end of the text on the left.
 pub(crate) fn push_mark<A: Allocator + Copy, E: TwoEnds<u8, A>, M: TwoEnds<Mark, A>>(
     text: &mut E,
     marks: &mut M,

@@ -11,7 +11,7 @@ use trac_rules::byte::{CLOSING, OPENING};
 use trac_rules::kind::Kind;
 
 // Moves a protected text of this length, which is at the end of the left, back to the right, and puts its `(` before it and,
-// where it was closed, a `)` behind it.
+// where it was closed, a `)` after it.
 pub(crate) fn give_protected_back<A: Allocator + Copy, E: TwoEnds<u8, A>>(
     text: &mut E,
     inner: usize,

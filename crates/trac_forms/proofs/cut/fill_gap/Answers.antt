@@ -1,4 +1,4 @@
--- The items that are passed go to the left, and the gap behind them is gone.
+-- The items that are passed go to the left, and the gap after them is gone.
 use Rattle.std.proofs.Common.{List, append-nil, ap, drop, drop-drop, sym, take, ◌++◌, ◌∙◌}
 use Rattle.trac_gap.specs.Ends.{Ends}
 use Rattle.trac_rules.specs.declared.item.Item.{Item}

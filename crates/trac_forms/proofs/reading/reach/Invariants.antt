@@ -1,4 +1,4 @@
--- The bytes so far, and the place behind the last of them: fewer stand before each earlier place.
+-- The bytes so far, and the place after the last of them: fewer stand before each earlier place.
 use Rattle.std.proofs.Common.{◌≡◌, ℕ, ◌<◌, ◌≤◌, length, take}
 use Rattle.trac_rules.specs.Pieces.{bytes_in}
 use Rattle.trac_forms.proofs.reading.reach.Given as goal

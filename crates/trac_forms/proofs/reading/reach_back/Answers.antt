@@ -1,4 +1,4 @@
--- Fewer bytes stand behind each later place.
+-- Fewer bytes stand after each later place.
 use Rattle.std.proofs.Common.{◌≡◌, ◌+◌, ◌-◌, length, drop, get_or, sym, ap, arith}
 use Rattle.trac_rules.specs.declared.item.Item.TheVariants.{Byte}
 use Rattle.trac_forms.proofs.Passing.{count, count-split, count_byte, count_falls, count_rest, reached_before}

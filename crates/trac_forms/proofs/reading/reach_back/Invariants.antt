@@ -1,4 +1,4 @@
--- The bytes so far, from the end on, and the place before the first of them: fewer stand behind each later place.
+-- The bytes so far, from the end on, and the place before the first of them: fewer stand after each later place.
 use Rattle.std.proofs.Common.{◌≡◌, ℕ, ◌-◌, ◌<◌, ◌≤◌, length, drop}
 use Rattle.trac_rules.specs.Pieces.{bytes_in}
 use Rattle.trac_forms.proofs.reading.reach_back.Given as goal

@@ -1,4 +1,4 @@
--- What is left of the run comes behind the bytes so far.
+-- What is left of the run comes after the bytes so far.
 use Rattle.std.proofs.Common.{◌≡◌, ◌+◌, ◌++◌, ◌≤◌, length}
 use Rattle.std.specs.Prelude.{vec_len, vec_capacity}
 use Rattle.trac_rules.specs.Pieces.{bytes_in}

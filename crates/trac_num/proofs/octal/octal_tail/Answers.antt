@@ -1,4 +1,4 @@
--- The tail is all of the text, or stands behind another byte.
+-- The tail is all of the text, or stands after another byte.
 use Rattle.std.proofs.Common.{sym, ◌∙◌}
 use Rattle.trac_num.proofs.Tails.{octal_tail_behind_place, octal_tail_whole}
 use Rattle.trac_num.proofs.octal.octal_tail.Goals as goal

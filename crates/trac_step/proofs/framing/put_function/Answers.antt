@@ -1,4 +1,4 @@
--- Each argument is put behind the others.
+-- Each argument is put after the others.
 use Rattle.std.proofs.Common.{ℕ, List, length, refl, ap, ◌∙◌, arith}
 use Rattle.trac_step.proofs.BegunFunctions.{put_all, put_next, room_next, text_with}
 use Rattle.trac_step.proofs.framing.put_function.Goals as goal

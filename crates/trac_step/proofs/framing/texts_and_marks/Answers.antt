@@ -1,4 +1,4 @@
--- The functions are begun behind the base text.
+-- The functions are begun after the base text.
 use Rattle.std.proofs.Common.{ℕ, List, [], ap, arith, subst, sym, ◌∙◌}
 use Rattle.std.specs.Prelude.{length, Vec}
 use Rattle.trac_rules.specs.declared.kind.Kind.{Kind}

@@ -1,4 +1,4 @@
--- Each function is put behind those further out, in the room that there is for all.
+-- Each function is put after those further out, in the room that there is for all.
 use Rattle.std.proofs.Common.{◌≡◌, ◌∷◌, ◌++◌, [], List, ℕ, length, sym, ap, ◌∙◌, subst, arith}
 use Rattle.std.specs.List.{concat}
 use Rattle.std.proofs.lemmas.List.{append-nil, append_assoc}

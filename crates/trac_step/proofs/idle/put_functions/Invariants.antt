@@ -1,4 +1,4 @@
--- The functions that are put back stand in the text; they, behind those that are left, are all.
+-- The functions that are put back stand in the text; they, after those that are left, are all.
 use Rattle.std.proofs.Common.{◌≡◌, ◌++◌, [], List, length}
 use Rattle.trac_rules.specs.declared.kind.Kind.{Kind}
 use Rattle.trac_step.specs.Pieces.{Arguments, frames_in}

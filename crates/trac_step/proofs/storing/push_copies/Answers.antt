@@ -1,4 +1,4 @@
--- One more block is behind the others, or it has too many forms.
+-- One more block is after the others, or it has too many forms.
 use Rattle.std.proofs.Common.{List, map, sym, ap, ◌∙◌, subst, arith}
 use Rattle.std.specs.Prelude.{Ok, option_map}
 use Rattle.std.specs.List.{list_all}

@@ -1,4 +1,4 @@
--- The blocks so far stand behind the others, and there are places for the rest.
+-- The blocks so far stand after the others, and there are places for the rest.
 use Rattle.std.proofs.Common.{◌≡◌, ◌+◌, ◌≤◌, ◌++◌, length, map, take, true}
 use Rattle.std.specs.List.{list_all}
 use Rattle.trac_forms.specs.Stored.{storage_in}

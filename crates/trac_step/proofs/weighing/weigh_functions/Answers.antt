@@ -1,4 +1,4 @@
--- Of the function that is weighed now, and of those behind it, the weight is within that of all.
+-- Of the function that is weighed now, and of those after it, the weight is within that of all.
 use Rattle.std.proofs.Common.{arith}
 use Rattle.trac_step.proofs.Weighed.{functions_next}
 use Rattle.trac_step.proofs.weighing.weigh_functions.Goals as goal

@@ -1,4 +1,4 @@
--- Runs are put, and what the items behind them give.
+-- Runs are put, and what the items after them give.
 use Rattle.std.proofs.Common.{◌++◌, List, ℕ, ap, sym, ◌∙◌}
 use Rattle.std.proofs.lemmas.List.{append-nil, nil_from_length}
 use Rattle.trac_rules.specs.Filling.{all_filled, filled}

@@ -1,4 +1,4 @@
--- Runs are counted, and the items behind them.
+-- Runs are counted, and the items after them.
 use Rattle.std.proofs.Common.{length, ap, ◌∙◌, arith}
 use Rattle.std.proofs.lemmas.List.{nil_from_length}
 use Rattle.trac_rules.specs.Filling.{all_filled}

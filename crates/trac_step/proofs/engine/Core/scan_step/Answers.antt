@@ -12,7 +12,7 @@ pub returns-in-Ok-clause-taken : goal.returns-in-Ok-clause-taken
 returns-in-Ok-clause-taken g c = λ environment.
     move_taken environment c.args.self.now.state c.move_briefly.new.self.state c.in-Ok.ensures.ok c.if-not-move_fits.ensures
 
--- the same on every tape, so also on a null one
+-- the same on every tape, so also on an empty one
 pub returns-in-Ok-clause-before : goal.returns-in-Ok-clause-before
 returns-in-Ok-clause-before g c =
     let s = c.args.self.now.state in
