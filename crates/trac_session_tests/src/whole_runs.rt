@@ -78,8 +78,10 @@ fn shown(
     released: Released,
 ) -> Vec<u8> {
     let printed = front(run.output, released.printed);
-    state_shown_after(run.plain, session.machine(), printed, released.read)
-        .expect(rt, "there was no memory")
+    state_shown_after(run.plain, session.machine(), printed, released.read).expect(
+        rt,
+        "there was no memory",
+    )
 }
 
 fn forward(session: &mut Session<Memory<'_>>, n: u64) -> Walk {
@@ -229,10 +231,20 @@ fn there_and_back(
 ) {
     feed_all(rt, session, run.input);
     let released = to_end(rt, run, session, states);
-    expect_text(rt, session.pending(), rest(run.output, released.printed), run.input);
+    expect_text(
+        rt,
+        session.pending(),
+        rest(run.output, released.printed),
+        run.input,
+    );
     let kept = kept_of(states.as_slice(), run.window);
     to_start(rt, run, session, released, kept);
-    expect_walk(rt, forward(session, u64::MAX), steps_over(kept), Refusal::Ended);
+    expect_walk(
+        rt,
+        forward(session, u64::MAX),
+        steps_over(kept),
+        Refusal::Ended,
+    );
 }
 
 // How many records the journal of a run has to hold: with commits one more than they keep.
