@@ -1,5 +1,5 @@
 //! The command line.
-ghost use Rattle.std.specs.Prelude.{◌≤◌, ◌×◌, IfOk, IfSome};
+ghost use Rattle.std.specs.Prelude.{◌≤◌, IfOk};
 ghost use Rattle.trac_words.specs.Words.{IsLine};
 
 use crate::help::{DEBUG_TIP, DEBUG_USE, RUN_TIP, RUN_USE, USE, VERSION};
@@ -7,7 +7,7 @@ use clap::error::ErrorKind;
 use clap::{Arg, ArgMatches, Command, Error};
 use std::alloc::{AllocError, Global};
 use trac_rules::limit::JOURNAL_LIMIT;
-use trac_run::{BUDGET_LIMIT, DEFAULT_BUDGET, Options};
+use trac_run::{BUDGET_LIMIT, DEFAULT_BUDGET, Options, budget_of};
 
 /// How many records a run's journal may hold where nothing else is said (this project's profile).
 pub const DEFAULT_JOURNAL: usize = 65_536;
@@ -83,56 +83,59 @@ fn line_of(alloc: Global, matches: &ArgMatches<'_>) -> Result<Line, AllocError>
 fn run_line(alloc: Global, found: &ArgMatches<'_>) -> Result<Line, AllocError>
     ensures { IfOk result IsLine }
 {
-    let Some(budget) = number_in(found, "budget", DEFAULT_BUDGET, BUDGET_LIMIT) else {
+    if !is_in_range(found, "budget", BUDGET_LIMIT) {
         return out_of_range(alloc, found, "budget", BUDGET_LIMIT);
-    };
-    let Some(journal) = journal_in(found) else {
+    }
+    if !is_in_range(found, "journal", JOURNAL_LIMIT as u64) {
         return out_of_range(alloc, found, "journal", JOURNAL_LIMIT as u64);
-    };
-    Ok(Line::Run(Options { budget, journal }))
+    }
+    Ok(Line::Run(Options {
+        budget: budget_in(found),
+        journal: journal_in(found),
+    }))
 }
 
 fn debug_line(alloc: Global, found: &ArgMatches<'_>) -> Result<Line, AllocError>
     ensures { IfOk result IsLine }
 {
-    let Some(journal) = journal_in(found) else {
+    if !is_in_range(found, "journal", JOURNAL_LIMIT as u64) {
         return out_of_range(alloc, found, "journal", JOURNAL_LIMIT as u64);
-    };
+    }
     let path = String::from_str(alloc, found.get_str("FILE").unwrap_or(""))?;
     let options = Options {
         budget: DEFAULT_BUDGET,
-        journal,
+        journal: journal_in(found),
     };
     Ok(Line::Debug(path, options))
 }
 
-// How many records were asked for, or the default number; none where that is out of range.
-fn journal_in(found: &ArgMatches<'_>) -> Option<usize>
-    ensures { IfSome result (λ journal. (1 ≤ journal) × (journal ≤ JOURNAL_LIMIT)) }
+// The budget that was asked for, or the default one. Its range is judged before.
+fn budget_in(matches: &ArgMatches<'_>) -> u64
+    ensures some { 1 ≤ result }
+    ensures most { result ≤ BUDGET_LIMIT }
 {
-    let journal = number_in(
-        found,
-        "journal",
-        DEFAULT_JOURNAL as u64,
-        JOURNAL_LIMIT as u64,
-    )?;
-    Some(journal as usize)
+    budget_of(matches.get_one::<u64>("budget"))
 }
 
-// The number that this option has, or the default one where it is not given; none where it is no number from 1 to the most.
-fn number_in(found: &ArgMatches<'_>, option: &str, default: u64, most: u64) -> Option<u64>
-    requires some { 1 ≤ default }
-    requires within { default ≤ most }
-    ensures { IfSome result (λ number. (1 ≤ number) × (number ≤ most)) }
+// How many records were asked for, or the default number. Their range is judged before; the bounds here only say so again.
+fn journal_in(matches: &ArgMatches<'_>) -> usize
+    ensures some { 1 ≤ result }
+    ensures most { result ≤ JOURNAL_LIMIT }
 {
-    if found.get_str(option).is_none() {
-        return Some(default);
+    match matches.get_one::<u64>("journal") {
+        Some(journal) => (journal as usize).clamp(1, JOURNAL_LIMIT),
+        None => DEFAULT_JOURNAL,
     }
-    let number = found.get_one::<u64>(option)?;
-    if 1 <= number && number <= most {
-        Some(number)
-    } else {
-        None
+}
+
+// Whether this option is not given, or is a number from 1 to the most.
+fn is_in_range(found: &ArgMatches<'_>, option: &str, most: u64) -> bool {
+    if found.get_str(option).is_none() {
+        return true;
+    }
+    match found.get_one::<u64>(option) {
+        Some(number) => 1 <= number && number <= most,
+        None => false,
     }
 }
 
@@ -152,7 +155,7 @@ fn out_of_range(
     )?))
 }
 
-// The program's commands. What can be refused is made before what would have to be let go then.
+// The program's commands. What can be refused is made before what would have to be dropped then.
 fn command<'a>(alloc: Global) -> Result<Command<'a>, AllocError> {
     let debug = debug_command(alloc)?;
     command_to_run(alloc)?.subcommand(debug)
