@@ -46,7 +46,7 @@ function callRow(index) {
   first.append(make("span", "number", `#${data.first + entry.step}`), " ", make("span", "code", entry.call));
   const second = make("span", "call-value");
   second.append(make("span", "code value", value));
-  for (const words of more) second.append(" ", make("span", words[0] === "⇒" ? "code result" : "note", words));
+  for (const words of more) second.append(make("span", words[0] === "⇒" ? "code result" : "note", words));
   button.append(first, second);
   button.title = [entry.call, value, ...more].join("  ");
   item.append(button);

@@ -51,9 +51,9 @@ function play(way) {
   if (way > 0 && run.at === run.count) go(0);
   if (way < 0 && run.at === 0) go(run.count);
   byId("play").setAttribute("aria-pressed", String(way > 0));
-  byId("play").textContent = way > 0 ? "⏸" : "▶";
+  byId("play").textContent = way > 0 ? "■" : "▶";
   byId("play-back").setAttribute("aria-pressed", String(way < 0));
-  byId("play-back").textContent = way < 0 ? "⏸" : "◀";
+  byId("play-back").textContent = way < 0 ? "■" : "◀";
   // a screen reader is not to be flooded
   byId("rules").setAttribute("aria-live", way ? "off" : "polite");
   cancelAnimationFrame(player.frame);
