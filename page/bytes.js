@@ -44,11 +44,14 @@ function bytesOf(text) {
   return Uint8Array.from(bytes);
 }
 
+// The names of bytes 0 to 31.
+const CONTROLS = "NUL SOH STX ETX EOT ENQ ACK BEL BS TAB LF VT FF CR SO SI " +
+  "DLE DC1 DC2 DC3 DC4 NAK SYN ETB CAN EM SUB ESC FS GS RS US";
+
 // The sign for a byte that has no letter of its own.
 function signOf(byte) {
-  if (byte < 32) return String.fromCharCode(0x2400 + byte);
-  if (byte === 127) return "\u2421";
-  return byte.toString(16);
+  if (byte < 32) return CONTROLS.split(" ")[byte];
+  return byte === 127 ? "DEL" : byte.toString(16);
 }
 
 // Makes an element with a class and a text.

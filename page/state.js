@@ -75,7 +75,7 @@ function addForm(parent, name, text) {
     parent.append(make("span", "note", " (some of these < > may be text)"));
   } else {
     for (const part of text.slice(0, front).split(/(<(?:\d+|\^)>)/)) {
-      if (part === "<^>") parent.append(labelled(make("span", "pointer", "‸"), "pointer"));
+      if (part === "<^>") parent.append(labelled(make("span", "pointer"), "pointer"));
       else if (/^<\d+>$/.test(part)) parent.append(labelled(make("span", "gap", part.slice(1, -1)), `gap ${part.slice(1, -1)}`));
       else addText(parent, part);
     }
@@ -153,12 +153,11 @@ function showRest(lines, tail, changed) {
 function showProgram(position) {
   if (data.tape === null || run.position === position) return;
   run.position = position;
-  const text = new TextDecoder("latin1");
   const bytes = bytesOf(data.tape);
   const read = make("span", "read"), rest = make("span", "unread");
-  addLines(read, bytes.subarray(0, position), text);
-  addLines(rest, bytes.subarray(position), text);
-  byId("program").replaceChildren(read, labelled(make("span", "pointer", "‸"), "read up to here"), rest);
+  addLines(read, bytes.subarray(0, position));
+  addLines(rest, bytes.subarray(position));
+  byId("program").replaceChildren(read, labelled(make("span", "pointer"), "read up to here"), rest);
 }
 
 // Adds bytes, of which line feeds end lines.
@@ -191,7 +190,7 @@ function terminalLines(before, printed) {
       else if (sign === "\b") column = Math.max(column - 1, 0);
       else if (sign === "\t") {
         do line[column] = { sign: " ", isNew }; while (++column % 8);
-      } else line[column++] = { sign: sign < " " || sign === "\x7f" ? signOf(sign.charCodeAt(0)) : sign, isNew };
+      } else line[column++] = { sign: sign < " " || sign === "\x7f" ? `‹${signOf(sign.charCodeAt(0))}›` : sign, isNew };
     }
   }
   return lines;
