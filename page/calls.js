@@ -81,17 +81,15 @@ function callAt(step) {
   return low - 1;
 }
 
-// Marks the call of a step in the list, and has it seen.
+// Marks the call of a step in the list, and brings it to the middle.
 function showCall(step) {
   const index = callAt(step);
   const current = index < 0 ? -1 : calls.shown[index].step;
   if (current === calls.current) return;
   calls.current = current;
   const box = byId("calls");
-  const top = Math.max(index, 0) * calls.rowHeight;
-  if (top < box.scrollTop || top + calls.rowHeight > box.scrollTop + box.clientHeight) {
-    box.scrollTop = Math.max(top - box.clientHeight / 2, 0);
-  }
+  // always in the middle, so that the list of a step does not hang on the way that led there
+  box.scrollTop = Math.max(Math.max(index, 0) * calls.rowHeight - (box.clientHeight - calls.rowHeight) / 2, 0);
   drawCalls();
 }
 
