@@ -1,7 +1,7 @@
 // Moving through the run: slider, buttons, keys, the address, and playing.
 
 const SPEEDS = [1, 2, 4, 8, 15, 30, 60, 120, 300, 1000];
-const player = { way: 0, speed: 3, owed: 0, then: 0, frame: 0, timer: 0 };
+const player = { way: 0, speed: 3, owed: 0, then: 0, frame: 0, timer: 0, address: "" };
 
 // Goes to a step, and shows it. The way is that of the step, so that the colours are those of what was just done.
 function go(step) {
@@ -34,9 +34,17 @@ function keepAddress() {
   if (player.timer) return;
   player.timer = setTimeout(() => {
     player.timer = 0;
-    const wanted = `#${data.first + run.at}`;
-    if (location.hash !== wanted) history.replaceState(null, "", wanted);
+    if (location.hash !== player.address) return followAddress();
+    player.address = `#${data.first + run.at}`;
+    if (location.hash !== player.address) history.replaceState(null, "", player.address);
   }, 400);
+}
+
+// Goes to the step that the address names, where somebody else has changed it.
+function followAddress() {
+  player.address = location.hash;
+  const step = stepOfAddress();
+  if (step !== null && step !== run.at) stopAndGo(step);
 }
 
 // The step that the address names, or none.
@@ -208,10 +216,7 @@ function start() {
   }
   byId("slider").addEventListener("input", (event) => stopAndGo(Number(event.target.value)));
   document.addEventListener("keydown", onKey);
-  addEventListener("hashchange", () => {
-    const step = stepOfAddress();
-    if (step !== null && step !== run.at) stopAndGo(step);
-  });
+  addEventListener("hashchange", followAddress);
   addEventListener("resize", () => {
     drawTicks();
     drawCalls();
@@ -225,6 +230,7 @@ function start() {
   nameTheme();
   changeSpeed(0);
   filterCalls("");
+  player.address = location.hash;
   go(stepOfAddress() ?? 0);
   document.documentElement.dataset.way = "forward";
   drawTicks();
