@@ -1,0 +1,105 @@
+// What each step and each primitive does, in the words of docs/language.md.
+
+const RULES = {
+  i: () => ["nothing is left: base text and begun functions are emptied, and the idle program is loaded"],
+  "(": () => [["("], " is deleted, the text up to its matching ", [")"], " goes to the current text unchanged, and that ", [")"],
+    " is deleted"],
+  u: () => [["("], " has no match: it is deleted, and all the rest goes to the current text"],
+  w: (move) => [[move.taken], " is deleted: ",
+    { "\\x0d": "a carriage return", "\\x0a": "a line feed", "\\x09": "a tab" }[move.taken], " that is not protected"],
+  ",": () => ["a ", [","], " ends the argument, and a null one is begun"],
+  ";": () => ["a ", [","], " outside any function is deleted"],
+  a: () => [["#("], " begins an active function, with a null argument"],
+  n: () => [["##("], " begins a neutral function, with a null argument"],
+  "#": () => ["a ", ["#"], " that begins no function goes to the current text"],
+  ")": () => ["a ", [")"], " outside any function is deleted"],
+  x: (move) => [[move.taken], " goes to the current text"],
+  p: (move) => wordsOfCall(move),
+};
+
+const PRIMITIVES = {
+  ps: "prints its argument",
+  rs: "reads a text of the input, up to the meta character",
+  rc: "reads the next byte of the input",
+  cm: "chooses the meta character",
+  hl: "halts",
+  tn: "the trace goes on",
+  tf: "the trace goes off",
+  eq: "gives its third argument where the first two are the same, else its fourth",
+  gr: "gives its third argument where the first number is greater than the second, else its fourth",
+  ad: "adds two numbers",
+  su: "takes the second number from the first",
+  ml: "multiplies two numbers",
+  dv: "divides the first number by the second, cut toward zero",
+  bu: "bitwise or of two octal strings",
+  bi: "bitwise and of two octal strings",
+  bc: "turns over each bit of an octal string",
+  bs: "moves the bits of an octal string",
+  br: "rotates the bits of an octal string",
+  ds: "defines a form: a text under a name",
+  dd: "deletes forms",
+  da: "deletes all forms",
+  ss: "cuts texts out of a form, which leave numbered gaps",
+  cr: "a form's pointer goes before its first item",
+  cl: "calls a form: gives its text, with the arguments in its gaps",
+  cs: "reads a form up to the next gap",
+  cc: "reads the next byte of a form",
+  cn: "reads so many bytes of a form",
+  in: "reads a form up to a text",
+  ln: "lists the names of all forms",
+  pf: "prints a form, with its gaps and its pointer",
+  sb: "puts forms aside in a block",
+  fb: "brings back the forms of a block",
+  eb: "erases a block",
+};
+
+const REASONS = {
+  Ended: "the program needs more input than there is, or halts",
+  TooLong: "the next state would pass a limit",
+  Memory: "memory was refused for it",
+};
+
+// What a function does, by its name. Letters of either case name a primitive.
+function primitiveOf(name) {
+  const known = PRIMITIVES[/^[A-Za-z]{2}$/.test(name) ? name.toLowerCase() : ""];
+  return known ?? "an unknown name, which does nothing and gives null";
+}
+
+// A call in words: name, what it is for, what it printed, and its value. Texts stand in lists of one.
+function wordsOfCall(move) {
+  const name = move.call.texts[0];
+  const words = [[")"], " ends the function, and ", [callText(move.call)], " is performed: ", [name], " ", primitiveOf(name)];
+  if (move.printed) words.push("; printed is ", [move.printed]);
+  if (move.value === "") words.push("; its value is null");
+  else words.push("; its value is ", [move.value], move.scanned ? ", to be scanned" : ", which is not scanned");
+  return words;
+}
+
+// A call as it is written.
+function callText(call) {
+  return (call.neutral ? "##(" : "#(") + call.texts.join(",") + ")";
+}
+
+// Shows words in an element: lists of one are texts of the program.
+function showWords(parent, lead, words) {
+  parent.replaceChildren(make("b", "", lead));
+  for (const word of words) {
+    if (Array.isArray(word)) addShort(parent, word[0], "code", 72);
+    else parent.append(word);
+  }
+}
+
+// The words of the step that led here, and of the next one.
+function showRules(step) {
+  const last = moveOf(step - 1), next = moveOf(step);
+  const number = data.first + step;
+  const early = data.first ? "the first step that this page has" : "nothing is done yet";
+  showWords(document.getElementById("last"), last ? `Step ${number}: ` : `At ${number}: `, last ? RULES[last.rule](last) : [early]);
+  showWords(document.getElementById("next"), "Next: ", next ? RULES[next.rule](next) : endWords());
+}
+
+// Why there is no next step.
+function endWords() {
+  if (!data.why) return ["the page ends here, and the program goes on"];
+  return ["the debugger takes no further step: ", data.why, ": ", REASONS[data.why] ?? "see docs/debugger.md"];
+}
