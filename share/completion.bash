@@ -4,13 +4,17 @@ _trac() {
     COMPREPLY=()
     case $before in
         --budget | --journal) return ;;
+        --decimals)
+            mapfile -t COMPREPLY < <(compgen -W '64 128' -- "$word")
+            return
+            ;;
     esac
     if [ "$COMP_CWORD" = 1 ]; then
         words='run debug help --help --version'
     else
         case ${COMP_WORDS[1]} in
-            run) words='--budget --journal --help --version' ;;
-            debug) words='--journal --help --version' ;;
+            run) words='--budget --journal --decimals --help --version' ;;
+            debug) words='--journal --decimals --help --version' ;;
             help) words='run debug' ;;
         esac
     fi

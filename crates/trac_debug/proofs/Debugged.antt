@@ -6,6 +6,7 @@ use Rattle.std.proofs.lemmas.Bool.{false≢true, cond-true, cond-false, le-leb, 
 use Rattle.std.proofs.lemmas.Bool.Decides.{nat_tests}
 use Rattle.std.proofs.lemmas.List.{append-nil, append_assoc, length-append, length-take-le}
 use Rattle.std.proofs.Math.Seq.{take-append_seam}
+use Rattle.trac_rules.specs.declared.width.Width.{Width}
 use Rattle.trac_rules.specs.declared.limit.TheConstants.{TAPE_LIMIT}
 use Rattle.trac_rules.specs.Fronts.{IsFrontOf}
 use Rattle.trac_rules.specs.Session.{PlainSession, Feed, End, answer, done, new_session}
@@ -326,15 +327,15 @@ pub record SoFar (in_old in_now out_old out_now : Option (List ℕ)) (start : Pl
   pub rest : (behind : List (List ℕ)) → (text : List ℕ) → (stop : Ending) → MayWrite behind number p text stop → MayWrite (before ++ behind) 1 start (written ++ text) stop
 
 -- a tape that is not too long is gone over
-shown_within : (tape : List ℕ) (limit : ℕ) (commands text : List ℕ) (stop : Ending) → length tape ≤ TAPE_LIMIT →
-    MayWrite (lines_of commands) 1 (ready tape limit) text stop → MayShow tape limit commands text stop
-shown_within tape limit commands text stop within may =
-    subst (λ fits. shown_where tape limit commands text stop fits) (sym (le-leb (length tape) TAPE_LIMIT within)) may
+shown_within : (tape : List ℕ) (limit : ℕ) (width : Width) (commands text : List ℕ) (stop : Ending) → length tape ≤ TAPE_LIMIT →
+    MayWrite (lines_of commands) 1 (ready tape limit width) text stop → MayShow tape limit width commands text stop
+shown_within tape limit width commands text stop within may =
+    subst (λ fits. shown_where tape limit width commands text stop fits) (sym (le-leb (length tape) TAPE_LIMIT within)) may
 
 -- a tape that is too long is not
-shown_beyond : (tape : List ℕ) (limit : ℕ) (commands : List ℕ) → TAPE_LIMIT < length tape → MayShow tape limit commands [] Limit
-shown_beyond tape limit commands beyond =
-    subst (λ fits. shown_where tape limit commands [] Limit fits) (sym (lt-leb (length tape) TAPE_LIMIT beyond)) (refl, refl)
+shown_beyond : (tape : List ℕ) (limit : ℕ) (width : Width) (commands : List ℕ) → TAPE_LIMIT < length tape → MayShow tape limit width commands [] Limit
+shown_beyond tape limit width commands beyond =
+    subst (λ fits. shown_where tape limit width commands [] Limit fits) (sym (lt-leb (length tape) TAPE_LIMIT beyond)) (refl, refl)
 
 -- at the beginning
 pub so_far_none : (input output : Option (List ℕ)) (lines : Pending) (p : PlainSession) → lines ≡ record { bytes = []; ended = false } → SoFar input input output output p 1 lines p
@@ -423,11 +424,11 @@ debugged in_old in_now in_new out_old out_now out_new start number lines p endin
     }
 
 -- the same over a tape that is not too long
-pub debugged_over : (in_old in_new out_old out_new : Option (List ℕ)) (tape : List ℕ) (limit : ℕ) (p : PlainSession) (ending : Ending) → IsReady tape limit p →
-    Debugs in_old in_new out_old out_new (MayFollow p) (FollowsFirst p) ending → Debugs in_old in_new out_old out_new (MayShow tape limit) (RepliesToFirst tape limit) ending
-debugged_over in_old in_new out_old out_new tape limit p ending is all =
-    let shown : (commands text : List ℕ) (stop : Ending) → MayFollow p commands text stop → MayShow tape limit commands text stop =
-    λ commands text stop may. shown_within tape limit commands text stop is.within (subst (λ q. MayFollow q commands text stop) is.is may) in
+pub debugged_over : (in_old in_new out_old out_new : Option (List ℕ)) (tape : List ℕ) (limit : ℕ) (width : Width) (p : PlainSession) (ending : Ending) → IsReady tape limit width p →
+    Debugs in_old in_new out_old out_new (MayFollow p) (FollowsFirst p) ending → Debugs in_old in_new out_old out_new (MayShow tape limit width) (RepliesToFirst tape limit width) ending
+debugged_over in_old in_new out_old out_new tape limit width p ending is all =
+    let shown : (commands text : List ℕ) (stop : Ending) → MayFollow p commands text stop → MayShow tape limit width commands text stop =
+    λ commands text stop may. shown_within tape limit width commands text stop is.within (subst (λ q. MayFollow q commands text stop) is.is may) in
     record {
       got = all.got;
       written = all.written;
@@ -437,40 +438,40 @@ debugged_over in_old in_new out_old out_new tape limit p ending is all =
       at_end = all.at_end;
       front = λ more none. let some = all.front more none in (some.0, some.1, shown (all.got ++ more) some.0 some.1 some.2, some.3);
       whole = λ more none.
-          unless_behind ending (MayFollow p (all.got ++ more) all.written ending) (MayShow tape limit (all.got ++ more) all.written ending) (shown (all.got ++ more) all.written ending)
+          unless_behind ending (MayFollow p (all.got ++ more) all.written ending) (MayShow tape limit width (all.got ++ more) all.written ending) (shown (all.got ++ more) all.written ending)
           (all.whole more none);
       replied = all.replied;
       replies = λ more none.
-          behind_unless ending (FollowsFirst p all.replied (all.got ++ more) all.written) (RepliesToFirst tape limit all.replied (all.got ++ more) all.written)
+          behind_unless ending (FollowsFirst p all.replied (all.got ++ more) all.written) (RepliesToFirst tape limit width all.replied (all.got ++ more) all.written)
           (λ first. subst (λ q. FollowsFirst q all.replied (all.got ++ more) all.written) is.is first) (all.replies more none);
     }
 
 -- over each tape something may be written
-some_shown : (tape : List ℕ) (limit : ℕ) (commands : List ℕ) → (text : List ℕ) × (stop : Ending) × MayShow tape limit commands text stop
-some_shown tape limit commands = ⊎_elim
-    (λ (beyond : TAPE_LIMIT < length tape). ([], Limit, shown_beyond tape limit commands beyond))
+some_shown : (tape : List ℕ) (limit : ℕ) (width : Width) (commands : List ℕ) → (text : List ℕ) × (stop : Ending) × MayShow tape limit width commands text stop
+some_shown tape limit width commands = ⊎_elim
+    (λ (beyond : TAPE_LIMIT < length tape). ([], Limit, shown_beyond tape limit width commands beyond))
     (λ (within : length tape ≤ TAPE_LIMIT).
-    let some = some_text (lines_of commands) 1 (ready tape limit) in
-    (some.0, some.1, shown_within tape limit commands some.0 some.1 within some.2))
+    let some = some_text (lines_of commands) 1 (ready tape limit width) in
+    (some.0, some.1, shown_within tape limit width commands some.0 some.1 within some.2))
     (cases_lt TAPE_LIMIT (length tape))
 
 -- a session that did not begin
-pub debugged_not : (input output : Option (List ℕ)) (tape : List ℕ) (limit : ℕ) (ending : Ending) → MayRefuseTape tape ending → Debugs input input output output (MayShow tape limit) (RepliesToFirst tape limit) ending
-debugged_not input output tape limit ending why = record {
+pub debugged_not : (input output : Option (List ℕ)) (tape : List ℕ) (limit : ℕ) (width : Width) (ending : Ending) → MayRefuseTape tape ending → Debugs input input output output (MayShow tape limit width) (RepliesToFirst tape limit width) ending
+debugged_not input output tape limit width ending why = record {
   got = [];
   written = [];
   saw_end = false;
   took = Consumes-nothing input;
   gave = Appends-nothing output;
   at_end = λ over. absurd (false≢true over);
-  front = λ more none. let any = some_shown tape limit more in (any.0, any.1, any.2, front_of_nothing any.0);
+  front = λ more none. let any = some_shown tape limit width more in (any.0, any.1, any.2, front_of_nothing any.0);
   whole = λ more none. ⊎_elim
-      (λ (none_ : ending ≡ Memory). unless_Memory ending (MayShow tape limit more [] ending) none_)
+      (λ (none_ : ending ≡ Memory). unless_Memory ending (MayShow tape limit width more [] ending) none_)
       (λ (beyond : (ending ≡ Limit) × (TAPE_LIMIT < length tape)).
-      unless_always ending (MayShow tape limit more [] ending) (subst (λ stop. MayShow tape limit more [] stop) (sym beyond.0) (shown_beyond tape limit more beyond.1)))
+      unless_always ending (MayShow tape limit width more [] ending) (subst (λ stop. MayShow tape limit width more [] stop) (sym beyond.0) (shown_beyond tape limit width more beyond.1)))
       why;
   replied = 0;
-  replies = λ more none. always_unless ending (RepliesToFirst tape limit 0 more []) (refl, refl);
+  replies = λ more none. always_unless ending (RepliesToFirst tape limit width 0 more []) (refl, refl);
 }
 
 -- ---- replies
@@ -512,8 +513,8 @@ not_flushed command old new reply a b c (Err ending) replies gave kept fault =
 -- ---- the session
 
 -- it stands over the tape
-pub ready_made : (tape : List ℕ) (limit : ℕ) (p q r : PlainSession) → length tape ≤ TAPE_LIMIT → p ≡ new_session limit → answer (Feed tape) p ≡ done q → answer End q ≡ done r → IsReady tape limit r
-ready_made tape limit p q r within new fed ended = record {
+pub ready_made : (tape : List ℕ) (limit : ℕ) (width : Width) (p q r : PlainSession) → length tape ≤ TAPE_LIMIT → p ≡ new_session limit width → answer (Feed tape) p ≡ done q → answer End q ≡ done r → IsReady tape limit width r
+ready_made tape limit width p q r within new fed ended = record {
   within = within;
   is = End_done q r ended ∙ ap with_end ((Feed_done tape p q fed).0) ∙ ap (λ (s : PlainSession). with_end (with_more s tape)) new;
 }

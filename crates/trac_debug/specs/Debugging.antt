@@ -1,5 +1,6 @@
 -- A whole session of the debugger: what is written, and how it ends.
 use Rattle.std.specs.Prelude.{◌≡◌, ℕ, ◌+◌, nat_le, List, [], ◌∷◌, ◌++◌, length, take, if◌then◌else◌, Bool, true, false, Option, None, Some}
+use Rattle.trac_rules.specs.declared.width.Width.{Width}
 use Rattle.trac_rules.specs.declared.limit.TheConstants.{TAPE_LIMIT}
 use Rattle.trac_rules.specs.Session.{PlainSession, new_session}
 use Rattle.trac_run.specs.declared.ending.Ending.{Ending}
@@ -60,20 +61,20 @@ FollowsFirst p count commands text = MayWrite (take count (lines_of commands)) 1
 
 -- ---- a whole session
 
--- the session over a tape that has ended, its journal holding at most so many records
-abbrev pub ready : List ℕ → ℕ → PlainSession
-ready tape limit = record (new_session limit) { tape = record { bytes = tape; ended = true } }
+-- the session over a tape that has ended, its journal holding at most so many records, its numbers being so wide
+abbrev pub ready : List ℕ → ℕ → Width → PlainSession
+ready tape limit width = record (new_session limit width) { tape = record { bytes = tape; ended = true } }
 
 -- the same over any tape, by whether it is not too long: nothing is written where it is
-abbrev pub shown_where : List ℕ → ℕ → List ℕ → List ℕ → Ending → Bool → Type 0
-shown_where tape limit commands text ending true = MayWrite (lines_of commands) 1 (ready tape limit) text ending
-shown_where tape limit commands text ending false = (text ≡ []) × (ending ≡ Limit)
+abbrev pub shown_where : List ℕ → ℕ → Width → List ℕ → List ℕ → Ending → Bool → Type 0
+shown_where tape limit width commands text ending true = MayWrite (lines_of commands) 1 (ready tape limit width) text ending
+shown_where tape limit width commands text ending false = (text ≡ []) × (ending ≡ Limit)
 
--- over this tape, with such a journal and these commands, this text may be written, and then the session ends so
-abbrev pub MayShow : List ℕ → ℕ → List ℕ → List ℕ → Ending → Type 0
-MayShow tape limit commands text ending = shown_where tape limit commands text ending (nat_le (length tape) TAPE_LIMIT)
+-- over this tape, with such a journal, such numbers and these commands, this text may be written, and then the session ends so
+abbrev pub MayShow : List ℕ → ℕ → Width → List ℕ → List ℕ → Ending → Type 0
+MayShow tape limit width commands text ending = shown_where tape limit width commands text ending (nat_le (length tape) TAPE_LIMIT)
 
--- over this tape, with such a journal, this text may be written where the first so many of the lines of these commands are all that
--- there are: each of them is replied to whole
-abbrev pub RepliesToFirst : List ℕ → ℕ → ℕ → List ℕ → List ℕ → Type 0
-RepliesToFirst tape limit count commands text = MayWrite (take count (lines_of commands)) 1 (ready tape limit) text Ended
+-- over this tape, with such a journal and such numbers, this text may be written where the first so many of the lines of these commands are
+-- all that there are: each of them is replied to whole
+abbrev pub RepliesToFirst : List ℕ → ℕ → Width → ℕ → List ℕ → List ℕ → Type 0
+RepliesToFirst tape limit width count commands text = MayWrite (take count (lines_of commands)) 1 (ready tape limit width) text Ended

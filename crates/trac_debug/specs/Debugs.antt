@@ -1,6 +1,7 @@
 -- What the debugger reads and writes.
 use Rattle.std.specs.Prelude.{◌≡◌, ◌⊎◌, ℕ, ◌+◌, ◌<◌, ◌≤◌, Bool, true, List, [], ◌∷◌, ◌++◌, length, Option}
 use Rattle.std.specs.Io.KnownBytes.{Appends, Consumes, IsAtEnd, Keeps}
+use Rattle.trac_rules.specs.declared.width.Width.{Width}
 use Rattle.trac_rules.specs.declared.limit.TheConstants.{TAPE_LIMIT}
 use Rattle.trac_rules.specs.Fronts.{IsFrontOf}
 use Rattle.trac_rules.specs.Session.{PlainSession}
@@ -45,9 +46,9 @@ pub record Debugs (in_old in_new out_old out_new : Option (List ℕ)) (Stated : 
 -- ---- parts of a session
 
 -- a session over a tape that is not too long
-pub record IsReady (tape : List ℕ) (limit : ℕ) (p : PlainSession) : Type 0 where
+pub record IsReady (tape : List ℕ) (limit : ℕ) (width : Width) (p : PlainSession) : Type 0 where
   pub within : length tape ≤ TAPE_LIMIT
-  pub is : p ≡ ready tape limit
+  pub is : p ≡ ready tape limit width
 
 -- why there is none: memory was refused, or the tape is too long
 abbrev pub MayRefuseTape : List ℕ → Ending → Type 0

@@ -11,6 +11,7 @@ use crate::replies::reply_to;
 use std::alloc::Allocator;
 use std::io::{Read, Write};
 use trac_rules::limit::{JOURNAL_LIMIT, TAPE_LIMIT};
+use trac_rules::width::Width;
 use trac_run::writing::{flush, write_whole};
 use trac_run::{Ending, Options};
 use trac_session::Session;
@@ -34,9 +35,9 @@ pub fn debug<R: Read, W: Write, A: Allocator + Copy>(
     requires some_records { 1 ≤ options.journal }
     requires most_records { options.journal ≤ JOURNAL_LIMIT }
     ensures { Debugs (R.remaining commands.old) (R.remaining commands.new) (W.contents output.old) (W.contents output.new)
-        (MayShow tape.now options.journal) (RepliesToFirst tape.now options.journal) result }
+        (MayShow tape.now options.journal options.decimals) (RepliesToFirst tape.now options.journal options.decimals) result }
 {
-    let mut session = match session_over(alloc, tape, options.journal) {
+    let mut session = match session_over(alloc, tape, options.journal, options.decimals) {
         Ok(session) => session,
         Err(ending) => return ending,
     };
@@ -71,16 +72,17 @@ fn session_over<A: Allocator + Copy>(
     alloc: A,
     tape: &[u8],
     journal: usize,
+    decimals: Width,
 ) -> Result<Session<A>, Ending>
     requires some_records { 1 ≤ journal }
     requires most_records { journal ≤ JOURNAL_LIMIT }
-    ensures made { IfOk result (IsReady tape.now journal) }
+    ensures made { IfOk result (IsReady tape.now journal decimals) }
     ensures refused { IfErr result (MayRefuseTape tape.now) }
 {
     if tape.len() > TAPE_LIMIT {
         return Err(Ending::Limit);
     }
-    let Ok(mut session) = Session::new(alloc, journal) else {
+    let Ok(mut session) = Session::new(alloc, journal, decimals) else {
         return Err(Ending::Memory);
     };
     let Ok(()) = session.feed(tape) else {

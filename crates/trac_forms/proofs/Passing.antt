@@ -33,6 +33,23 @@ count-append xs ys = ap length (bytes_in-append xs ys) ∙ length-append (bytes_
 pub count-split : (k : ℕ) (items : List Item) → count items ≡ count (take k items) + count (drop k items)
 count-split k items = ap count (sym (take-append-drop k items)) ∙ count-append (take k items) (drop k items)
 
+-- no more of them than items
+pub count_within_length : (items : List Item) → count items ≤ length items
+count_within_length [] = omega arith
+count_within_length (Byte b ∷ items) = omega (arith, count_within_length items)
+count_within_length (Gap k w ∷ items) = omega (arith, count_within_length items)
+
+-- a number of bytes that is more than a length can say is as good as the greatest length
+pub at_most_clamped : (m n most : ℕ) (items : List Item) → m ≡ min n most → length items ≤ most → at_most_all m items ≡ at_most_all n items
+at_most_clamped m n most items e l = omega (arith, e, l, count_within_length items)
+
+-- as many bytes on a side are the same piece
+pub next_bytes_same : (m n : ℕ) (form : Form) → at_most_all m form.after ≡ at_most_all n form.after → next_bytes m form ≡ next_bytes n form
+next_bytes_same m n form e = ap (λ k. where_any (bytes_in form.after) (option_map (λ j. read_on j form) (place_behind k form.after))) e
+
+pub last_bytes_same : (m n : ℕ) (form : Form) → at_most_all m form.before ≡ at_most_all n form.before → last_bytes m form ≡ last_bytes n form
+last_bytes_same m n form e = ap (λ k. where_any (bytes_in form.before) (option_map (λ j. read_back j form) (place_before k form.before))) e
+
 -- the bytes of the first items come first
 pub first_bytes : (k n : ℕ) (items : List Item) → n ≡ count (take k items) → take n (bytes_in items) ≡ bytes_in (take k items)
 first_bytes k n items e =

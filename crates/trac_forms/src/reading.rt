@@ -55,20 +55,20 @@ impl<A: Allocator + Copy> Form<A> {
     /// 0 as many bytes before the pointer, in the order of the text, the pointer right before the first of them. For 0 empty,
     /// the pointer unmoved. Gaps are passed and not given (this project's profile). `None` where `n` is not 0 and no byte
     /// stands on that side. This is the rule of `cn`. It takes no memory.
-    pub fn read_count(&self, n: i64) -> Option<Piece>
+    pub fn read_count(&self, n: i128) -> Option<Piece>
         ensures read { option_map (λ p. taken p self.now) result ≡ count_read n self.now }
         ensures there { IfSome result (IsThere self.now) }
     {
-        // The least number has no negative: it is as many bytes as its absolute value says.
-        let count = n.unsigned_abs() as usize;
-        if n < 0 {
-            return self.read_last(count);
-        }
         if n == 0 {
             return Some(Piece {
                 len: 0,
                 pointer: self.pointer(),
             });
+        }
+        // The least number has no negative: it is as many bytes as its absolute value says.
+        let count = self.bytes_up_to(n.unsigned_abs());
+        if n < 0 {
+            return self.read_last(count);
         }
         self.read_next(count)
     }
@@ -120,6 +120,17 @@ impl<A: Allocator + Copy> Form<A> {
         ensures { result ≡ length self.now.before + count }
     {
         self.items.left().len() + count
+    }
+
+    // So many bytes; all there are, where a length cannot hold the number.
+    fn bytes_up_to(&self, n: u128) -> usize
+        ensures some { 0 < n → 0 < result }
+        ensures next { next_bytes result self.now ≡ next_bytes n self.now }
+        ensures last { last_bytes result self.now ≡ last_bytes n self.now }
+    {
+        // For the last two clauses: no form has more items than a length can say.
+        let _items = self.len();
+        n.min(usize::MAX as u128) as usize
     }
 
     // The next `n` bytes, or as many as there are.

@@ -6,7 +6,7 @@ use std::process::Abort;
 use std::test::Fail;
 use trac_num::{NumError, print_into};
 
-fn print(out: &mut Vec<u8, Memory<'_>>, number: i64) -> Result<(), NumError> {
+fn print(out: &mut Vec<u8, Memory<'_>>, number: i128) -> Result<(), NumError> {
     print_into(number, out)
 }
 
@@ -15,7 +15,7 @@ fn print(out: &mut Vec<u8, Memory<'_>>, number: i64) -> Result<(), NumError> {
 fn expect_printed(
     rt: &impl Abort,
     out: &mut Vec<u8, Memory<'_>>,
-    number: i64,
+    number: i128,
     before: &[u8],
     wanted: &[u8],
 ) -> Result<(), NumError> {
@@ -28,8 +28,8 @@ fn expect_printed(
 }
 
 // A number is printed after what is there: each of these after those before it.
-const PRINTED: &[(i64, &[u8], &[u8])] = &[
-    (i64::MIN, b"", b"-9223372036854775808"),
+const PRINTED: &[(i128, &[u8], &[u8])] = &[
+    (i64::MIN as i128, b"", b"-9223372036854775808"),
     (0, b"-9223372036854775808", b"-92233720368547758080"),
     (-17, b"-92233720368547758080", b"-92233720368547758080-17"),
 ];

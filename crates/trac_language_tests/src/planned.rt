@@ -9,6 +9,7 @@ use trac_forms::{Cut, Form, FormError, Store};
 use trac_prims::{Args, Change, Effect, Kind, Mark, Now, Tape, plan, sets_meta};
 use trac_rules::limit::MARK_LIMIT;
 use trac_rules::refusal::Refusal;
+use trac_rules::width::Width;
 
 /// The input of a call, how many of its bytes are read, and whether the trace is on.
 #[derive(Clone, Copy)]
@@ -53,6 +54,7 @@ fn plan_args<A: Allocator + Copy>(
         position: input.position,
         output: 0,
         text: 0,
+        width: Width::W128,
     };
     assert!(rt; input.position <= input.bytes.len());
     plan(alloc, args, Kind::Active, store, tape, now)

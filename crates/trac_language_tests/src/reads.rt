@@ -12,7 +12,7 @@ use trac_forms::{Form, FormError, Piece};
 enum Act {
     Segment,
     Char,
-    Count(i64),
+    Count(i128),
     Until(&'static [u8]),
 }
 
@@ -32,11 +32,11 @@ const ROWS: &[Row] = &[
     Row(1, Act::Char, Some((b"b", 3))),
     Row(4, Act::Char, None),
     Row(0, Act::Count(2), Some((b"ab", 3))),
-    Row(0, Act::Count(i64::MAX), Some((b"abc", 4))),
+    Row(0, Act::Count(i128::MAX), Some((b"abc", 4))),
     Row(4, Act::Count(1), None),
     Row(5, Act::Count(-2), Some((b"bc", 2))),
     Row(3, Act::Count(-2), Some((b"ab", 0))),
-    Row(5, Act::Count(i64::MIN), Some((b"abc", 0))),
+    Row(5, Act::Count(i128::MIN), Some((b"abc", 0))),
     Row(0, Act::Count(-1), None),
     Row(5, Act::Count(0), Some((b"", 5))),
     Row(0, Act::Until(b"c"), Some((b"ab", 4))),

@@ -1,13 +1,14 @@
 -- Walks of one machine, over which another one goes back.
 use Rattle.std.specs.Prelude.{◌≡◌, ℕ, zero, suc, ◌≤◌, List, true, IfOk}
+use Rattle.trac_rules.specs.declared.width.Width.TheVariants.{W128}
 use Rattle.trac_rules.specs.State.{Environment, State, initial}
 use Rattle.trac_rules.specs.Stepping.{step}
 use Rattle.trac_step.specs.Layout.{Shown}
 use Rattle.trac_step.specs.Room.{HasRoom}
 
--- what a step over this whole input is given beside the state
+-- what a step over this whole input is given beside the state, where numbers are of 128 bits
 abbrev pub over_whole : List ℕ → Environment
-over_whole input = record { tape = record { bytes = input; ended = true } }
+over_whole input = record { tape = record { bytes = input; ended = true }; width = W128 }
 
 -- so many steps lead from a state to the one that a machine shows, and the machine has room for each state before it
 abbrev pub LeadsTo : Environment → ℕ → State → Shown → Type 0

@@ -7,6 +7,7 @@ ghost use Rattle.trac_rules.specs.Stepping.{step};
 ghost use Rattle.trac_step.specs.Layout.{Shown};
 ghost use Rattle.trac_step.specs.Record.{before};
 ghost use Rattle.trac_step.specs.Room.{HasRoom, IsNoLess};
+ghost use Rattle.trac_rules.specs.declared.width.Width.TheVariants.{W128};
 
 use crate::machines::{Memory, expect_shown, let_go, shown_by};
 use crate::walking::{Walk, is_among};
@@ -15,6 +16,7 @@ use std::process::Abort;
 use trac_faults::Refusing;
 use trac_gap::TwoEnds;
 use trac_rules::refusal::Refusal;
+use trac_rules::width::Width;
 use trac_step::{Core, Machine, Mark, Parts, Record, Tape};
 
 /// What a machine shows after a walk, all else being as at the start: its active text, its output, and how many bytes are
@@ -36,6 +38,8 @@ fn take_step<E: TwoEnds<u8, A>, M: TwoEnds<Mark, A>, A: Allocator + Copy>(
     machine: &mut Core<E, M, A>,
     number: u64,
 ) -> Record<A>
+    requires { machine.old.width ≡ W128 }
+    ensures width { machine.new.width ≡ W128 }
     ensures taken { step (over_whole walk.now.input.now) machine.old.state ≡ Ok machine.new.state }
     ensures back { before result machine.new.state ≡ Some machine.old.state }
 {
@@ -78,7 +82,8 @@ fn back_on_another<E: TwoEnds<u8, A>, M: TwoEnds<Mark, A>, A: Allocator + Copy>(
     done: u64,
     left: u64,
 )
-    requires { LeadsTo (over_whole walk.now.input.now) left machine.old.state other.old }
+    requires width { machine.old.width ≡ W128 }
+    requires leads { LeadsTo (over_whole walk.now.input.now) left machine.old.state other.old }
     ensures state { other.new.state ≡ machine.old.state }
     ensures room { IsNoLess other.old other.new }
 {
@@ -118,7 +123,7 @@ pub(crate) fn loaded_after<'a>(
         names: Vec::new(memory),
     };
     assert!(rt; parts.each_gathers());
-    Machine::load(memory, &parts)
+    Machine::load(memory, &parts, Width::W128)
 }
 
 // A machine that is loaded from the parts of the state after a walk goes back over that walk.
@@ -139,7 +144,7 @@ fn expect_back(
         input,
         scarce,
     };
-    let mut machine = Core::new(&memory).expect(rt, "there was no memory");
+    let mut machine = Core::new(&memory, Width::W128).expect(rt, "there was no memory");
     let mut other = loaded_after(rt, &memory, after).expect(rt, "the parts were refused");
     back_on_another(rt, &walk, &mut machine, &mut other, 0, steps);
     let_go(machine);

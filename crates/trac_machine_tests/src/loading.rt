@@ -10,6 +10,7 @@ use trac_forms::{Block, Form, Item};
 use trac_gap::{GapBuf, TwoEnds};
 use trac_rules::limit::{MARK_LIMIT, NAME_LIMIT, OUTPUT_LIMIT, TEXT_LIMIT};
 use trac_rules::refusal::Refusal;
+use trac_rules::width::Width;
 use trac_step::{Core, Kind, Mark, Parts, Store};
 
 /// A form with its name.
@@ -115,7 +116,7 @@ fn load<E: TwoEnds<u8, A>, M: TwoEnds<Mark, A>, A: Allocator + Copy>(
     parts: &Parts<A>,
 ) -> Result<Core<E, M, A>, Refusal> {
     assert!(rt; parts.each_gathers());
-    Core::load(alloc, parts)
+    Core::load(alloc, parts, Width::W128)
 }
 
 // Why no machine is made.

@@ -11,6 +11,7 @@ use std::process::Abort;
 use trac_faults::Refusing;
 use trac_gap::{GapBuf, PlainEnds, TwoEnds};
 use trac_rules::refusal::Refusal;
+use trac_rules::width::Width;
 use trac_step::{Core, Mark, Record, Tape};
 
 /// Memory of which a request may be refused.
@@ -23,7 +24,7 @@ const MOST_REQUESTS: u64 = 1_000;
 pub(crate) fn made<E: TwoEnds<u8, A>, M: TwoEnds<Mark, A>, A: Allocator + Copy>(
     alloc: A,
 ) -> Result<Core<E, M, A>, Refusal> {
-    Core::new(alloc)
+    Core::new(alloc, Width::W128)
 }
 
 // Why no machine is made.

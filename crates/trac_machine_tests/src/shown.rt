@@ -4,7 +4,7 @@ use trac_forms::{Block, Form, Item, Store};
 use trac_gap::TwoEnds;
 use trac_step::{Args, Core, Kind, Mark};
 
-/// Whole inputs, and what they print. Each run ends with its input.
+/// Whole inputs, and what they print where numbers are of 128 bits. Each run ends with its input.
 pub const PROGRAMS: &[(&[u8], &[u8])] = &[
     (b"", b""),
     (b"AB'", b"AB"),
@@ -25,7 +25,7 @@ pub const PROGRAMS: &[(&[u8], &[u8])] = &[
     (b"(A\nB)'", b"A\nB"),
     (
         b"#(ad,9223372036854775807,1,over);'#(dv,7,0,none);'#(ad,apples5,pears3);'#(dv,-7,2);'#(gr,99999999999999999999,5,yes,no)'",
-        b"over;none;apples8;-3;yes",
+        b"9223372036854775808;none;apples8;-3;yes",
     ),
     (
         b"#(ds,F,yxb)'#(ss,F,y)'#(pf,F)'#(ss,F,x)'#(pf,F)'",
@@ -41,11 +41,19 @@ pub const PROGRAMS: &[(&[u8], &[u8])] = &[
     (b"##(dv,1,0,(#(ad,2,2)))'#(bs,3,12)'", b"420"),
     (
         b"#(ml,3037000499,3037000499,big);#(ml,3037000500,3037000500,big)'",
-        b"9223372030926249001;big",
+        b"9223372030926249001;9223372037000250000",
     ),
     (
         b"#(bs,-9223372036854775808,7);#(br,9223372036854775807,12);#(br,-9223372036854775808,12);#(bs,9223372036854775808,7);'",
-        b"0;24;42;;",
+        b"0;24;42;0;",
+    ),
+    (
+        b"#(ad,170141183460469231731687303715884105727,1,over);#(su,-170141183460469231731687303715884105728,0);#(dv,-170141183460469231731687303715884105728,-1,none)'",
+        b"over;-170141183460469231731687303715884105728;none",
+    ),
+    (
+        b"#(ds,F,abc)#(cn,F,9223372036854775808,Z);#(bs,9223372036854775808,7)'",
+        b"abc;0",
     ),
     (
         b"#(ds,F,abcabc)'#(ss,F,b,ca)'#(pf,F)#(cl,F,-,+)'",

@@ -9,6 +9,7 @@ use std::process::Abort;
 use trac_faults::Refusing;
 use trac_gap::{GapBuf, PlainEnds, TwoEnds};
 use trac_rules::refusal::Refusal;
+use trac_rules::width::Width;
 use trac_step::{Core, Kind, Mark, Pieces, Record, Tape};
 
 /// A begun function that a record keeps: its kind, the bytes of its arguments, and how many of these each `,` ended.
@@ -186,7 +187,7 @@ fn loaded_at_start<E: TwoEnds<u8, A>, M: TwoEnds<Mark, A>, A: Allocator + Copy>(
     parts.mark_room = 3;
     parts.output_room = 2;
     assert!(rt; parts.each_gathers());
-    Core::load(alloc, &parts)
+    Core::load(alloc, &parts, Width::W128)
 }
 
 // Such a machine takes eleven steps and goes back over them.

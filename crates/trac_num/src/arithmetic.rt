@@ -1,31 +1,76 @@
-//! Arithmetic on numbers. `None` stands for a result outside the range.
-ghost use Rattle.std.specs.Prelude.{◌≡◌};
-ghost use Rattle.trac_rules.specs.Number.{difference_of, product_of, quotient_of, sum_of};
+//! Arithmetic on numbers of a width. `None` stands for a result that does not fit. What fits 64 bits is calculated in 64 bits,
+//! since products and quotients of 128 bits take much longer.
+ghost use Rattle.std.specs.Prelude.{◌≡◌, MatchOption, Some, IfSome, false, true};
+ghost use Rattle.trac_rules.specs.Number.{difference_of, fits, if_fits, product_of, quotient_of, sum_of};
+ghost use Rattle.trac_rules.specs.declared.width.Width.TheVariants.{W64};
 
-/// The sum. `None`: it does not fit.
-pub fn add(a: i64, b: i64) -> Option<i64>
-    ensures { result ≡ sum_of a b }
+use trac_rules::width::Width;
+
+// A number in 64 bits. `None`: it does not fit them.
+fn narrow(n: i128) -> Option<i64>
+    ensures { MatchOption result (fits W64 n ≡ false) (λ x. (x ≡ n) × (fits W64 n ≡ true)) }
 {
-    a.checked_add(b)
+    i64::try_from(n).ok()
 }
 
-/// `a` less `b`. `None`: it does not fit.
-pub fn sub(a: i64, b: i64) -> Option<i64>
-    ensures { result ≡ difference_of a b }
+// A number, where it fits the width.
+fn within(n: i128, width: Width) -> Option<i128>
+    ensures { result ≡ if_fits width n }
 {
-    a.checked_sub(b)
+    if width == Width::W64 && narrow(n).is_none() {
+        return None;
+    }
+    Some(n)
 }
 
-/// The product. `None`: it does not fit.
-pub fn mul(a: i64, b: i64) -> Option<i64>
-    ensures { result ≡ product_of a b }
+// The product of numbers of 64 bits, where it is one too.
+fn narrow_product(a: i128, b: i128) -> Option<i64>
+    ensures { IfSome result (λ n. product_of W64 a b ≡ Some n) }
 {
-    a.checked_mul(b)
+    let first = narrow(a)?;
+    let second = narrow(b)?;
+    first.checked_mul(second)
 }
 
-/// `a` by `b`, cut toward zero (this project's profile). `None`: `b` is 0, or the quotient does not fit.
-pub fn div(a: i64, b: i64) -> Option<i64>
-    ensures { result ≡ quotient_of a b }
+// The quotient of numbers of 64 bits, where it is one too.
+fn narrow_quotient(a: i128, b: i128) -> Option<i64>
+    ensures { IfSome result (λ n. quotient_of W64 a b ≡ Some n) }
 {
-    a.checked_div(b)
+    let first = narrow(a)?;
+    let second = narrow(b)?;
+    first.checked_div(second)
+}
+
+/// The sum. `None`: it does not fit the width.
+pub fn add(a: i128, b: i128, width: Width) -> Option<i128>
+    ensures { result ≡ sum_of width a b }
+{
+    within(a.checked_add(b)?, width)
+}
+
+/// `a` less `b`. `None`: it does not fit the width.
+pub fn sub(a: i128, b: i128, width: Width) -> Option<i128>
+    ensures { result ≡ difference_of width a b }
+{
+    within(a.checked_sub(b)?, width)
+}
+
+/// The product. `None`: it does not fit the width.
+pub fn mul(a: i128, b: i128, width: Width) -> Option<i128>
+    ensures { result ≡ product_of width a b }
+{
+    if let Some(n) = narrow_product(a, b) {
+        return Some(n as i128);
+    }
+    within(a.checked_mul(b)?, width)
+}
+
+/// `a` by `b`, cut toward zero (this project's profile). `None`: `b` is 0, or the quotient does not fit the width.
+pub fn div(a: i128, b: i128, width: Width) -> Option<i128>
+    ensures { result ≡ quotient_of width a b }
+{
+    if let Some(n) = narrow_quotient(a, b) {
+        return Some(n as i128);
+    }
+    within(a.checked_div(b)?, width)
 }

@@ -1,4 +1,4 @@
-//! Numbers and octal strings at the ends of texts: decimals are read, calculated within the range of numbers, compared and
+//! Numbers and octal strings at the ends of texts: decimals are read, calculated within the range of a width, compared and
 //! printed, and the bits of octal strings are joined, turned over, moved and rotated.
 #![tactic(auto)]
 
@@ -21,3 +21,4 @@ pub use octal::octal_tail;
 pub use places::{rotate, shift};
 pub use print::print_into;
 pub use tail::{Tail, read_tail};
+pub use trac_rules::width::Width;

@@ -1,5 +1,5 @@
 //! Octal texts moved and rotated by places of a bit. Texts hold octal digits alone, and each digit is three bits.
-ghost use Rattle.std.specs.Prelude.{◌≡◌, ◌<◌, ◌≤◌, ◌+◌, ◌-◌, ◌*◌, ◌++◌, length, take, drop, IfOk, IsTrue};
+ghost use Rattle.std.specs.Prelude.{◌≡◌, ◌<◌, ◌≤◌, ◌+◌, ◌-◌, ◌*◌, ◌/◌, ◌%◌, ◌++◌, length, take, drop, IfOk, IsTrue};
 ghost use Rattle.trac_rules.specs.Octal.{IsOctal, bits_of, digit_bits, is_octal_digit, rotate, shift, shifted_left, shifted_right};
 
 use crate::error::NumError;
@@ -33,31 +33,56 @@ fn slide<A: Allocator>(digits: &mut Vec<u8, A>, skipped: u8)
     digits.truncate(last);
 }
 
+// How many whole digits so many places are, and how many bits more. What fits 64 bits is divided in 64 bits, since a
+// division of 128 bits takes much longer.
+fn digits_and_bits(places: u128) -> (u128, u8)
+    ensures digits { result.0 ≡ places / 3 }
+    ensures bits { result.1 ≡ places % 3 }
+{
+    if let Ok(narrow) = u64::try_from(places) {
+        return ((narrow / 3) as u128, (narrow % 3) as u8);
+    }
+    (places / 3, (places % 3) as u8)
+}
+
+// What is left of so many digits when a length is taken off as often as it can be; in 64 bits, where they fit.
+fn left_of(digits: u128, len: usize) -> usize
+    requires { 0 < len }
+    ensures { result ≡ digits % len }
+{
+    if let Ok(narrow) = usize::try_from(digits) {
+        return narrow % len;
+    }
+    (digits % len as u128) as usize
+}
+
 // Moved to the left, zeros coming in at the right.
-fn shifted_left<A: Allocator + Copy>(alloc: A, by: u64, a: &[u8]) -> Result<Vec<u8, A>, NumError>
+fn shifted_left<A: Allocator + Copy>(alloc: A, by: u128, a: &[u8]) -> Result<Vec<u8, A>, NumError>
     requires { IsOctal a.now }
     ensures bits { IfOk result (λ v. bits_of v.items ≡ shifted_left by (bits_of a.now)) }
     ensures octal { IfOk result (λ v. IsOctal v.items) }
 {
-    let lost = a.len().min((by / 3) as usize);
+    let (whole, part) = digits_and_bits(by);
+    let lost = (a.len() as u128).min(whole) as usize;
     let mut digits = Vec::with_capacity(alloc, a.len() + 1)?;
     digits.extend_from_slice(a.split_at(lost).1)?;
     digits.resize(a.len() + 1, ZERO)?;
-    slide(&mut digits, (by % 3) as u8);
+    slide(&mut digits, part);
     Ok(digits)
 }
 
 // Moved to the right, zeros coming in at the left.
-fn shifted_right<A: Allocator + Copy>(alloc: A, by: u64, a: &[u8]) -> Result<Vec<u8, A>, NumError>
+fn shifted_right<A: Allocator + Copy>(alloc: A, by: u128, a: &[u8]) -> Result<Vec<u8, A>, NumError>
     requires { IsOctal a.now }
     ensures bits { IfOk result (λ v. bits_of v.items ≡ shifted_right by (bits_of a.now)) }
     ensures octal { IfOk result (λ v. IsOctal v.items) }
 {
-    let lost = a.len().min((by / 3) as usize);
+    let (whole, part) = digits_and_bits(by);
+    let lost = (a.len() as u128).min(whole) as usize;
     let mut digits = Vec::with_capacity(alloc, a.len() + 1)?;
     digits.resize(lost + 1, ZERO)?;
     digits.extend_from_slice(a.split_at(a.len() - lost).0)?;
-    slide(&mut digits, 3 - (by % 3) as u8);
+    slide(&mut digits, 3 - part);
     Ok(digits)
 }
 
@@ -84,7 +109,7 @@ fn turned<A: Allocator + Copy>(
 /// An octal text whose bits are moved by so many places, to the left where positive. The length stays, and zeros come in.
 ///
 /// `NumError::Memory`: memory was refused.
-pub fn shift<A: Allocator + Copy>(alloc: A, by: i64, a: &[u8]) -> Result<Vec<u8, A>, NumError>
+pub fn shift<A: Allocator + Copy>(alloc: A, by: i128, a: &[u8]) -> Result<Vec<u8, A>, NumError>
     requires { IsOctal a.now }
     ensures bits { IfOk result (λ v. bits_of v.items ≡ shift by (bits_of a.now)) }
     ensures octal { IfOk result (λ v. IsOctal v.items) }
@@ -98,7 +123,7 @@ pub fn shift<A: Allocator + Copy>(alloc: A, by: i64, a: &[u8]) -> Result<Vec<u8,
 /// An octal text whose bits are rotated by so many places, to the left where positive. An empty text stays empty.
 ///
 /// `NumError::Memory`: memory was refused.
-pub fn rotate<A: Allocator + Copy>(alloc: A, by: i64, a: &[u8]) -> Result<Vec<u8, A>, NumError>
+pub fn rotate<A: Allocator + Copy>(alloc: A, by: i128, a: &[u8]) -> Result<Vec<u8, A>, NumError>
     requires { IsOctal a.now }
     ensures bits { IfOk result (λ v. bits_of v.items ≡ rotate by (bits_of a.now)) }
     ensures octal { IfOk result (λ v. IsOctal v.items) }
@@ -106,9 +131,8 @@ pub fn rotate<A: Allocator + Copy>(alloc: A, by: i64, a: &[u8]) -> Result<Vec<u8
     if a.is_empty() {
         return Ok(Vec::new(alloc));
     }
-    let count = by.unsigned_abs();
-    let whole = (count / 3) as usize % a.len();
-    let part = (count % 3) as u8;
+    let (digits, part) = digits_and_bits(by.unsigned_abs());
+    let whole = left_of(digits, a.len());
     if by < 0 {
         return turned(alloc, a.len() - 1 - whole, 3 - part, a);
     }

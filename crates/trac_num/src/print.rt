@@ -10,7 +10,7 @@ use std::alloc::Allocator;
 /// Adds a number in decimal to the end of a text: `-` where it is negative, no `+` and no leading zeros.
 ///
 /// `Memory`: the text had to grow for it and could not. The text is then as before.
-pub fn print_into<A: Allocator + Copy>(n: i64, out: &mut Vec<u8, A>) -> Result<(), NumError>
+pub fn print_into<A: Allocator + Copy>(n: i128, out: &mut Vec<u8, A>) -> Result<(), NumError>
     ensures ok { OnOk result (out.new.items ≡ out.old.items ++ number_text n) }
     ensures err { OnErr result (out.new.items ≡ out.old.items) }
     ensures full { OnErr result (vec_capacity out.old < length out.old.items + length (number_text n)) }

@@ -1,8 +1,8 @@
 -- The block whose number a text is in decimal.
-use Rattle.std.proofs.Common.{◌≡◌, ℕ, ◌+◌, ◌<◌, ◌^◌, Bool, true, false, List, [], ◌∷◌, ◌++◌, get_or, length, take, refl, sym, ap, subst, ◌∙◌, arith, ⊎_elim, FitsSigned, w64, to_z, of_z, ◌≤ℤ◌, ◌<ℤ◌}
-use Rattle.std.specs.Prelude.{Option, None, Some, ℤ, pos, negsuc, bytes_eq, decimal, is_some, nat_le, option_to_list, slice_get}
-use Rattle.std.proofs.Math.IntN.{nat_abs}
-use Rattle.std.proofs.lemmas.Int.{ints, to_z-of_z}
+use Rattle.std.proofs.Common.{◌≡◌, ℕ, ◌+◌, ◌<◌, ◌^◌, Bool, true, false, List, [], ◌∷◌, ◌++◌, get_or, length, take, refl, sym, ap, subst, ◌∙◌, arith, ⊎_elim, w64, ◌≤ℤ◌, ◌<ℤ◌}
+use Rattle.std.specs.Prelude.{Option, None, Some, ℤ, pos, negsuc, bytes_eq, decimal, is_some, nat_le, option_to_list, slice_get, unsigned_abs}
+use Rattle.std.specs.Int.{FitsUnsigned}
+use Rattle.std.proofs.lemmas.Int.{ints}
 use Rattle.std.proofs.lemmas.Grind.{flat_map-append}
 use Rattle.std.proofs.lemmas.List.{take_more}
 use Rattle.std.proofs.lemmas.Option.{slice_get-get_or}
@@ -10,6 +10,7 @@ use Rattle.trac_rules.specs.declared.item.Item.{Item}
 use Rattle.std.proofs.lemmas.Bool.{and_from, and_right, cases_Bool, leb-false, leb-true, lt-ltb}
 use Rattle.std.proofs.lemmas.List.{get_or_past}
 use Rattle.std.proofs.lemmas.Slice.Eq.{bytes_eq-Decides}
+use Rattle.trac_rules.specs.declared.width.Width.TheVariants.{W64}
 use Rattle.trac_rules.specs.Blocks.{block_at, is_address, number_addressed}
 use Rattle.trac_rules.specs.Form.{Form, all_items}
 use Rattle.trac_rules.specs.Number.{fits, number_of, numeral_of, is_numeral}
@@ -27,22 +28,18 @@ whole_numeral [] is = refl
 whole_numeral (b ∷ text) is = longest_tail_whole is_numeral b text is
 
 -- a number in decimal is read back
-read_back : (k : ℕ) → k < 2 ^ 63 → number_of (numeral_of (decimal k)) ≡ Some (pos k)
+read_back : (k : ℕ) → k < 2 ^ 63 → number_of W64 (numeral_of (decimal k)) ≡ Some (pos k)
 read_back k small =
-    let fit : fits (pos k) ≡ true = within k small in
-    ap number_of (whole_numeral (decimal k) (printed_form (pos k) fit)) ∙ printed_number (pos k) fit
+    let fit : fits W64 (pos k) ≡ true = within k small in
+    ap (number_of W64) (whole_numeral (decimal k) (printed_form W64 (pos k) fit)) ∙ printed_number W64 (pos k) fit
   where
-    within : (n : ℕ) → n < 2 ^ 63 → fits (pos n) ≡ true
+    within : (n : ℕ) → n < 2 ^ 63 → fits W64 (pos n) ≡ true
     within n l = lt-ltb n (2 ^ 63) l
 
--- no number of a block is below zero
-not_below : (k : ℕ) → pos k <ℤ pos 0 → ⊥
-not_below k below = omega (arith, ints)
-
--- a number of the code that is not below zero, as a place
-pub as_place : (z : ℤ) → FitsSigned w64 z → pos 0 ≤ℤ z → pos (nat_abs (to_z w64 (of_z w64 z))) ≡ z
-as_place (pos n) within above = ap (λ (y : ℤ). pos (nat_abs y)) (to_z-of_z w64 (pos n) within)
-as_place (negsuc n) within above = absurd (omega (arith, ints))
+-- a number that is a length, as one
+pub as_place : (z : ℤ) (place : ℕ) → FitsUnsigned w64 z → place ≡ unsigned_abs z → pos place ≡ z
+as_place (pos n) place within e = ap pos e
+as_place (negsuc n) place within e = absurd (omega (arith, ints, within.0))
 
 -- ---- the bytes of a form
 
@@ -57,12 +54,12 @@ bytes_more items i d within =
 
 module _ (form : Form) (text : List ℕ) (blocks : List Block) (small : length blocks < 2 ^ 63) (bytes : bytes_in (all_items form) ≡ text) where
   -- a block whose address the form is has the number that is read
-  number_read : (k : ℕ) → k < length blocks → is_address form blocks k ≡ true → number_of (numeral_of text) ≡ Some (pos k)
+  number_read : (k : ℕ) → k < length blocks → is_address form blocks k ≡ true → number_of W64 (numeral_of text) ≡ Some (pos k)
   number_read k within is =
-      ap (λ (t : List ℕ). number_of (numeral_of t)) (sym (spelled form blocks k is ∙ bytes)) ∙ read_back k (omega (arith, within, small))
+      ap (λ (t : List ℕ). number_of W64 (numeral_of t)) (sym (spelled form blocks k is ∙ bytes)) ∙ read_back k (omega (arith, within, small))
 
   -- none where each that is there has another number
-  none_but : ((k : ℕ) → k < length blocks → number_of (numeral_of text) ≡ Some (pos k) → is_address form blocks k ≡ false) → number_addressed form blocks ≡ None
+  none_but : ((k : ℕ) → k < length blocks → number_of W64 (numeral_of text) ≡ Some (pos k) → is_address form blocks k ≡ false) → number_addressed form blocks ≡ None
   none_but other =
       first_place_none (is_address form blocks) (length blocks) (λ k within.
       ⊎_elim
@@ -71,18 +68,19 @@ module _ (form : Form) (text : List ℕ) (blocks : List Block) (small : length b
       (cases_Bool (is_address form blocks k)))
 
   -- no number is read
-  pub none_read : number_of (numeral_of text) ≡ None → number_addressed form blocks ≡ None
+  pub none_read : number_of W64 (numeral_of text) ≡ None → number_addressed form blocks ≡ None
   none_read none = none_but (λ k within is. absurd (let both : None ≡ Some (pos k) = sym none ∙ is in cc))
 
-  -- the number is below zero
-  pub none_below : (z : ℤ) → number_of (numeral_of text) ≡ Some z → z <ℤ pos 0 → number_addressed form blocks ≡ None
+  -- the number is no length, since it is below zero
+  pub none_below : (z : ℤ) → number_of W64 (numeral_of text) ≡ Some z → (FitsUnsigned w64 z → ⊥) → number_addressed form blocks ≡ None
   none_below z read below = none_but (λ k within is.
       let both : Some z ≡ Some (pos k) = sym read ∙ is in
       let same : z ≡ pos k = cc in
-      absurd (not_below k (subst (λ (y : ℤ). y <ℤ pos 0) same below)))
+      let long : k < 2 ^ 64 = omega (arith, within, small) in
+      absurd (below (subst (FitsUnsigned w64) (sym same) (omega (arith, ints), omega (arith, ints, long)))))
 
   -- no block of that number is live
-  pub none_live : (n : ℕ) → number_of (numeral_of text) ≡ Some (pos n) → block_at n blocks ≡ None → number_addressed form blocks ≡ None
+  pub none_live : (n : ℕ) → number_of W64 (numeral_of text) ≡ Some (pos n) → block_at n blocks ≡ None → number_addressed form blocks ≡ None
   none_live n read erased = none_but (λ k within is.
       let same : Some (pos n) ≡ Some (pos k) = sym read ∙ is in
       let one : n ≡ k = cc in
@@ -90,7 +88,7 @@ module _ (form : Form) (text : List ℕ) (blocks : List Block) (small : length b
       rw gone refl)
 
   -- the number is printed otherwise
-  pub none_spelled : (n : ℕ) → number_of (numeral_of text) ≡ Some (pos n) → bytes_eq (decimal n) text ≡ false → number_addressed form blocks ≡ None
+  pub none_spelled : (n : ℕ) → number_of W64 (numeral_of text) ≡ Some (pos n) → bytes_eq (decimal n) text ≡ false → number_addressed form blocks ≡ None
   none_spelled n read other = none_but (λ k within is.
       let same : Some (pos n) ≡ Some (pos k) = sym read ∙ is in
       let one : n ≡ k = cc in

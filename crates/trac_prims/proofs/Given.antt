@@ -2,6 +2,7 @@
 use Rattle.std.proofs.Common.{◌≡◌, ℕ, List, length, Ok, Some, sym, ap, ◌∙◌}
 use Rattle.std.specs.Prelude.{Option, Vec, true}
 use Rattle.std.specs.FinMap as finite
+use Rattle.trac_rules.specs.declared.width.Width.{Width}
 use Rattle.trac_rules.specs.Effect.{Effect, argument, forces, gives, leaves}
 use Rattle.trac_rules.specs.Form.{Form}
 use Rattle.trac_rules.specs.declared.primitive.FormAction.TheVariants.{Read}
@@ -37,9 +38,9 @@ module _ {A : Type 0} (kept : code.Made A) (arguments : List (List ℕ)) (storag
       ∙ ap (λ (e : Effect). Ok (record e { value = value.items; forced = true })) (sym (keeps (changed {A = A} arguments (Point name place) storage)))
 
 -- a form is there, and this is what is read of it
-pub form_is_read : (reading : FormReading) (arguments : List (List ℕ)) (storage : Storage) (form : Form) (piece : Option Piece) →
-    named_form arguments storage ≡ Some form → piece ≡ piece_read reading arguments form →
-    handled (Read reading) arguments storage ≡ Ok (gives_piece piece (default_argument reading arguments) (argument 1 arguments) form storage)
-form_is_read reading arguments storage form piece there is =
-    ap (λ held. on_form held (λ f. Ok (form_read reading arguments f storage)) storage) there
+pub form_is_read : (reading : FormReading) (width : Width) (arguments : List (List ℕ)) (storage : Storage) (form : Form) (piece : Option Piece) →
+    named_form arguments storage ≡ Some form → piece ≡ piece_read reading width arguments form →
+    handled (Read reading) width arguments storage ≡ Ok (gives_piece piece (default_argument reading arguments) (argument 1 arguments) form storage)
+form_is_read reading width arguments storage form piece there is =
+    ap (λ held. on_form held (λ f. Ok (form_read reading width arguments f storage)) storage) there
     ∙ ap (λ p. Ok (gives_piece p (default_argument reading arguments) (argument 1 arguments) form storage)) (sym is)

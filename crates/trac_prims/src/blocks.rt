@@ -23,6 +23,7 @@ use trac_forms::{Block, Form, Item, Store, Texts};
 use trac_num::{print_into, read_tail, value};
 use trac_rules::limit::{BLOCK_LIMIT, FORM_COUNT_LIMIT, NAME_LIMIT};
 use trac_rules::refusal::Refusal;
+use trac_rules::width::Width;
 
 /// A form with its name.
 type Named<A> = (Vec<u8, A>, Form<A>);
@@ -174,7 +175,7 @@ fn decimal_of<A: Allocator + Copy>(alloc: A, number: usize) -> Result<Vec<u8, A>
     ensures err { IsOkUnless result Refusal.Memory }
 {
     let mut text = Vec::new(alloc);
-    print_into(number as i64, &mut text)?;
+    print_into(number as i128, &mut text)?;
     Ok(text)
 }
 
@@ -230,19 +231,21 @@ fn addressed<'a, A: Allocator + Copy>(
     ensures err { IsOkUnless result Refusal.Memory }
 {
     let _count = store.block_count();
-    let Some(number) = value(read_tail(text).numeral) else {
+    // Whatever the width of the program's numbers, the number of a block fits 64 bits.
+    let Some(number) = value(read_tail(text).numeral, Width::W64) else {
         return Ok(None);
     };
-    if number < 0 {
+    // No block has a number below zero.
+    let Ok(place) = usize::try_from(number) else {
         return Ok(None);
-    }
-    let Some(block) = store.block(number as usize) else {
+    };
+    let Some(block) = store.block(place) else {
         return Ok(None);
     };
     let mut digits = Vec::new(alloc);
     print_into(number, &mut digits)?;
     if digits.as_slice() == text {
-        return Ok(Some((number as usize, block)));
+        return Ok(Some((place, block)));
     }
     Ok(None)
 }

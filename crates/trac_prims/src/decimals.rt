@@ -12,6 +12,7 @@ use std::alloc::Allocator;
 use trac_num::{add, div, mul, print_into, read_tail, sub, value};
 use trac_rules::primitive::Operation;
 use trac_rules::refusal::Refusal;
+use trac_rules::width::Width;
 
 // `ad`, `su`, `ml` and `dv`: the prefix of the first number, and then the result; where there is no result the default
 // argument, which is forced.
@@ -19,10 +20,11 @@ pub(crate) fn calculate<A: Allocator + Copy>(
     alloc: A,
     operation: Operation,
     args: &Args<'_>,
+    width: Width,
 ) -> Result<Made<A>, Refusal>
-    ensures { (storage : Storage) → IsMade storage (Ok (computed (Calculate operation) args.now storage)) result }
+    ensures { (storage : Storage) → IsMade storage (Ok (computed (Calculate operation) width args.now storage)) result }
 {
-    let Some(n) = result_on(operation, args) else {
+    let Some(n) = result_on(operation, args, width) else {
         let value = Vec::from_slice(alloc, args.get(3))?;
         return Ok(Made {
             value,
@@ -38,27 +40,32 @@ pub(crate) fn calculate<A: Allocator + Copy>(
     })
 }
 
-// The number of an argument, its prefix dropped; none where it does not fit.
-pub(crate) fn number_at(args: &Args<'_>, k: usize) -> Option<i64>
-    ensures { result ≡ number_argument k args.now }
+// The number of an argument, its prefix dropped; none where it does not fit the width.
+pub(crate) fn number_at(args: &Args<'_>, k: usize, width: Width) -> Option<i128>
+    ensures { result ≡ number_argument width k args.now }
 {
-    value(read_tail(args.get(k)).numeral)
+    value(read_tail(args.get(k)).numeral, width)
 }
 
 // The result of an operation on the numbers of the two arguments after the name, if it fits.
-fn result_on(operation: Operation, args: &Args<'_>) -> Option<i64>
-    ensures { result ≡ on_both (result_of operation) (number_argument 1 args.now) (number_argument 2 args.now) }
+fn result_on(operation: Operation, args: &Args<'_>, width: Width) -> Option<i128>
+    ensures { result ≡ on_both (result_of operation width) (number_argument width 1 args.now) (number_argument width 2 args.now) }
 {
-    operate(operation, number_at(args, 1)?, number_at(args, 2)?)
+    operate(
+        operation,
+        number_at(args, 1, width)?,
+        number_at(args, 2, width)?,
+        width,
+    )
 }
 
-fn operate(operation: Operation, a: i64, b: i64) -> Option<i64>
-    ensures { result ≡ result_of operation a b }
+fn operate(operation: Operation, a: i128, b: i128, width: Width) -> Option<i128>
+    ensures { result ≡ result_of operation width a b }
 {
     match operation {
-        Operation::Add => add(a, b),
-        Operation::Subtract => sub(a, b),
-        Operation::Multiply => mul(a, b),
-        Operation::Divide => div(a, b),
+        Operation::Add => add(a, b, width),
+        Operation::Subtract => sub(a, b, width),
+        Operation::Multiply => mul(a, b, width),
+        Operation::Divide => div(a, b, width),
     }
 }

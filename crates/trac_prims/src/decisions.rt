@@ -5,6 +5,7 @@ ghost use Rattle.trac_rules.specs.Effect.{gives};
 ghost use Rattle.trac_rules.specs.State.{Storage};
 ghost use Rattle.trac_rules.specs.declared.primitive.Computation.TheVariants.{Equal, Greater};
 ghost use Rattle.trac_prims.specs.Effects.{IsMade};
+ghost use Rattle.trac_rules.specs.declared.width.Width.{Width};
 
 use crate::args::Args;
 use crate::made::Made;
@@ -17,7 +18,7 @@ pub(crate) fn equal_texts<A: Allocator + Copy>(
     alloc: A,
     args: &Args<'_>,
 ) -> Result<Made<A>, Refusal>
-    ensures { (storage : Storage) → IsMade storage (Ok (computed Equal args.now storage)) result }
+    ensures { (width : Width) (storage : Storage) → IsMade storage (Ok (computed Equal width args.now storage)) result }
 {
     choice(alloc, args.get(1) == args.get(2), args)
 }
@@ -27,7 +28,7 @@ pub(crate) fn greater_number<A: Allocator + Copy>(
     alloc: A,
     args: &Args<'_>,
 ) -> Result<Made<A>, Refusal>
-    ensures { (storage : Storage) → IsMade storage (Ok (computed Greater args.now storage)) result }
+    ensures { (width : Width) (storage : Storage) → IsMade storage (Ok (computed Greater width args.now storage)) result }
 {
     let first = read_tail(args.get(1)).numeral;
     let second = read_tail(args.get(2)).numeral;

@@ -6,6 +6,7 @@ ghost use Rattle.trac_prims.specs.Effects.{changed, effect_on, planned_from, pla
 use crate::change::Change;
 use crate::made::Made;
 use std::alloc::{Allocator, Global};
+use trac_rules::width::Width;
 
 /// What a call will do, its pieces already made. Position, meta character and trace are those after the call.
 #[derive(Drop)]
@@ -39,6 +40,8 @@ pub struct Now {
     pub output: usize,
     /// How many bytes the active text and the neutral text hold without the call: its arguments and the `)` that ends it.
     pub text: usize,
+    /// How wide numbers are.
+    pub width: Width,
 }
 
 // What a call will do, from what its primitive made and changes, and from what is so now.

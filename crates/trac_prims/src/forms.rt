@@ -12,6 +12,7 @@ ghost use Rattle.trac_rules.specs.declared.primitive.FormAction.TheVariants.{Def
 ghost use Rattle.trac_rules.specs.declared.primitive.Primitive.TheVariants.{Handle};
 ghost use Rattle.trac_prims.specs.Changes.{IsChangeOf};
 ghost use Rattle.trac_prims.specs.Effects.{IsDone, IsMade, done_on, texts_of};
+ghost use Rattle.trac_rules.specs.declared.width.Width.{Width};
 
 use crate::args::{Args, Behind};
 use crate::change::Change;
@@ -27,7 +28,7 @@ pub(crate) fn define<A: Allocator + Copy>(
     args: &Args<'_>,
     store: &Store<A>,
 ) -> Result<Done<A>, Refusal>
-    ensures outcome { IsDone args.now (storage_in store.now) (handled Define args.now (storage_in store.now)) result }
+    ensures outcome { (width : Width) → IsDone args.now (storage_in store.now) (handled Define width args.now (storage_in store.now)) result }
     ensures change { IfOk result (λ d. IsChangeOf (Handle Define) args.now (storage_in store.now) d.change) }
 {
     let form = Form::new(alloc, args.get(2))?;
@@ -36,7 +37,7 @@ pub(crate) fn define<A: Allocator + Copy>(
 
 // `dd`: the forms of some names are deleted.
 pub(crate) fn delete<A: Allocator + Copy>(alloc: A, args: &Args<'_>) -> Result<Done<A>, Refusal>
-    ensures outcome { (storage : Storage) → IsDone args.now storage (handled Delete args.now storage) result }
+    ensures outcome { (width : Width) (storage : Storage) → IsDone args.now storage (handled Delete width args.now storage) result }
     ensures change { IfOk result (λ d. (storage : Storage) → IsChangeOf (Handle Delete) args.now storage d.change) }
 {
     let names = copies(alloc, &args.behind(1))?;
@@ -58,7 +59,7 @@ pub(crate) fn segment<A: Allocator + Copy>(
     store: &Store<A>,
 ) -> Result<Done<A>, Refusal>
     requires { length args.now ≤ MARK_LIMIT }
-    ensures outcome { IsDone args.now (storage_in store.now) (handled Segment args.now (storage_in store.now)) result }
+    ensures outcome { (width : Width) → IsDone args.now (storage_in store.now) (handled Segment width args.now (storage_in store.now)) result }
     ensures change { IfOk result (λ d. IsChangeOf (Handle Segment) args.now (storage_in store.now) d.change) }
 {
     let name = args.get(1);
@@ -79,7 +80,7 @@ pub(crate) fn restore<A: Allocator + Copy>(
     args: &Args<'_>,
     store: &Store<A>,
 ) -> Result<Done<A>, Refusal>
-    ensures outcome { IsDone args.now (storage_in store.now) (handled Restore args.now (storage_in store.now)) result }
+    ensures outcome { (width : Width) → IsDone args.now (storage_in store.now) (handled Restore width args.now (storage_in store.now)) result }
     ensures change { IfOk result (λ d. IsChangeOf (Handle Restore) args.now (storage_in store.now) d.change) }
 {
     let name = args.get(1);
@@ -96,7 +97,7 @@ pub(crate) fn call<A: Allocator + Copy>(
     args: &Args<'_>,
     store: &Store<A>,
 ) -> Result<Made<A>, Refusal>
-    ensures { IsMade (storage_in store.now) (handled CallForm args.now (storage_in store.now)) result }
+    ensures { (width : Width) → IsMade (storage_in store.now) (handled CallForm width args.now (storage_in store.now)) result }
 {
     let Some(form) = store.get(args.get(1)) else {
         return Ok(Made::keeping(alloc));
@@ -119,7 +120,7 @@ pub(crate) fn list_names<A: Allocator + Copy>(
     args: &Args<'_>,
     store: &Store<A>,
 ) -> Result<Made<A>, Refusal>
-    ensures { IsMade (storage_in store.now) (handled ListNames args.now (storage_in store.now)) result }
+    ensures { (width : Width) → IsMade (storage_in store.now) (handled ListNames width args.now (storage_in store.now)) result }
 {
     let text = args.get(1);
     let names = store.names()?;
@@ -139,7 +140,7 @@ pub(crate) fn print_form<A: Allocator + Copy>(
     args: &Args<'_>,
     store: &Store<A>,
 ) -> Result<Made<A>, Refusal>
-    ensures { IsMade (storage_in store.now) (handled PrintForm args.now (storage_in store.now)) result }
+    ensures { (width : Width) → IsMade (storage_in store.now) (handled PrintForm width args.now (storage_in store.now)) result }
 {
     let Some(form) = store.get(args.get(1)) else {
         return Ok(Made::keeping(alloc));

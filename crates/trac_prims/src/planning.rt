@@ -35,6 +35,7 @@ use trac_rules::kind::Kind;
 use trac_rules::limit::{MARK_LIMIT, OUTPUT_LIMIT, TEXT_LIMIT};
 use trac_rules::primitive::{BlockAction, Computation, FormAction, Primitive};
 use trac_rules::refusal::Refusal;
+use trac_rules::width::Width;
 
 /// What the call of these arguments by a function of this kind will do, the first of them being the name: everything,
 /// its pieces already made. The primitives are those of T-64, with this project's profile.
@@ -57,7 +58,7 @@ pub fn plan<A: Allocator + Copy>(
     requires text { now.text ≤ TEXT_LIMIT }
     requires output { now.output ≤ OUTPUT_LIMIT }
     ensures outcome { (call : Call) → IsGiven call kind args.now store.now now →
-        MayAnswer (planned_on args.now (storage_of call.state)) (seen_as (planned_from now) (limited (fits_after call) (performed (environment_of tape.entry) call))) result }
+        MayAnswer (planned_on args.now (storage_of call.state)) (seen_as (planned_from now) (limited (fits_after call) (performed (environment_of now.width tape.entry) call))) result }
     ensures within { IfOk result (λ e. e.position ≤ length tape.entry.bytes.now) }
     ensures place { IfOk result (HasPlace now) }
     ensures change { IfOk result (λ e. IsChangeOf (primitive_of (argument 0 args.now)) args.now (storage_in store.now) e.change) }
@@ -91,7 +92,7 @@ fn perform<A: Allocator + Copy>(
 ) -> Result<Done<A>, Refusal>
     requires position { now.position ≤ length tape.bytes.now }
     requires count { length args.now ≤ MARK_LIMIT }
-    ensures outcome { (s : State) → IsNow s store.now now → IsDone args.now (storage_of s) (effect_of primitive (environment_of tape.entry) args.now s) result }
+    ensures outcome { (s : State) → IsNow s store.now now → IsDone args.now (storage_of s) (effect_of primitive (environment_of now.width tape.entry) args.now s) result }
     ensures within { IfOk result (λ d. now.position + d.made.read ≤ length tape.entry.bytes.now) }
     ensures change { IfOk result (λ d. IsChangeOf primitive args.now (storage_in store.now) d.change) }
 {
@@ -102,8 +103,8 @@ fn perform<A: Allocator + Copy>(
         Primitive::Halt => Err(Refusal::Ended),
         Primitive::SetMeta => unchanged(Ok(set_meta(alloc, args))),
         Primitive::SetTrace(trace) => unchanged(Ok(set_trace(alloc, trace))),
-        Primitive::Compute(computation) => unchanged(compute(alloc, computation, args)),
-        Primitive::Handle(action) => handle(alloc, action, args, store),
+        Primitive::Compute(computation) => unchanged(compute(alloc, computation, args, now.width)),
+        Primitive::Handle(action) => handle(alloc, action, args, store, now.width),
         Primitive::HandleBlock(action) => handle_block(alloc, action, args, store),
         Primitive::Unknown => Ok(Done::changing(alloc, Change::Keep)),
     }
@@ -114,18 +115,19 @@ fn compute<A: Allocator + Copy>(
     alloc: A,
     computation: Computation,
     args: &Args<'_>,
+    width: Width,
 ) -> Result<Made<A>, Refusal>
-    ensures { (storage : Storage) → IsMade storage (Ok (computed computation args.now storage)) result }
+    ensures { (storage : Storage) → IsMade storage (Ok (computed computation width args.now storage)) result }
 {
     match computation {
         Computation::Equal => equal_texts(alloc, args),
         Computation::Greater => greater_number(alloc, args),
-        Computation::Calculate(operation) => calculate(alloc, operation, args),
+        Computation::Calculate(operation) => calculate(alloc, operation, args, width),
         Computation::Union => union_of(alloc, args),
         Computation::Meet => meet_of(alloc, args),
         Computation::Complement => complement_of(alloc, args),
-        Computation::Shift => shift_of(alloc, args),
-        Computation::Rotate => rotation_of(alloc, args),
+        Computation::Shift => shift_of(alloc, args, width),
+        Computation::Rotate => rotation_of(alloc, args, width),
     }
 }
 
@@ -135,9 +137,10 @@ fn handle<A: Allocator + Copy>(
     action: FormAction,
     args: &Args<'_>,
     store: &Store<A>,
+    width: Width,
 ) -> Result<Done<A>, Refusal>
     requires { length args.now ≤ MARK_LIMIT }
-    ensures outcome { IsDone args.now (storage_in store.now) (handled action args.now (storage_in store.now)) result }
+    ensures outcome { IsDone args.now (storage_in store.now) (handled action width args.now (storage_in store.now)) result }
     ensures change { IfOk result (λ d. IsChangeOf (primitive.Handle action) args.now (storage_in store.now) d.change) }
 {
     match action {
@@ -147,7 +150,7 @@ fn handle<A: Allocator + Copy>(
         FormAction::Segment => segment(alloc, args, store),
         FormAction::Restore => restore(alloc, args, store),
         FormAction::Call => unchanged(call(alloc, args, store)),
-        FormAction::Read(reading) => read(alloc, reading, args, store),
+        FormAction::Read(reading) => read(alloc, reading, args, store, width),
         FormAction::ListNames => unchanged(list_names(alloc, args, store)),
         FormAction::PrintForm => unchanged(print_form(alloc, args, store)),
     }

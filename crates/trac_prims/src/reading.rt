@@ -20,6 +20,7 @@ use std::alloc::Allocator;
 use trac_forms::{Form, Piece, Store};
 use trac_rules::primitive::FormReading;
 use trac_rules::refusal::Refusal;
+use trac_rules::width::Width;
 
 // `cs`, `cc`, `cn` and `in`: what is read of a form at its pointer, and the pointer where it stands then; where there is
 // nothing to read the default argument, which is forced, and the pointer where it stands already.
@@ -28,15 +29,16 @@ pub(crate) fn read<A: Allocator + Copy>(
     reading: FormReading,
     args: &Args<'_>,
     store: &Store<A>,
+    width: Width,
 ) -> Result<Done<A>, Refusal>
-    ensures outcome { IsDone args.now (storage_in store.now) (handled (Read reading) args.now (storage_in store.now)) result }
+    ensures outcome { IsDone args.now (storage_in store.now) (handled (Read reading) width args.now (storage_in store.now)) result }
     ensures change { IfOk result (λ d. IsChangeOf (Handle (Read reading)) args.now (storage_in store.now) d.change) }
 {
     let name = args.get(1);
     let Some(form) = store.get(name) else {
         return Ok(Done::changing(alloc, Change::Keep));
     };
-    match piece_of(reading, args, form)? {
+    match piece_of(reading, args, form, width)? {
         Some(piece) => give(alloc, name, form, &piece),
         None => force(alloc, name, form, args.get(default_place(reading))),
     }
@@ -47,15 +49,16 @@ fn piece_of<A: Allocator + Copy>(
     reading: FormReading,
     args: &Args<'_>,
     form: &Form<A>,
+    width: Width,
 ) -> Result<Option<Piece>, Refusal>
-    ensures read { IfOk result (λ found. option_map (λ piece. taken piece form.now) found ≡ piece_read reading args.now form.now) }
+    ensures read { IfOk result (λ found. option_map (λ piece. taken piece form.now) found ≡ piece_read reading width args.now form.now) }
     ensures there { IfOk result (λ found. IfSome found (IsThere form.now)) }
     ensures err { IsOkUnless result Refusal.Memory }
 {
     match reading {
         FormReading::ReadSegment => Ok(form.read_segment()),
         FormReading::ReadChar => Ok(form.read_char()),
-        FormReading::ReadCount => Ok(form.read_count(number_at(args, 2).unwrap_or(0))),
+        FormReading::ReadCount => Ok(form.read_count(number_at(args, 2, width).unwrap_or(0))),
         FormReading::ReadUntil => Ok(form.read_until(args.get(2))?),
     }
 }

@@ -6,6 +6,7 @@ use std::alloc::{AllocError, Allocator, Global};
 use std::process::Abort;
 use std::test::Fail;
 use trac_faults::Refusing;
+use trac_rules::width::Width;
 use trac_run::{Ending, Options, run};
 
 // What was met is as wanted, where so many bytes came at a time.
@@ -24,6 +25,7 @@ fn run_over<A: Allocator + Copy>(
     let options = Options {
         budget: 1_000_000_000,
         journal: 64,
+        decimals: Width::W128,
     };
     let mut reader = reader_of(input, most, fault);
     let mut writer = writer_of(rt.alloc(), fault);

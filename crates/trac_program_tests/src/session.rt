@@ -4,6 +4,7 @@ use std::alloc::{AllocError, Allocator};
 use std::io::{Read, Write};
 use std::process::Abort;
 use trac_debug::debug;
+use trac_rules::width::Width;
 use trac_run::{Ending, Options};
 
 /// How a session over this tape ends.
@@ -16,6 +17,7 @@ pub(crate) fn session<R: Read, W: Write, A: Allocator + Copy>(
     let options = Options {
         budget: 1_000_000_000,
         journal: 64,
+        decimals: Width::W128,
     };
     debug(alloc, tape, commands, output, options)
 }

@@ -2,6 +2,7 @@
 //! `tests/endings`.
 use std::alloc::{AllocError, Global};
 use std::test::Fail;
+use trac_rules::width::Width;
 use trac_run::Options;
 use trac_words::words::{Line, read_line};
 
@@ -26,6 +27,7 @@ const LINES: &[(&[&str], Option<&str>, Options)] = &[
         Options {
             budget: 1_000_000_000,
             journal: 65_536,
+            decimals: Width::W128,
         },
     ),
     (
@@ -34,6 +36,7 @@ const LINES: &[(&[&str], Option<&str>, Options)] = &[
         Options {
             budget: 19,
             journal: 7,
+            decimals: Width::W128,
         },
     ),
     (
@@ -42,6 +45,7 @@ const LINES: &[(&[&str], Option<&str>, Options)] = &[
         Options {
             budget: 1_000_000_000_000,
             journal: 1_048_576,
+            decimals: Width::W128,
         },
     ),
     (
@@ -50,6 +54,34 @@ const LINES: &[(&[&str], Option<&str>, Options)] = &[
         Options {
             budget: 1_000_000_000,
             journal: 9,
+            decimals: Width::W128,
+        },
+    ),
+    (
+        &["trac", "run", "--decimals", "64"],
+        None,
+        Options {
+            budget: 1_000_000_000,
+            journal: 65_536,
+            decimals: Width::W64,
+        },
+    ),
+    (
+        &["trac", "run", "--decimals=128"],
+        None,
+        Options {
+            budget: 1_000_000_000,
+            journal: 65_536,
+            decimals: Width::W128,
+        },
+    ),
+    (
+        &["trac", "debug", "F", "--decimals", "64", "--journal", "9"],
+        Some("F"),
+        Options {
+            budget: 1_000_000_000,
+            journal: 9,
+            decimals: Width::W64,
         },
     ),
 ];

@@ -29,6 +29,7 @@ use Rattle.trac_rules.specs.Reading.{byte_read, read_up_to, rest_read, unread}
 use Rattle.trac_rules.specs.Scanning.{Call, Scanned, Moves, Calls, scan}
 use Rattle.trac_rules.specs.Segmenting.{segmented}
 use Rattle.trac_rules.specs.Showing.{shown}
+use Rattle.trac_rules.specs.declared.width.Width.{Width}
 use Rattle.trac_rules.specs.State.{Environment, State, Storage, storage_of}
 use Rattle.trac_rules.specs.Stepping.{carried_out, step}
 use Rattle.trac_rules.proofs.Outcomes.{limited_Ok}
@@ -64,21 +65,21 @@ piece_leaves : (n : ℕ) (piece : Option Piece) (other name : List ℕ) (form : 
 piece_leaves n None other name form storage l = l
 piece_leaves n (Some piece) other name form storage l = l
 
-handled_leaves : (n : ℕ) (action : FormAction) (arguments : List (List ℕ)) (storage : Storage) → HasBlocks n storage → LeavesBlocks n (handled action arguments storage)
-handled_leaves n Define arguments storage l = putting_leaves n (argument 1 arguments) (defined (argument 2 arguments)) storage l
-handled_leaves n Segment arguments storage l =
+handled_leaves : (n : ℕ) (action : FormAction) (width : Width) (arguments : List (List ℕ)) (storage : Storage) → HasBlocks n storage → LeavesBlocks n (handled action width arguments storage)
+handled_leaves n Define width arguments storage l = putting_leaves n (argument 1 arguments) (defined (argument 2 arguments)) storage l
+handled_leaves n Segment width arguments storage l =
     on_form_leaves n (named_form arguments storage) (λ form. putting (argument 1 arguments) (segmented (drop 2 arguments) form) storage) storage l
     (λ form. putting_leaves n (argument 1 arguments) (segmented (drop 2 arguments) form) storage l)
-handled_leaves n Restore arguments storage l =
+handled_leaves n Restore width arguments storage l =
     on_form_leaves n (named_form arguments storage) (λ form. Ok (leaves (pointing (argument 1 arguments) 0 form storage))) storage l (λ form. l)
-handled_leaves n CallForm arguments storage l =
+handled_leaves n CallForm width arguments storage l =
     on_form_leaves n (named_form arguments storage) (λ form. Ok (gives (called (drop 2 arguments) form) storage)) storage l (λ form. l)
-handled_leaves n (Read reading) arguments storage l =
-    on_form_leaves n (named_form arguments storage) (λ form. Ok (form_read reading arguments form storage)) storage l
-    (λ form. piece_leaves n (piece_read reading arguments form) (default_argument reading arguments) (argument 1 arguments) form storage l)
-handled_leaves n PrintForm arguments storage l =
+handled_leaves n (Read reading) width arguments storage l =
+    on_form_leaves n (named_form arguments storage) (λ form. Ok (form_read reading width arguments form storage)) storage l
+    (λ form. piece_leaves n (piece_read reading width arguments form) (default_argument reading arguments) (argument 1 arguments) form storage l)
+handled_leaves n PrintForm width arguments storage l =
     on_form_leaves n (named_form arguments storage) (λ form. Ok (prints (shown form) storage)) storage l (λ form. l)
-handled_leaves n action arguments storage l = l
+handled_leaves n action width arguments storage l = l
 
 -- ---- calls on blocks
 
@@ -122,14 +123,14 @@ meta_leaves : (n : ℕ) (text : List ℕ) (storage : Storage) → HasBlocks n st
 meta_leaves n [] storage l = l
 meta_leaves n (b ∷ bytes) storage l = l
 
-computed_leaves : (n : ℕ) (computation : Computation) (arguments : List (List ℕ)) (storage : Storage) → HasBlocks n storage →
-    HasBlocks n (computed computation arguments storage).storage
-computed_leaves n (Calculate operation) arguments storage l = either (calculated (result_of operation) (argument 1 arguments) (argument 2 arguments))
+computed_leaves : (n : ℕ) (computation : Computation) (width : Width) (arguments : List (List ℕ)) (storage : Storage) → HasBlocks n storage →
+    HasBlocks n (computed computation width arguments storage).storage
+computed_leaves n (Calculate operation) width arguments storage l = either (calculated (result_of operation) width (argument 1 arguments) (argument 2 arguments))
   where
     either : (value : Option (List ℕ)) → HasBlocks n (gives_or_forces value (argument 3 arguments) storage).storage
     either None = l
     either (Some value) = l
-computed_leaves n computation arguments storage l = l
+computed_leaves n computation width arguments storage l = l
 
 effect_leaves : (n : ℕ) (primitive : Primitive) (environment : Environment) (arguments : List (List ℕ)) (s : State) → HasBlocks n (storage_of s) →
     LeavesBlocks n (effect_of primitive environment arguments s)
@@ -138,8 +139,8 @@ effect_leaves n ReadString environment arguments s l =
 effect_leaves n ReadByte environment arguments s l = byte_leaves n (unread environment.tape s) environment.tape.ended (storage_of s) l
 effect_leaves n Halt environment arguments s l = tt
 effect_leaves n SetMeta environment arguments s l = meta_leaves n (argument 1 arguments) (storage_of s) l
-effect_leaves n (Compute computation) environment arguments s l = computed_leaves n computation arguments (storage_of s) l
-effect_leaves n (Handle action) environment arguments s l = handled_leaves n action arguments (storage_of s) l
+effect_leaves n (Compute computation) environment arguments s l = computed_leaves n computation environment.width arguments (storage_of s) l
+effect_leaves n (Handle action) environment arguments s l = handled_leaves n action environment.width arguments (storage_of s) l
 effect_leaves n (HandleBlock action) environment arguments s l = block_handled_leaves n action arguments (storage_of s) l
 effect_leaves n primitive environment arguments s l = l
 

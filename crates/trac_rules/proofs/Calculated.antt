@@ -1,7 +1,7 @@
 -- A quotient is cut toward zero, and what is printed is read back.
-use Rattle.std.proofs.Common.{◌≡◌, ℕ, zero, suc, ◌-◌, ◌/◌, ◌^◌, ◌<◌, ◌==◌, true, false, ℤ, pos, negsuc, neg_ℤ, unsigned_abs, int_div, int_rem, List, ◌∷◌, length, get_or, Some, refl, sym, ap, ◌∙◌, arith, ⊎_elim}
+use Rattle.std.proofs.Common.{◌≡◌, ◌+ℤ◌, ◌-ℤ◌, ◌*ℤ◌, ℕ, zero, suc, ◌-◌, ◌/◌, ◌^◌, ◌<◌, ◌==◌, true, false, ℤ, pos, negsuc, neg_ℤ, unsigned_abs, int_div, int_rem, List, ◌∷◌, length, get_or, Some, refl, sym, ap, ◌∙◌, arith, ⊎_elim}
 use Rattle.std.proofs.Math.Nat.{div-mul-le_self}
-use Rattle.std.proofs.lemmas.Bool.{and_parts, and_from, cases_Bool, false≢true, lt-ltb, ltb-true, leb-true, ne_eqb}
+use Rattle.std.proofs.lemmas.Bool.{and_parts, and_from, cases_Bool, false≢true, le-leb, lt-ltb, ltb-true, leb-true, ne_eqb}
 use Rattle.std.proofs.lemmas.Bool.Decides.{Decides-int_eq}
 use Rattle.std.proofs.lemmas.Fmt.{decimal_is_IsNumeral_wide}
 use Rattle.std.proofs.lemmas.Int.{quot-rem, rem_below, unsigned_abs-mul}
@@ -11,7 +11,12 @@ use Rattle.std.specs.Fmt.{decimal}
 use Rattle.std.specs.Ordering.{int_eq}
 use Rattle.std.specs.Str.{all_ascii_digits}
 use Rattle.std.specs.Str.Parse.{digits_value}
-use Rattle.trac_rules.specs.Number.{IsCutQuotient, fits, if_fits, is_numeral, number_of, number_text, quotient_of, whole_number}
+use Rattle.trac_rules.specs.declared.primitive.Operation.{Operation}
+use Rattle.trac_rules.specs.declared.primitive.Operation.TheVariants.{Add, Subtract, Multiply, Divide}
+use Rattle.trac_rules.specs.declared.width.Width.{Width}
+use Rattle.trac_rules.specs.declared.width.Width.TheVariants.{W64, W128}
+use Rattle.trac_rules.specs.Computing.{result_of}
+use Rattle.trac_rules.specs.Number.{IsCutQuotient, difference_of, fits, if_fits, is_numeral, number_of, number_text, product_of, quotient_of, sum_of, whole_number}
 
 -- ---- quotients
 
@@ -30,14 +35,14 @@ size_of_quotient (pos m) (negsuc n) = size_of_minus (m / suc n)
 size_of_quotient (negsuc m) (pos n) = size_of_minus (suc m / n)
 size_of_quotient (negsuc m) (negsuc n) = refl
 
-pub quotient_is_cut : (a b q : ℤ) → quotient_of a b ≡ Some q → IsCutQuotient a b q
+pub quotient_is_cut : (width : Width) (a b q : ℤ) → quotient_of width a b ≡ Some q → IsCutQuotient a b q
 unfolding quotient_of
-quotient_is_cut a b q e =
+quotient_is_cut width a b q e =
     ⊎_elim
     (λ (t : int_eq b (pos 0) ≡ true). let missing = rw t at e in absurd (none-some q missing))
     (λ (f : int_eq b (pos 0) ≡ false).
-    let kept : if_fits (int_div a b) ≡ Some q = rw f at e in
-    let same : int_div a b ≡ q = (cond_some (fits (int_div a b)) (int_div a b) q kept).1 in
+    let kept : if_fits width (int_div a b) ≡ Some q = rw f at e in
+    let same : int_div a b ≡ q = (cond_some (fits width (int_div a b)) (int_div a b) q kept).1 in
     rw (← same) (record {
       remainder = int_rem a b;
       whole = sym (quot-rem a b);
@@ -83,17 +88,45 @@ unfolding whole_number
 minus_number n text d = ap (λ k. neg_ℤ (pos k)) d.value
 
 -- the numbers of the range have less than 64 digits
-narrow_plus : (k : ℕ) → fits (pos k) ≡ true → k < 10 ^ 64
-narrow_plus k t = omega (arith, ltb-true k (2 ^ 63) t)
+narrow_plus : (width : Width) (k : ℕ) → fits width (pos k) ≡ true → k < 10 ^ 64
+narrow_plus W64 k t = omega (arith, ltb-true k (2 ^ 63) t)
+narrow_plus W128 k t = omega (arith, ltb-true k (2 ^ 127) t)
 
-narrow_minus : (k : ℕ) → fits (negsuc k) ≡ true → suc k < 10 ^ 64
-narrow_minus k t = omega (arith, leb-true k (2 ^ 63 - 1) (and_parts _ _ t).0)
+narrow_minus : (width : Width) (k : ℕ) → fits width (negsuc k) ≡ true → suc k < 10 ^ 64
+narrow_minus W64 k t = omega (arith, leb-true k (2 ^ 63 - 1) (and_parts _ _ t).0)
+narrow_minus W128 k t = omega (arith, leb-true k (2 ^ 127 - 1) (and_parts _ _ t).0)
 
-pub printed_form : (n : ℤ) → fits n ≡ true → is_numeral (number_text n) ≡ true
-printed_form (pos k) t = plain_form k (decimal k) (decimal_is k (narrow_plus k t))
-printed_form (negsuc k) t = minus_form (suc k) (decimal (suc k)) (decimal_is (suc k) (narrow_minus k t))
+pub printed_form : (width : Width) (n : ℤ) → fits width n ≡ true → is_numeral (number_text n) ≡ true
+printed_form width (pos k) t = plain_form k (decimal k) (decimal_is k (narrow_plus width k t))
+printed_form width (negsuc k) t = minus_form (suc k) (decimal (suc k)) (decimal_is (suc k) (narrow_minus width k t))
 
-pub printed_number : (n : ℤ) → fits n ≡ true → number_of (number_text n) ≡ Some n
+pub printed_number : (width : Width) (n : ℤ) → fits width n ≡ true → number_of width (number_text n) ≡ Some n
 unfolding number_of
-printed_number (pos k) t = rw (plain_number k (decimal k) (decimal_is k (narrow_plus k t))) (rw t refl)
-printed_number (negsuc k) t = rw (minus_number (suc k) (decimal (suc k)) (decimal_is (suc k) (narrow_minus k t))) (rw t refl)
+printed_number width (pos k) t = rw (plain_number k (decimal k) (decimal_is k (narrow_plus width k t))) (rw t refl)
+printed_number width (negsuc k) t = rw (minus_number (suc k) (decimal (suc k)) (decimal_is (suc k) (narrow_minus width k t))) (rw t refl)
+
+-- ---- both widths
+
+pub narrow_fits : (n : ℤ) → fits W64 n ≡ true → fits W128 n ≡ true
+narrow_fits (pos k) t = lt-ltb k (2 ^ 127) (omega (arith, ltb-true k (2 ^ 63) t))
+narrow_fits (negsuc k) t = and_from _ _ (le-leb k (2 ^ 127 - 1) (omega (arith, leb-true k (2 ^ 63 - 1) (and_parts _ _ t).0))) refl
+
+if_narrow : (m n : ℤ) → if_fits W64 m ≡ Some n → if_fits W128 m ≡ Some n
+if_narrow m n e =
+    let kept = cond_some (fits W64 m) m n e in
+    rw (narrow_fits m kept.0) (ap Some kept.1)
+
+pub narrow_number : (numeral : List ℕ) (n : ℤ) → number_of W64 numeral ≡ Some n → number_of W128 numeral ≡ Some n
+unfolding number_of
+narrow_number numeral n e = if_narrow (whole_number numeral) n e
+
+pub narrow_result : (operation : Operation) (a b n : ℤ) → result_of operation W64 a b ≡ Some n → result_of operation W128 a b ≡ Some n
+unfolding sum_of difference_of product_of quotient_of
+narrow_result Add a b n e = if_narrow (a +ℤ b) n e
+narrow_result Subtract a b n e = if_narrow (a -ℤ b) n e
+narrow_result Multiply a b n e = if_narrow (a *ℤ b) n e
+narrow_result Divide a b n e =
+    ⊎_elim
+    (λ (t : int_eq b (pos 0) ≡ true). let missing = rw t at e in absurd (none-some n missing))
+    (λ (f : int_eq b (pos 0) ≡ false). let kept : if_fits W64 (int_div a b) ≡ Some n = rw f at e in rw f (if_narrow (int_div a b) n kept))
+    (cases_Bool (int_eq b (pos 0)))

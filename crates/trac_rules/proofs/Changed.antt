@@ -11,6 +11,9 @@ use Rattle.trac_rules.specs.declared.primitive.Primitive.TheVariants.{PrintStrin
 use Rattle.trac_rules.specs.declared.refusal.Refusal.{Refusal}
 use Rattle.trac_rules.specs.declared.scan.Front.{Front}
 use Rattle.trac_rules.specs.declared.scan.Front.TheVariants.{Nothing, Opening, Layout, Comma, ActiveCall, NeutralCall, Sharp, Closing, Plain}
+use Rattle.trac_rules.specs.declared.width.Width.{Width}
+use Rattle.trac_rules.specs.Computing.{computed}
+use Rattle.trac_rules.specs.Handling.{handled}
 use Rattle.trac_rules.specs.State.{Environment, Frame, State, storage_of}
 use Rattle.trac_rules.specs.Matching.{protected}
 use Rattle.trac_rules.specs.Scanning.{Call, Scanned, Moves, Calls, gathered_in, deleted, comma_in, closing_in, front_of, scan_at, scan}
@@ -77,6 +80,7 @@ scan-changed f g s = scan_at-changed f g (front_of s.active) s
 pub record GoesUnnoticed (places : ℕ → ℕ) (texts : List ℕ → List ℕ) (old new : Environment) (s : State) : Type 0 where
   pub unread : unread new.tape (changed places texts s) ≡ unread old.tape s
   pub ended : new.tape.ended ≡ old.tape.ended
+  pub width : new.width ≡ old.width
   pub moved : (n : ℕ) → places (s.position + n) ≡ places s.position + n
   pub printed : (x y : List ℕ) → texts (x ++ y) ≡ texts x ++ y
 
@@ -93,8 +97,8 @@ effect_of-changed f g old new s same ReadByte arguments =
 effect_of-changed f g old new s same Halt arguments = refl
 effect_of-changed f g old new s same SetMeta arguments = refl
 effect_of-changed f g old new s same (SetTrace trace) arguments = refl
-effect_of-changed f g old new s same (Compute computation) arguments = refl
-effect_of-changed f g old new s same (Handle action) arguments = refl
+effect_of-changed f g old new s same (Compute computation) arguments = ap (λ (width : Width). Ok (computed computation width arguments (storage_of s))) same.width
+effect_of-changed f g old new s same (Handle action) arguments = ap (λ (width : Width). handled action width arguments (storage_of s)) same.width
 effect_of-changed f g old new s same (HandleBlock action) arguments = refl
 effect_of-changed f g old new s same Unknown arguments = refl
 
@@ -137,6 +141,7 @@ pub GoesUnnoticed_at : (places : ℕ → ℕ) (texts : List ℕ → List ℕ) (o
 GoesUnnoticed_at f g old new s t e same = record {
   unread = ap (λ (p : ℕ). drop (f p) new.tape.bytes) e ∙ same.unread ∙ ap (λ (p : ℕ). drop p old.tape.bytes) (sym e);
   ended = same.ended;
+  width = same.width;
   moved = λ n. ap (λ (p : ℕ). f (p + n)) e ∙ same.moved n ∙ ap (λ (p : ℕ). f p + n) (sym e);
   printed = same.printed;
 }

@@ -22,9 +22,12 @@ use Rattle.trac_rules.specs.Handling.{default_argument, form_read, gives_piece, 
 use Rattle.trac_rules.specs.Limits.{form_fits, may_be_put}
 use Rattle.trac_rules.specs.Performing.{effect_of, primitive_of}
 use Rattle.trac_rules.specs.Pieces.{Piece}
-use Rattle.trac_rules.specs.Rows.{Named, Does, Forces, Gives, Leaves, Prints, with_forms}
+use Rattle.trac_rules.specs.Rows.{Named, Does, DoesIn, Forces, ForcesIn, Gives, Leaves, Prints, with_forms}
 use Rattle.trac_rules.specs.Segmenting.{segmented}
 use Rattle.trac_rules.specs.Showing.{shown}
+use Rattle.trac_rules.specs.declared.width.Width.{Width}
+use Rattle.trac_rules.specs.declared.width.Width.TheVariants.{W64, W128}
+use Rattle.trac_rules.specs.Session.{over}
 use Rattle.trac_rules.specs.State.{Forms, Storage, storage_of}
 use Rattle.trac_rules.proofs.NamedForms.{only_equal_tie}
 
@@ -108,36 +111,42 @@ on_form-held : (name : List ℕ) (o : Option Form) (act : Form → Result Effect
     on_form (finite.get (held es) name) act storage ≡ on_form o act storage
 on_form-held name o act es storage there = ap (λ found. on_form found act storage) (finite.get-from_entries nat_list_cmp_total es name ∙ there)
 
--- a row holds where its call on forms does what it says
+-- a row of one width holds where its call on forms does what it says
+row_in : (width : Width) (action : FormAction) (arguments : List (List ℕ)) (before after : Named) (value printed : List ℕ) → primitive_of (argument 0 arguments) ≡ Handle action →
+    ((storage : Storage) → handled action width arguments (holding before storage) ≡ Ok (record (leaves (holding after storage)) { value = value; printed = printed })) →
+    DoesIn width arguments before value printed after
+row_in width action arguments before after value printed named is tape s =
+    ap (λ primitive. effect_of primitive (over width tape) arguments (with_forms before s)) named ∙ is (storage_of s)
+
+-- and of both
 row : (action : FormAction) (arguments : List (List ℕ)) (before after : Named) (value printed : List ℕ) → primitive_of (argument 0 arguments) ≡ Handle action →
-    ((storage : Storage) → handled action arguments (holding before storage) ≡ Ok (record (leaves (holding after storage)) { value = value; printed = printed })) →
+    ((width : Width) (storage : Storage) → handled action width arguments (holding before storage) ≡ Ok (record (leaves (holding after storage)) { value = value; printed = printed })) →
     Does arguments before value printed after
-row action arguments before after value printed named is environment s =
-    ap (λ primitive. effect_of primitive environment arguments (with_forms before s)) named ∙ is (storage_of s)
+row action arguments before after value printed named is width = row_in width action arguments before after value printed named (is width)
 
 pub defines : (arguments : List (List ℕ)) (before after : Named) → primitive_of (argument 0 arguments) ≡ Handle Define →
     judged (argument 1 arguments) (defined (argument 2 arguments)) before ≡ true →
     in_order ((argument 1 arguments, defined (argument 2 arguments)) ∷ before) ≡ in_order after → Leaves arguments before after
 defines arguments before after named fits same =
     row Define arguments before after [] [] named
-    (λ storage. putting-held (argument 1 arguments) (defined (argument 2 arguments)) before after storage fits same)
+    (λ width storage. putting-held (argument 1 arguments) (defined (argument 2 arguments)) before after storage fits same)
 
 pub deletes : (arguments : List (List ℕ)) (before after : Named) → primitive_of (argument 0 arguments) ≡ Handle Delete →
     in_order (all_removed (drop 1 arguments) before) ≡ in_order after → Leaves arguments before after
 deletes arguments before after named same =
     row Delete arguments before after [] [] named
-    (λ storage. ap (λ forms. Ok (leaves (keeping forms storage)))
+    (λ width storage. ap (λ forms. Ok (leaves (keeping forms storage)))
     (without-held (drop 1 arguments) before ∙ same_held (all_removed (drop 1 arguments) before) after same))
 
 pub deletes_all : (arguments : List (List ℕ)) (before : Named) → primitive_of (argument 0 arguments) ≡ Handle DeleteAll → Leaves arguments before []
-deletes_all arguments before named = row DeleteAll arguments before [] [] [] named (λ storage. refl)
+deletes_all arguments before named = row DeleteAll arguments before [] [] [] named (λ width storage. refl)
 
 pub segments : (arguments : List (List ℕ)) (before after : Named) (form : Form) → primitive_of (argument 0 arguments) ≡ Handle Segment →
     find (slice_cmp nat_cmp) (argument 1 arguments) before ≡ Some form → judged (argument 1 arguments) (segmented (drop 2 arguments) form) before ≡ true →
     in_order ((argument 1 arguments, segmented (drop 2 arguments) form) ∷ before) ≡ in_order after → Leaves arguments before after
 segments arguments before after form named there fits same =
     row Segment arguments before after [] [] named
-    (λ storage. on_form-held (argument 1 arguments) (Some form)
+    (λ width storage. on_form-held (argument 1 arguments) (Some form)
     (λ f. putting (argument 1 arguments) (segmented (drop 2 arguments) f) (holding before storage)) before (holding before storage) there
     ∙ putting-held (argument 1 arguments) (segmented (drop 2 arguments) form) before after storage fits same)
 
@@ -146,7 +155,7 @@ pub restores : (arguments : List (List ℕ)) (before after : Named) (form : Form
     in_order ((argument 1 arguments, pointed_at 0 (all_items form)) ∷ before) ≡ in_order after → Leaves arguments before after
 restores arguments before after form named there same =
     row Restore arguments before after [] [] named
-    (λ storage. on_form-held (argument 1 arguments) (Some form)
+    (λ width storage. on_form-held (argument 1 arguments) (Some form)
     (λ f. Ok (leaves (pointing (argument 1 arguments) 0 f (holding before storage)))) before (holding before storage) there
     ∙ ap (λ forms. Ok (leaves (keeping forms storage))) (same_held ((argument 1 arguments, pointed_at 0 (all_items form)) ∷ before) after same))
 
@@ -154,38 +163,55 @@ pub calls : (arguments : List (List ℕ)) (es : Named) (form : Form) → primiti
     find (slice_cmp nat_cmp) (argument 1 arguments) es ≡ Some form → Gives arguments es (called (drop 2 arguments) form)
 calls arguments es form named there =
     row CallForm arguments es es (called (drop 2 arguments) form) [] named
-    (λ storage. on_form-held (argument 1 arguments) (Some form) (λ f. Ok (gives (called (drop 2 arguments) f) (holding es storage))) es (holding es storage) there)
+    (λ width storage. on_form-held (argument 1 arguments) (Some form) (λ f. Ok (gives (called (drop 2 arguments) f) (holding es storage))) es (holding es storage) there)
 
 pub lists : (arguments : List (List ℕ)) (es : Named) → primitive_of (argument 0 arguments) ≡ Handle ListNames →
     Gives arguments es (flat_map (λ name. argument 1 arguments ++ name) (map (λ e. e.0) (in_order es)))
 lists arguments es named =
     row ListNames arguments es es (flat_map (λ name. argument 1 arguments ++ name) (map (λ e. e.0) (in_order es))) [] named
-    (λ storage. ap (λ (entries : Named). Ok (gives (flat_map (λ name. argument 1 arguments ++ name) (map (λ e. e.0) entries)) (holding es storage))) (entries-held es))
+    (λ width storage. ap (λ (entries : Named). Ok (gives (flat_map (λ name. argument 1 arguments ++ name) (map (λ e. e.0) entries)) (holding es storage))) (entries-held es))
 
 pub prints_form : (arguments : List (List ℕ)) (es : Named) (form : Form) → primitive_of (argument 0 arguments) ≡ Handle PrintForm →
     find (slice_cmp nat_cmp) (argument 1 arguments) es ≡ Some form → Prints arguments es (shown form)
 prints_form arguments es form named there =
     row PrintForm arguments es es [] (shown form) named
-    (λ storage. on_form-held (argument 1 arguments) (Some form) (λ f. Ok (prints (shown f) (holding es storage))) es (holding es storage) there)
+    (λ width storage. on_form-held (argument 1 arguments) (Some form) (λ f. Ok (prints (shown f) (holding es storage))) es (holding es storage) there)
 
-pub reads_form : (reading : FormReading) (arguments : List (List ℕ)) (before after : Named) (form : Form) (piece : Piece) →
+-- a piece is read, where numbers are of a width
+pub reads_form_in : (width : Width) (reading : FormReading) (arguments : List (List ℕ)) (before after : Named) (form : Form) (piece : Piece) →
     primitive_of (argument 0 arguments) ≡ Handle (Read reading) → find (slice_cmp nat_cmp) (argument 1 arguments) before ≡ Some form →
-    piece_read reading arguments form ≡ Some piece →
-    in_order ((argument 1 arguments, pointed_at piece.place (all_items form)) ∷ before) ≡ in_order after → Does arguments before piece.value [] after
-reads_form reading arguments before after form piece named there read same =
-    row (Read reading) arguments before after piece.value [] named
-    (λ storage. on_form-held (argument 1 arguments) (Some form) (λ f. Ok (form_read reading arguments f (holding before storage))) before (holding before storage) there
+    piece_read reading width arguments form ≡ Some piece →
+    in_order ((argument 1 arguments, pointed_at piece.place (all_items form)) ∷ before) ≡ in_order after → DoesIn width arguments before piece.value [] after
+reads_form_in width reading arguments before after form piece named there read same =
+    row_in width (Read reading) arguments before after piece.value [] named
+    (λ storage. on_form-held (argument 1 arguments) (Some form) (λ f. Ok (form_read reading width arguments f (holding before storage))) before (holding before storage) there
     ∙ ap (λ found. Ok (gives_piece found (default_argument reading arguments) (argument 1 arguments) form (holding before storage))) read
     ∙ ap (λ forms. Ok (gives piece.value (keeping forms storage)))
     (same_held ((argument 1 arguments, pointed_at piece.place (all_items form)) ∷ before) after same))
 
+-- and of each: what is read is given for 64 bits, and then for 128
+pub reads_form : (reading : FormReading) (arguments : List (List ℕ)) (before after : Named) (form : Form) (piece : Piece) →
+    primitive_of (argument 0 arguments) ≡ Handle (Read reading) → find (slice_cmp nat_cmp) (argument 1 arguments) before ≡ Some form →
+    piece_read reading W64 arguments form ≡ Some piece → piece_read reading W128 arguments form ≡ Some piece →
+    in_order ((argument 1 arguments, pointed_at piece.place (all_items form)) ∷ before) ≡ in_order after → Does arguments before piece.value [] after
+reads_form reading arguments before after form piece named there narrow wide same W64 = reads_form_in W64 reading arguments before after form piece named there narrow same
+reads_form reading arguments before after form piece named there narrow wide same W128 = reads_form_in W128 reading arguments before after form piece named there wide same
+
+-- no piece is read, where numbers are of a width
+pub reads_nothing_in : (width : Width) (reading : FormReading) (arguments : List (List ℕ)) (es : Named) (form : Form) →
+    primitive_of (argument 0 arguments) ≡ Handle (Read reading) → find (slice_cmp nat_cmp) (argument 1 arguments) es ≡ Some form →
+    piece_read reading width arguments form ≡ None → ForcesIn width arguments es (default_argument reading arguments)
+reads_nothing_in width reading arguments es form named there none tape s =
+    ap (λ primitive. effect_of primitive (over width tape) arguments (with_forms es s)) named
+    ∙ on_form-held (argument 1 arguments) (Some form) (λ f. Ok (form_read reading width arguments f (holding es (storage_of s)))) es (holding es (storage_of s)) there
+    ∙ ap (λ found. Ok (gives_piece found (default_argument reading arguments) (argument 1 arguments) form (holding es (storage_of s)))) none
+
+-- and of each
 pub reads_nothing : (reading : FormReading) (arguments : List (List ℕ)) (es : Named) (form : Form) →
     primitive_of (argument 0 arguments) ≡ Handle (Read reading) → find (slice_cmp nat_cmp) (argument 1 arguments) es ≡ Some form →
-    piece_read reading arguments form ≡ None → Forces arguments es (default_argument reading arguments)
-reads_nothing reading arguments es form named there none environment s =
-    ap (λ primitive. effect_of primitive environment arguments (with_forms es s)) named
-    ∙ on_form-held (argument 1 arguments) (Some form) (λ f. Ok (form_read reading arguments f (holding es (storage_of s)))) es (holding es (storage_of s)) there
-    ∙ ap (λ found. Ok (gives_piece found (default_argument reading arguments) (argument 1 arguments) form (holding es (storage_of s)))) none
+    piece_read reading W64 arguments form ≡ None → piece_read reading W128 arguments form ≡ None → Forces arguments es (default_argument reading arguments)
+reads_nothing reading arguments es form named there narrow wide W64 = reads_nothing_in W64 reading arguments es form named there narrow
+reads_nothing reading arguments es form named there narrow wide W128 = reads_nothing_in W128 reading arguments es form named there wide
 
 -- the calls that do nothing where there is no form of their name
 abbrev IsOnForm : FormAction → Type 0
@@ -198,14 +224,14 @@ IsOnForm action = ⊥
 
 pub finds_none : (action : FormAction) (arguments : List (List ℕ)) (es : Named) → IsOnForm action → primitive_of (argument 0 arguments) ≡ Handle action →
     find (slice_cmp nat_cmp) (argument 1 arguments) es ≡ None → Leaves arguments es es
-finds_none action arguments es on named none = row action arguments es es [] [] named (λ storage. go action on storage)
+finds_none action arguments es on named none = row action arguments es es [] [] named (λ width storage. go action on width storage)
   where
-    go : (a : FormAction) → IsOnForm a → (storage : Storage) → handled a arguments (holding es storage) ≡ Ok (leaves (holding es storage))
-    go Segment i storage =
+    go : (a : FormAction) → IsOnForm a → (width : Width) (storage : Storage) → handled a width arguments (holding es storage) ≡ Ok (leaves (holding es storage))
+    go Segment i width storage =
         on_form-held (argument 1 arguments) None (λ f. putting (argument 1 arguments) (segmented (drop 2 arguments) f) (holding es storage)) es (holding es storage) none
-    go Restore i storage =
+    go Restore i width storage =
         on_form-held (argument 1 arguments) None (λ f. Ok (leaves (pointing (argument 1 arguments) 0 f (holding es storage)))) es (holding es storage) none
-    go CallForm i storage = on_form-held (argument 1 arguments) None (λ f. Ok (gives (called (drop 2 arguments) f) (holding es storage))) es (holding es storage) none
-    go (Read reading) i storage = on_form-held (argument 1 arguments) None (λ f. Ok (form_read reading arguments f (holding es storage))) es (holding es storage) none
-    go PrintForm i storage = on_form-held (argument 1 arguments) None (λ f. Ok (prints (shown f) (holding es storage))) es (holding es storage) none
-    go a i storage = absurd i
+    go CallForm i width storage = on_form-held (argument 1 arguments) None (λ f. Ok (gives (called (drop 2 arguments) f) (holding es storage))) es (holding es storage) none
+    go (Read reading) i width storage = on_form-held (argument 1 arguments) None (λ f. Ok (form_read reading width arguments f (holding es storage))) es (holding es storage) none
+    go PrintForm i width storage = on_form-held (argument 1 arguments) None (λ f. Ok (prints (shown f) (holding es storage))) es (holding es storage) none
+    go a i width storage = absurd i

@@ -6,6 +6,7 @@ use Rattle.std.proofs.lemmas.Option.{option_and_then_some}
 use Rattle.trac_rules.specs.declared.limit.TheConstants.{TEXT_LIMIT}
 use Rattle.trac_rules.specs.declared.refusal.Refusal.{Refusal}
 use Rattle.trac_rules.specs.declared.refusal.Refusal.TheVariants.{TooLong, NeedInput, Ended}
+use Rattle.trac_rules.specs.declared.width.Width.{Width}
 use Rattle.trac_rules.specs.State.{Environment, State, Tape}
 use Rattle.trac_rules.specs.Reading.{unread}
 use Rattle.trac_rules.specs.Stepping.{step}
@@ -50,6 +51,7 @@ output_from_Err n e s r h =
 -- a session after so many accepted steps
 pub record IsAfterSteps (k : ℕ) (p q : PlainSession) : Type 0 where
   pub tape : q.tape ≡ p.tape
+  pub width : q.width ≡ p.width
   pub limit : q.limit ≡ p.limit
   pub within : q.last.position ≤ length q.tape.bytes
   pub earlier : length q.earlier ≡ length p.earlier + k
@@ -58,20 +60,20 @@ pub record IsAfterSteps (k : ℕ) (p q : PlainSession) : Type 0 where
 pub after_Step : (p q : PlainSession) → p.last.position ≤ length p.tape.bytes → answer Step p ≡ done q → IsAfterSteps 1 p q
 after_Step p q l h =
     let at = Step_done p q h in
-    let inside : at.0.position ≤ length p.tape.bytes = step_within (over p.tape) p.last at.0 at.1 l in
-    rw at.2 (record { tape = refl; limit = refl; within = inside; earlier = omega arith })
+    let inside : at.0.position ≤ length p.tape.bytes = step_within (over p.width p.tape) p.last at.0 at.1 l in
+    rw at.2 (record { tape = refl; width = refl; limit = refl; within = inside; earlier = omega arith })
 
 -- an accepted step writes what the run writes
 pub going_on-Step : (p q : PlainSession) (more : List ℕ) (n : ℕ) → p.last.position ≤ length p.tape.bytes → answer Step p ≡ done q → (p.tape.ended ≡ true → more ≡ []) →
     going_on_from p more (suc n) ≡ going_on_from q more n
 going_on-Step p q more n l h none =
     let at = Step_done p q h in
-    let e : step (over (whole p.tape more)) p.last ≡ Ok at.0 = step-whole (over p.tape) more p.last l none (λ w. cc) ∙ at.1 in
-    output_from_Ok n (over (whole p.tape more)) p.last at.0 e ∙ ap (λ (s : PlainSession). going_on_from s more n) (sym at.2)
+    let e : step (over p.width (whole p.tape more)) p.last ≡ Ok at.0 = step-whole (over p.width p.tape) more p.last l none (λ w. cc) ∙ at.1 in
+    output_from_Ok n (over p.width (whole p.tape more)) p.last at.0 e ∙ ap (λ (s : PlainSession). going_on_from s more n) (sym at.2)
 
 -- what many accepted steps leave
 pub after_repeated : (k : ℕ) (p q : PlainSession) → p.last.position ≤ length p.tape.bytes → repeated Step k p ≡ Some q → IsAfterSteps k p q
-after_repeated zero p q l h = let same : p ≡ q = cc in rw (← same) (record { tape = refl; limit = refl; within = l; earlier = omega arith })
+after_repeated zero p q l h = let same : p ≡ q = cc in rw (← same) (record { tape = refl; width = refl; limit = refl; within = l; earlier = omega arith })
 after_repeated (suc k) p q l h =
     option_and_then_some (λ m. accepted_by (answer Step m)) (repeated Step k p) q h
     (λ m walked last.
@@ -79,6 +81,7 @@ after_repeated (suc k) p q l h =
     let one = after_Step m q before.within (accepted_done (answer Step m) q last) in
     record {
       tape = one.tape ∙ before.tape;
+      width = one.width ∙ before.width;
       limit = one.limit ∙ before.limit;
       within = one.within;
       earlier = omega (arith, one.earlier, before.earlier);
@@ -112,20 +115,20 @@ after_Commit p q h =
     rw (Commit_done 0 p q h) (ap (λ (s : State). s.output) (settled_is p.last), refl, ap (λ (s : State). s.position) (settled_is p.last), refl)
 
 -- a run goes on from a settled state as from the state itself
-pub output_from-settled : (n : ℕ) (tape : Tape) (more : List ℕ) (s : State) → s.position ≤ length tape.bytes →
-    output_from n (over (whole tape more)) s ≡ output_from n (over (whole (record tape { bytes = drop s.position tape.bytes }) more)) (settled s)
-output_from-settled n tape more s l =
-    sym (output_from-cut n s.position (over (whole tape more)) s (omega arith))
-    ∙ ap (λ (bytes : List ℕ). output_from n (over (record { bytes = bytes; ended = true })) (moved_back s.position s)) (drop-append-le s.position tape.bytes more l)
-    ∙ sym (output_from-output n (over (whole (record tape { bytes = drop s.position tape.bytes }) more)) (moved_back s.position s) (drop (length s.output) s.output))
+pub output_from-settled : (n : ℕ) (width : Width) (tape : Tape) (more : List ℕ) (s : State) → s.position ≤ length tape.bytes →
+    output_from n (over width (whole tape more)) s ≡ output_from n (over width (whole (record tape { bytes = drop s.position tape.bytes }) more)) (settled s)
+output_from-settled n width tape more s l =
+    sym (output_from-cut n s.position (over width (whole tape more)) s (omega arith))
+    ∙ ap (λ (bytes : List ℕ). output_from n (over width (record { bytes = bytes; ended = true })) (moved_back s.position s)) (drop-append-le s.position tape.bytes more l)
+    ∙ sym (output_from-output n (over width (whole (record tape { bytes = drop s.position tape.bytes }) more)) (moved_back s.position s) (drop (length s.output) s.output))
 
 -- a commit writes the pending output
 pub going_on-Commit : (p q : PlainSession) (more : List ℕ) (n : ℕ) → p.last.position ≤ length p.tape.bytes → answer (Commit 0) p ≡ done q →
     going_on_from p more n ≡ prepended p.last.output (going_on_from q more n)
 going_on-Commit p q more n l h =
-    let rest : Output = output_from n (over (whole (committed 0 p).tape more)) (settled p.last) in
+    let rest : Output = output_from n (over p.width (whole (committed 0 p).tape more)) (settled p.last) in
     let nothing : (settled p.last).output ≡ [] = ap (λ (s : State). s.output) (settled_is p.last) in
-    ap (prepended p.last.output) (output_from-settled n p.tape more p.last l)
+    ap (prepended p.last.output) (output_from-settled n p.width p.tape more p.last l)
     ∙ ap (λ (text : List ℕ). prepended p.last.output (prepended text rest)) (sym nothing)
     ∙ ap (λ (s : PlainSession). prepended p.last.output (going_on_from s more n)) (sym (Commit_done 0 p q h))
 
@@ -140,7 +143,7 @@ after_Feed p q d l h =
 -- a feed is more of the input
 pub going_on-Feed : (p q : PlainSession) (bytes more : List ℕ) (n : ℕ) → answer (Feed bytes) p ≡ done q → going_on_from p (bytes ++ more) n ≡ going_on_from q more n
 going_on-Feed p q d more n h =
-    ap (λ (bytes : List ℕ). prepended p.last.output (output_from n (over (record { bytes = bytes; ended = true })) p.last)) (sym (append_assoc p.tape.bytes d more))
+    ap (λ (bytes : List ℕ). prepended p.last.output (output_from n (over p.width (record { bytes = bytes; ended = true })) p.last)) (sym (append_assoc p.tape.bytes d more))
     ∙ ap (λ (s : PlainSession). going_on_from s more n) (sym (Feed_done d p q h).0)
 
 -- what the end leaves
@@ -163,21 +166,21 @@ going_on_spent p more = prepended_empty p.last.output BudgetSpent
 pub going_on_ended : (p q : PlainSession) (more : List ℕ) (n : ℕ) → p.last.position ≤ length p.tape.bytes → answer Step p ≡ refused Ended q → (p.tape.ended ≡ true → more ≡ []) →
     going_on_from p more (suc n) ≡ record { bytes = p.last.output; stop = InputEnded }
 going_on_ended p q more n l h none =
-    let e : step (over p.tape) p.last ≡ Err Ended = Step_refused_Ended p q h in
-    let f : step (over (whole p.tape more)) p.last ≡ Err Ended = step-whole (over p.tape) more p.last l none (λ w. cc) ∙ e in
-    output_from_Err n (over (whole p.tape more)) p.last Ended (step-silent_Err (over (whole p.tape more)) p.last Ended f (λ w. cc))
+    let e : step (over p.width p.tape) p.last ≡ Err Ended = Step_refused_Ended p q h in
+    let f : step (over p.width (whole p.tape more)) p.last ≡ Err Ended = step-whole (over p.width p.tape) more p.last l none (λ w. cc) ∙ e in
+    output_from_Err n (over p.width (whole p.tape more)) p.last Ended (step-silent_Err (over p.width (whole p.tape more)) p.last Ended f (λ w. cc))
 
 -- where a step is refused for a limit and nothing is pending, the run ends for the limit
 pub going_on_too_long : (p q : PlainSession) (more : List ℕ) (n : ℕ) → p.last.position ≤ length p.tape.bytes → answer Step p ≡ refused TooLong q → (p.tape.ended ≡ true → more ≡ []) → p.last.output ≡ [] →
     going_on_from p more (suc n) ≡ record { bytes = []; stop = LimitPassed }
 going_on_too_long p q more n l h none nothing =
-    let e : step (over p.tape) p.last ≡ Err TooLong = Step_refused_TooLong p q h in
-    let f : step (over (whole p.tape more)) p.last ≡ Err TooLong = step-whole (over p.tape) more p.last l none (λ w. cc) ∙ e in
-    output_from_Err n (over (whole p.tape more)) p.last TooLong (ap (step (over (whole p.tape more))) (silent_of_none p.last nothing) ∙ f)
+    let e : step (over p.width p.tape) p.last ≡ Err TooLong = Step_refused_TooLong p q h in
+    let f : step (over p.width (whole p.tape more)) p.last ≡ Err TooLong = step-whole (over p.width p.tape) more p.last l none (λ w. cc) ∙ e in
+    output_from_Err n (over p.width (whole p.tape more)) p.last TooLong (ap (step (over p.width (whole p.tape more))) (silent_of_none p.last nothing) ∙ f)
     ∙ ap (λ (bytes : List ℕ). record { bytes = bytes; stop = LimitPassed }) nothing
 
 -- where a step wants input and too much is unread already, the run ends for the limit, however the input goes on
 pub going_on_hopeless : (p q : PlainSession) (more : List ℕ) (n : ℕ) → p.last.position ≤ length p.tape.bytes → answer Step p ≡ refused NeedInput q → TEXT_LIMIT < length (unread p.tape p.last) →
     going_on_from p more (suc n) ≡ record { bytes = p.last.output; stop = LimitPassed }
 going_on_hopeless p q more n l h long =
-    output_from_Err n (over (whole p.tape more)) p.last TooLong (step_hopeless-silent (over p.tape) more p.last (Step_refused_NeedInput p q h) l long)
+    output_from_Err n (over p.width (whole p.tape more)) p.last TooLong (step_hopeless-silent (over p.width p.tape) more p.last (Step_refused_NeedInput p q h) l long)

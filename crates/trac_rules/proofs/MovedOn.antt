@@ -134,13 +134,13 @@ length-on_the_way (suc n) s = omega (arith, length-on_the_way n s)
 abbrev further : ℕ → PlainSession → PlainSession
 further n p = record p { earlier = on_the_way n p.last ++ p.earlier; last = moved_on n p.last }
 
-one_further : (n : ℕ) (p : PlainSession) → step (over p.tape) (moved_on n p.last) ≡ Ok (moved_on (suc n) p.last) → length p.earlier + suc n ≤ p.limit →
+one_further : (n : ℕ) (p : PlainSession) → step (over p.width p.tape) (moved_on n p.last) ≡ Ok (moved_on (suc n) p.last) → length p.earlier + suc n ≤ p.limit →
     accepted_by (answer Step (further n p)) ≡ Some (further (suc n) p)
 unfolding answer
 one_further n p stepped fits =
     let room : nat_lt (length (on_the_way n p.last ++ p.earlier)) p.limit ≡ true =
     lt-ltb (length (on_the_way n p.last ++ p.earlier)) p.limit (omega (arith, length-append (on_the_way n p.last) p.earlier, length-on_the_way n p.last)) in
-    ap (λ (b : Bool). accepted_by (if b then stepped_to (step (over p.tape) (moved_on n p.last)) (further n p) else refused JournalFull (further n p))) room
+    ap (λ (b : Bool). accepted_by (if b then stepped_to (step (over p.width p.tape) (moved_on n p.last)) (further n p) else refused JournalFull (further n p))) room
     ∙ ap (λ (x : Result State Refusal). accepted_by (stepped_to x (further n p))) stepped
 
 pub plain_bytes_there : (n : ℕ) (p : PlainSession) → IsProper p.last → BeginsPlain n p.last → length p.earlier + n ≤ p.limit →
@@ -149,8 +149,8 @@ plain_bytes_there zero p proper plain fits = ap (λ (s : State). Some (record p 
 plain_bytes_there (suc n) p proper plain fits =
     let earlier : BeginsPlain n p.last = record { within = omega (arith, plain.within); each = λ k less. plain.each k (omega arith) } in
     let inside : n < length p.last.active = omega (arith, plain.within) in
-    let stepped : step (over p.tape) (moved_on n p.last) ≡ Ok (gather_first (moved_on n p.last)) =
-    plain_step (over p.tape) (moved_on n p.last) (get_or p.last.active n 0) (drop (n + 1) p.last.active) (moved_proper n p.last proper)
+    let stepped : step (over p.width p.tape) (moved_on n p.last) ≡ Ok (gather_first (moved_on n p.last)) =
+    plain_step (over p.width p.tape) (moved_on n p.last) (get_or p.last.active n 0) (drop (n + 1) p.last.active) (moved_proper n p.last proper)
     (moved_on-active n p.last inside) (plain.each n (omega arith)) in
     ap (option_and_then (λ (q : PlainSession). accepted_by (answer Step q))) (plain_bytes_there n p proper earlier (omega arith))
     ∙ one_further n p (stepped ∙ ap Ok (sym (moved_on-suc n p.last))) fits

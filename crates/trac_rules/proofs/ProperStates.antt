@@ -36,6 +36,7 @@ use Rattle.trac_rules.specs.Reading.{byte_read, read_up_to, rest_read, unread}
 use Rattle.trac_rules.specs.Scanning.{Call, Scanned, Moves, Calls, scan}
 use Rattle.trac_rules.specs.Segmenting.{segmented}
 use Rattle.trac_rules.specs.Showing.{shown}
+use Rattle.trac_rules.specs.declared.width.Width.{Width}
 use Rattle.trac_rules.specs.State.{Environment, Forms, State, Storage, initial, storage_of}
 use Rattle.trac_rules.specs.Stepping.{carried_out, step}
 use Rattle.trac_rules.proofs.Cutting.{wide-as_items, wide-segmented_from}
@@ -138,26 +139,26 @@ piece_proper None other name form storage proper there = proper
 piece_proper (Some piece) other name form storage proper there = pointing_proper name piece.place form storage proper there
 
 -- each call on forms
-handled_proper : (action : FormAction) (arguments : List (List ℕ)) (storage : Storage) → IsProperStorage storage → LeavesProper (handled action arguments storage)
-handled_proper Define arguments storage proper =
+handled_proper : (action : FormAction) (width : Width) (arguments : List (List ℕ)) (storage : Storage) → IsProperStorage storage → LeavesProper (handled action width arguments storage)
+handled_proper Define width arguments storage proper =
     putting_proper (argument 1 arguments) (defined (argument 2 arguments)) storage proper (wide-as_items (argument 2 arguments))
-handled_proper Delete arguments storage proper =
+handled_proper Delete width arguments storage proper =
     with_proper (without (drop 1 arguments) storage.forms) storage proper (without_proper (drop 1 arguments) storage.forms proper.forms)
-handled_proper DeleteAll arguments storage proper = with_proper finite.empty storage proper none_proper
-handled_proper Segment arguments storage proper =
+handled_proper DeleteAll width arguments storage proper = with_proper finite.empty storage proper none_proper
+handled_proper Segment width arguments storage proper =
     on_form_proper (named_form arguments storage) (λ form. putting (argument 1 arguments) (segmented (drop 2 arguments) form) storage) storage proper
     (λ form there. putting_proper (argument 1 arguments) (segmented (drop 2 arguments) form) storage proper
     (wide-segmented_from 1 (drop 2 arguments) (all_items form) (proper.forms.each (argument 1 arguments) form there).wide))
-handled_proper Restore arguments storage proper =
+handled_proper Restore width arguments storage proper =
     on_form_proper (named_form arguments storage) (λ form. Ok (leaves (pointing (argument 1 arguments) 0 form storage))) storage proper
     (λ form there. pointing_proper (argument 1 arguments) 0 form storage proper there)
-handled_proper CallForm arguments storage proper =
+handled_proper CallForm width arguments storage proper =
     on_form_proper (named_form arguments storage) (λ form. Ok (gives (called (drop 2 arguments) form) storage)) storage proper (λ form there. proper)
-handled_proper (Read reading) arguments storage proper =
-    on_form_proper (named_form arguments storage) (λ form. Ok (form_read reading arguments form storage)) storage proper
-    (λ form there. piece_proper (piece_read reading arguments form) (default_argument reading arguments) (argument 1 arguments) form storage proper there)
-handled_proper ListNames arguments storage proper = proper
-handled_proper PrintForm arguments storage proper =
+handled_proper (Read reading) width arguments storage proper =
+    on_form_proper (named_form arguments storage) (λ form. Ok (form_read reading width arguments form storage)) storage proper
+    (λ form there. piece_proper (piece_read reading width arguments form) (default_argument reading arguments) (argument 1 arguments) form storage proper there)
+handled_proper ListNames width arguments storage proper = proper
+handled_proper PrintForm width arguments storage proper =
     on_form_proper (named_form arguments storage) (λ form. Ok (prints (shown form) storage)) storage proper (λ form there. proper)
 
 -- ---- blocks
@@ -256,14 +257,14 @@ meta_proper [] storage proper = proper
 meta_proper (b ∷ bytes) storage proper = proper
 
 -- computing
-computed_proper : (computation : Computation) (arguments : List (List ℕ)) (storage : Storage) → IsProperStorage storage →
-    IsProperStorage (computed computation arguments storage).storage
-computed_proper (Calculate operation) arguments storage proper = either (calculated (result_of operation) (argument 1 arguments) (argument 2 arguments))
+computed_proper : (computation : Computation) (width : Width) (arguments : List (List ℕ)) (storage : Storage) → IsProperStorage storage →
+    IsProperStorage (computed computation width arguments storage).storage
+computed_proper (Calculate operation) width arguments storage proper = either (calculated (result_of operation) width (argument 1 arguments) (argument 2 arguments))
   where
     either : (value : Option (List ℕ)) → IsProperStorage (gives_or_forces value (argument 3 arguments) storage).storage
     either None = proper
     either (Some value) = proper
-computed_proper computation arguments storage proper = proper
+computed_proper computation width arguments storage proper = proper
 
 -- each primitive
 effect_proper : (primitive : Primitive) (environment : Environment) (arguments : List (List ℕ)) (s : State) → IsProperStorage (storage_of s) →
@@ -273,8 +274,8 @@ effect_proper ReadString environment arguments s proper =
 effect_proper ReadByte environment arguments s proper = byte_proper (unread environment.tape s) environment.tape.ended (storage_of s) proper
 effect_proper Halt environment arguments s proper = tt
 effect_proper SetMeta environment arguments s proper = meta_proper (argument 1 arguments) (storage_of s) proper
-effect_proper (Compute computation) environment arguments s proper = computed_proper computation arguments (storage_of s) proper
-effect_proper (Handle action) environment arguments s proper = handled_proper action arguments (storage_of s) proper
+effect_proper (Compute computation) environment arguments s proper = computed_proper computation environment.width arguments (storage_of s) proper
+effect_proper (Handle action) environment arguments s proper = handled_proper action environment.width arguments (storage_of s) proper
 effect_proper (HandleBlock action) environment arguments s proper = block_handled_proper action arguments (storage_of s) proper
 effect_proper primitive environment arguments s proper = proper
 

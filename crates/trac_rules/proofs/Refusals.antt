@@ -71,7 +71,7 @@ effect_refusals SetMeta e arguments s r h = absurd (cc)
 effect_refusals (SetTrace trace) e arguments s r h = absurd (cc)
 effect_refusals (Compute computation) e arguments s r h = absurd (cc)
 effect_refusals (Handle action) e arguments s r h =
-    inl (looks_refusals (handled action arguments (storage_of s)) r (handled_looks action arguments (storage_of s)) h)
+    inl (looks_refusals (handled action e.width arguments (storage_of s)) r (handled_looks action e.width arguments (storage_of s)) h)
 effect_refusals (HandleBlock action) e arguments s r h =
     inl (looks_refusals (block_handled action arguments (storage_of s)) r (block_handled_looks action arguments (storage_of s)) h)
 effect_refusals Unknown e arguments s r h = absurd (cc)
@@ -163,7 +163,7 @@ effect_long SetMeta e more arguments s l some h = absurd (cc)
 effect_long (SetTrace trace) e more arguments s l some h = absurd (cc)
 effect_long (Compute computation) e more arguments s l some h = absurd (cc)
 effect_long (Handle action) e more arguments s l some h =
-    let long : NeedInput ≡ TooLong = looks_refusals (handled action arguments (storage_of s)) NeedInput (handled_looks action arguments (storage_of s)) h in
+    let long : NeedInput ≡ TooLong = looks_refusals (handled action e.width arguments (storage_of s)) NeedInput (handled_looks action e.width arguments (storage_of s)) h in
     absurd (cc)
 effect_long (HandleBlock action) e more arguments s l some h =
     let long : NeedInput ≡ TooLong = looks_refusals (block_handled action arguments (storage_of s)) NeedInput (block_handled_looks action arguments (storage_of s)) h in

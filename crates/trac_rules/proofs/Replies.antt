@@ -48,40 +48,40 @@ stepped_to_refused (Ok t) p q r h = absurd (done_of_refused r q (with_next p t) 
 stepped_to_refused (Err u) p q r h = let parts = refused_alike u r p q h in (ap Err parts.0, parts.1)
 
 -- with room in the journal a step gives what the language says
-pub answer_Step : (p : PlainSession) → length p.earlier < p.limit → answer Step p ≡ stepped_to (step (over p.tape) p.last) p
+pub answer_Step : (p : PlainSession) → length p.earlier < p.limit → answer Step p ≡ stepped_to (step (over p.width p.tape) p.last) p
 unfolding answer
-answer_Step p l = cond-true (ltb (length p.earlier) p.limit) (stepped_to (step (over p.tape) p.last) p) (refused JournalFull p) (lt-ltb (length p.earlier) p.limit l)
+answer_Step p l = cond-true (ltb (length p.earlier) p.limit) (stepped_to (step (over p.width p.tape) p.last) p) (refused JournalFull p) (lt-ltb (length p.earlier) p.limit l)
 
 -- without room in the journal a step is refused
 pub answer_Step_full : (p : PlainSession) → p.limit ≤ length p.earlier → answer Step p ≡ refused JournalFull p
 unfolding answer
-answer_Step_full p l = cond-false (ltb (length p.earlier) p.limit) (stepped_to (step (over p.tape) p.last) p) (refused JournalFull p) (le-ltb (length p.earlier) p.limit l)
+answer_Step_full p l = cond-false (ltb (length p.earlier) p.limit) (stepped_to (step (over p.width p.tape) p.last) p) (refused JournalFull p) (le-ltb (length p.earlier) p.limit l)
 
 -- a step to a state is done
-pub answer_Step_Ok : (p : PlainSession) (t : State) → length p.earlier < p.limit → step (over p.tape) p.last ≡ Ok t → answer Step p ≡ done (with_next p t)
+pub answer_Step_Ok : (p : PlainSession) (t : State) → length p.earlier < p.limit → step (over p.width p.tape) p.last ≡ Ok t → answer Step p ≡ done (with_next p t)
 answer_Step_Ok p t l e = answer_Step p l ∙ ap (λ x. stepped_to x p) e
 
 -- a refused step is refused
-pub answer_Step_Err : (p : PlainSession) (refusal : Refusal) → length p.earlier < p.limit → step (over p.tape) p.last ≡ Err refusal → answer Step p ≡ refused refusal p
+pub answer_Step_Err : (p : PlainSession) (refusal : Refusal) → length p.earlier < p.limit → step (over p.width p.tape) p.last ≡ Err refusal → answer Step p ≡ refused refusal p
 answer_Step_Err p r l e = answer_Step p l ∙ ap (λ x. stepped_to x p) e
 
 -- a step that was done went to the next state
-pub Step_done : (p q : PlainSession) → answer Step p ≡ done q → (t : State) × (step (over p.tape) p.last ≡ Ok t) × (q ≡ with_next p t) × (length p.earlier < p.limit)
+pub Step_done : (p q : PlainSession) → answer Step p ≡ done q → (t : State) × (step (over p.width p.tape) p.last ≡ Ok t) × (q ≡ with_next p t) × (length p.earlier < p.limit)
 Step_done p q h =
     ⊎_elim
     (λ (l : length p.earlier < p.limit).
-    let at = stepped_to_done (step (over p.tape) p.last) p q (sym (answer_Step p l) ∙ h) in
+    let at = stepped_to_done (step (over p.width p.tape) p.last) p q (sym (answer_Step p l) ∙ h) in
     (at.0, at.1, at.2, l))
     (λ (l : p.limit ≤ length p.earlier). absurd (done_of_refused JournalFull p q (sym (answer_Step_full p l) ∙ h)))
     (cases_lt (length p.earlier) p.limit)
 
 -- a step that was refused found the journal full, or was refused by the language
 pub Step_refused : (p q : PlainSession) (refusal : Refusal) → answer Step p ≡ refused refusal q →
-    (q ≡ p) × (((refusal ≡ JournalFull) × (p.limit ≤ length p.earlier)) ⊎ ((length p.earlier < p.limit) × (step (over p.tape) p.last ≡ Err refusal)))
+    (q ≡ p) × (((refusal ≡ JournalFull) × (p.limit ≤ length p.earlier)) ⊎ ((length p.earlier < p.limit) × (step (over p.width p.tape) p.last ≡ Err refusal)))
 Step_refused p q r h =
     ⊎_elim
     (λ (l : length p.earlier < p.limit).
-    let at = stepped_to_refused (step (over p.tape) p.last) p q r (sym (answer_Step p l) ∙ h) in
+    let at = stepped_to_refused (step (over p.width p.tape) p.last) p q r (sym (answer_Step p l) ∙ h) in
     (at.1, inr (l, at.0)))
     (λ (l : p.limit ≤ length p.earlier).
     let same = refused_alike JournalFull r p q (sym (answer_Step_full p l) ∙ h) in
@@ -89,23 +89,23 @@ Step_refused p q r h =
     (cases_lt (length p.earlier) p.limit)
 
 -- a step that was refused for anything but the journal was refused by the language
-pub Step_refused_by_step : (p q : PlainSession) (refusal : Refusal) → (refusal ≡ JournalFull → ⊥) → answer Step p ≡ refused refusal q → step (over p.tape) p.last ≡ Err refusal
+pub Step_refused_by_step : (p q : PlainSession) (refusal : Refusal) → (refusal ≡ JournalFull → ⊥) → answer Step p ≡ refused refusal q → step (over p.width p.tape) p.last ≡ Err refusal
 Step_refused_by_step p q r other h =
     ⊎_elim
     (λ (full : (r ≡ JournalFull) × (p.limit ≤ length p.earlier)). absurd (other full.0))
-    (λ (stepped : (length p.earlier < p.limit) × (step (over p.tape) p.last ≡ Err r)). stepped.1)
+    (λ (stepped : (length p.earlier < p.limit) × (step (over p.width p.tape) p.last ≡ Err r)). stepped.1)
     (Step_refused p q r h).1
 
 -- a step that the session refused for a limit was refused so by the language
-pub Step_refused_TooLong : (p q : PlainSession) → answer Step p ≡ refused TooLong q → step (over p.tape) p.last ≡ Err TooLong
+pub Step_refused_TooLong : (p q : PlainSession) → answer Step p ≡ refused TooLong q → step (over p.width p.tape) p.last ≡ Err TooLong
 Step_refused_TooLong p q h = Step_refused_by_step p q TooLong (λ e. cc) h
 
 -- a step that the session refused for want of input was refused so by the language
-pub Step_refused_NeedInput : (p q : PlainSession) → answer Step p ≡ refused NeedInput q → step (over p.tape) p.last ≡ Err NeedInput
+pub Step_refused_NeedInput : (p q : PlainSession) → answer Step p ≡ refused NeedInput q → step (over p.width p.tape) p.last ≡ Err NeedInput
 Step_refused_NeedInput p q h = Step_refused_by_step p q NeedInput (λ e. cc) h
 
 -- a step that the session refused at the end was refused so by the language
-pub Step_refused_Ended : (p q : PlainSession) → answer Step p ≡ refused Ended q → step (over p.tape) p.last ≡ Err Ended
+pub Step_refused_Ended : (p q : PlainSession) → answer Step p ≡ refused Ended q → step (over p.width p.tape) p.last ≡ Err Ended
 Step_refused_Ended p q h = Step_refused_by_step p q Ended (λ e. cc) h
 
 -- a step that was refused for a full journal found no room in it
@@ -113,7 +113,7 @@ pub Step_refused_JournalFull : (p q : PlainSession) → answer Step p ≡ refuse
 Step_refused_JournalFull p q h =
     ⊎_elim
     (λ (full : (JournalFull ≡ JournalFull) × (p.limit ≤ length p.earlier)). full.1)
-    (λ (stepped : (length p.earlier < p.limit) × (step (over p.tape) p.last ≡ Err JournalFull)). absurd (step_refused_otherwise (over p.tape) p.last JournalFull (λ e. cc) (λ e. cc) (λ e. cc) stepped.1))
+    (λ (stepped : (length p.earlier < p.limit) × (step (over p.width p.tape) p.last ≡ Err JournalFull)). absurd (step_refused_otherwise (over p.width p.tape) p.last JournalFull (λ e. cc) (λ e. cc) (λ e. cc) stepped.1))
     (Step_refused p q JournalFull h).1
 
 -- a step is refused for nothing else
@@ -122,7 +122,7 @@ pub Step_refusals : (p q : PlainSession) (refusal : Refusal) → answer Step p �
 Step_refusals p q r h =
     ⊎_elim
     (λ (full : (r ≡ JournalFull) × (p.limit ≤ length p.earlier)). inl full.0)
-    (λ (stepped : (length p.earlier < p.limit) × (step (over p.tape) p.last ≡ Err r)). inr (step_refusals (over p.tape) p.last r stepped.1))
+    (λ (stepped : (length p.earlier < p.limit) × (step (over p.width p.tape) p.last ≡ Err r)). inr (step_refusals (over p.width p.tape) p.last r stepped.1))
     (Step_refused p q r h).1
 
 -- ---- a feed

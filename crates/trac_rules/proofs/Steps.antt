@@ -18,6 +18,7 @@ use Rattle.trac_rules.specs.declared.primitive.Primitive.{Primitive}
 use Rattle.trac_rules.specs.declared.primitive.Primitive.TheVariants.{PrintString, ReadString, ReadByte, Halt, SetMeta, SetTrace, Compute, Handle, HandleBlock, Unknown}
 use Rattle.trac_rules.specs.declared.refusal.Refusal.{Refusal}
 use Rattle.trac_rules.specs.declared.refusal.Refusal.TheVariants.{TooLong, NeedInput}
+use Rattle.trac_rules.specs.declared.width.Width.{Width}
 use Rattle.trac_rules.specs.State.{Environment, State, Storage, Tape, storage_of}
 use Rattle.trac_rules.specs.Scanning.{Call, Scanned, Moves, Calls, scan}
 use Rattle.trac_rules.specs.Limits.{may_be_put, texts_fit}
@@ -99,22 +100,22 @@ piece_looks : (piece : Option Piece) (other name : List ℕ) (form : Form) (stor
 piece_looks None other name form storage = refl
 piece_looks (Some piece) other name form storage = refl
 
-pub handled_looks : (action : FormAction) (arguments : List (List ℕ)) (storage : Storage) → LooksAtForms (handled action arguments storage)
-handled_looks Define arguments storage = putting_looks (argument 1 arguments) (defined (argument 2 arguments)) storage
-handled_looks Delete arguments storage = refl
-handled_looks DeleteAll arguments storage = refl
-handled_looks Segment arguments storage =
+pub handled_looks : (action : FormAction) (width : Width) (arguments : List (List ℕ)) (storage : Storage) → LooksAtForms (handled action width arguments storage)
+handled_looks Define width arguments storage = putting_looks (argument 1 arguments) (defined (argument 2 arguments)) storage
+handled_looks Delete width arguments storage = refl
+handled_looks DeleteAll width arguments storage = refl
+handled_looks Segment width arguments storage =
     on_form_looks (named_form arguments storage) (λ form. putting (argument 1 arguments) (segmented (drop 2 arguments) form) storage) storage
     (λ form. putting_looks (argument 1 arguments) (segmented (drop 2 arguments) form) storage)
-handled_looks Restore arguments storage =
+handled_looks Restore width arguments storage =
     on_form_looks (named_form arguments storage) (λ form. Ok (leaves (pointing (argument 1 arguments) 0 form storage))) storage (λ form. refl)
-handled_looks CallForm arguments storage =
+handled_looks CallForm width arguments storage =
     on_form_looks (named_form arguments storage) (λ form. Ok (gives (called (drop 2 arguments) form) storage)) storage (λ form. refl)
-handled_looks (Read reading) arguments storage =
-    on_form_looks (named_form arguments storage) (λ form. Ok (form_read reading arguments form storage)) storage
-    (λ form. piece_looks (piece_read reading arguments form) (default_argument reading arguments) (argument 1 arguments) form storage)
-handled_looks ListNames arguments storage = refl
-handled_looks PrintForm arguments storage =
+handled_looks (Read reading) width arguments storage =
+    on_form_looks (named_form arguments storage) (λ form. Ok (form_read reading width arguments form storage)) storage
+    (λ form. piece_looks (piece_read reading width arguments form) (default_argument reading arguments) (argument 1 arguments) form storage)
+handled_looks ListNames width arguments storage = refl
+handled_looks PrintForm width arguments storage =
     on_form_looks (named_form arguments storage) (λ form. Ok (prints (shown form) storage)) storage (λ form. refl)
 
 -- calls on blocks neither
@@ -147,9 +148,9 @@ value_within : (n : ℕ) (value : Option (List ℕ)) (other : List ℕ) (storage
 value_within n None other storage = omega arith
 value_within n (Some value) other storage = omega arith
 
-computed_within : (n : ℕ) (computation : Computation) (arguments : List (List ℕ)) (storage : Storage) → (computed computation arguments storage).read ≤ n
-computed_within n (Calculate operation) arguments storage = value_within n _ (argument 3 arguments) storage
-computed_within n computation arguments storage = omega arith
+computed_within : (n : ℕ) (computation : Computation) (width : Width) (arguments : List (List ℕ)) (storage : Storage) → (computed computation width arguments storage).read ≤ n
+computed_within n (Calculate operation) width arguments storage = value_within n _ (argument 3 arguments) storage
+computed_within n computation width arguments storage = omega arith
 
 -- one byte is read of what is not null
 byte_within : (text : List ℕ) (ended : Bool) (storage : Storage) → ReadsWithin (length text) (byte_read text ended storage)
@@ -172,8 +173,8 @@ effect_within ReadByte e arguments s = byte_within (unread e.tape s) e.tape.ende
 effect_within Halt e arguments s = tt
 effect_within SetMeta e arguments s = meta_within (length (unread e.tape s)) (argument 1 arguments) (storage_of s)
 effect_within (SetTrace trace) e arguments s = omega arith
-effect_within (Compute computation) e arguments s = computed_within (length (unread e.tape s)) computation arguments (storage_of s)
-effect_within (Handle action) e arguments s = looks_within (length (unread e.tape s)) (handled action arguments (storage_of s)) (handled_looks action arguments (storage_of s))
+effect_within (Compute computation) e arguments s = computed_within (length (unread e.tape s)) computation e.width arguments (storage_of s)
+effect_within (Handle action) e arguments s = looks_within (length (unread e.tape s)) (handled action e.width arguments (storage_of s)) (handled_looks action e.width arguments (storage_of s))
 effect_within (HandleBlock action) e arguments s =
     looks_within (length (unread e.tape s)) (block_handled action arguments (storage_of s)) (block_handled_looks action arguments (storage_of s))
 effect_within Unknown e arguments s = omega arith
@@ -335,7 +336,7 @@ step-whole e more s l none wanted =
 
 -- a change of the output alone is not noticed
 pub output_unnoticed : (texts : List ℕ → List ℕ) (e : Environment) (s : State) → ((x y : List ℕ) → texts (x ++ y) ≡ texts x ++ y) → GoesUnnoticed (λ p. p) texts e e s
-output_unnoticed texts e s printed = record { unread = refl; ended = refl; moved = λ n. refl; printed = printed }
+output_unnoticed texts e s printed = record { unread = refl; ended = refl; width = refl; moved = λ n. refl; printed = printed }
 
 -- a state is its silent one with its output
 pub silent-changed : (s : State) → changed (λ p. p) (λ o. s.output ++ o) (silent s) ≡ s
@@ -391,6 +392,7 @@ pub cut_unnoticed : (k : ℕ) (e : Environment) (s : State) → k ≤ s.position
 cut_unnoticed k e s l = record {
   unread = (let back : k + (s.position - k) ≡ s.position = omega arith in drop-drop (s.position - k) k e.tape.bytes ∙ ap (λ p. drop p e.tape.bytes) back);
   ended = refl;
+  width = refl;
   moved = λ n. omega arith;
   printed = λ x y. refl;
 }

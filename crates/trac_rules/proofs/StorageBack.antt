@@ -32,6 +32,7 @@ use Rattle.trac_rules.specs.Pieces.{Piece, bytes_in}
 use Rattle.trac_rules.specs.Reading.{byte_read, read_up_to, rest_read, unread}
 use Rattle.trac_rules.specs.Segmenting.{segmented}
 use Rattle.trac_rules.specs.Showing.{shown}
+use Rattle.trac_rules.specs.declared.width.Width.{Width}
 use Rattle.trac_rules.specs.State.{Block, Environment, Forms, Held, State, Storage, storage_of}
 use Rattle.trac_rules.specs.Undone.{Undone, Nothing, Point, Join, Swap, MoveOut, block_handling_lost, block_lost, bytes_lost, handling_lost, joined_back, last_block, moved_out_again, names_in, pointed_back, pointer_back, pointer_lost, replaced_lost, storage_before, swapped_back, undone_by, unerased}
 use Rattle.trac_rules.specs.Weights.{meta_kept, meta_weight}
@@ -129,25 +130,25 @@ module _ (arguments : List (List ℕ)) (storage : Storage) where
   keeps_all None act is = (refl, refl)
   keeps_all (Some form) act is = is form
 
-  handled_back : (action : FormAction) → IsUndone arguments (handling_lost action arguments storage) storage (handled action arguments storage)
-  handled_back action.Define =
+  handled_back : (action : FormAction) (width : Width) → IsUndone arguments (handling_lost action arguments storage) storage (handled action width arguments storage)
+  handled_back action.Define width =
       or_refused arguments (Swap (named_form arguments storage)) storage (may_be_put (argument 1 arguments) (defined (argument 2 arguments)) storage.forms)
       (Ok (leaves (keeping (finite.insert storage.forms (argument 1 arguments) (defined (argument 2 arguments))) storage)))
       (ap Some (defined_back (argument 1 arguments) (defined (argument 2 arguments)) storage), refl)
-  handled_back action.Delete = (ap (λ (forms : Forms). Some (keeping forms storage)) (moved_back_in (drop 1 arguments) storage.forms), refl)
-  handled_back action.DeleteAll = (ap (λ (forms : Forms). Some (keeping forms storage)) (all_put_back storage.forms), refl)
-  handled_back action.Segment = segmenting_back (named_form arguments storage) refl
-  handled_back action.Restore = restoring_back (named_form arguments storage) refl
-  handled_back action.Call =
+  handled_back action.Delete width = (ap (λ (forms : Forms). Some (keeping forms storage)) (moved_back_in (drop 1 arguments) storage.forms), refl)
+  handled_back action.DeleteAll width = (ap (λ (forms : Forms). Some (keeping forms storage)) (all_put_back storage.forms), refl)
+  handled_back action.Segment width = segmenting_back (named_form arguments storage) refl
+  handled_back action.Restore width = restoring_back (named_form arguments storage) refl
+  handled_back action.Call width =
       keeps_all (named_form arguments storage) (λ form. Ok (gives (called (drop 2 arguments) form) storage)) (λ form. (refl, refl))
-  handled_back (action.Read reading) = reading_back (named_form arguments storage) refl
+  handled_back (action.Read reading) width = reading_back (named_form arguments storage) refl
     where
       reading_back : (found : Option Form) → named_form arguments storage ≡ found →
-          IsUndone arguments (pointer_lost found) storage (on_form found (λ form. Ok (form_read reading arguments form storage)) storage)
+          IsUndone arguments (pointer_lost found) storage (on_form found (λ form. Ok (form_read reading width arguments form storage)) storage)
       reading_back None there = (refl, refl)
-      reading_back (Some form) there = piece_back (piece_read reading arguments form) (default_argument reading arguments) form there
-  handled_back action.ListNames = (refl, refl)
-  handled_back action.PrintForm = keeps_all (named_form arguments storage) (λ form. Ok (prints (shown form) storage)) (λ form. (refl, refl))
+      reading_back (Some form) there = piece_back (piece_read reading width arguments form) (default_argument reading arguments) form there
+  handled_back action.ListNames width = (refl, refl)
+  handled_back action.PrintForm width = keeps_all (named_form arguments storage) (λ form. Ok (prints (shown form) storage)) (λ form. (refl, refl))
 
 -- ---- blocks
 
@@ -284,13 +285,13 @@ module _ (arguments : List (List ℕ)) (storage : Storage) where
   byte_back [] true = tt
   byte_back (b ∷ rest) ended = (refl, refl)
 
-  computed_back : (computation : Computation) → IsUndone arguments Nothing storage (Ok (computed computation arguments storage))
-  computed_back (Calculate operation) = either (calculated (result_of operation) (argument 1 arguments) (argument 2 arguments))
+  computed_back : (computation : Computation) (width : Width) → IsUndone arguments Nothing storage (Ok (computed computation width arguments storage))
+  computed_back (Calculate operation) width = either (calculated (result_of operation) width (argument 1 arguments) (argument 2 arguments))
     where
       either : (value : Option (List ℕ)) → IsUndone arguments Nothing storage (Ok (gives_or_forces value (argument 3 arguments) storage))
       either None = (refl, refl)
       either (Some value) = (refl, refl)
-  computed_back computation = (refl, refl)
+  computed_back computation width = (refl, refl)
 
 -- whether a primitive sets no meta character
 abbrev pub SetsNoMeta : Primitive → Type 0
@@ -307,8 +308,8 @@ effect_undone ReadByte environment arguments s sets_none = byte_back arguments (
 effect_undone Halt environment arguments s sets_none = tt
 effect_undone SetMeta environment arguments s sets_none = absurd sets_none
 effect_undone (SetTrace trace) environment arguments s sets_none = (refl, refl)
-effect_undone (Compute computation) environment arguments s sets_none = computed_back arguments (storage_of s) computation
-effect_undone (Handle action) environment arguments s sets_none = handled_back arguments (storage_of s) action
+effect_undone (Compute computation) environment arguments s sets_none = computed_back arguments (storage_of s) computation environment.width
+effect_undone (Handle action) environment arguments s sets_none = handled_back arguments (storage_of s) action environment.width
 effect_undone (HandleBlock action) environment arguments s sets_none = block_handled_back arguments (storage_of s) action
 effect_undone Unknown environment arguments s sets_none = (refl, refl)
 

@@ -97,7 +97,7 @@ room_of_wanted : (p : PlainSession) → answer Step p ≡ refused NeedInput p �
 room_of_wanted p h =
     ⊎_elim
     (λ (full : (NeedInput ≡ JournalFull) × (p.limit ≤ length p.earlier)). absurd (let no : NeedInput ≡ JournalFull = full.0 in cc))
-    (λ (stepped : (length p.earlier < p.limit) × (step (over p.tape) p.last ≡ Err NeedInput)). stepped.0)
+    (λ (stepped : (length p.earlier < p.limit) × (step (over p.width p.tape) p.last ≡ Err NeedInput)). stepped.0)
     (Step_refused p p NeedInput h).1
 
 -- a step of a session that waits though a byte is unread goes on waiting where bytes without the meta character are fed
@@ -105,7 +105,7 @@ pub Feed_waits : (p q : PlainSession) (bytes : List ℕ) → 0 < length (unread 
     answer Step q ≡ refused NeedInput q
 Feed_waits p q bytes some none h fed =
     let inside : p.last.position < length p.tape.bytes = omega (arith, some, length-drop p.last.position p.tape.bytes) in
-    let fed_step : step (over (with_more p bytes).tape) p.last ≡ Err NeedInput = step_waits (over p.tape) bytes p.last inside none (Step_refused_NeedInput p p h) in
+    let fed_step : step (over (with_more p bytes).width (with_more p bytes).tape) p.last ≡ Err NeedInput = step_waits (over p.width p.tape) bytes p.last inside none (Step_refused_NeedInput p p h) in
     let still : answer Step (with_more p bytes) ≡ refused NeedInput (with_more p bytes) = answer_Step_Err (with_more p bytes) NeedInput (room_of_wanted p h) fed_step in
     rw (Feed_done bytes p q fed).0 still
 
@@ -113,11 +113,11 @@ Feed_waits p q bytes some none h fed =
 pub Commit_waits : (p q : PlainSession) → 1 ≤ p.limit → answer Step p ≡ refused NeedInput p → answer (Commit 0) p ≡ done q → answer Step q ≡ refused NeedInput q
 Commit_waits p q some h committing =
     let k = p.last.position in
-    let silently : step (over p.tape) (silent p.last) ≡ Err NeedInput = step-silent_Err (over p.tape) p.last NeedInput (Step_refused_NeedInput p p h) (λ no. cc) in
+    let silently : step (over p.width p.tape) (silent p.last) ≡ Err NeedInput = step-silent_Err (over p.width p.tape) p.last NeedInput (Step_refused_NeedInput p p h) (λ no. cc) in
     let none_left : [] ≡ drop (length p.last.output) p.last.output = sym (drop_all (length p.last.output) p.last.output (omega arith)) in
-    let settled_step : step (over (committed 0 p).tape) (settled p.last) ≡ Err NeedInput =
-    ap (λ (o : List ℕ). step (over (committed 0 p).tape) (record p.last { output = o; position = p.last.position - k })) (sym none_left)
-    ∙ step-cut k (over p.tape) (silent p.last) (omega arith)
+    let settled_step : step (over (committed 0 p).width (committed 0 p).tape) (settled p.last) ≡ Err NeedInput =
+    ap (λ (o : List ℕ). step (over (committed 0 p).width (committed 0 p).tape) (record p.last { output = o; position = p.last.position - k })) (sym none_left)
+    ∙ step-cut k (over p.width p.tape) (silent p.last) (omega arith)
     ∙ ap (seen_as (moved_back k)) silently in
     let still : answer Step (committed 0 p) ≡ refused NeedInput (committed 0 p) = answer_Step_Err (committed 0 p) NeedInput (omega (arith, some)) settled_step in
     rw (Commit_done 0 p q committing) still

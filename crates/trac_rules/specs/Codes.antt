@@ -7,6 +7,8 @@ use Rattle.trac_rules.specs.declared.item.Item.{Item}
 use Rattle.trac_rules.specs.declared.item.Item.TheVariants.{Byte, Gap}
 use Rattle.trac_rules.specs.declared.kind.Kind.{Kind}
 use Rattle.trac_rules.specs.declared.kind.Kind.TheVariants.{Active, Neutral}
+use Rattle.trac_rules.specs.declared.width.Width.{Width}
+use Rattle.trac_rules.specs.declared.width.Width.TheVariants.{W64, W128}
 use Rattle.trac_rules.specs.Form.{Form}
 use Rattle.trac_rules.specs.State.{Frame, Forms, Block, State, Tape}
 
@@ -30,6 +32,21 @@ abbrev pub form_code : Coded Form
 form_code =
     code_by (List Item × List Item) (coded× (coded_list item_code) (coded_list item_code))
     (λ f. (f.before, f.after)) (λ p. record { before = p.0; after = p.1 }) (λ _. refl)
+
+abbrev bool_of_width : Width → Bool
+bool_of_width W64 = true
+bool_of_width W128 = false
+
+abbrev width_of_bool : Bool → Width
+width_of_bool true = W64
+width_of_bool false = W128
+
+pub width_from_bool : (width : Width) → width_of_bool (bool_of_width width) ≡ width
+width_from_bool W64 = refl
+width_from_bool W128 = refl
+
+abbrev pub width_code : Coded Width
+width_code = code_by Bool coded_bool bool_of_width width_of_bool width_from_bool
 
 abbrev bool_of_kind : Kind → Bool
 bool_of_kind Active = true

@@ -14,4 +14,4 @@ prepended text o = record { bytes = text ++ o.bytes; stop = o.stop }
 
 -- what a run of at most n more steps still writes from here, its pending output first
 abbrev pub going_on_from : PlainSession → List ℕ → ℕ → Output
-going_on_from p more n = prepended p.last.output (output_from n (over (whole p.tape more)) p.last)
+going_on_from p more n = prepended p.last.output (output_from n (over p.width (whole p.tape more)) p.last)

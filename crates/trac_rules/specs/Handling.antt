@@ -7,6 +7,7 @@ use Rattle.trac_rules.specs.declared.primitive.FormReading.{FormReading}
 use Rattle.trac_rules.specs.declared.primitive.FormReading.TheVariants.{ReadSegment, ReadChar, ReadCount, ReadUntil}
 use Rattle.trac_rules.specs.declared.refusal.Refusal.{Refusal}
 use Rattle.trac_rules.specs.declared.refusal.Refusal.TheVariants.{TooLong}
+use Rattle.trac_rules.specs.declared.width.Width.{Width}
 use Rattle.trac_rules.specs.Filling.{called}
 use Rattle.trac_rules.specs.Form.{Form, all_items, defined, pointed_at}
 use Rattle.trac_rules.specs.Limits.{may_be_put}
@@ -45,12 +46,13 @@ pointing name place form storage = keeping (map.insert storage.forms name (point
 abbrev pub named_form : List (List ℕ) → Storage → Option Form
 named_form arguments storage = map.get storage.forms (argument 1 arguments)
 
--- what is read of a form at its pointer, none in the case of the default argument: argument 2 is the number of `cn`, and the text of `in`
-abbrev pub piece_read : FormReading → List (List ℕ) → Form → Option Piece
-piece_read ReadSegment arguments form = segment_read form
-piece_read ReadChar arguments form = char_read form
-piece_read ReadCount arguments form = fitting_count_read (number_argument 2 arguments) form
-piece_read ReadUntil arguments form = until_read (argument 2 arguments) form
+-- what is read of a form at its pointer, none in the case of the default argument: argument 2 is the number of `cn`, of this width, and the
+-- text of `in`
+abbrev pub piece_read : FormReading → Width → List (List ℕ) → Form → Option Piece
+piece_read ReadSegment width arguments form = segment_read form
+piece_read ReadChar width arguments form = char_read form
+piece_read ReadCount width arguments form = fitting_count_read (number_argument width 2 arguments) form
+piece_read ReadUntil width arguments form = until_read (argument 2 arguments) form
 
 -- the default argument: argument 2, or argument 3 where argument 2 is a number or a text
 abbrev pub default_argument : FormReading → List (List ℕ) → List ℕ
@@ -66,24 +68,24 @@ gives_piece (Some piece) other name form storage = gives piece.value (pointing n
 gives_piece None other name form storage = forces other storage
 
 -- what reading a form at its pointer does with these arguments
-abbrev pub form_read : FormReading → List (List ℕ) → Form → Storage → Effect
-form_read reading arguments form storage =
-    gives_piece (piece_read reading arguments form) (default_argument reading arguments) (argument 1 arguments) form storage
+abbrev pub form_read : FormReading → Width → List (List ℕ) → Form → Storage → Effect
+form_read reading width arguments form storage =
+    gives_piece (piece_read reading width arguments form) (default_argument reading arguments) (argument 1 arguments) form storage
 
 -- argument 0 is the primitive's own name. `ln` is given a text, `dd` names, and the others but `da` the name of a form, then texts. A missing
 -- argument is empty; but `dd` deletes only the names that the call gives (this project's profile)
-abbrev pub handled : FormAction → List (List ℕ) → Storage → Result Effect Refusal
-handled Define arguments storage = putting (argument 1 arguments) (defined (argument 2 arguments)) storage
-handled Delete arguments storage = Ok (leaves (keeping (without (drop 1 arguments) storage.forms) storage))
-handled DeleteAll arguments storage = Ok (leaves (keeping map.empty storage))
-handled Segment arguments storage =
+abbrev pub handled : FormAction → Width → List (List ℕ) → Storage → Result Effect Refusal
+handled Define width arguments storage = putting (argument 1 arguments) (defined (argument 2 arguments)) storage
+handled Delete width arguments storage = Ok (leaves (keeping (without (drop 1 arguments) storage.forms) storage))
+handled DeleteAll width arguments storage = Ok (leaves (keeping map.empty storage))
+handled Segment width arguments storage =
     on_form (named_form arguments storage) (λ form. putting (argument 1 arguments) (segmented (drop 2 arguments) form) storage) storage
-handled Restore arguments storage =
+handled Restore width arguments storage =
     on_form (named_form arguments storage) (λ form. Ok (leaves (pointing (argument 1 arguments) 0 form storage))) storage
-handled Call arguments storage =
+handled Call width arguments storage =
     on_form (named_form arguments storage) (λ form. Ok (gives (called (drop 2 arguments) form) storage)) storage
-handled (Read reading) arguments storage =
-    on_form (named_form arguments storage) (λ form. Ok (form_read reading arguments form storage)) storage
-handled ListNames arguments storage = Ok (gives (listed (argument 1 arguments) storage.forms) storage)
-handled PrintForm arguments storage =
+handled (Read reading) width arguments storage =
+    on_form (named_form arguments storage) (λ form. Ok (form_read reading width arguments form storage)) storage
+handled ListNames width arguments storage = Ok (gives (listed (argument 1 arguments) storage.forms) storage)
+handled PrintForm width arguments storage =
     on_form (named_form arguments storage) (λ form. Ok (prints (shown form) storage)) storage

@@ -4,6 +4,8 @@ use Rattle.std.specs.Fmt.{signed_decimal}
 use Rattle.std.specs.Ordering.{int_eq}
 use Rattle.std.specs.Str.{all_ascii_digits}
 use Rattle.std.specs.Str.Parse.{signed_digits_value, without_leading_sign}
+use Rattle.trac_rules.specs.declared.width.Width.{Width}
+use Rattle.trac_rules.specs.declared.width.Width.TheVariants.{W64, W128}
 use Rattle.trac_rules.specs.Bytes.{longest_tail}
 
 -- ---- numerals
@@ -30,36 +32,37 @@ whole_number numeral = signed_digits_value 10 numeral
 
 -- ---- the range
 
--- the numbers of the range lie from minus this bound to one below it (this project's profile).
+-- the numbers of a width lie from minus this bound to one below it (this project's profile).
 -- No other definition knows how wide a number is
-abbrev pub number_bound : ℕ
-number_bound = 2 ^ 63
+abbrev pub number_bound : Width → ℕ
+number_bound W64 = 2 ^ 63
+number_bound W128 = 2 ^ 127
 
-abbrev pub fits : ℤ → Bool
-fits n = int_le (neg_ℤ (pos number_bound)) n && int_lt n (pos number_bound)
+abbrev pub fits : Width → ℤ → Bool
+fits width n = int_le (neg_ℤ (pos (number_bound width))) n && int_lt n (pos (number_bound width))
 
 -- a number of the range, and none in place of any other
-abbrev pub if_fits : ℤ → Option ℤ
-if_fits n = if fits n then Some n else None
+abbrev pub if_fits : Width → ℤ → Option ℤ
+if_fits width n = if fits width n then Some n else None
 
 -- the number that a numeral, or empty in place of one, writes, if it fits
-unfoldable pub number_of : List ℕ → Option ℤ
-number_of numeral = if_fits (whole_number numeral)
+unfoldable pub number_of : Width → List ℕ → Option ℤ
+number_of width numeral = if_fits width (whole_number numeral)
 
 -- ---- arithmetic: a result, if it fits
 
-unfoldable pub sum_of : ℤ → ℤ → Option ℤ
-sum_of a b = if_fits (a +ℤ b)
+unfoldable pub sum_of : Width → ℤ → ℤ → Option ℤ
+sum_of width a b = if_fits width (a +ℤ b)
 
-unfoldable pub difference_of : ℤ → ℤ → Option ℤ
-difference_of a b = if_fits (a -ℤ b)
+unfoldable pub difference_of : Width → ℤ → ℤ → Option ℤ
+difference_of width a b = if_fits width (a -ℤ b)
 
-unfoldable pub product_of : ℤ → ℤ → Option ℤ
-product_of a b = if_fits (a *ℤ b)
+unfoldable pub product_of : Width → ℤ → ℤ → Option ℤ
+product_of width a b = if_fits width (a *ℤ b)
 
 -- cut toward zero (this project's profile); none for a divisor of 0
-unfoldable pub quotient_of : ℤ → ℤ → Option ℤ
-quotient_of a b = if int_eq b (pos 0) then None else if_fits (int_div a b)
+unfoldable pub quotient_of : Width → ℤ → ℤ → Option ℤ
+quotient_of width a b = if int_eq b (pos 0) then None else if_fits width (int_div a b)
 
 -- q is a by b, cut toward zero, as a law says it of `quotient_of`: what remains of a is smaller in size than b, and q times b goes no further from zero than a
 pub record IsCutQuotient (a b q : ℤ) : Type 0 where
@@ -89,8 +92,8 @@ abbrev pub behind_prefix : List ℕ → Option ℤ → Option (List ℕ)
 behind_prefix prefix (Some n) = Some (prefix ++ number_text n)
 behind_prefix prefix None = None
 
--- the prefix of the first text, and then the result of an operation on the numbers of both; none where a number does not fit,
--- or there is no result
-unfoldable pub calculated : (ℤ → ℤ → Option ℤ) → List ℕ → List ℕ → Option (List ℕ)
-calculated operation first second =
-    behind_prefix (prefix_of first) (on_both operation (number_of (numeral_of first)) (number_of (numeral_of second)))
+-- the prefix of the first text, and then the result of an operation on the numbers of both, all three of one width; none where a number
+-- does not fit, or there is no result
+unfoldable pub calculated : (Width → ℤ → ℤ → Option ℤ) → Width → List ℕ → List ℕ → Option (List ℕ)
+calculated operation width first second =
+    behind_prefix (prefix_of first) (on_both (operation width) (number_of width (numeral_of first)) (number_of width (numeral_of second)))

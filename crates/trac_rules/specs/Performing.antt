@@ -53,8 +53,8 @@ effect_of ReadByte environment arguments s = byte_read (unread environment.tape 
 effect_of Halt environment arguments s = Err Ended
 effect_of SetMeta environment arguments s = Ok (meta_set (argument 1 arguments) (storage_of s))
 effect_of (SetTrace trace) environment arguments s = Ok (sets_trace trace (storage_of s))
-effect_of (Compute computation) environment arguments s = Ok (computed computation arguments (storage_of s))
-effect_of (Handle action) environment arguments s = handled action arguments (storage_of s)
+effect_of (Compute computation) environment arguments s = Ok (computed computation environment.width arguments (storage_of s))
+effect_of (Handle action) environment arguments s = handled action environment.width arguments (storage_of s)
 effect_of (HandleBlock action) environment arguments s = block_handled action arguments (storage_of s)
 effect_of Unknown environment arguments s = Ok (leaves (storage_of s))
 

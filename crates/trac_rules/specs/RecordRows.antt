@@ -13,7 +13,7 @@ use Rattle.trac_rules.specs.Weights.{call_loss, losses_from, weight}
 
 -- the records of the steps of a session that began with one state and was fed before its first step, the newest first
 abbrev pub records_of : PlainSession → List Record
-records_of p = records_from (over p.tape) p.earlier
+records_of p = records_from (over p.width p.tape) p.earlier
 
 -- a tape of no bytes that has not ended
 abbrev pub no_tape : Tape

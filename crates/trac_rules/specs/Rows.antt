@@ -5,12 +5,14 @@ use Rattle.std.specs.List.{slice_split}
 use Rattle.trac_rules.specs.declared.byte.TheConstants.{COMMA}
 use Rattle.trac_rules.specs.declared.reply.Reply.{Reply}
 use Rattle.trac_rules.specs.declared.item.Item.{Item}
+use Rattle.trac_rules.specs.declared.width.Width.{Width}
+use Rattle.trac_rules.specs.declared.width.Width.TheVariants.{W128}
 use Rattle.trac_rules.specs.declared.item.Item.TheVariants.{Byte, Gap}
 use Rattle.trac_rules.specs.Effect.{argument, forces, leaves}
 use Rattle.trac_rules.specs.Form.{pointed_at}
 use Rattle.trac_rules.specs.Performing.{effect_of, primitive_of}
-use Rattle.trac_rules.specs.State.{Block, Environment, Held, State, storage_of}
-use Rattle.trac_rules.specs.Session.{PlainSession, Command, Feed, Step, answer, new_session}
+use Rattle.trac_rules.specs.State.{Block, Environment, Held, State, Tape, storage_of}
+use Rattle.trac_rules.specs.Session.{PlainSession, Command, Feed, Step, answer, new_session, over}
 
 -- ---- sessions
 
@@ -30,7 +32,7 @@ state_after commands p = (session_after commands p).last
 
 -- the session after nineteen steps over a text of two bytes, and then these commands
 abbrev pub after_nineteen : List Command → PlainSession
-after_nineteen commands = session_after (Feed (codes "AB'") ∷ replicate 19 Step ++ commands) (new_session 64)
+after_nineteen commands = session_after (Feed (codes "AB'") ∷ replicate 19 Step ++ commands) (new_session 64 W128)
 
 -- ---- calls on forms
 
@@ -50,13 +52,17 @@ with_storage forms blocks s = record (with_forms forms s) { blocks = blocks }
 abbrev pub texts_of : List ℕ → List (List ℕ)
 texts_of text = slice_split (λ b. b == COMMA) text
 
--- what a call does in every state with the forms `before`: its value, which is not forced, what it prints, and the forms after it;
--- nothing else changes
-abbrev pub Does : List (List ℕ) → Named → List ℕ → List ℕ → Named → Type 0
-Does arguments before value printed after =
-    (environment : Environment) → (s : State) →
-    effect_of (primitive_of (argument 0 arguments)) environment arguments (with_forms before s)
+-- what a call does in every state with the forms `before`, where numbers are of a width: its value, which is not forced, what it prints,
+-- and the forms after it; nothing else changes
+abbrev pub DoesIn : Width → List (List ℕ) → Named → List ℕ → List ℕ → Named → Type 0
+DoesIn width arguments before value printed after =
+    (tape : Tape) → (s : State) →
+    effect_of (primitive_of (argument 0 arguments)) (over width tape) arguments (with_forms before s)
     ≡ Ok (record (leaves (storage_of (with_forms after s))) { value = value; printed = printed })
+
+-- the same, whatever the width
+abbrev pub Does : List (List ℕ) → Named → List ℕ → List ℕ → Named → Type 0
+Does arguments before value printed after = (width : Width) → DoesIn width arguments before value printed after
 
 -- a call with an empty value that prints nothing turns these forms into those
 abbrev pub Leaves : List (List ℕ) → Named → Named → Type 0
@@ -70,11 +76,15 @@ Gives arguments forms value = Does arguments forms value [] forms
 abbrev pub Prints : List (List ℕ) → Named → List ℕ → Type 0
 Prints arguments forms text = Does arguments forms [] text forms
 
--- a call gives this value, which is forced, and changes nothing
+-- a call gives this value, which is forced, and changes nothing, where numbers are of a width
+abbrev pub ForcesIn : Width → List (List ℕ) → Named → List ℕ → Type 0
+ForcesIn width arguments forms value =
+    (tape : Tape) → (s : State) →
+    effect_of (primitive_of (argument 0 arguments)) (over width tape) arguments (with_forms forms s) ≡ Ok (forces value (storage_of (with_forms forms s)))
+
+-- the same, whatever the width
 abbrev pub Forces : List (List ℕ) → Named → List ℕ → Type 0
-Forces arguments forms value =
-    (environment : Environment) → (s : State) →
-    effect_of (primitive_of (argument 0 arguments)) environment arguments (with_forms forms s) ≡ Ok (forces value (storage_of (with_forms forms s)))
+Forces arguments forms value = (width : Width) → ForcesIn width arguments forms value
 
 -- a form of this name and of these items, its pointer at a place
 abbrev pub pointing_at : ℕ → List ℕ → List Item → Named

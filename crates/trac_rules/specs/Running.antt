@@ -2,6 +2,7 @@
 use Rattle.std.specs.Prelude.{ℕ, zero, suc, List, [], ◌++◌, Result, Ok, Err, true}
 use Rattle.trac_rules.specs.declared.refusal.Refusal.{Refusal}
 use Rattle.trac_rules.specs.declared.refusal.Refusal.TheVariants.{TooLong, Ended}
+use Rattle.trac_rules.specs.declared.width.Width.{Width}
 use Rattle.trac_rules.specs.State.{Environment, State, initial}
 use Rattle.trac_rules.specs.Stepping.{step}
 
@@ -35,6 +36,6 @@ unfoldable pub output_from : ℕ → Environment → State → Output
 output_from zero environment s = record { bytes = []; stop = BudgetSpent }
 output_from (suc n) environment s = going_on (step environment (silent s)) (λ t. output_from n environment t)
 
--- a run over the whole input, within a budget of steps
-abbrev pub output_of : List ℕ → ℕ → Output
-output_of input budget = output_from budget (record { tape = record { bytes = input; ended = true } }) initial
+-- a run over the whole input with numbers of a width, within a budget of steps
+abbrev pub output_of : Width → List ℕ → ℕ → Output
+output_of width input budget = output_from budget (record { tape = record { bytes = input; ended = true }; width = width }) initial

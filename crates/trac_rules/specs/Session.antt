@@ -1,10 +1,11 @@
--- The plain session: a limit, a tape, and a list of states that is never empty.
+-- The plain session: a limit, the width of numbers, a tape, and a list of states that is never empty.
 use Rattle.std.specs.Prelude.{◌≡◌, ◌⊎◌, ℕ, zero, suc, ◌+◌, ◌-◌, ◌<◌, ◌≤◌, nat_lt, nat_le, List, [], ◌∷◌, ◌++◌, length, map, take, drop, if◌then◌else◌, Bool, true, false, Option, None, Some, Result, Ok, Err, MatchOption, option_and_then}
 use Rattle.trac_rules.specs.declared.limit.TheConstants.{TAPE_LIMIT}
 use Rattle.trac_rules.specs.declared.refusal.Refusal.{Refusal}
 use Rattle.trac_rules.specs.declared.refusal.Refusal.TheVariants.{TooLong, JournalFull, AtStart, Closed}
 use Rattle.trac_rules.specs.declared.reply.Reply.{Reply}
 use Rattle.trac_rules.specs.declared.reply.Reply.TheVariants.{Done, Refused}
+use Rattle.trac_rules.specs.declared.width.Width.{Width}
 use Rattle.trac_rules.specs.State.{Environment, State, Tape, initial}
 use Rattle.trac_rules.specs.Outcomes.{OrMemory}
 use Rattle.trac_rules.specs.Stepping.{step}
@@ -12,13 +13,15 @@ use Rattle.trac_rules.specs.Stepping.{step}
 pub record PlainSession : Type 0 where
   -- how many states there may be before the last one
   pub limit : ℕ
+  -- how wide numbers are: no command changes it
+  pub width : Width
   pub tape : Tape
   -- the states before the last one, the newest first
   pub earlier : List State
   pub last : State
 
-abbrev pub new_session : ℕ → PlainSession
-new_session limit = record { limit = limit; tape = record { bytes = []; ended = false }; earlier = []; last = initial }
+abbrev pub new_session : ℕ → Width → PlainSession
+new_session limit width = record { limit = limit; width = width; tape = record { bytes = []; ended = false }; earlier = []; last = initial }
 
 pub data Command : Type 0 where
   Feed : List ℕ → Command
@@ -57,9 +60,9 @@ abbrev pub backed_to : List State → PlainSession → Answer
 backed_to [] p = refused AtStart p
 backed_to (s ∷ earlier) p = done (record p { earlier = earlier; last = s })
 
--- what a step is given over this tape
-abbrev pub over : Tape → Environment
-over tape = record { tape = tape }
+-- what a step is given where numbers are of this width, over this tape
+abbrev pub over : Width → Tape → Environment
+over width tape = record { tape = tape; width = width }
 
 -- the state without the first `output` bytes of its output, over a tape that has lost its first `position` bytes
 abbrev pub released : ℕ → ℕ → State → State
@@ -94,7 +97,7 @@ committed keep p = record p {
 unfoldable pub answer : Command → PlainSession → Answer
 answer (Feed bytes) p = fed bytes p
 answer End p = done (record p { tape = record p.tape { ended = true } })
-answer Step p = if nat_lt (length p.earlier) p.limit then stepped_to (step (over p.tape) p.last) p else refused JournalFull p
+answer Step p = if nat_lt (length p.earlier) p.limit then stepped_to (step (over p.width p.tape) p.last) p else refused JournalFull p
 answer Back p = backed_to p.earlier p
 answer (Commit keep) p = done (committed keep p)
 

@@ -6,6 +6,7 @@ use Rattle.std.specs.FinMap.{FinMap}
 use Rattle.std.specs.FinMap as map
 use Rattle.trac_rules.specs.declared.kind.Kind.{Kind}
 use Rattle.trac_rules.specs.declared.byte.TheConstants.{APOSTROPHE}
+use Rattle.trac_rules.specs.declared.width.Width.{Width}
 use Rattle.trac_rules.specs.Bytes.{idle_program}
 use Rattle.trac_rules.specs.Form.{Form}
 
@@ -61,9 +62,10 @@ pub record Tape : Type 0 where
   pub bytes : List ℕ
   pub ended : Bool
 
--- what a step is given beside the state
+-- what a step is given beside the state: the tape, and how wide numbers are. No step changes either
 pub record Environment : Type 0 where
   pub tape : Tape
+  pub width : Width
 
 -- the state in which a processor begins
 abbrev pub initial : State

@@ -12,6 +12,7 @@ ghost use Rattle.trac_rules.specs.Weights.{weight};
 ghost use Rattle.trac_rules.specs.declared.byte.TheConstants.{LINE_FEED};
 ghost use Rattle.trac_rules.specs.declared.item.Item.TheVariants.{Byte, Gap};
 ghost use Rattle.trac_rules.specs.declared.kind.Kind.TheVariants.{Active, Neutral};
+ghost use Rattle.trac_rules.specs.declared.width.Width.TheVariants.{W128};
 
 /// What calls destroy of forms and blocks.
 pub fn worked_destroyed()
@@ -112,25 +113,25 @@ pub fn worked_call_weights()
 /// Records of whole steps, there and back.
 pub fn worked_call_records()
     // Whole sessions: scanning, `rs`, `ps` and the idle step.
-    ensures text { weights_of (records_of (session_after (Feed (codes "AB'") ∷ replicate 19 Step) (new_session 64))) ≡ 7 }
-    ensures stray { weights_of (records_of (session_after (Feed (codes "a)b,c'") ∷ replicate 22 Step) (new_session 64))) ≡ 10 }
+    ensures text { weights_of (records_of (session_after (Feed (codes "AB'") ∷ replicate 19 Step) (new_session 64 W128))) ≡ 7 }
+    ensures stray { weights_of (records_of (session_after (Feed (codes "a)b,c'") ∷ replicate 22 Step) (new_session 64 W128))) ≡ 10 }
     // `rs` there and back: its value is off the active text, and what it read is to be read again.
-    ensures reading { record_of (over (record { bytes = codes "AB'"; ended = false })) (state_after (Feed (codes "AB'") ∷ replicate 7 Step) (new_session 64)) ≡ Some (Called (record (silent_call (texts_of (codes "rs")) Nothing) { value = 2; read = 3 })) }
-    ensures reading_back { restored (Called (record (silent_call (texts_of (codes "rs")) Nothing) { value = 2; read = 3 })) (state_after (Feed (codes "AB'") ∷ replicate 8 Step) (new_session 64)) ≡ Some (state_after (Feed (codes "AB'") ∷ replicate 7 Step) (new_session 64)) }
+    ensures reading { record_of (over W128 (record { bytes = codes "AB'"; ended = false })) (state_after (Feed (codes "AB'") ∷ replicate 7 Step) (new_session 64 W128)) ≡ Some (Called (record (silent_call (texts_of (codes "rs")) Nothing) { value = 2; read = 3 })) }
+    ensures reading_back { restored (Called (record (silent_call (texts_of (codes "rs")) Nothing) { value = 2; read = 3 })) (state_after (Feed (codes "AB'") ∷ replicate 8 Step) (new_session 64 W128)) ≡ Some (state_after (Feed (codes "AB'") ∷ replicate 7 Step) (new_session 64 W128)) }
     // The line of the trace is printed by the call, and the old flag kept; a meta character also where the same one is set.
-    ensures tracing { record_of (over no_tape) (record initial { active = codes ")a"; base = codes "x"; frames = record { kind = Active; arguments = []; gathered = codes "tf" } ∷ []; trace = true; output = codes "o" }) ≡ Some (Called (record (silent_call (texts_of (codes "tf")) Nothing) { printed = 6; trace = true })) }
+    ensures tracing { record_of (over W128 no_tape) (record initial { active = codes ")a"; base = codes "x"; frames = record { kind = Active; arguments = []; gathered = codes "tf" } ∷ []; trace = true; output = codes "o" }) ≡ Some (Called (record (silent_call (texts_of (codes "tf")) Nothing) { printed = 6; trace = true })) }
     ensures tracing_back { restored (Called (record (silent_call (texts_of (codes "tf")) Nothing) { printed = 6; trace = true })) (record initial { active = codes "a"; base = codes "x"; output = codes "o#(tf)" ++ LINE_FEED ∷ [] }) ≡ Some (record initial { active = codes ")a"; base = codes "x"; frames = record { kind = Active; arguments = []; gathered = codes "tf" } ∷ []; trace = true; output = codes "o" }) }
-    ensures same_meta { record_of (over no_tape) (record initial { active = codes ")a"; base = codes "x"; frames = record { kind = Active; arguments = (codes "cm" ∷ []); gathered = codes "'" } ∷ [] }) ≡ Some (Called (record (silent_call (texts_of (codes "cm,'")) Nothing) { meta = Some 39 })) }
+    ensures same_meta { record_of (over W128 no_tape) (record initial { active = codes ")a"; base = codes "x"; frames = record { kind = Active; arguments = (codes "cm" ∷ []); gathered = codes "'" } ∷ [] }) ≡ Some (Called (record (silent_call (texts_of (codes "cm,'")) Nothing) { meta = Some 39 })) }
     ensures same_meta_weight { weight (Called (record (silent_call (texts_of (codes "cm,'")) Nothing) { meta = Some 39 })) ≡ 5 }
     ensures meta_back { restored (Called (record (silent_call (texts_of (codes "cm,'")) Nothing) { meta = Some 39 })) (record initial { active = codes "a"; base = codes "x"; meta = 59 }) ≡ Some (record initial { active = codes ")a"; base = codes "x"; frames = record { kind = Active; arguments = (codes "cm" ∷ []); gathered = codes "'" } ∷ [] }) }
-    ensures null_meta { record_of (over no_tape) (record initial { active = codes ")a"; base = codes "x"; frames = record { kind = Active; arguments = (codes "cm" ∷ []); gathered = [] } ∷ [] }) ≡ Some (Called (silent_call (texts_of (codes "cm,")) Nothing)) }
+    ensures null_meta { record_of (over W128 no_tape) (record initial { active = codes ")a"; base = codes "x"; frames = record { kind = Active; arguments = (codes "cm" ∷ []); gathered = [] } ∷ [] }) ≡ Some (Called (silent_call (texts_of (codes "cm,")) Nothing)) }
     // The value of a neutral function is at the end of the current text, and a forced one before the active text.
-    ensures neutral { record_of (over no_tape) (record initial { active = codes ")a"; base = codes "x"; frames = record { kind = Neutral; arguments = (codes "eq" ∷ codes "a" ∷ codes "a" ∷ codes "yes" ∷ []); gathered = codes "no" } ∷ [] }) ≡ Some (Called (record (silent_call (texts_of (codes "eq,a,a,yes,no")) Nothing) { kind = Neutral; value = 3; scanned = false })) }
+    ensures neutral { record_of (over W128 no_tape) (record initial { active = codes ")a"; base = codes "x"; frames = record { kind = Neutral; arguments = (codes "eq" ∷ codes "a" ∷ codes "a" ∷ codes "yes" ∷ []); gathered = codes "no" } ∷ [] }) ≡ Some (Called (record (silent_call (texts_of (codes "eq,a,a,yes,no")) Nothing) { kind = Neutral; value = 3; scanned = false })) }
     ensures neutral_back { restored (Called (record (silent_call (texts_of (codes "eq,a,a,yes,no")) Nothing) { kind = Neutral; value = 3; scanned = false })) (record initial { active = codes "a"; base = codes "xyes" }) ≡ Some (record initial { active = codes ")a"; base = codes "x"; frames = record { kind = Neutral; arguments = (codes "eq" ∷ codes "a" ∷ codes "a" ∷ codes "yes" ∷ []); gathered = codes "no" } ∷ [] }) }
-    ensures forced { record_of (over no_tape) (record initial { active = codes ")a"; base = codes "x"; frames = record { kind = Neutral; arguments = (codes "dv" ∷ codes "1" ∷ codes "0" ∷ []); gathered = codes "none" } ∷ [] }) ≡ Some (Called (record (silent_call (texts_of (codes "dv,1,0,none")) Nothing) { kind = Neutral; value = 4 })) }
+    ensures forced { record_of (over W128 no_tape) (record initial { active = codes ")a"; base = codes "x"; frames = record { kind = Neutral; arguments = (codes "dv" ∷ codes "1" ∷ codes "0" ∷ []); gathered = codes "none" } ∷ [] }) ≡ Some (Called (record (silent_call (texts_of (codes "dv,1,0,none")) Nothing) { kind = Neutral; value = 4 })) }
     ensures forced_back { restored (Called (record (silent_call (texts_of (codes "dv,1,0,none")) Nothing) { kind = Neutral; value = 4 })) (record initial { active = codes "nonea"; base = codes "x" }) ≡ Some (record initial { active = codes ")a"; base = codes "x"; frames = record { kind = Neutral; arguments = (codes "dv" ∷ codes "1" ∷ codes "0" ∷ []); gathered = codes "none" } ∷ [] }) }
     // A call that is refused destroys nothing.
-    ensures refused { record_of (over (record { bytes = codes "A"; ended = false })) (record initial { active = codes ")"; frames = record { kind = Active; arguments = []; gathered = codes "rs" } ∷ [] }) ≡ None }
+    ensures refused { record_of (over W128 (record { bytes = codes "A"; ended = false })) (record initial { active = codes ")"; frames = record { kind = Active; arguments = []; gathered = codes "rs" } ∷ [] }) ≡ None }
     // A state that does not show so long a value, print or read; and a record without arguments.
     ensures too_short_active { state_before (Called (record (silent_call (texts_of (codes "rs")) Nothing) { value = 2 })) (record initial { active = codes "a" }) ≡ None }
     ensures too_short_base { state_before (Called (record (silent_call (texts_of (codes "rs")) Nothing) { value = 2; scanned = false })) (record initial { base = codes "a" }) ≡ None }

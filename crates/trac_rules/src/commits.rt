@@ -12,12 +12,14 @@ ghost use Rattle.trac_rules.specs.declared.refusal.Refusal.{Refusal};
 ghost use Rattle.trac_rules.specs.declared.kind.Kind.TheVariants.{Active};
 ghost use Rattle.trac_rules.specs.declared.refusal.Refusal.TheVariants.{AtStart, TooLong};
 ghost use Rattle.trac_rules.specs.declared.reply.Reply.TheVariants.{Done, Refused};
+ghost use Rattle.trac_rules.specs.declared.width.Width.{Width};
+ghost use Rattle.trac_rules.specs.declared.width.Width.TheVariants.{W128};
 
 /// Steps only read on and print more: so each state that a commit keeps has read no less than the first of them, and its
 /// output begins with that one's.
 pub fn steps_print_more()
-    ensures onward { (tape : Tape) (s t : State) → step (over tape) s ≡ Ok t → s.position ≤ t.position }
-    ensures more { (tape : Tape) (s t : State) → step (over tape) s ≡ Ok t → IsFrontOf s.output t.output }
+    ensures onward { (width : Width) (tape : Tape) (s t : State) → step (over width tape) s ≡ Ok t → s.position ≤ t.position }
+    ensures more { (width : Width) (tape : Tape) (s t : State) → step (over width tape) s ≡ Ok t → IsFrontOf s.output t.output }
 {}
 
 /// After a commit the last state stays, and as many before it as are to be kept, or all where there are fewer; the first of
@@ -42,10 +44,10 @@ pub fn commits_keep_the_last_states()
 /// `TooLong`, which a limit on the output may have asked for; a record leads to the state before, released alike; the
 /// step's record weighs as much, and the step loses as much.
 pub fn released_states_go_on()
-    ensures taken { (tape : Tape) (s t : State) (output position : ℕ) → position ≤ s.position → output ≤ length s.output → step (over tape) s ≡ Ok t →
-        step (over (record tape { bytes = drop position tape.bytes })) (released output position s) ≡ Ok (released output position t) }
-    ensures refused { (tape : Tape) (s : State) (refusal : Refusal) (output position : ℕ) → position ≤ s.position → refusal ≢ TooLong → step (over tape) s ≡ Err refusal →
-        step (over (record tape { bytes = drop position tape.bytes })) (released output position s) ≡ Err refusal }
+    ensures taken { (width : Width) (tape : Tape) (s t : State) (output position : ℕ) → position ≤ s.position → output ≤ length s.output → step (over width tape) s ≡ Ok t →
+        step (over width (record tape { bytes = drop position tape.bytes })) (released output position s) ≡ Ok (released output position t) }
+    ensures refused { (width : Width) (tape : Tape) (s : State) (refusal : Refusal) (output position : ℕ) → position ≤ s.position → refusal ≢ TooLong → step (over width tape) s ≡ Err refusal →
+        step (over width (record tape { bytes = drop position tape.bytes })) (released output position s) ≡ Err refusal }
     ensures before { (r : Record) (s t : State) (output position : ℕ) → position ≤ s.position → output ≤ length s.output → state_before r t ≡ Some s →
         state_before r (released output position t) ≡ Some (released output position s) }
     ensures weight { (s : State) (output position : ℕ) → step_weight (released output position s) ≡ step_weight s }
@@ -75,5 +77,5 @@ pub fn worked_windows()
     ensures all_stay { length (after_nineteen (Commit 99 ∷ [])).earlier ≡ 19 }
     ensures all_pending { (after_nineteen (Commit 99 ∷ [])).last.output ≡ codes "AB" }
     // With a limit of six, and five kept after each step, no step finds the journal full.
-    ensures small_journal { replies_to (Feed (codes "AB'") ∷ flat_map (λ command. command ∷ Commit 5 ∷ []) (replicate 19 Step) ++ replicate 6 Back) (new_session 6) ≡ replicate 44 Done ++ Refused AtStart ∷ [] }
+    ensures small_journal { replies_to (Feed (codes "AB'") ∷ flat_map (λ command. command ∷ Commit 5 ∷ []) (replicate 19 Step) ++ replicate 6 Back) (new_session 6 W128) ≡ replicate 44 Done ++ Refused AtStart ∷ [] }
 {}

@@ -20,3 +20,4 @@ pub mod reply;
 pub mod rows;
 pub mod scan;
 pub mod segmenting;
+pub mod width;

@@ -1,7 +1,11 @@
 //! Laws of numerals and numbers, each the contract of a function that does nothing, and worked rows,
 //! computed from the definitions.
 ghost use Rattle.std.specs.Prelude.{◌≡◌, ◌≤◌, ◌++◌, [], List, ℕ, length, codes, true, false, None, Some, ℤ, pos, neg_ℤ};
+ghost use Rattle.trac_rules.specs.Computing.{result_of};
 ghost use Rattle.trac_rules.specs.Number.{IsCutQuotient, IsNumeralOrNull, calculated, difference_of, fits, is_greater, is_numeral, number_of, number_text, numeral_of, prefix_of, product_of, quotient_of, sum_of};
+ghost use Rattle.trac_rules.specs.declared.primitive.Operation.{Operation};
+ghost use Rattle.trac_rules.specs.declared.width.Width.{Width};
+ghost use Rattle.trac_rules.specs.declared.width.Width.TheVariants.{W64, W128};
 
 /// The numeral of a text, which is found as the first tail of the form, is its longest one: a tail of the form or empty,
 /// with the prefix before it, and no tail of the form is longer.
@@ -11,15 +15,23 @@ pub fn numeral_is_longest()
     ensures longest { (text front tail : List ℕ) → text ≡ front ++ tail → is_numeral tail ≡ true → length tail ≤ length (numeral_of text) }
 {}
 
+/// A number that fits 64 bits fits 128 bits too. So a numeral that has a number of 64 bits has the same one of 128 bits, and
+/// two numbers that have a result of 64 bits have the same one of 128 bits.
+pub fn narrow_numbers_stay()
+    ensures fitting { (n : ℤ) → fits W64 n ≡ true → fits W128 n ≡ true }
+    ensures read { (numeral : List ℕ) (n : ℤ) → number_of W64 numeral ≡ Some n → number_of W128 numeral ≡ Some n }
+    ensures calculated { (operation : Operation) (a b n : ℤ) → result_of operation W64 a b ≡ Some n → result_of operation W128 a b ≡ Some n }
+{}
+
 /// A quotient is cut toward zero (this project's profile).
 pub fn quotient_is_cut()
-    ensures { (a b q : ℤ) → quotient_of a b ≡ Some q → IsCutQuotient a b q }
+    ensures { (width : Width) (a b q : ℤ) → quotient_of width a b ≡ Some q → IsCutQuotient a b q }
 {}
 
 /// A number of the range that is printed is a numeral, and is read back as the same number.
 pub fn printed_is_read_back()
-    ensures form { (n : ℤ) → fits n ≡ true → is_numeral (number_text n) ≡ true }
-    ensures number { (n : ℤ) → fits n ≡ true → number_of (number_text n) ≡ Some n }
+    ensures form { (width : Width) (n : ℤ) → fits width n ≡ true → is_numeral (number_text n) ≡ true }
+    ensures number { (width : Width) (n : ℤ) → fits width n ≡ true → number_of width (number_text n) ≡ Some n }
 {}
 
 /// What stands at the end of texts, and what is calculated from it.
@@ -27,50 +39,105 @@ pub fn worked_numerals()
     // A numeral with and without a sign, after a prefix.
     ensures plain { numeral_of (codes "apples5") ≡ codes "5" }
     ensures plain_prefix { prefix_of (codes "apples5") ≡ codes "apples" }
-    ensures plain_number { number_of (numeral_of (codes "apples5")) ≡ Some (pos 5) }
+    ensures plain_number { number_of W128 (numeral_of (codes "apples5")) ≡ Some (pos 5) }
     ensures minus { numeral_of (codes "a-5") ≡ codes "-5" }
     ensures minus_prefix { prefix_of (codes "a-5") ≡ codes "a" }
-    ensures minus_number { number_of (numeral_of (codes "a-5")) ≡ Some (neg_ℤ (pos 5)) }
+    ensures minus_number { number_of W128 (numeral_of (codes "a-5")) ≡ Some (neg_ℤ (pos 5)) }
     // A numeral has one sign at most.
     ensures two_signs { numeral_of (codes "--4") ≡ codes "-4" }
     ensures two_signs_prefix { prefix_of (codes "--4") ≡ codes "-" }
-    ensures two_signs_number { number_of (numeral_of (codes "--4")) ≡ Some (neg_ℤ (pos 4)) }
+    ensures two_signs_number { number_of W128 (numeral_of (codes "--4")) ≡ Some (neg_ℤ (pos 4)) }
     // Leading zeros are allowed.
     ensures zeros { numeral_of (codes "+0012") ≡ codes "+0012" }
     ensures zeros_prefix { prefix_of (codes "+0012") ≡ [] }
-    ensures zeros_number { number_of (numeral_of (codes "+0012")) ≡ Some (pos 12) }
+    ensures zeros_number { number_of W128 (numeral_of (codes "+0012")) ≡ Some (pos 12) }
     // Without a numeral the whole text is the prefix, and the number is 0.
     ensures sign_last { numeral_of (codes "5-") ≡ [] }
     ensures sign_last_prefix { prefix_of (codes "5-") ≡ codes "5-" }
-    ensures sign_last_number { number_of (numeral_of (codes "5-")) ≡ Some (pos 0) }
+    ensures sign_last_number { number_of W128 (numeral_of (codes "5-")) ≡ Some (pos 0) }
     ensures null { numeral_of [] ≡ [] }
     ensures null_prefix { prefix_of [] ≡ [] }
-    ensures null_number { number_of (numeral_of []) ≡ Some (pos 0) }
+    ensures null_number { number_of W128 (numeral_of []) ≡ Some (pos 0) }
     // Minus zero is zero.
-    ensures minus_zero { number_of (codes "-0") ≡ Some (pos 0) }
-    // The ends of the range, and what lies one past them.
-    ensures least { number_of (codes "-9223372036854775808") ≡ Some (neg_ℤ (pos 9223372036854775808)) }
-    ensures below_least { number_of (codes "-9223372036854775809") ≡ None }
-    ensures greatest { number_of (codes "9223372036854775807") ≡ Some (pos 9223372036854775807) }
-    ensures above_greatest { number_of (codes "9223372036854775808") ≡ None }
+    ensures minus_zero { number_of W128 (codes "-0") ≡ Some (pos 0) }
     // The prefix of the first text stands before the result.
-    ensures difference { calculated difference_of (codes "a-5") (codes "b2") ≡ Some (codes "a-7") }
-    ensures behind_a_sign { calculated sum_of (codes "--4") (codes "1") ≡ Some (codes "--3") }
-    ensures behind_all { calculated sum_of (codes "5-") (codes "3") ≡ Some (codes "5-3") }
-    ensures times_zero { calculated product_of (codes "x") (codes "3") ≡ Some (codes "x0") }
+    ensures difference { calculated difference_of W128 (codes "a-5") (codes "b2") ≡ Some (codes "a-7") }
+    ensures behind_a_sign { calculated sum_of W128 (codes "--4") (codes "1") ≡ Some (codes "--3") }
+    ensures behind_all { calculated sum_of W128 (codes "5-") (codes "3") ≡ Some (codes "5-3") }
+    ensures times_zero { calculated product_of W128 (codes "x") (codes "3") ≡ Some (codes "x0") }
     // A quotient is cut toward zero (this project's profile).
-    ensures cut { calculated quotient_of (codes "7") (codes "-2") ≡ Some (codes "-3") }
-    ensures cut_negative { calculated quotient_of (codes "-7") (codes "2") ≡ Some (codes "-3") }
-    // What does not fit, and a divisor of 0, have no result.
-    ensures sum_past { calculated sum_of (codes "9223372036854775807") (codes "1") ≡ None }
-    ensures difference_past { calculated difference_of (codes "-9223372036854775808") (codes "1") ≡ None }
-    ensures operand_past { calculated sum_of (codes "9223372036854775808") (codes "-1") ≡ None }
-    ensures least_turned { calculated quotient_of (codes "-9223372036854775808") (codes "-1") ≡ None }
-    ensures by_zero { calculated quotient_of (codes "1") (codes "0") ≡ None }
+    ensures cut { calculated quotient_of W128 (codes "7") (codes "-2") ≡ Some (codes "-3") }
+    ensures cut_negative { calculated quotient_of W128 (codes "-7") (codes "2") ≡ Some (codes "-3") }
     // Whole numbers are compared, of any length (this project's profile).
     ensures minus_zero_first { is_greater (codes "-0") (codes "0") ≡ false }
     ensures minus_zero_second { is_greater (codes "0") (codes "-0") ≡ false }
     ensures longer { is_greater (numeral_of (codes "a10")) (numeral_of (codes "b9")) ≡ true }
     ensures leading_zeros { is_greater (codes "0009") (codes "10") ≡ false }
     ensures past_the_range { is_greater (codes "9223372036854775809") (codes "9223372036854775808") ≡ true }
+{}
+
+/// Where numbers of each width end.
+pub fn worked_widths()
+    // The ends of the range of 64 bits, and what lies one past them; leading zeros do not count.
+    ensures narrow_least { number_of W64 (codes "-9223372036854775808") ≡ Some (neg_ℤ (pos 9223372036854775808)) }
+    ensures narrow_below_least { number_of W64 (codes "-9223372036854775809") ≡ None }
+    ensures narrow_greatest { number_of W64 (codes "9223372036854775807") ≡ Some (pos 9223372036854775807) }
+    ensures narrow_above_greatest { number_of W64 (codes "9223372036854775808") ≡ None }
+    ensures narrow_zeros { number_of W64 (codes "-000000000000000000000000000000000000000009223372036854775808") ≡ Some (neg_ℤ (pos 9223372036854775808)) }
+    // Results at the ends of 64 bits, and one past them.
+    ensures narrow_sum { calculated sum_of W64 (codes "9223372036854775806") (codes "1") ≡ Some (codes "9223372036854775807") }
+    ensures narrow_sum_past { calculated sum_of W64 (codes "9223372036854775807") (codes "1") ≡ None }
+    ensures narrow_sum_at_least { calculated sum_of W64 (codes "-9223372036854775807") (codes "-1") ≡ Some (codes "-9223372036854775808") }
+    ensures narrow_sum_below { calculated sum_of W64 (codes "-9223372036854775808") (codes "-1") ≡ None }
+    ensures narrow_difference { calculated difference_of W64 (codes "9223372036854775806") (codes "-1") ≡ Some (codes "9223372036854775807") }
+    ensures narrow_difference_past { calculated difference_of W64 (codes "9223372036854775807") (codes "-1") ≡ None }
+    ensures narrow_difference_at_least { calculated difference_of W64 (codes "-9223372036854775807") (codes "1") ≡ Some (codes "-9223372036854775808") }
+    ensures narrow_difference_below { calculated difference_of W64 (codes "-9223372036854775808") (codes "1") ≡ None }
+    ensures narrow_product { calculated product_of W64 (codes "9223372036854775807") (codes "1") ≡ Some (codes "9223372036854775807") }
+    ensures narrow_product_past { calculated product_of W64 (codes "4294967296") (codes "2147483648") ≡ None }
+    ensures narrow_product_at_least { calculated product_of W64 (codes "-4294967296") (codes "2147483648") ≡ Some (codes "-9223372036854775808") }
+    ensures narrow_product_below { calculated product_of W64 (codes "-9223372036854775808") (codes "2") ≡ None }
+    ensures narrow_least_turned_by_a_product { calculated product_of W64 (codes "-9223372036854775808") (codes "-1") ≡ None }
+    ensures narrow_quotient { calculated quotient_of W64 (codes "9223372036854775807") (codes "-1") ≡ Some (codes "-9223372036854775807") }
+    ensures narrow_quotient_at_least { calculated quotient_of W64 (codes "-9223372036854775808") (codes "1") ≡ Some (codes "-9223372036854775808") }
+    ensures narrow_least_turned { calculated quotient_of W64 (codes "-9223372036854775808") (codes "-1") ≡ None }
+    ensures narrow_by_zero { calculated quotient_of W64 (codes "1") (codes "0") ≡ None }
+    // An operand that does not fit has no result, whatever would be made of it.
+    ensures narrow_operand_past { calculated sum_of W64 (codes "9223372036854775808") (codes "-1") ≡ None }
+    ensures narrow_operand_below { calculated difference_of W64 (codes "0") (codes "-9223372036854775809") ≡ None }
+    ensures narrow_operand_times_zero { calculated product_of W64 (codes "9223372036854775808") (codes "0") ≡ None }
+    ensures narrow_divisor_past { calculated quotient_of W64 (codes "0") (codes "9223372036854775808") ≡ None }
+    // The ends of the range of 128 bits, and what lies one past them; leading zeros do not count.
+    ensures wide_least { number_of W128 (codes "-170141183460469231731687303715884105728") ≡ Some (neg_ℤ (pos 170141183460469231731687303715884105728)) }
+    ensures wide_below_least { number_of W128 (codes "-170141183460469231731687303715884105729") ≡ None }
+    ensures wide_greatest { number_of W128 (codes "170141183460469231731687303715884105727") ≡ Some (pos 170141183460469231731687303715884105727) }
+    ensures wide_above_greatest { number_of W128 (codes "170141183460469231731687303715884105728") ≡ None }
+    ensures wide_zeros { number_of W128 (codes "-00000000000000000000000000000000000000000170141183460469231731687303715884105728") ≡ Some (neg_ℤ (pos 170141183460469231731687303715884105728)) }
+    // Results at the ends of 128 bits, and one past them.
+    ensures wide_sum { calculated sum_of W128 (codes "170141183460469231731687303715884105726") (codes "1") ≡ Some (codes "170141183460469231731687303715884105727") }
+    ensures wide_sum_past { calculated sum_of W128 (codes "170141183460469231731687303715884105727") (codes "1") ≡ None }
+    ensures wide_sum_at_least { calculated sum_of W128 (codes "-170141183460469231731687303715884105727") (codes "-1") ≡ Some (codes "-170141183460469231731687303715884105728") }
+    ensures wide_sum_below { calculated sum_of W128 (codes "-170141183460469231731687303715884105728") (codes "-1") ≡ None }
+    ensures wide_difference { calculated difference_of W128 (codes "170141183460469231731687303715884105726") (codes "-1") ≡ Some (codes "170141183460469231731687303715884105727") }
+    ensures wide_difference_past { calculated difference_of W128 (codes "170141183460469231731687303715884105727") (codes "-1") ≡ None }
+    ensures wide_difference_at_least { calculated difference_of W128 (codes "-170141183460469231731687303715884105727") (codes "1") ≡ Some (codes "-170141183460469231731687303715884105728") }
+    ensures wide_difference_below { calculated difference_of W128 (codes "-170141183460469231731687303715884105728") (codes "1") ≡ None }
+    ensures wide_product { calculated product_of W128 (codes "170141183460469231731687303715884105727") (codes "1") ≡ Some (codes "170141183460469231731687303715884105727") }
+    ensures wide_product_past { calculated product_of W128 (codes "18446744073709551616") (codes "9223372036854775808") ≡ None }
+    ensures wide_product_at_least { calculated product_of W128 (codes "-18446744073709551616") (codes "9223372036854775808") ≡ Some (codes "-170141183460469231731687303715884105728") }
+    ensures wide_product_below { calculated product_of W128 (codes "-170141183460469231731687303715884105728") (codes "2") ≡ None }
+    ensures wide_least_turned_by_a_product { calculated product_of W128 (codes "-170141183460469231731687303715884105728") (codes "-1") ≡ None }
+    ensures wide_quotient { calculated quotient_of W128 (codes "170141183460469231731687303715884105727") (codes "-1") ≡ Some (codes "-170141183460469231731687303715884105727") }
+    ensures wide_quotient_at_least { calculated quotient_of W128 (codes "-170141183460469231731687303715884105728") (codes "1") ≡ Some (codes "-170141183460469231731687303715884105728") }
+    ensures wide_least_turned { calculated quotient_of W128 (codes "-170141183460469231731687303715884105728") (codes "-1") ≡ None }
+    ensures wide_by_zero { calculated quotient_of W128 (codes "1") (codes "0") ≡ None }
+    // An operand that does not fit has no result, whatever would be made of it.
+    ensures wide_operand_past { calculated sum_of W128 (codes "170141183460469231731687303715884105728") (codes "-1") ≡ None }
+    ensures wide_operand_below { calculated difference_of W128 (codes "0") (codes "-170141183460469231731687303715884105729") ≡ None }
+    ensures wide_operand_times_zero { calculated product_of W128 (codes "170141183460469231731687303715884105728") (codes "0") ≡ None }
+    ensures wide_divisor_past { calculated quotient_of W128 (codes "0") (codes "170141183460469231731687303715884105728") ≡ None }
+    // What does not fit 64 bits may fit 128.
+    ensures wider_operand { calculated sum_of W128 (codes "9223372036854775808") (codes "-1") ≡ Some (codes "9223372036854775807") }
+    ensures wider_product { calculated product_of W128 (codes "9223372036854775808") (codes "9223372036854775808") ≡ Some (codes "85070591730234615865843651857942052864") }
+    ensures wider_quotient { calculated quotient_of W128 (codes "-9223372036854775808") (codes "-1") ≡ Some (codes "9223372036854775808") }
 {}

@@ -36,6 +36,8 @@ pub fn worked_octals()
     ensures shift_right { text_of (shift (negsuc 0) (bits_of (octal_tail (codes "4")))) ≡ codes "2" }
     // By the least number of 64 bits.
     ensures shift_least { text_of (shift (negsuc 9223372036854775807) (bits_of (octal_tail (codes "7")))) ≡ codes "0" }
+    // By the least number of 128 bits.
+    ensures shift_wide_least { text_of (shift (negsuc 170141183460469231731687303715884105727) (bits_of (octal_tail (codes "7")))) ≡ codes "0" }
     ensures shift_of_none { text_of (shift (pos 1) (bits_of (octal_tail []))) ≡ [] }
     ensures rotate_right { text_of (rotate (negsuc 0) (bits_of (octal_tail (codes "1")))) ≡ codes "4" }
     ensures rotate_left { text_of (rotate (pos 1) (bits_of (octal_tail (codes "4")))) ≡ codes "1" }
@@ -43,5 +45,8 @@ pub fn worked_octals()
     // By the greatest and the least number of 64 bits.
     ensures rotate_greatest { text_of (rotate (pos 9223372036854775807) (bits_of (octal_tail (codes "12")))) ≡ codes "24" }
     ensures rotate_least { text_of (rotate (negsuc 9223372036854775807) (bits_of (octal_tail (codes "12")))) ≡ codes "42" }
+    // By the greatest and the least number of 128 bits.
+    ensures rotate_wide_greatest { text_of (rotate (pos 170141183460469231731687303715884105727) (bits_of (octal_tail (codes "12")))) ≡ codes "24" }
+    ensures rotate_wide_least { text_of (rotate (negsuc 170141183460469231731687303715884105727) (bits_of (octal_tail (codes "12")))) ≡ codes "42" }
     ensures rotate_none { text_of (rotate (pos 1) (bits_of (octal_tail []))) ≡ [] }
 {}

@@ -17,6 +17,7 @@ ghost use Rattle.trac_rules.specs.declared.item.Item.TheVariants.{Byte, Gap};
 ghost use Rattle.trac_rules.specs.declared.kind.Kind.TheVariants.{Active, Neutral};
 ghost use Rattle.trac_rules.specs.declared.refusal.Refusal.TheVariants.{NeedInput};
 ghost use Rattle.trac_rules.specs.declared.reply.Reply.TheVariants.{Done, Refused};
+ghost use Rattle.trac_rules.specs.declared.width.Width.TheVariants.{W128};
 
 /// Each accepted step, of scanning or a call, has a record. With the state after the step it gives back the state before,
 /// where that is a proper one: nothing else holds what was lost. The state before is always a proper one. Where a session
@@ -27,7 +28,7 @@ pub fn records_lead_back()
         state_before r t ≡ Some s }
     ensures only_proper { (r : Record) (s t : State) → state_before r t ≡ Some s → IsProper s }
     ensures all_steps { (n : ℕ) (old new : PlainSession) → IsProper old.last → repeated Step n old ≡ Some new →
-        led_back (records_from (over new.tape) (take n new.earlier)) new.last ≡ Some old.last }
+        led_back (records_from (over new.width new.tape) (take n new.earlier)) new.last ≡ Some old.last }
 {}
 
 /// The record of a call keeps what the call destroyed, and with that the state after it gives back the state before. Each of
@@ -73,23 +74,23 @@ pub fn weights_are_told_by_states()
 pub fn worked_records()
     // The stray `)` of the input ends the idle program's `ps`; then `b` and `c` go to the base text, and
     // the fifteenth step empties it.
-    ensures steps { replies_to (Feed (codes "a)b,c'") ∷ replicate 23 Step) (new_session 64) ≡ replicate 23 Done ++ Refused NeedInput ∷ [] }
-    ensures first_seven { records_of (session_after (Feed (codes "a)b,c'") ∷ replicate 7 Step) (new_session 64)) ≡ Moved ∷ Moved ∷ Begun ∷ Comma ∷ Moved ∷ Moved ∷ Begun ∷ [] }
-    ensures eleventh_to_fifteenth { take 5 (records_of (session_after (Feed (codes "a)b,c'") ∷ replicate 15 Step) (new_session 64))) ≡ Idle (codes "bc") [] ∷ Deleted CLOSING ∷ Moved ∷ Deleted COMMA ∷ Moved ∷ [] }
-    ensures all_back { led_back (records_of (session_after (Feed (codes "a)b,c'") ∷ replicate 22 Step) (new_session 64))) (state_after (Feed (codes "a)b,c'") ∷ replicate 22 Step) (new_session 64)) ≡ Some initial }
+    ensures steps { replies_to (Feed (codes "a)b,c'") ∷ replicate 23 Step) (new_session 64 W128) ≡ replicate 23 Done ++ Refused NeedInput ∷ [] }
+    ensures first_seven { records_of (session_after (Feed (codes "a)b,c'") ∷ replicate 7 Step) (new_session 64 W128)) ≡ Moved ∷ Moved ∷ Begun ∷ Comma ∷ Moved ∷ Moved ∷ Begun ∷ [] }
+    ensures eleventh_to_fifteenth { take 5 (records_of (session_after (Feed (codes "a)b,c'") ∷ replicate 15 Step) (new_session 64 W128))) ≡ Idle (codes "bc") [] ∷ Deleted CLOSING ∷ Moved ∷ Deleted COMMA ∷ Moved ∷ [] }
+    ensures all_back { led_back (records_of (session_after (Feed (codes "a)b,c'") ∷ replicate 22 Step) (new_session 64 W128))) (state_after (Feed (codes "a)b,c'") ∷ replicate 22 Step) (new_session 64 W128)) ≡ Some initial }
     // Functions that are begun and never ended are emptied with the base text.
-    ensures begun_functions { record_of (over no_tape) (state_after (Feed (codes ")x##(a,b#(c,d#(e'") ∷ replicate 21 Step) (new_session 64)) ≡ Some (Idle (codes "x") (record { kind = Active; arguments = codes "c" ∷ []; gathered = codes "d" } ∷ record { kind = Neutral; arguments = codes "a" ∷ []; gathered = codes "b" } ∷ [])) }
+    ensures begun_functions { record_of (over W128 no_tape) (state_after (Feed (codes ")x##(a,b#(c,d#(e'") ∷ replicate 21 Step) (new_session 64 W128)) ≡ Some (Idle (codes "x") (record { kind = Active; arguments = codes "c" ∷ []; gathered = codes "d" } ∷ record { kind = Neutral; arguments = codes "a" ∷ []; gathered = codes "b" } ∷ [])) }
     ensures begun_functions_weight { weight (Idle (codes "x") (record { kind = Active; arguments = codes "c" ∷ []; gathered = codes "d" } ∷ record { kind = Neutral; arguments = codes "a" ∷ []; gathered = codes "b" } ∷ [])) ≡ 9 }
     // The room that a machine needs for the first eleven steps over `AB'`, and back.
-    ensures text_room { most_in text_bytes (session_after (Feed (codes "AB'") ∷ replicate 11 Step) (new_session 64)) ≡ 11 }
-    ensures mark_room { most_in (λ s. marks s.frames) (session_after (Feed (codes "AB'") ∷ replicate 11 Step) (new_session 64)) ≡ 3 }
-    ensures output_room { most_in (λ s. length s.output) (session_after (Feed (codes "AB'") ∷ replicate 11 Step) (new_session 64)) ≡ 2 }
+    ensures text_room { most_in text_bytes (session_after (Feed (codes "AB'") ∷ replicate 11 Step) (new_session 64 W128)) ≡ 11 }
+    ensures mark_room { most_in (λ s. marks s.frames) (session_after (Feed (codes "AB'") ∷ replicate 11 Step) (new_session 64 W128)) ≡ 3 }
+    ensures output_room { most_in (λ s. length s.output) (session_after (Feed (codes "AB'") ∷ replicate 11 Step) (new_session 64 W128)) ≡ 2 }
     // A protected text, with a match and without one.
-    ensures matched { record_of (over no_tape) (record initial { active = codes "(a,(b))c"; base = codes "x" }) ≡ Some (Quoted 5 true) }
+    ensures matched { record_of (over W128 no_tape) (record initial { active = codes "(a,(b))c"; base = codes "x" }) ≡ Some (Quoted 5 true) }
     ensures matched_back { restored (Quoted 5 true) (record initial { active = codes "c"; base = codes "xa,(b)" }) ≡ Some (record initial { active = codes "(a,(b))c"; base = codes "x" }) }
-    ensures unmatched { record_of (over no_tape) (record initial { active = codes "((a)"; base = codes "x" }) ≡ Some (Quoted 3 false) }
+    ensures unmatched { record_of (over W128 no_tape) (record initial { active = codes "((a)"; base = codes "x" }) ≡ Some (Quoted 3 false) }
     ensures unmatched_back { restored (Quoted 3 false) (record initial { active = []; base = codes "x(a)" }) ≡ Some (record initial { active = codes "((a)"; base = codes "x" }) }
-    ensures layout { record_of (over no_tape) (record initial { active = TAB ∷ codes "a" }) ≡ Some (Deleted TAB) }
+    ensures layout { record_of (over W128 no_tape) (record initial { active = TAB ∷ codes "a" }) ≡ Some (Deleted TAB) }
     ensures layout_weight { weight (Deleted TAB) ≡ 1 }
     // An argument that is gathered again, and a neutral function that is no longer begun.
     ensures argument_back { restored Comma (record initial { active = codes "b"; frames = record { kind = Neutral; arguments = codes "x" ∷ codes "a" ∷ []; gathered = [] } ∷ [] }) ≡ Some (record initial { active = codes ",b"; frames = record { kind = Neutral; arguments = codes "x" ∷ []; gathered = codes "a" } ∷ [] }) }
@@ -108,9 +109,9 @@ pub fn worked_records()
 /// What steps may cost the journal.
 pub fn worked_losses()
     // Whole sessions: scanning, `rs`, `ps` and the idle step.
-    ensures text { losses_of (session_after (Feed (codes "AB'") ∷ replicate 19 Step) (new_session 64)) ≡ 7 }
-    ensures stray { losses_of (session_after (Feed (codes "a)b,c'") ∷ replicate 22 Step) (new_session 64)) ≡ 10 }
-    ensures begun_functions { loss (state_after (Feed (codes ")x##(a,b#(c,d#(e'") ∷ replicate 21 Step) (new_session 64)) ≡ 9 }
+    ensures text { losses_of (session_after (Feed (codes "AB'") ∷ replicate 19 Step) (new_session 64 W128)) ≡ 7 }
+    ensures stray { losses_of (session_after (Feed (codes "a)b,c'") ∷ replicate 22 Step) (new_session 64 W128)) ≡ 10 }
+    ensures begun_functions { loss (state_after (Feed (codes ")x##(a,b#(c,d#(e'") ∷ replicate 21 Step) (new_session 64 W128)) ≡ 9 }
     // Scanning loses a byte of layout, and nothing where it begins a function, protects a text or passes a `#`.
     ensures layout { loss (record initial { active = TAB ∷ codes "a" }) ≡ 1 }
     ensures beginning { loss (record initial { active = codes "##(a" }) ≡ 0 }

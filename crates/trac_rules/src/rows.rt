@@ -5,7 +5,7 @@ ghost use Rattle.trac_rules.specs.Filling.{called};
 ghost use Rattle.trac_rules.specs.Form.{as_items, at_start, defined, pointed_at};
 ghost use Rattle.trac_rules.specs.Listing.{listed};
 ghost use Rattle.trac_rules.specs.Performing.{primitive_of};
-ghost use Rattle.trac_rules.specs.Rows.{Does, Forces, Gives, Leaves, Prints, example_at, pointing_at, replies_to, session_after, state_after, texts_of};
+ghost use Rattle.trac_rules.specs.Rows.{Does, DoesIn, Forces, ForcesIn, Gives, Leaves, Prints, example_at, pointing_at, replies_to, session_after, state_after, texts_of};
 ghost use Rattle.trac_rules.specs.Running.{BudgetSpent, InputEnded, output_of};
 ghost use Rattle.trac_rules.specs.Session.{Back, Commit, End, Feed, IsWalk, Run, Step, new_session, no_goal};
 ghost use Rattle.trac_rules.specs.Segmenting.{segmented};
@@ -18,85 +18,98 @@ ghost use Rattle.trac_rules.specs.declared.primitive.FormAction.TheVariants.{Cal
 ghost use Rattle.trac_rules.specs.declared.primitive.Primitive.TheVariants.{Handle};
 ghost use Rattle.trac_rules.specs.declared.refusal.Refusal.TheVariants.{AtStart, Closed, Ended, JournalFull, NeedInput};
 ghost use Rattle.trac_rules.specs.declared.reply.Reply.TheVariants.{Done, Refused};
+ghost use Rattle.trac_rules.specs.declared.width.Width.TheVariants.{W64, W128};
 
 /// What whole runs print, what sessions reply, and how both stand afterwards.
 pub fn worked_rows()
     // No input: seven steps, and then the input has ended.
-    ensures nothing_before_the_end { output_of [] 7 ≡ record { bytes = []; stop = BudgetSpent } }
-    ensures nothing { output_of [] 8 ≡ record { bytes = []; stop = InputEnded } }
+    ensures nothing_before_the_end { output_of W128 [] 7 ≡ record { bytes = []; stop = BudgetSpent } }
+    ensures nothing { output_of W128 [] 8 ≡ record { bytes = []; stop = InputEnded } }
     // A text is printed: nineteen steps.
-    ensures text_before_the_end { output_of (codes "AB'") 19 ≡ record { bytes = codes "AB"; stop = BudgetSpent } }
-    ensures text { output_of (codes "AB'") 20 ≡ record { bytes = codes "AB"; stop = InputEnded } }
+    ensures text_before_the_end { output_of W128 (codes "AB'") 19 ≡ record { bytes = codes "AB"; stop = BudgetSpent } }
+    ensures text { output_of W128 (codes "AB'") 20 ≡ record { bytes = codes "AB"; stop = InputEnded } }
     // A `(` of the input finds its match in the idle program, so nothing is printed: eighteen steps.
-    ensures opening_before_the_end { output_of (codes "a(b") 18 ≡ record { bytes = []; stop = BudgetSpent } }
-    ensures opening { output_of (codes "a(b") 19 ≡ record { bytes = []; stop = InputEnded } }
+    ensures opening_before_the_end { output_of W128 (codes "a(b") 18 ≡ record { bytes = []; stop = BudgetSpent } }
+    ensures opening { output_of W128 (codes "a(b") 19 ≡ record { bytes = []; stop = InputEnded } }
     // A `(` without a match protects all the rest.
-    ensures unmatched { output_of (codes "((a'") 1000000000 ≡ record { bytes = []; stop = InputEnded } }
+    ensures unmatched { output_of W128 (codes "((a'") 1000000000 ≡ record { bytes = []; stop = InputEnded } }
     // A `)` too many ends the idle program's `ps`: twenty-two steps.
-    ensures stray_before_the_end { output_of (codes "a)b,c'") 22 ≡ record { bytes = codes "a"; stop = BudgetSpent } }
-    ensures stray { output_of (codes "a)b,c'") 23 ≡ record { bytes = codes "a"; stop = InputEnded } }
+    ensures stray_before_the_end { output_of W128 (codes "a)b,c'") 22 ≡ record { bytes = codes "a"; stop = BudgetSpent } }
+    ensures stray { output_of W128 (codes "a)b,c'") 23 ≡ record { bytes = codes "a"; stop = InputEnded } }
     // At the end of the input the meta character may be missing.
-    ensures without_meta { output_of (codes "ABC") 1000000000 ≡ record { bytes = codes "ABC"; stop = InputEnded } }
+    ensures without_meta { output_of W128 (codes "ABC") 1000000000 ≡ record { bytes = codes "ABC"; stop = InputEnded } }
     // A `#` that begins no function stands for itself.
-    ensures sharps { output_of (codes "a#b##c'") 1000000000 ≡ record { bytes = codes "a#b##c"; stop = InputEnded } }
+    ensures sharps { output_of W128 (codes "a#b##c'") 1000000000 ≡ record { bytes = codes "a#b##c"; stop = InputEnded } }
     // A carriage return and a line feed are deleted, but not in a protected text.
-    ensures layout { output_of (codes "A" ++ CARRIAGE_RETURN ∷ LINE_FEED ∷ codes "B'") 1000000000 ≡ record { bytes = codes "AB"; stop = InputEnded } }
-    ensures protected_layout { output_of (codes "(A" ++ LINE_FEED ∷ codes "B)'") 1000000000 ≡ record { bytes = codes "A" ++ LINE_FEED ∷ codes "B"; stop = InputEnded } }
+    ensures layout { output_of W128 (codes "A" ++ CARRIAGE_RETURN ∷ LINE_FEED ∷ codes "B'") 1000000000 ≡ record { bytes = codes "AB"; stop = InputEnded } }
+    ensures protected_layout { output_of W128 (codes "(A" ++ LINE_FEED ∷ codes "B)'") 1000000000 ≡ record { bytes = codes "A" ++ LINE_FEED ∷ codes "B"; stop = InputEnded } }
     // Eleven steps there: the text is printed.
-    ensures there_replies { replies_to (Feed (codes "AB'") ∷ replicate 11 Step) (new_session 64) ≡ replicate 12 Done }
-    ensures there_output { (state_after (Feed (codes "AB'") ∷ replicate 11 Step) (new_session 64)).output ≡ codes "AB" }
+    ensures there_replies { replies_to (Feed (codes "AB'") ∷ replicate 11 Step) (new_session 64 W128) ≡ replicate 12 Done }
+    ensures there_output { (state_after (Feed (codes "AB'") ∷ replicate 11 Step) (new_session 64 W128)).output ≡ codes "AB" }
     // One step back: the text stands in the idle program's `ps` again.
-    ensures back_replies { replies_to (Feed (codes "AB'") ∷ replicate 11 Step ++ Back ∷ []) (new_session 64) ≡ replicate 13 Done }
-    ensures back_output { (state_after (Feed (codes "AB'") ∷ replicate 11 Step ++ Back ∷ []) (new_session 64)).output ≡ [] }
-    ensures back_active { (state_after (Feed (codes "AB'") ∷ replicate 11 Step ++ Back ∷ []) (new_session 64)).active ≡ codes ")" }
-    ensures back_frames { (state_after (Feed (codes "AB'") ∷ replicate 11 Step ++ Back ∷ []) (new_session 64)).frames ≡ record { kind = Active; arguments = codes "ps" ∷ []; gathered = codes "AB" } ∷ [] }
+    ensures back_replies { replies_to (Feed (codes "AB'") ∷ replicate 11 Step ++ Back ∷ []) (new_session 64 W128) ≡ replicate 13 Done }
+    ensures back_output { (state_after (Feed (codes "AB'") ∷ replicate 11 Step ++ Back ∷ []) (new_session 64 W128)).output ≡ [] }
+    ensures back_active { (state_after (Feed (codes "AB'") ∷ replicate 11 Step ++ Back ∷ []) (new_session 64 W128)).active ≡ codes ")" }
+    ensures back_frames { (state_after (Feed (codes "AB'") ∷ replicate 11 Step ++ Back ∷ []) (new_session 64 W128)).frames ≡ record { kind = Active; arguments = codes "ps" ∷ []; gathered = codes "AB" } ∷ [] }
     // Ten more steps back: the initial state, after which there is none.
-    ensures start { state_after (Feed (codes "AB'") ∷ replicate 11 Step ++ replicate 11 Back) (new_session 64) ≡ initial }
-    ensures start_replies { replies_to (Feed (codes "AB'") ∷ replicate 11 Step ++ replicate 11 Back ++ Back ∷ []) (new_session 64) ≡ replicate 23 Done ++ Refused AtStart ∷ [] }
-    ensures start_stays { state_after (Feed (codes "AB'") ∷ replicate 11 Step ++ replicate 11 Back ++ Back ∷ []) (new_session 64) ≡ initial }
+    ensures start { state_after (Feed (codes "AB'") ∷ replicate 11 Step ++ replicate 11 Back) (new_session 64 W128) ≡ initial }
+    ensures start_replies { replies_to (Feed (codes "AB'") ∷ replicate 11 Step ++ replicate 11 Back ++ Back ∷ []) (new_session 64 W128) ≡ replicate 23 Done ++ Refused AtStart ∷ [] }
+    ensures start_stays { state_after (Feed (codes "AB'") ∷ replicate 11 Step ++ replicate 11 Back ++ Back ∷ []) (new_session 64 W128) ≡ initial }
     // A step waits for input, and is taken again after a step back and more input.
-    ensures waiting { replies_to (Feed (codes "AB") ∷ replicate 8 Step) (new_session 64) ≡ replicate 8 Done ++ Refused NeedInput ∷ [] }
-    ensures resumed_replies { replies_to (Feed (codes "AB") ∷ replicate 8 Step ++ Feed (codes "'") ∷ Step ∷ Back ∷ Feed (codes "C'") ∷ Step ∷ []) (new_session 64) ≡ replicate 8 Done ++ Refused NeedInput ∷ replicate 5 Done }
-    ensures resumed_active { (state_after (Feed (codes "AB") ∷ replicate 8 Step ++ Feed (codes "'") ∷ Step ∷ []) (new_session 64)).active ≡ codes "AB)" }
-    ensures resumed_position { (state_after (Feed (codes "AB") ∷ replicate 8 Step ++ Feed (codes "'") ∷ Step ∷ []) (new_session 64)).position ≡ 3 }
-    ensures resumed_again { state_after (Feed (codes "AB") ∷ replicate 8 Step ++ Feed (codes "'") ∷ Step ∷ Back ∷ Feed (codes "C'") ∷ Step ∷ []) (new_session 64) ≡ state_after (Feed (codes "AB") ∷ replicate 8 Step ++ Feed (codes "'") ∷ Step ∷ []) (new_session 64) }
+    ensures waiting { replies_to (Feed (codes "AB") ∷ replicate 8 Step) (new_session 64 W128) ≡ replicate 8 Done ++ Refused NeedInput ∷ [] }
+    ensures resumed_replies { replies_to (Feed (codes "AB") ∷ replicate 8 Step ++ Feed (codes "'") ∷ Step ∷ Back ∷ Feed (codes "C'") ∷ Step ∷ []) (new_session 64 W128) ≡ replicate 8 Done ++ Refused NeedInput ∷ replicate 5 Done }
+    ensures resumed_active { (state_after (Feed (codes "AB") ∷ replicate 8 Step ++ Feed (codes "'") ∷ Step ∷ []) (new_session 64 W128)).active ≡ codes "AB)" }
+    ensures resumed_position { (state_after (Feed (codes "AB") ∷ replicate 8 Step ++ Feed (codes "'") ∷ Step ∷ []) (new_session 64 W128)).position ≡ 3 }
+    ensures resumed_again { state_after (Feed (codes "AB") ∷ replicate 8 Step ++ Feed (codes "'") ∷ Step ∷ Back ∷ Feed (codes "C'") ∷ Step ∷ []) (new_session 64 W128) ≡ state_after (Feed (codes "AB") ∷ replicate 8 Step ++ Feed (codes "'") ∷ Step ∷ []) (new_session 64 W128) }
     // A full journal refuses a step, until it is emptied.
-    ensures full_journal { replies_to (Feed (codes "AB'") ∷ replicate 5 Step ++ Commit 0 ∷ Step ∷ Back ∷ Back ∷ []) (new_session 4) ≡ replicate 5 Done ++ Refused JournalFull ∷ Done ∷ Done ∷ Done ∷ Refused AtStart ∷ [] }
+    ensures full_journal { replies_to (Feed (codes "AB'") ∷ replicate 5 Step ++ Commit 0 ∷ Step ∷ Back ∷ Back ∷ []) (new_session 4 W128) ≡ replicate 5 Done ++ Refused JournalFull ∷ Done ∷ Done ∷ Done ∷ Refused AtStart ∷ [] }
     // After the end of the input nothing is fed, and the rest is read without a meta character.
-    ensures closed_replies { replies_to (Feed (codes "A") ∷ End ∷ Feed (codes "B") ∷ replicate 8 Step) (new_session 64) ≡ Done ∷ Done ∷ Refused Closed ∷ replicate 8 Done }
-    ensures closed_active { (state_after (Feed (codes "A") ∷ End ∷ Feed (codes "B") ∷ replicate 8 Step) (new_session 64)).active ≡ codes "A)" }
-    ensures closed_position { (state_after (Feed (codes "A") ∷ End ∷ Feed (codes "B") ∷ replicate 8 Step) (new_session 64)).position ≡ 1 }
+    ensures closed_replies { replies_to (Feed (codes "A") ∷ End ∷ Feed (codes "B") ∷ replicate 8 Step) (new_session 64 W128) ≡ Done ∷ Done ∷ Refused Closed ∷ replicate 8 Done }
+    ensures closed_active { (state_after (Feed (codes "A") ∷ End ∷ Feed (codes "B") ∷ replicate 8 Step) (new_session 64 W128)).active ≡ codes "A)" }
+    ensures closed_position { (state_after (Feed (codes "A") ∷ End ∷ Feed (codes "B") ∷ replicate 8 Step) (new_session 64 W128)).position ≡ 1 }
     // Every kind of command, with refusals between them.
-    ensures all_kinds_replies { replies_to (Feed (codes "AB'") ∷ replicate 5 Step ++ Back ∷ End ∷ Feed (codes "C") ∷ Commit 0 ∷ Back ∷ []) (new_session 4) ≡ replicate 5 Done ++ Refused JournalFull ∷ Done ∷ Done ∷ Refused Closed ∷ Done ∷ Refused AtStart ∷ [] }
-    ensures all_kinds_active { (state_after (Feed (codes "AB'") ∷ replicate 5 Step ++ Back ∷ End ∷ Feed (codes "C") ∷ Commit 0 ∷ Back ∷ []) (new_session 4)).active ≡ codes ",#(rs))" }
-    ensures all_kinds_run { Run (Feed (codes "AB'") ∷ replicate 5 Step ++ Back ∷ End ∷ Feed (codes "C") ∷ Commit 0 ∷ Back ∷ []) (replicate 5 Done ++ Refused JournalFull ∷ Done ∷ Done ∷ Refused Closed ∷ Done ∷ Refused AtStart ∷ []) (new_session 4) (session_after (Feed (codes "AB'") ∷ replicate 5 Step ++ Back ∷ End ∷ Feed (codes "C") ∷ Commit 0 ∷ Back ∷ []) (new_session 4)) }
+    ensures all_kinds_replies { replies_to (Feed (codes "AB'") ∷ replicate 5 Step ++ Back ∷ End ∷ Feed (codes "C") ∷ Commit 0 ∷ Back ∷ []) (new_session 4 W128) ≡ replicate 5 Done ++ Refused JournalFull ∷ Done ∷ Done ∷ Refused Closed ∷ Done ∷ Refused AtStart ∷ [] }
+    ensures all_kinds_active { (state_after (Feed (codes "AB'") ∷ replicate 5 Step ++ Back ∷ End ∷ Feed (codes "C") ∷ Commit 0 ∷ Back ∷ []) (new_session 4 W128)).active ≡ codes ",#(rs))" }
+    ensures all_kinds_run { Run (Feed (codes "AB'") ∷ replicate 5 Step ++ Back ∷ End ∷ Feed (codes "C") ∷ Commit 0 ∷ Back ∷ []) (replicate 5 Done ++ Refused JournalFull ∷ Done ∷ Done ∷ Refused Closed ∷ Done ∷ Refused AtStart ∷ []) (new_session 4 W128) (session_after (Feed (codes "AB'") ∷ replicate 5 Step ++ Back ∷ End ∷ Feed (codes "C") ∷ Commit 0 ∷ Back ∷ []) (new_session 4 W128)) }
     // The same as walks, whose length and ending are told.
-    ensures walk_there { IsWalk Step no_goal 11 (session_after (Feed (codes "AB'") ∷ []) (new_session 64)) 11 None (session_after (Feed (codes "AB'") ∷ replicate 11 Step) (new_session 64)) }
-    ensures walk_back { IsWalk Back no_goal 10 (session_after (Feed (codes "AB'") ∷ replicate 11 Step ++ Back ∷ []) (new_session 64)) 10 None (session_after (Feed (codes "AB'") ∷ []) (new_session 64)) }
-    ensures walk_at_start { IsWalk Back no_goal 1 (session_after (Feed (codes "AB'") ∷ []) (new_session 64)) 0 (Some AtStart) (session_after (Feed (codes "AB'") ∷ []) (new_session 64)) }
-    ensures walk_waiting { IsWalk Step no_goal 8 (session_after (Feed (codes "AB") ∷ []) (new_session 64)) 7 (Some NeedInput) (session_after (Feed (codes "AB") ∷ replicate 7 Step) (new_session 64)) }
-    ensures walk_full { IsWalk Step no_goal 5 (session_after (Feed (codes "AB'") ∷ []) (new_session 4)) 4 (Some JournalFull) (session_after (Feed (codes "AB'") ∷ replicate 4 Step) (new_session 4)) }
-    ensures walk_to_start { IsWalk Back no_goal 2 (session_after (Feed (codes "AB'") ∷ replicate 4 Step ++ Commit 0 ∷ Step ∷ []) (new_session 4)) 1 (Some AtStart) (session_after (Feed (codes "AB'") ∷ replicate 4 Step ++ Commit 0 ∷ []) (new_session 4)) }
-    ensures walk_to_the_rest { IsWalk Step no_goal 8 (session_after (Feed (codes "A") ∷ End ∷ []) (new_session 64)) 8 None (session_after (Feed (codes "A") ∷ End ∷ replicate 8 Step) (new_session 64)) }
+    ensures walk_there { IsWalk Step no_goal 11 (session_after (Feed (codes "AB'") ∷ []) (new_session 64 W128)) 11 None (session_after (Feed (codes "AB'") ∷ replicate 11 Step) (new_session 64 W128)) }
+    ensures walk_back { IsWalk Back no_goal 10 (session_after (Feed (codes "AB'") ∷ replicate 11 Step ++ Back ∷ []) (new_session 64 W128)) 10 None (session_after (Feed (codes "AB'") ∷ []) (new_session 64 W128)) }
+    ensures walk_at_start { IsWalk Back no_goal 1 (session_after (Feed (codes "AB'") ∷ []) (new_session 64 W128)) 0 (Some AtStart) (session_after (Feed (codes "AB'") ∷ []) (new_session 64 W128)) }
+    ensures walk_waiting { IsWalk Step no_goal 8 (session_after (Feed (codes "AB") ∷ []) (new_session 64 W128)) 7 (Some NeedInput) (session_after (Feed (codes "AB") ∷ replicate 7 Step) (new_session 64 W128)) }
+    ensures walk_full { IsWalk Step no_goal 5 (session_after (Feed (codes "AB'") ∷ []) (new_session 4 W128)) 4 (Some JournalFull) (session_after (Feed (codes "AB'") ∷ replicate 4 Step) (new_session 4 W128)) }
+    ensures walk_to_start { IsWalk Back no_goal 2 (session_after (Feed (codes "AB'") ∷ replicate 4 Step ++ Commit 0 ∷ Step ∷ []) (new_session 4 W128)) 1 (Some AtStart) (session_after (Feed (codes "AB'") ∷ replicate 4 Step ++ Commit 0 ∷ []) (new_session 4 W128)) }
+    ensures walk_to_the_rest { IsWalk Step no_goal 8 (session_after (Feed (codes "A") ∷ End ∷ []) (new_session 64 W128)) 8 None (session_after (Feed (codes "A") ∷ End ∷ replicate 8 Step) (new_session 64 W128)) }
 {}
 
 /// What runs print that decide, calculate and work on bits.
 pub fn worked_calls()
-    ensures decimals { output_of (codes "#(ad,9223372036854775807,1,over);'#(dv,7,0,none);'#(ad,apples5,pears3);'#(dv,-7,2);'#(gr,99999999999999999999,5,yes,no)'") 1000000000 ≡ record { bytes = codes "over;none;apples8;-3;yes"; stop = InputEnded } }
-    ensures bit_strings { output_of (codes "#(bu,7,10) #(bi,70,5) #(bc,0) #(bs,-1,4) #(br,1,4)'") 1000000000 ≡ record { bytes = codes "17 0 7 2 1"; stop = InputEnded } }
+    ensures decimals { output_of W128 (codes "#(ad,9223372036854775807,1,over);'#(dv,7,0,none);'#(ad,apples5,pears3);'#(dv,-7,2);'#(gr,99999999999999999999,5,yes,no)'") 1000000000 ≡ record { bytes = codes "9223372036854775808;none;apples8;-3;yes"; stop = InputEnded } }
+    ensures narrow_decimals { output_of W64 (codes "#(ad,9223372036854775807,1,over);'#(dv,7,0,none);'#(ad,apples5,pears3);'#(dv,-7,2);'#(gr,99999999999999999999,5,yes,no)'") 1000000000 ≡ record { bytes = codes "over;none;apples8;-3;yes"; stop = InputEnded } }
+    ensures bit_strings { output_of W128 (codes "#(bu,7,10) #(bi,70,5) #(bc,0) #(bs,-1,4) #(br,1,4)'") 1000000000 ≡ record { bytes = codes "17 0 7 2 1"; stop = InputEnded } }
     // The value of a neutral function is not scanned, but for its default argument.
-    ensures neutral { output_of (codes "##(ad,5,(#(su,9,10)))'") 1000000000 ≡ record { bytes = codes "5"; stop = InputEnded } }
-    ensures forced { output_of (codes "##(dv,1,0,(#(ad,2,2)))'") 1000000000 ≡ record { bytes = codes "4"; stop = InputEnded } }
-    ensures products { output_of (codes "#(ml,3037000499,3037000499,big);#(ml,3037000500,3037000500,big)'") 1000000000 ≡ record { bytes = codes "9223372030926249001;big"; stop = InputEnded } }
-    ensures far_moves { output_of (codes "#(bs,-9223372036854775808,7);#(br,9223372036854775807,12);#(br,-9223372036854775808,12);#(bs,9223372036854775808,7);'") 1000000000 ≡ record { bytes = codes "0;24;42;;"; stop = InputEnded } }
-    ensures texts { output_of (codes "#(eq,Cat,Cat,y,n)#(EQ,Cat,cat,y,n)#(eq,,,y,n)#(eq,a,ab,y)'") 1000000000 ≡ record { bytes = codes "yny"; stop = InputEnded } }
+    ensures neutral { output_of W128 (codes "##(ad,5,(#(su,9,10)))'") 1000000000 ≡ record { bytes = codes "5"; stop = InputEnded } }
+    ensures forced { output_of W128 (codes "##(dv,1,0,(#(ad,2,2)))'") 1000000000 ≡ record { bytes = codes "4"; stop = InputEnded } }
+    ensures products { output_of W128 (codes "#(ml,3037000499,3037000499,big);#(ml,3037000500,3037000500,big)'") 1000000000 ≡ record { bytes = codes "9223372030926249001;9223372037000250000"; stop = InputEnded } }
+    ensures narrow_products { output_of W64 (codes "#(ml,3037000499,3037000499,big);#(ml,3037000500,3037000500,big)'") 1000000000 ≡ record { bytes = codes "9223372030926249001;big"; stop = InputEnded } }
+    ensures far_moves { output_of W128 (codes "#(bs,-9223372036854775808,7);#(br,9223372036854775807,12);#(br,-9223372036854775808,12);#(bs,9223372036854775808,7);'") 1000000000 ≡ record { bytes = codes "0;24;42;0;"; stop = InputEnded } }
+    ensures narrow_far_moves { output_of W64 (codes "#(bs,-9223372036854775808,7);#(br,9223372036854775807,12);#(br,-9223372036854775808,12);#(bs,9223372036854775808,7);'") 1000000000 ≡ record { bytes = codes "0;24;42;;"; stop = InputEnded } }
+    ensures texts { output_of W128 (codes "#(eq,Cat,Cat,y,n)#(EQ,Cat,cat,y,n)#(eq,,,y,n)#(eq,a,ab,y)'") 1000000000 ≡ record { bytes = codes "yny"; stop = InputEnded } }
     // A result has no `+` and no leading zeros; a product and an operand may not fit; a text without a numeral is 0.
-    ensures results { output_of (codes "#(ad,+0012,0);#(dv,-1,2);#(dv,-7,-2);#(dv,5,x,Z);#(ml,9223372036854775808,0,Z);#(ad,1,9223372036854775808,Z)'") 1000000000 ≡ record { bytes = codes "12;0;3;Z;Z;Z"; stop = InputEnded } }
-    ensures comparisons { output_of (codes "#(gr,-0,0,y,n)#(gr,a10,b9,y,n)#(gr,-1,-2,y,n)#(gr,-2,-1,y,n)'") 1000000000 ≡ record { bytes = codes "nyyn"; stop = InputEnded } }
+    ensures results { output_of W128 (codes "#(ad,+0012,0);#(dv,-1,2);#(dv,-7,-2);#(dv,5,x,Z);#(ml,9223372036854775808,0,Z);#(ad,1,9223372036854775808,Z)'") 1000000000 ≡ record { bytes = codes "12;0;3;Z;0;9223372036854775809"; stop = InputEnded } }
+    ensures narrow_results { output_of W64 (codes "#(ad,+0012,0);#(dv,-1,2);#(dv,-7,-2);#(dv,5,x,Z);#(ml,9223372036854775808,0,Z);#(ad,1,9223372036854775808,Z)'") 1000000000 ≡ record { bytes = codes "12;0;3;Z;Z;Z"; stop = InputEnded } }
+    ensures comparisons { output_of W128 (codes "#(gr,-0,0,y,n)#(gr,a10,b9,y,n)#(gr,-1,-2,y,n)#(gr,-2,-1,y,n)'") 1000000000 ≡ record { bytes = codes "nyyn"; stop = InputEnded } }
     // The prefix of a number of places is dropped, and one that does not fit gives empty.
-    ensures places { output_of (codes "#(bs,x3,12);#(bs,9223372036854775808,7);#(br,-9223372036854775809,7);#(bs,-3,8);'") 1000000000 ≡ record { bytes = codes "20;;;;"; stop = InputEnded } }
+    ensures places { output_of W128 (codes "#(bs,x3,12);#(bs,9223372036854775808,7);#(br,-9223372036854775809,7);#(bs,-3,8);'") 1000000000 ≡ record { bytes = codes "20;0;7;;"; stop = InputEnded } }
+    ensures narrow_places { output_of W64 (codes "#(bs,x3,12);#(bs,9223372036854775808,7);#(br,-9223372036854775809,7);#(bs,-3,8);'") 1000000000 ≡ record { bytes = codes "20;;;;"; stop = InputEnded } }
+    // The ends of 128 bits, and one past them.
+    ensures wide_ends { output_of W128 (codes "#(ad,170141183460469231731687303715884105727,1,over);#(su,-170141183460469231731687303715884105728,0);#(dv,-170141183460469231731687303715884105728,-1,none)'") 1000000000 ≡ record { bytes = codes "over;-170141183460469231731687303715884105728;none"; stop = InputEnded } }
+    ensures wide_ends_of_narrow { output_of W64 (codes "#(ad,170141183460469231731687303715884105727,1,over);#(su,-170141183460469231731687303715884105728,0);#(dv,-170141183460469231731687303715884105728,-1,none)'") 1000000000 ≡ record { bytes = codes "over;;none"; stop = InputEnded } }
+    ensures wide_products { output_of W128 (codes "#(ml,9223372036854775808,9223372036854775808,big);#(ml,18446744073709551616,9223372036854775808,big)'") 1000000000 ≡ record { bytes = codes "85070591730234615865843651857942052864;big"; stop = InputEnded } }
+    ensures wide_products_of_narrow { output_of W64 (codes "#(ml,9223372036854775808,9223372036854775808,big);#(ml,18446744073709551616,9223372036854775808,big)'") 1000000000 ≡ record { bytes = codes "big;big"; stop = InputEnded } }
+    ensures wide_moves { output_of W128 (codes "#(bs,-170141183460469231731687303715884105728,7);#(br,170141183460469231731687303715884105727,12);#(br,-170141183460469231731687303715884105728,12);#(bs,170141183460469231731687303715884105728,7);#(br,-170141183460469231731687303715884105729,7);'") 1000000000 ≡ record { bytes = codes "0;24;42;;;"; stop = InputEnded } }
+    ensures wide_moves_of_narrow { output_of W64 (codes "#(bs,-170141183460469231731687303715884105728,7);#(br,170141183460469231731687303715884105727,12);#(br,-170141183460469231731687303715884105728,12);#(bs,170141183460469231731687303715884105728,7);#(br,-170141183460469231731687303715884105729,7);'") 1000000000 ≡ record { bytes = codes ";;;;;"; stop = InputEnded } }
     // A name may be in either letter case, and another name gives empty.
-    ensures names { output_of (codes "#(AD,1,2)#(aD,1,2)#(Br,1,4)#(adx,1,2)#(,1,2)'") 1000000000 ≡ record { bytes = codes "331"; stop = InputEnded } }
+    ensures names { output_of W128 (codes "#(AD,1,2)#(aD,1,2)#(Br,1,4)#(adx,1,2)#(,1,2)'") 1000000000 ≡ record { bytes = codes "331"; stop = InputEnded } }
 {}
 
 /// What forms look like once texts are cut out of them, and what calls of them give.
@@ -237,10 +250,16 @@ pub fn worked_readings()
     ensures none_left { Forces (texts_of (codes "cn,F,1,Z")) (pointing_at 5 (codes "F") (as_items (codes "abcde"))) (codes "Z") }
     ensures none_before { Forces (texts_of (codes "cn,F,-1,Z")) (pointing_at 0 (codes "F") (as_items (codes "abcde"))) (codes "Z") }
     ensures all_bytes_before { Does (texts_of (codes "cn,F,-9223372036854775808,Z")) (pointing_at 3 (codes "F") (as_items (codes "abcde"))) (codes "abc") [] (pointing_at 0 (codes "F") (as_items (codes "abcde"))) }
+    ensures all_bytes_before_of_wide { DoesIn W128 (texts_of (codes "cn,F,-170141183460469231731687303715884105728,Z")) (pointing_at 3 (codes "F") (as_items (codes "abcde"))) (codes "abc") [] (pointing_at 0 (codes "F") (as_items (codes "abcde"))) }
+    ensures all_bytes_of_wide { DoesIn W128 (texts_of (codes "cn,F,170141183460469231731687303715884105727,Z")) (pointing_at 1 (codes "F") (as_items (codes "abcde"))) (codes "bcde") [] (pointing_at 5 (codes "F") (as_items (codes "abcde"))) }
     // A number that does not fit and a text without a number give empty before anything else is
     // thought of; a prefix is dropped.
-    ensures number_too_great { Does (texts_of (codes "cn,F,9223372036854775808,Z")) (pointing_at 5 (codes "F") (as_items (codes "abcde"))) [] [] (pointing_at 5 (codes "F") (as_items (codes "abcde"))) }
-    ensures number_too_small { Does (texts_of (codes "cn,F,-9223372036854775809,Z")) (pointing_at 0 (codes "F") (as_items (codes "abcde"))) [] [] (pointing_at 0 (codes "F") (as_items (codes "abcde"))) }
+    ensures number_too_great { DoesIn W64 (texts_of (codes "cn,F,9223372036854775808,Z")) (pointing_at 5 (codes "F") (as_items (codes "abcde"))) [] [] (pointing_at 5 (codes "F") (as_items (codes "abcde"))) }
+    ensures number_too_great_for_narrow { ForcesIn W128 (texts_of (codes "cn,F,9223372036854775808,Z")) (pointing_at 5 (codes "F") (as_items (codes "abcde"))) (codes "Z") }
+    ensures number_too_great_for_wide { Does (texts_of (codes "cn,F,170141183460469231731687303715884105728,Z")) (pointing_at 5 (codes "F") (as_items (codes "abcde"))) [] [] (pointing_at 5 (codes "F") (as_items (codes "abcde"))) }
+    ensures number_too_small { DoesIn W64 (texts_of (codes "cn,F,-9223372036854775809,Z")) (pointing_at 0 (codes "F") (as_items (codes "abcde"))) [] [] (pointing_at 0 (codes "F") (as_items (codes "abcde"))) }
+    ensures number_too_small_for_narrow { ForcesIn W128 (texts_of (codes "cn,F,-9223372036854775809,Z")) (pointing_at 0 (codes "F") (as_items (codes "abcde"))) (codes "Z") }
+    ensures number_too_small_for_wide { Does (texts_of (codes "cn,F,-170141183460469231731687303715884105729,Z")) (pointing_at 0 (codes "F") (as_items (codes "abcde"))) [] [] (pointing_at 0 (codes "F") (as_items (codes "abcde"))) }
     ensures zero_at_the_end { Does (texts_of (codes "cn,F,0,Z")) (pointing_at 5 (codes "F") (as_items (codes "abcde"))) [] [] (pointing_at 5 (codes "F") (as_items (codes "abcde"))) }
     ensures no_number { Does (texts_of (codes "cn,F,x,Z")) (pointing_at 5 (codes "F") (as_items (codes "abcde"))) [] [] (pointing_at 5 (codes "F") (as_items (codes "abcde"))) }
     ensures number_behind_a_prefix { Does (texts_of (codes "cn,F,x2,Z")) (pointing_at 0 (codes "F") (as_items (codes "abcde"))) (codes "ab") [] (pointing_at 2 (codes "F") (as_items (codes "abcde"))) }
@@ -271,22 +290,22 @@ pub fn worked_readings()
 /// What runs print that read single bytes, set the meta character, print each call, or halt.
 pub fn worked_bytes()
     // The call before which the trace is off prints no line, and that before which it is on prints its own.
-    ensures traced { output_of (codes "#(tn)'#(ps,a)'#(tf)'") 1000000000 ≡ record { bytes = codes "#(ps*)" ++ LINE_FEED ∷ codes "#(rs)" ++ LINE_FEED ∷ codes "#(ps*a)" ++ LINE_FEED ∷ codes "a#(ps*)" ++ LINE_FEED ∷ codes "#(rs)" ++ LINE_FEED ∷ codes "#(tf)" ++ LINE_FEED ∷ []; stop = InputEnded } }
+    ensures traced { output_of W128 (codes "#(tn)'#(ps,a)'#(tf)'") 1000000000 ≡ record { bytes = codes "#(ps*)" ++ LINE_FEED ∷ codes "#(rs)" ++ LINE_FEED ∷ codes "#(ps*a)" ++ LINE_FEED ∷ codes "a#(ps*)" ++ LINE_FEED ∷ codes "#(rs)" ++ LINE_FEED ∷ codes "#(tf)" ++ LINE_FEED ∷ []; stop = InputEnded } }
     // The line of a neutral function, of an unknown name, and of a call without arguments.
-    ensures traced_lines { output_of (codes "#(tn)##(zz,,b)#()#(tf)'") 1000000000 ≡ record { bytes = codes "##(zz**b)" ++ LINE_FEED ∷ codes "#()" ++ LINE_FEED ∷ codes "#(tf)" ++ LINE_FEED ∷ []; stop = InputEnded } }
+    ensures traced_lines { output_of W128 (codes "#(tn)##(zz,,b)#()#(tf)'") 1000000000 ≡ record { bytes = codes "##(zz**b)" ++ LINE_FEED ∷ codes "#()" ++ LINE_FEED ∷ codes "#(tf)" ++ LINE_FEED ∷ []; stop = InputEnded } }
     // One byte, whichever it is.
-    ensures one_byte { output_of (codes "#(rc)'x'") 1000000000 ≡ record { bytes = codes "x"; stop = InputEnded } }
-    ensures meta_character_as_a_byte { output_of (codes "#(ps,##(rc)##(rc))'''x") 1000000000 ≡ record { bytes = codes "''x"; stop = InputEnded } }
-    ensures no_byte_at_the_end { output_of (codes "#(ps,a)#(rc)b'") 1000000000 ≡ record { bytes = codes "a"; stop = InputEnded } }
+    ensures one_byte { output_of W128 (codes "#(rc)'x'") 1000000000 ≡ record { bytes = codes "x"; stop = InputEnded } }
+    ensures meta_character_as_a_byte { output_of W128 (codes "#(ps,##(rc)##(rc))'''x") 1000000000 ≡ record { bytes = codes "''x"; stop = InputEnded } }
+    ensures no_byte_at_the_end { output_of W128 (codes "#(ps,a)#(rc)b'") 1000000000 ≡ record { bytes = codes "a"; stop = InputEnded } }
     // Another meta character; an empty text leaves it, and of a longer text the first byte counts.
-    ensures other_meta { output_of (codes "#(cm,;)'A;B;") 1000000000 ≡ record { bytes = codes "AB"; stop = InputEnded } }
-    ensures first_byte_of_a_text { output_of (codes "#(cm,;x)'AxB;") 1000000000 ≡ record { bytes = codes "AxB"; stop = InputEnded } }
-    ensures null_meta { output_of (codes "#(cm,)#(cm)'A'") 1000000000 ≡ record { bytes = codes "A"; stop = InputEnded } }
+    ensures other_meta { output_of W128 (codes "#(cm,;)'A;B;") 1000000000 ≡ record { bytes = codes "AB"; stop = InputEnded } }
+    ensures first_byte_of_a_text { output_of W128 (codes "#(cm,;x)'AxB;") 1000000000 ≡ record { bytes = codes "AxB"; stop = InputEnded } }
+    ensures null_meta { output_of W128 (codes "#(cm,)#(cm)'A'") 1000000000 ≡ record { bytes = codes "A"; stop = InputEnded } }
     // A halted processor leaves what is after the call, whatever input is left; and the line of the trace is not printed.
-    ensures halted { output_of (codes "#(ps,a)#(hl)#(ps,b)'c'") 1000000000 ≡ record { bytes = codes "a"; stop = InputEnded } }
-    ensures halted_traced { output_of (codes "#(tn)#(hl)'c'") 1000000000 ≡ record { bytes = []; stop = InputEnded } }
+    ensures halted { output_of W128 (codes "#(ps,a)#(hl)#(ps,b)'c'") 1000000000 ≡ record { bytes = codes "a"; stop = InputEnded } }
+    ensures halted_traced { output_of W128 (codes "#(tn)#(hl)'c'") 1000000000 ≡ record { bytes = []; stop = InputEnded } }
     // A call that waits for input prints no line either, however often it is tried.
-    ensures waiting_traced { (state_after (Feed (codes "#(tn)#(rc)'") ∷ replicate 30 Step) (new_session 64)).output ≡ [] }
-    ensures waiting_replies { replies_to (Feed (codes "#(tn)#(rc)'") ∷ replicate 17 Step) (new_session 64) ≡ replicate 16 Done ++ Refused NeedInput ∷ Refused NeedInput ∷ [] }
-    ensures halting_replies { replies_to (Feed (codes "#(tn)#(hl)'c") ∷ replicate 17 Step) (new_session 64) ≡ replicate 16 Done ++ Refused Ended ∷ Refused Ended ∷ [] }
+    ensures waiting_traced { (state_after (Feed (codes "#(tn)#(rc)'") ∷ replicate 30 Step) (new_session 64 W128)).output ≡ [] }
+    ensures waiting_replies { replies_to (Feed (codes "#(tn)#(rc)'") ∷ replicate 17 Step) (new_session 64 W128) ≡ replicate 16 Done ++ Refused NeedInput ∷ Refused NeedInput ∷ [] }
+    ensures halting_replies { replies_to (Feed (codes "#(tn)#(hl)'c") ∷ replicate 17 Step) (new_session 64 W128) ≡ replicate 16 Done ++ Refused Ended ∷ Refused Ended ∷ [] }
 {}

@@ -4,6 +4,7 @@ use Rattle.std.specs.Prelude.{Option}
 use Rattle.std.proofs.lemmas.Bool.{false≢true}
 use Rattle.std.specs.Io.KnownBytes.{Appends, Consumes, IsAtEnd}
 use Rattle.std.proofs.lemmas.List.{append_assoc}
+use Rattle.trac_rules.specs.declared.width.Width.{Width}
 use Rattle.trac_rules.specs.Session.{PlainSession, new_session}
 use Rattle.trac_rules.specs.Running.{Output, output_of}
 use Rattle.trac_rules.specs.GoingOn.{prepended, going_on_from}
@@ -17,19 +18,19 @@ use Rattle.trac_run.proofs.Known.{Appends-nothing, Appends-both, Consumes-nothin
 use Rattle.trac_run.proofs.Turned.{Shows-Write}
 
 -- what a run has done so far: what was read, what was written, and that the rest is written from this session on
-pub record SoFar (in_old in_now out_old out_now : Option (List ℕ)) (budget : ℕ) (p : PlainSession) (left : ℕ) : Type 0 where
+pub record SoFar (in_old in_now out_old out_now : Option (List ℕ)) (width : Width) (budget : ℕ) (p : PlainSession) (left : ℕ) : Type 0 where
   pub fresh : IsFresh p
   pub got : List ℕ
   pub written : List ℕ
   pub took : Consumes in_old in_now got
   pub gave : Appends out_old out_now written
   pub at_end : p.tape.ended ≡ true → IsAtEnd in_now
-  pub rest : (more : List ℕ) → (p.tape.ended ≡ true → more ≡ []) → output_of (got ++ more) budget ≡ prepended written (going_on_from p more left)
+  pub rest : (more : List ℕ) → (p.tape.ended ≡ true → more ≡ []) → output_of width (got ++ more) budget ≡ prepended written (going_on_from p more left)
 
 -- at the beginning nothing is read, and nothing written
-pub so_far_new : (input output : Option (List ℕ)) (budget limit : ℕ) (p : PlainSession) → 1 ≤ limit → p ≡ new_session limit → SoFar input input output output budget p budget
-so_far_new input output budget limit p some e =
-    subst (λ (s : PlainSession). SoFar input input output output budget s budget) (sym e) (record {
+pub so_far_new : (input output : Option (List ℕ)) (width : Width) (budget limit : ℕ) (p : PlainSession) → 1 ≤ limit → p ≡ new_session limit width → SoFar input input output output width budget p budget
+so_far_new input output width budget limit p some e =
+    subst (λ (s : PlainSession). SoFar input input output output width budget s budget) (sym e) (record {
       fresh = record { some_records = some; first = refl; nothing_pending = refl; nothing_read = refl };
       got = [];
       written = [];
@@ -40,9 +41,9 @@ so_far_new input output budget limit p some e =
     })
 
 -- a turn
-pub so_far_turn : (in_old in_now in_new out_old out_now out_new : Option (List ℕ)) (budget : ℕ) (p q : PlainSession) (m n : ℕ) →
-    SoFar in_old in_now out_old out_now budget p m → GoesOn in_now in_new out_now out_new p m q n → IsFresh q → SoFar in_old in_new out_old out_new budget q n
-so_far_turn in_old in_now in_new out_old out_now out_new budget p q m n far on fresh = record {
+pub so_far_turn : (in_old in_now in_new out_old out_now out_new : Option (List ℕ)) (width : Width) (budget : ℕ) (p q : PlainSession) (m n : ℕ) →
+    SoFar in_old in_now out_old out_now width budget p m → GoesOn in_now in_new out_now out_new p m q n → IsFresh q → SoFar in_old in_new out_old out_new width budget q n
+so_far_turn in_old in_now in_new out_old out_now out_new width budget p q m n far on fresh = record {
   fresh = fresh;
   got = far.got ++ on.got;
   written = far.written ++ on.written;
@@ -50,7 +51,7 @@ so_far_turn in_old in_now in_new out_old out_now out_new budget p q m n far on f
   gave = Appends-both out_old out_now out_new far.written on.written far.gave on.gave;
   at_end = on.at_end;
   rest = λ more none.
-      ap (λ text. output_of text budget) (append_assoc far.got on.got more)
+      ap (λ text. output_of width text budget) (append_assoc far.got on.got more)
       ∙ far.rest (on.got ++ more) (λ over. let at = on.closed over in ap (λ g. g ++ more) at.0 ∙ none at.1)
       ∙ ap (prepended far.written) (on.rest more none)
       ∙ prepended-prepended far.written on.written (going_on_from q more n);
@@ -71,12 +72,12 @@ Shows-prepended Write text written o shows = tt
 Shows-prepended (NotUnderstood line) text written o shows = absurd shows
 
 -- the last turn
-pub ran : (in_old in_now in_new out_old out_now out_new : Option (List ℕ)) (budget : ℕ) (p : PlainSession) (m : ℕ) (ending : Ending) →
-    SoFar in_old in_now out_old out_now budget p m → Finishes in_now in_new out_now out_new p m ending → Runs in_old in_new out_old out_new (λ text. output_of text budget) ending
-ran in_old in_now in_new out_old out_now out_new budget p m ending far last =
-    let all : (more : List ℕ) → (p.tape.ended ≡ true → more ≡ []) → output_of ((far.got ++ last.got) ++ more) budget ≡ prepended far.written (going_on_from p (last.got ++ more) m) =
+pub ran : (in_old in_now in_new out_old out_now out_new : Option (List ℕ)) (width : Width) (budget : ℕ) (p : PlainSession) (m : ℕ) (ending : Ending) →
+    SoFar in_old in_now out_old out_now width budget p m → Finishes in_now in_new out_now out_new p m ending → Runs in_old in_new out_old out_new (λ text. output_of width text budget) ending
+ran in_old in_now in_new out_old out_now out_new width budget p m ending far last =
+    let all : (more : List ℕ) → (p.tape.ended ≡ true → more ≡ []) → output_of width ((far.got ++ last.got) ++ more) budget ≡ prepended far.written (going_on_from p (last.got ++ more) m) =
     λ more none.
-    ap (λ text. output_of text budget) (append_assoc far.got last.got more)
+    ap (λ text. output_of width text budget) (append_assoc far.got last.got more)
     ∙ far.rest (last.got ++ more) (λ over. ap (λ g. g ++ more) (last.closed over) ∙ none over) in
     record {
       got = far.got ++ last.got;

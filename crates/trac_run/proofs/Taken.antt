@@ -72,7 +72,7 @@ takes_end in_old in_new p q buffer n none took end h = record {
 
 -- what is wanted is wanted of a tape that has not ended
 pub wanted_open : (q : PlainSession) → answer Step q ≡ refused refusals.NeedInput q → q.tape.ended ≡ false
-wanted_open q h = wants_input_of_open (over q.tape) q.last (Step_refused_NeedInput q q h)
+wanted_open q h = wants_input_of_open (over q.width q.tape) q.last (Step_refused_NeedInput q q h)
 
 -- also after the commit
 pub wanted_open_after : (q r : PlainSession) → answer Step q ≡ refused refusals.NeedInput q → answer (Commit 0) q ≡ done r → r.tape.ended ≡ false

@@ -13,6 +13,7 @@ use std::alloc::Allocator;
 use std::io::{Read, Write};
 use trac_rules::limit::{JOURNAL_LIMIT, TEXT_LIMIT};
 use trac_rules::refusal::Refusal;
+use trac_rules::width::Width;
 use trac_session::Session;
 
 /// How many bytes one read may give (this project's profile).
@@ -35,6 +36,8 @@ pub struct Options {
     pub budget: u64,
     /// How many records its journal may hold: 1 to 1,048,576.
     pub journal: usize,
+    /// How wide its numbers are.
+    pub decimals: Width,
 }
 
 /// How many steps a run may take where so many are asked for: as many, within the range, or the default number where none is
@@ -64,9 +67,9 @@ pub fn run<R: Read, W: Write, A: Allocator + Copy>(
     requires some_records { 1 ≤ options.journal }
     requires most_records { options.journal ≤ JOURNAL_LIMIT }
     ensures { Runs (R.remaining input.old) (R.remaining input.new) (W.contents output.old) (W.contents output.new)
-        (λ text. output_of text options.budget) result }
+        (λ text. output_of options.decimals text options.budget) result }
 {
-    let Ok(mut session) = Session::new(alloc, options.journal) else {
+    let Ok(mut session) = Session::new(alloc, options.journal, options.decimals) else {
         return finish(output, &[], Ending::Memory);
     };
     let mut left = options.budget;

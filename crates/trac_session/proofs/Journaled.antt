@@ -2,6 +2,7 @@
 use Rattle.std.proofs.Common.{◌≡◌, ℕ, suc, ◌+◌, ◌-◌, ◌<◌, ◌≤◌, Bool, true, false, List, [], ◌∷◌, ◌++◌, length, take, drop, reverse, refl, sym, ap, subst, ◌∙◌, arith}
 use Rattle.std.specs.Prelude.{Option, Some, Result, Ok, Err, OnOk, IfErr}
 use Rattle.std.proofs.lemmas.List.{length-append, length-reverse}
+use Rattle.trac_rules.specs.declared.width.Width.{Width}
 use Rattle.trac_rules.specs.declared.limit.TheConstants.{TAPE_LIMIT}
 use Rattle.trac_rules.specs.declared.refusal.Refusal.{Refusal}
 use Rattle.trac_rules.specs.declared.refusal.Refusal.TheVariants.{Memory, TooLong, NeedInput, Ended, JournalFull, AtStart, Closed, NotMet}
@@ -82,45 +83,45 @@ newest_says_this before weigh Holds old new r t u e all says =
 -- ---- what calls make of the fields
 
 -- there are as many earlier states as the journal has records
-pub length-earlier : {R : Type 0} → (before : R → State → Option State) (weigh : R → ℕ) (Holds : State → Type 0) (limit : ℕ) (bytes : List ℕ) (ended : Bool) (journal : List R) (last : State) (p : PlainSession) →
-    plain_of before limit bytes ended journal last ≡ p → AreRecords before weigh Holds (reverse journal) last → length p.earlier ≡ length journal
+pub length-earlier : {R : Type 0} {width : Width} → (before : R → State → Option State) (weigh : R → ℕ) (Holds : State → Type 0) (limit : ℕ) (bytes : List ℕ) (ended : Bool) (journal : List R) (last : State) (p : PlainSession) →
+    plain_of before limit width bytes ended journal last ≡ p → AreRecords before weigh Holds (reverse journal) last → length p.earlier ≡ length journal
 length-earlier before weigh Holds limit bytes ended journal last p view all =
     sym (ap (λ (q : PlainSession). length q.earlier) view) ∙ length-earlier_of before weigh Holds (reverse journal) last all ∙ length-reverse journal
 
 -- the end of the input
-pub End_of_fields : {R : Type 0} → (before : R → State → Option State) (limit : ℕ) (bytes : List ℕ) (ended : Bool) (journal : List R) (last : State) (p : PlainSession) →
-    plain_of before limit bytes ended journal last ≡ p → answer End p ≡ done (plain_of before limit bytes true journal last)
-End_of_fields before limit bytes ended journal last p view =
-    ap (answer End) (sym view) ∙ answer_End (plain_of before limit bytes ended journal last)
+pub End_of_fields : {R : Type 0} {width : Width} → (before : R → State → Option State) (limit : ℕ) (bytes : List ℕ) (ended : Bool) (journal : List R) (last : State) (p : PlainSession) →
+    plain_of before limit width bytes ended journal last ≡ p → answer End p ≡ done (plain_of before limit width bytes true journal last)
+End_of_fields {R} {width} before limit bytes ended journal last p view =
+    ap (answer End) (sym view) ∙ answer_End (plain_of before limit width bytes ended journal last)
 
 -- a feed after the end
-pub Feed_closed_of_fields : {R : Type 0} → (before : R → State → Option State) (limit : ℕ) (bytes : List ℕ) (ended : Bool) (journal : List R) (last : State) (p : PlainSession) (more : List ℕ) →
-    plain_of before limit bytes ended journal last ≡ p → ended ≡ true → answer (Feed more) p ≡ refused Closed p
+pub Feed_closed_of_fields : {R : Type 0} {width : Width} → (before : R → State → Option State) (limit : ℕ) (bytes : List ℕ) (ended : Bool) (journal : List R) (last : State) (p : PlainSession) (more : List ℕ) →
+    plain_of before limit width bytes ended journal last ≡ p → ended ≡ true → answer (Feed more) p ≡ refused Closed p
 Feed_closed_of_fields before limit bytes ended journal last p more view over =
     answer_Feed_closed more p (sym (ap (λ (q : PlainSession). q.tape.ended) view) ∙ over)
 
 -- a feed that is too long
-pub Feed_long_of_fields : {R : Type 0} → (before : R → State → Option State) (limit : ℕ) (bytes : List ℕ) (ended : Bool) (journal : List R) (last : State) (p : PlainSession) (more : List ℕ) →
-    plain_of before limit bytes ended journal last ≡ p → ended ≡ false → TAPE_LIMIT < length bytes + length more → answer (Feed more) p ≡ refused TooLong p
+pub Feed_long_of_fields : {R : Type 0} {width : Width} → (before : R → State → Option State) (limit : ℕ) (bytes : List ℕ) (ended : Bool) (journal : List R) (last : State) (p : PlainSession) (more : List ℕ) →
+    plain_of before limit width bytes ended journal last ≡ p → ended ≡ false → TAPE_LIMIT < length bytes + length more → answer (Feed more) p ≡ refused TooLong p
 Feed_long_of_fields before limit bytes ended journal last p more view open_ long =
     let same : length p.tape.bytes ≡ length bytes = sym (ap (λ (q : PlainSession). length q.tape.bytes) view) in
     answer_Feed_long more p (sym (ap (λ (q : PlainSession). q.tape.ended) view) ∙ open_) (omega arith)
 
 -- a feed that there is room for
-pub Feed_room_of_fields : {R : Type 0} → (before : R → State → Option State) (limit : ℕ) (bytes longer : List ℕ) (ended : Bool) (journal : List R) (last : State) (p : PlainSession) (more : List ℕ) →
-    plain_of before limit bytes ended journal last ≡ p → ended ≡ false → length bytes + length more ≤ TAPE_LIMIT → longer ≡ bytes ++ more →
-    answer (Feed more) p ≡ done (plain_of before limit longer ended journal last)
-Feed_room_of_fields before limit bytes longer ended journal last p more view open_ room longer_is =
-    rw longer_is (ap (answer (Feed more)) (sym view) ∙ answer_Feed_room more (plain_of before limit bytes ended journal last) open_ room)
+pub Feed_room_of_fields : {R : Type 0} {width : Width} → (before : R → State → Option State) (limit : ℕ) (bytes longer : List ℕ) (ended : Bool) (journal : List R) (last : State) (p : PlainSession) (more : List ℕ) →
+    plain_of before limit width bytes ended journal last ≡ p → ended ≡ false → length bytes + length more ≤ TAPE_LIMIT → longer ≡ bytes ++ more →
+    answer (Feed more) p ≡ done (plain_of before limit width longer ended journal last)
+Feed_room_of_fields {R} {width} before limit bytes longer ended journal last p more view open_ room longer_is =
+    rw longer_is (ap (answer (Feed more)) (sym view) ∙ answer_Feed_room more (plain_of before limit width bytes ended journal last) open_ room)
 
 -- there memory may be refused, with nothing changed
-pub Feed_memory_of_fields : {R : Type 0} → (before : R → State → Option State) (limit : ℕ) (bytes same : List ℕ) (ended : Bool) (journal : List R) (last : State) (p : PlainSession) (more : List ℕ) →
-    plain_of before limit bytes ended journal last ≡ p → ended ≡ false → length bytes + length more ≤ TAPE_LIMIT → same ≡ bytes →
-    MayRunOut (Feed more) (answer (Feed more) p).reply × (plain_of before limit same ended journal last ≡ p)
-Feed_memory_of_fields before limit bytes same ended journal last p more view open_ room same_is =
+pub Feed_memory_of_fields : {R : Type 0} {width : Width} → (before : R → State → Option State) (limit : ℕ) (bytes same : List ℕ) (ended : Bool) (journal : List R) (last : State) (p : PlainSession) (more : List ℕ) →
+    plain_of before limit width bytes ended journal last ≡ p → ended ≡ false → length bytes + length more ≤ TAPE_LIMIT → same ≡ bytes →
+    MayRunOut (Feed more) (answer (Feed more) p).reply × (plain_of before limit width same ended journal last ≡ p)
+Feed_memory_of_fields {R} {width} before limit bytes same ended journal last p more view open_ room same_is =
     let would : (answer (Feed more) p).reply ≡ Done =
-    ap (λ q. (answer (Feed more) q).reply) (sym view) ∙ ap (λ a. a.reply) (answer_Feed_room more (plain_of before limit bytes ended journal last) open_ room) in
-    (rw would tt, ap (λ (b : List ℕ). plain_of before limit b ended journal last) same_is ∙ view)
+    ap (λ q. (answer (Feed more) q).reply) (sym view) ∙ ap (λ a. a.reply) (answer_Feed_room more (plain_of before limit width bytes ended journal last) open_ room) in
+    (rw would tt, ap (λ (b : List ℕ). plain_of before limit width b ended journal last) same_is ∙ view)
 
 -- ---- steps
 
@@ -137,8 +138,8 @@ MayRunOut_of_step (Err Closed) p may = absurd may
 MayRunOut_of_step (Err NotMet) p may = absurd may
 
 -- what a step may be refused for, the session may be
-pub Step_refused_as : (p q : PlainSession) (refusal : Refusal) → length p.earlier < p.limit → MayRefuse (step (over p.tape) p.last) refusal → q ≡ p → Answers Step p (Refused refusal) q
-Step_refused_as p q Memory l may same = (rw (answer_Step p l) (MayRunOut_of_step (step (over p.tape) p.last) p may), same)
+pub Step_refused_as : (p q : PlainSession) (refusal : Refusal) → length p.earlier < p.limit → MayRefuse (step (over p.width p.tape) p.last) refusal → q ≡ p → Answers Step p (Refused refusal) q
+Step_refused_as p q Memory l may same = (rw (answer_Step p l) (MayRunOut_of_step (step (over p.width p.tape) p.last) p may), same)
 Step_refused_as p q TooLong l may same = rw same (answer_Step_Err p TooLong l may)
 Step_refused_as p q NeedInput l may same = rw same (answer_Step_Err p NeedInput l may)
 Step_refused_as p q Ended l may same = rw same (answer_Step_Err p Ended l may)
@@ -148,32 +149,33 @@ Step_refused_as p q Closed l may same = rw same (answer_Step_Err p Closed l may)
 Step_refused_as p q NotMet l may same = rw same (answer_Step_Err p NotMet l may)
 
 -- a step that was taken, or refused, with a place in the journal
-pub Step_of_fields : {R : Type 0} → (before : R → State → Option State) (weigh : R → ℕ) (Holds : State → Type 0) (limit : ℕ) (bytes : List ℕ) (ended : Bool) (old new : List R) (s t : State) (r : Result (Unit {0}) Refusal) →
+pub Step_of_fields : {R : Type 0} {width after : Width} → (before : R → State → Option State) (weigh : R → ℕ) (Holds : State → Type 0) (limit : ℕ) (bytes : List ℕ) (ended : Bool) (old new : List R) (s t : State) (r : Result (Unit {0}) Refusal) →
     length old < limit → AreRecords before weigh Holds (reverse old) s →
-    OnOk r (step (over (record { bytes = bytes; ended = ended })) s ≡ Ok t) → OnOk r (Remembers before weigh old new s t) →
-    IfErr r (MayRefuse (step (over (record { bytes = bytes; ended = ended })) s)) → IfErr r (λ _. (t ≡ s) × (new ≡ old)) →
-    Answers Step (plain_of before limit bytes ended old s) (reply_of r) (plain_of before limit bytes ended new t)
-Step_of_fields before weigh Holds limit bytes ended old new s t (Ok done_) room all taken kept may same =
-    let p : PlainSession = plain_of before limit bytes ended old s in
+    OnOk r (step (over width (record { bytes = bytes; ended = ended })) s ≡ Ok t) → OnOk r (Remembers before weigh old new s t) →
+    IfErr r (MayRefuse (step (over width (record { bytes = bytes; ended = ended })) s)) → IfErr r (λ _. (t ≡ s) × (new ≡ old)) → after ≡ width →
+    Answers Step (plain_of before limit width bytes ended old s) (reply_of r) (plain_of before limit after bytes ended new t)
+Step_of_fields {R} {width} {after} before weigh Holds limit bytes ended old new s t (Ok done_) room all taken kept may same still =
+    let p : PlainSession = plain_of before limit width bytes ended old s in
     let l : length p.earlier < p.limit = omega (arith, length-earlier before weigh Holds limit bytes ended old s p refl all) in
     answer_Step_Ok p t l taken
     ∙ ap (λ (earlier : List State). done (record p { earlier = earlier; last = t })) (sym (earlier_of-more before old new kept.0 s t kept.1 kept.2.says))
-Step_of_fields before weigh Holds limit bytes ended old new s t (Err refusal) room all taken kept may same =
-    let p : PlainSession = plain_of before limit bytes ended old s in
+    ∙ ap (λ (w : Width). done (plain_of before limit w bytes ended new t)) (sym still)
+Step_of_fields {R} {width} {after} before weigh Holds limit bytes ended old new s t (Err refusal) room all taken kept may same still =
+    let p : PlainSession = plain_of before limit width bytes ended old s in
     let l : length p.earlier < p.limit = omega (arith, length-earlier before weigh Holds limit bytes ended old s p refl all) in
-    Step_refused_as p (plain_of before limit bytes ended new t) refusal l may (rw (same.0, same.1) refl)
+    Step_refused_as p (plain_of before limit after bytes ended new t) refusal l may (rw (same.0, same.1, still) refl)
 
 -- the fields stay sound
 pub IsSound-step : {R : Type 0} → (before : R → State → Option State) (weigh : R → ℕ) (limit : ℕ) (bytes : List ℕ) (ended : Bool) (old new : List R) (m k : Shown) (r : Result (Unit {0}) Refusal) →
     length old < limit → IsSound before weigh limit bytes old m → IsNoLess m k → OnOk r (HasRoom k m.state) →
-    OnOk r (step (over (record { bytes = bytes; ended = ended })) m.state ≡ Ok k.state) → OnOk r (Remembers before weigh old new m.state k.state) →
+    OnOk r (step (over m.width (record { bytes = bytes; ended = ended })) m.state ≡ Ok k.state) → OnOk r (Remembers before weigh old new m.state k.state) →
     IfErr r (λ _. (k.state ≡ m.state) × (new ≡ old)) → IsSound before weigh limit bytes new k
 IsSound-step before weigh limit bytes ended old new m k (Ok done_) room sound more back taken kept same = record {
   some_records = sound.some_records;
   not_too_many = sound.not_too_many;
   within_limit = omega (arith, length-more before weigh old new m.state k.state kept);
   tape_limit = sound.tape_limit;
-  on_tape = step_within (over (record { bytes = bytes; ended = ended })) m.state k.state taken sound.on_tape;
+  on_tape = step_within (over m.width (record { bytes = bytes; ended = ended })) m.state k.state taken sound.on_tape;
   records =
       AreRecords-more before weigh (IsWithinReach k (length bytes)) old new m.state k.state kept (record { on_tape = sound.on_tape; room = back })
       (AreRecords-weaker before weigh (IsWithinReach m (length bytes)) (IsWithinReach k (length bytes)) (reverse old) m.state
@@ -193,30 +195,31 @@ IsSound-step {R} before weigh limit bytes ended old new m k (Err refusal) room s
 }
 
 -- a step with a full journal
-pub Step_full_of_fields : {R : Type 0} → (before : R → State → Option State) (weigh : R → ℕ) (Holds : State → Type 0) (limit : ℕ) (bytes : List ℕ) (ended : Bool) (journal : List R) (last : State) (p : PlainSession) →
-    plain_of before limit bytes ended journal last ≡ p → AreRecords before weigh Holds (reverse journal) last → limit ≤ length journal → answer Step p ≡ refused JournalFull p
+pub Step_full_of_fields : {R : Type 0} {width : Width} → (before : R → State → Option State) (weigh : R → ℕ) (Holds : State → Type 0) (limit : ℕ) (bytes : List ℕ) (ended : Bool) (journal : List R) (last : State) (p : PlainSession) →
+    plain_of before limit width bytes ended journal last ≡ p → AreRecords before weigh Holds (reverse journal) last → limit ≤ length journal → answer Step p ≡ refused JournalFull p
 Step_full_of_fields before weigh Holds limit bytes ended journal last p view all full =
     answer_Step_full p (omega (arith, length-earlier before weigh Holds limit bytes ended journal last p view all, ap (λ (q : PlainSession). q.limit) view))
 
 -- ---- steps back
 
 -- at the first state
-pub Back_start_of_fields : {R : Type 0} → (before : R → State → Option State) (limit : ℕ) (bytes : List ℕ) (ended : Bool) (old new : List R) (last : State) (p : PlainSession) →
-    plain_of before limit bytes ended old last ≡ p → old ≡ [] → new ≡ [] → answer Back p ≡ refused AtStart (plain_of before limit bytes ended new last)
-Back_start_of_fields before limit bytes ended old new last p view empty still =
+pub Back_start_of_fields : {R : Type 0} {width : Width} → (before : R → State → Option State) (limit : ℕ) (bytes : List ℕ) (ended : Bool) (old new : List R) (last : State) (p : PlainSession) →
+    plain_of before limit width bytes ended old last ≡ p → old ≡ [] → new ≡ [] → answer Back p ≡ refused AtStart (plain_of before limit width bytes ended new last)
+Back_start_of_fields {R} {width} before limit bytes ended old new last p view empty still =
     let none : p.earlier ≡ [] = sym (ap (λ (q : PlainSession). q.earlier) view) ∙ ap (λ journal. earlier_of before (reverse journal) last) empty in
     answer_Back_start p none
-    ∙ ap (refused AtStart) (sym view ∙ ap (λ journal. plain_of before limit bytes ended journal last) (empty ∙ sym still))
+    ∙ ap (refused AtStart) (sym view ∙ ap (λ journal. plain_of before limit width bytes ended journal last) (empty ∙ sym still))
 
 -- from any other
-pub Back_of_fields : {R : Type 0} → (before : R → State → Option State) (limit : ℕ) (bytes : List ℕ) (ended : Bool) (old new : List R) (r : R) (last s : State) (p : PlainSession) →
-    plain_of before limit bytes ended old last ≡ p → old ≡ new ++ r ∷ [] → before r last ≡ Some s →
-    answer Back p ≡ done (plain_of before limit bytes ended new s)
-Back_of_fields before limit bytes ended old new r last s p view with_r says =
+pub Back_of_fields : {R : Type 0} {width after : Width} → (before : R → State → Option State) (limit : ℕ) (bytes : List ℕ) (ended : Bool) (old new : List R) (r : R) (last s : State) (p : PlainSession) →
+    plain_of before limit width bytes ended old last ≡ p → old ≡ new ++ r ∷ [] → before r last ≡ Some s → after ≡ width →
+    answer Back p ≡ done (plain_of before limit after bytes ended new s)
+Back_of_fields {R} {width} {after} before limit bytes ended old new r last s p view with_r says still =
     let some : p.earlier ≡ s ∷ earlier_of before (reverse new) s =
     sym (ap (λ (q : PlainSession). q.earlier) view) ∙ earlier_of-more before new old r s last with_r says in
     answer_Back_from p s (earlier_of before (reverse new) s) some
     ∙ ap (λ (q : PlainSession). done (record q { earlier = earlier_of before (reverse new) s; last = s })) (sym view)
+    ∙ ap (λ (w : Width). done (plain_of before limit w bytes ended new s)) (sym still)
 
 -- the fields stay sound
 pub IsSound-back : {R : Type 0} → (before : R → State → Option State) (weigh : R → ℕ) (limit : ℕ) (bytes : List ℕ) (old new : List R) (r : R) (m k : Shown) →

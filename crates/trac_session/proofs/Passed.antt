@@ -4,6 +4,8 @@ use Rattle.std.specs.Prelude.{Some, nat_le}
 use Rattle.std.specs.Bool.{then_some}
 use Rattle.std.proofs.lemmas.Bool.{leb-true}
 use Rattle.std.proofs.lemmas.List.{append-nil, append_assoc, drop_at, length-append, length-drop, length-take, replicate_more, take-append-drop, take_at}
+use Rattle.trac_rules.specs.declared.width.Width.{Width}
+use Rattle.trac_rules.specs.declared.width.Width.TheVariants.{W64}
 use Rattle.trac_rules.specs.PlainRuns.{BeginsPlain, moved_on, on_the_way}
 use Rattle.trac_rules.specs.Proper.{IsProper}
 use Rattle.trac_rules.specs.Records as rules
@@ -82,15 +84,16 @@ earlier_of-passed {A} old new s t n proper within kept moved =
 
 -- plain bytes that are moved at once are as many steps
 pub Step_passed : {A : Type 0} → (Holds : State → Type 0) (limit : ℕ) (bytes : List ℕ) (ended : Bool) (old new : List (Record A)) (m k : Shown) (n : ℕ) (p : PlainSession) →
-    plain_of before limit bytes ended old m.state ≡ p → AreRecords before weighed Holds (reverse old) m.state → IsProper m.state → BeginsPlain n m.state → length old + n ≤ limit →
-    new ≡ old ++ all_moved n → k ≡ record m { state = moved_on n m.state } → repeated Step n p ≡ Some (plain_of before limit bytes ended new k.state)
+    plain_of before limit m.width bytes ended old m.state ≡ p → AreRecords before weighed Holds (reverse old) m.state → IsProper m.state → BeginsPlain n m.state → length old + n ≤ limit →
+    new ≡ old ++ all_moved n → k ≡ record m { state = moved_on n m.state } → repeated Step n p ≡ Some (plain_of before limit k.width bytes ended new k.state)
 Step_passed Holds limit bytes ended old new m k n p view all proper plain fits kept moved =
-    let q : PlainSession = plain_of before limit bytes ended old m.state in
+    let q : PlainSession = plain_of before limit m.width bytes ended old m.state in
     let there : k.state ≡ moved_on n m.state = ap (λ (u : Shown). u.state) moved in
     ap (repeated Step n) (sym view)
     ∙ plain_bytes_there n q proper plain (omega (arith, fits, length-earlier before weighed Holds limit bytes ended old m.state q refl all))
     ∙ ap (λ (earlier : List State). Some (record q { earlier = earlier; last = moved_on n m.state })) (sym (earlier_of-passed old new m.state k.state n proper plain.within kept there))
     ∙ ap (λ (u : State). Some (record q { earlier = earlier_of before (reverse new) k.state; last = u })) (sym there)
+    ∙ ap (λ (w : Width). Some (plain_of before limit w bytes ended new k.state)) (sym (ap (λ (u : Shown). u.width) moved))
 
 -- the fields stay sound
 pub IsSound-passed : {A : Type 0} → (limit : ℕ) (bytes : List ℕ) (old new : List (Record A)) (m k : Shown) (n : ℕ) → IsProper m.state → BeginsPlain n m.state →
@@ -204,11 +207,11 @@ goes_back {A} Holds (suc n) rest t p all earlier last =
     }
 
 -- the same of fields
-went_back : {A : Type 0} → (Holds : State → Type 0) (limit : ℕ) (bytes : List ℕ) (ended : Bool) (old new : List (Record A)) (t : State) (n : ℕ) → old ≡ new ++ all_moved n →
-    AreRecords before weighed Holds (reverse old) t → GoesBack Holds n (reverse new) t (plain_of before limit bytes ended old t)
-went_back {A} Holds limit bytes ended old new t n kept all =
+went_back : {A : Type 0} {width : Width} → (Holds : State → Type 0) (limit : ℕ) (bytes : List ℕ) (ended : Bool) (old new : List (Record A)) (t : State) (n : ℕ) → old ≡ new ++ all_moved n →
+    AreRecords before weighed Holds (reverse old) t → GoesBack Holds n (reverse new) t (plain_of before limit width bytes ended old t)
+went_back {A} {width} Holds limit bytes ended old new t n kept all =
     let turned : reverse old ≡ all_moved n ++ reverse new = ap reverse kept ∙ moved_first n new in
-    goes_back Holds n (reverse new) t (plain_of before limit bytes ended old t)
+    goes_back Holds n (reverse new) t (plain_of before limit width bytes ended old t)
     (subst (λ (records : List (Record A)). AreRecords before weighed Holds records t) turned all)
     (ap (λ (records : List (Record A)). earlier_of before records t) turned) refl
 
@@ -216,7 +219,7 @@ went_back {A} Holds limit bytes ended old new t n kept all =
 pub moved_back_says : {A : Type 0} → (Holds : State → Type 0) (old new : List (Record A)) (t : State) (n : ℕ) → old ≡ new ++ all_moved n → AreRecords before weighed Holds (reverse old) t →
     (s : State) × (moved_back n t ≡ Some s) × (s.position ≡ t.position) × AreRecords before weighed Holds (reverse new) s
 moved_back_says Holds old new t n kept all =
-    let went = went_back Holds 0 [] false old new t n kept all in (
+    let went = went_back {width = W64} Holds 0 [] false old new t n kept all in (
       went.first,
       ap (moved_back n) went.there.0 ∙ moved_on-back n went.first went.there.1,
       sym (ap (λ (u : State). u.position) went.there.0 ∙ moved_on-position n went.first),
@@ -224,14 +227,15 @@ moved_back_says Holds old new t n kept all =
     )
 
 -- that is as many steps back
-pub Back_passed : {A : Type 0} → (Holds : State → Type 0) (limit : ℕ) (bytes : List ℕ) (ended : Bool) (old new : List (Record A)) (t s : State) (n : ℕ) (p : PlainSession) →
-    plain_of before limit bytes ended old t ≡ p → AreRecords before weighed Holds (reverse old) t → old ≡ new ++ all_moved n → moved_back n t ≡ Some s →
-    repeated Back n p ≡ Some (plain_of before limit bytes ended new s)
-Back_passed Holds limit bytes ended old new t s n p view all kept back =
+pub Back_passed : {A : Type 0} {width after : Width} → (Holds : State → Type 0) (limit : ℕ) (bytes : List ℕ) (ended : Bool) (old new : List (Record A)) (t s : State) (n : ℕ) (p : PlainSession) →
+    plain_of before limit width bytes ended old t ≡ p → AreRecords before weighed Holds (reverse old) t → old ≡ new ++ all_moved n → moved_back n t ≡ Some s → after ≡ width →
+    repeated Back n p ≡ Some (plain_of before limit after bytes ended new s)
+Back_passed {A} {width} {after} Holds limit bytes ended old new t s n p view all kept back still =
     let went = went_back Holds limit bytes ended old new t n kept all in
     let here : moved_back n t ≡ Some went.first = ap (moved_back n) went.there.0 ∙ moved_on-back n went.first went.there.1 in
     let same : went.first ≡ s = cc in
-    ap (repeated Back n) (sym view) ∙ went.walked ∙ ap (λ (u : State). Some (plain_of before limit bytes ended new u)) same
+    ap (repeated Back n) (sym view) ∙ went.walked ∙ ap (λ (u : State). Some (plain_of before limit width bytes ended new u)) same
+    ∙ ap (λ (w : Width). Some (plain_of before limit w bytes ended new s)) (sym still)
 
 -- the fields stay sound
 pub IsSound-passed-back : {A : Type 0} → (limit : ℕ) (bytes : List ℕ) (old new : List (Record A)) (m k : Shown) (n : ℕ) → old ≡ new ++ all_moved n →

@@ -3,6 +3,7 @@ use Rattle.std.proofs.Common.{◌≡◌, ℕ, ◌+◌, ◌-◌, ◌*◌, ◌^◌
 use Rattle.std.specs.Prelude.{Option, Some, reverse}
 use Rattle.std.proofs.lemmas.List.{drop-take, drop_at, reverse-append, take-append-drop, take-take, take_at}
 use Rattle.std.proofs.lemmas.List.Elements.{All-append, All-drop, All-head, All-pop, All-push, All-replicate, All-same, All-tail, All-take}
+use Rattle.trac_rules.specs.declared.width.Width.{Width}
 use Rattle.trac_rules.specs.Session.{PlainSession}
 use Rattle.trac_rules.specs.State.{State}
 use Rattle.trac_rules.specs.Weights.{weights_from}
@@ -162,8 +163,8 @@ weights_told before weigh Holds (r ∷ records) t all =
     omega (arith, first, all.1.weighs, weights_told before weigh Holds records all.0 all.3)
 
 -- so the journal weighs what the session shows
-pub journal_weighs : {A : Type 0} → (Holds : State → Type 0) (limit : ℕ) (bytes : List ℕ) (ended : Bool) (journal : List (Record A)) (last : State) (p : PlainSession) →
-    plain_of before limit bytes ended journal last ≡ p → AreRecords before weighed Holds (reverse journal) last → sum_by weighed journal ≡ weights_from p.earlier
+pub journal_weighs : {A : Type 0} {width : Width} → (Holds : State → Type 0) (limit : ℕ) (bytes : List ℕ) (ended : Bool) (journal : List (Record A)) (last : State) (p : PlainSession) →
+    plain_of before limit width bytes ended journal last ≡ p → AreRecords before weighed Holds (reverse journal) last → sum_by weighed journal ≡ weights_from p.earlier
 journal_weighs Holds limit bytes ended journal last p view all =
     sym (sum_by-reverse weighed journal)
     ∙ weights_told before weighed Holds (reverse journal) last all

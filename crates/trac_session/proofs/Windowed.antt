@@ -3,6 +3,7 @@ use Rattle.std.proofs.Common.{◌≡◌, ℕ, zero, suc, ◌+◌, ◌-◌, ◌�
 use Rattle.std.specs.Prelude.{Option, Some}
 use Rattle.std.proofs.lemmas.List.{append-nil, append_assoc, length-append, length-drop, length-reverse, length-take-le, nil_from_length, reverse-append, take-append-drop, take-append-le, take_all}
 use Rattle.std.proofs.lemmas.List.Elements.{All-cons, All-nil}
+use Rattle.trac_rules.specs.declared.width.Width.{Width}
 use Rattle.trac_rules.specs.Fronts.{IsFrontOf}
 use Rattle.trac_rules.specs.Session.{PlainSession, Commit, answer, committed, done, first_kept, first_of, released, settled}
 use Rattle.trac_rules.specs.State.{State}
@@ -239,11 +240,11 @@ stays_first {R} before weigh reads prints Holds keep count old new last o k kept
     }
 
 -- the session is the one that the definitions say
-pub Commit_of_fields : {R : Type 0} → (before : R → State → Option State) (weigh reads prints : R → ℕ) (Holds : State → Type 0) (keep count limit : ℕ) (bytes rest : List ℕ) (ended : Bool) (old new : List R) (last there : State) (o k : ℕ) (p : PlainSession) →
-    plain_of before limit bytes ended old last ≡ p → IsKept before weigh reads prints Holds keep count old new last o k → rest ≡ drop k bytes → there ≡ released o k last →
-    answer (Commit keep) p ≡ done (plain_of before limit rest ended new there)
-Commit_of_fields {R} before weigh reads prints Holds keep count limit bytes rest ended old new last there o k p view kept cut at =
-    let q : PlainSession = plain_of before limit bytes ended old last in
+pub Commit_of_fields : {R : Type 0} {width after : Width} → (before : R → State → Option State) (weigh reads prints : R → ℕ) (Holds : State → Type 0) (keep count limit : ℕ) (bytes rest : List ℕ) (ended : Bool) (old new : List R) (last there : State) (o k : ℕ) (p : PlainSession) →
+    plain_of before limit width bytes ended old last ≡ p → IsKept before weigh reads prints Holds keep count old new last o k → rest ≡ drop k bytes → there ≡ released o k last → after ≡ width →
+    answer (Commit keep) p ≡ done (plain_of before limit after rest ended new there)
+Commit_of_fields {R} {width} {after} before weigh reads prints Holds keep count limit bytes rest ended old new last there o k p view kept cut at still =
+    let q : PlainSession = plain_of before limit width bytes ended old last in
     let u : State = first_before before (reverse new) last in
     let first = stays_first before weigh reads prints Holds keep count old new last o k kept in
     let u_is : first_kept keep q ≡ u = ap (first_of last) first.states in
@@ -259,7 +260,8 @@ Commit_of_fields {R} before weigh reads prints Holds keep count limit bytes rest
       last = released (o_is i) (k_is i) last;
     } in done committed_so)
     ∙ (λ i. let shown : PlainSession = record q { tape = record q.tape { bytes = sym cut i }; earlier = sym states i; last = released o k last } in done shown)
-    ∙ ap (λ (s : State). done (plain_of before limit rest ended new s)) (sym at)
+    ∙ ap (λ (s : State). done (plain_of before limit width rest ended new s)) (sym at)
+    ∙ ap (λ (w : Width). done (plain_of before limit w rest ended new there)) (sym still)
 
 -- what it releases is there
 pub released_there : {R : Type 0} → (before : R → State → Option State) (weigh reads prints : R → ℕ) (Holds : State → Type 0) (keep count : ℕ) (old new : List R) (last : State) (o k : ℕ) →
@@ -272,8 +274,8 @@ released_there {R} before weigh reads prints Holds keep count old new last o k k
     (omega (arith, far.0, first.read), omega (arith, far.1, first.printed))
 
 -- and stands at the front of the output of each state that stays
-pub released_begins : {R : Type 0} → (before : R → State → Option State) (weigh reads prints : R → ℕ) (Holds : State → Type 0) (keep count limit : ℕ) (bytes : List ℕ) (ended : Bool) (old new : List R) (last : State) (o k : ℕ) (p : PlainSession) (text : List ℕ) →
-    plain_of before limit bytes ended old last ≡ p → IsKept before weigh reads prints Holds keep count old new last o k → text ≡ take o last.output →
+pub released_begins : {R : Type 0} {width : Width} → (before : R → State → Option State) (weigh reads prints : R → ℕ) (Holds : State → Type 0) (keep count limit : ℕ) (bytes : List ℕ) (ended : Bool) (old new : List R) (last : State) (o k : ℕ) (p : PlainSession) (text : List ℕ) →
+    plain_of before limit width bytes ended old last ≡ p → IsKept before weigh reads prints Holds keep count old new last o k → text ≡ take o last.output →
     (text ≡ (first_kept keep p).output) × All (λ (s : State). IsFrontOf text s.output) (p.last ∷ take keep p.earlier)
 released_begins {R} before weigh reads prints Holds keep count limit bytes ended old new last o k p text view kept cut =
     let dropped : List R = reverse (take count old) in
@@ -328,11 +330,11 @@ IsSound-kept {R} before weigh reads prints keep count limit bytes rest old new m
 
 -- ---- a commit that keeps the last state alone
 
-pub Commit_alone : {R : Type 0} → (before : R → State → Option State) (limit : ℕ) (bytes rest : List ℕ) (ended : Bool) (old none : List R) (last there : State) (p : PlainSession) →
-    plain_of before limit bytes ended old last ≡ p → rest ≡ drop last.position bytes → none ≡ [] → there ≡ settled last →
-    answer (Commit 0) p ≡ done (plain_of before limit rest ended none there)
-Commit_alone before limit bytes rest ended old none last there p view cut empty at =
-    rw (cut, empty, at) (ap (answer (Commit 0)) (sym view) ∙ answer_Commit 0 (plain_of before limit bytes ended old last))
+pub Commit_alone : {R : Type 0} {width after : Width} → (before : R → State → Option State) (limit : ℕ) (bytes rest : List ℕ) (ended : Bool) (old none : List R) (last there : State) (p : PlainSession) →
+    plain_of before limit width bytes ended old last ≡ p → rest ≡ drop last.position bytes → none ≡ [] → there ≡ settled last → after ≡ width →
+    answer (Commit 0) p ≡ done (plain_of before limit after rest ended none there)
+Commit_alone {R} {width} {after} before limit bytes rest ended old none last there p view cut empty at still =
+    rw (cut, empty, at, still) (ap (answer (Commit 0)) (sym view) ∙ answer_Commit 0 (plain_of before limit width bytes ended old last))
 
 pub IsSound-alone : {R : Type 0} → (before : R → State → Option State) (weigh : R → ℕ) (limit : ℕ) (bytes rest : List ℕ) (old none : List R) (m n : Shown) →
     rest ≡ drop m.state.position bytes → none ≡ [] → n.state ≡ settled m.state → IsSound before weigh limit bytes old m → IsSound before weigh limit rest none n

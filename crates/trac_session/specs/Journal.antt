@@ -1,5 +1,6 @@
 -- A session as its fields show it: the states before the last one are what the records of its journal say.
 use Rattle.std.specs.Prelude.{◌≡◌, ℕ, ◌+◌, ◌≤◌, Bool, List, [], ◌∷◌, ◌++◌, length, reverse, Option, None, Some}
+use Rattle.trac_rules.specs.declared.width.Width.{Width}
 use Rattle.trac_rules.specs.declared.limit.TheConstants.{TAPE_LIMIT, JOURNAL_LIMIT}
 use Rattle.trac_rules.specs.State.{State}
 use Rattle.trac_rules.specs.Session.{PlainSession}
@@ -47,9 +48,10 @@ sum_by count (r ∷ records) = count r + sum_by count records
 -- ---- the fields
 
 -- the session that they show: limit, bytes of the tape and whether it has ended, journal, last state
-abbrev pub plain_of : {R : Type 0} → (R → State → Option State) → ℕ → List ℕ → Bool → List R → State → PlainSession
-plain_of before limit bytes ended journal last = record {
+abbrev pub plain_of : {R : Type 0} → (R → State → Option State) → ℕ → Width → List ℕ → Bool → List R → State → PlainSession
+plain_of before limit width bytes ended journal last = record {
   limit = limit;
+  width = width;
   tape = record { bytes = bytes; ended = ended };
   earlier = earlier_of before (reverse journal) last;
   last = last;

@@ -25,9 +25,9 @@ pub(crate) fn step_kept<A: Allocator + Copy>(
 ) -> Result<(), Refusal>
     requires position { machine.old.state.position ≤ length tape.bytes.now }
     requires not_full { length journal.old < JOURNAL_LIMIT }
-    ensures taken { OnOk result (step (over (tape_of tape.entry)) machine.old.state ≡ Ok machine.new.state) }
+    ensures taken { OnOk result (step (over machine.old.width (tape_of tape.entry)) machine.old.state ≡ Ok machine.new.state) }
     ensures kept { OnOk result (Remembers before weighed journal.old journal.new machine.old.state machine.new.state) }
-    ensures refused { IfErr result (MayRefuse (step (over (tape_of tape.entry)) machine.old.state)) }
+    ensures refused { IfErr result (MayRefuse (step (over machine.old.width (tape_of tape.entry)) machine.old.state)) }
     ensures back { OnOk result (HasRoom machine.new machine.old.state) }
     ensures no_less { IsNoLess machine.old machine.new }
     ensures same { IfErr result (λ _. machine.new.state ≡ machine.old.state × journal.new ≡ journal.old) }
@@ -66,9 +66,9 @@ fn whole_step_kept<A: Allocator + Copy>(
 ) -> Result<(), Refusal>
     requires position { machine.old.state.position ≤ length tape.bytes.now }
     requires not_full { length journal.old < JOURNAL_LIMIT }
-    ensures taken { OnOk result (step (over (tape_of tape.entry)) machine.old.state ≡ Ok machine.new.state) }
+    ensures taken { OnOk result (step (over machine.old.width (tape_of tape.entry)) machine.old.state ≡ Ok machine.new.state) }
     ensures kept { OnOk result (Remembers before weighed journal.old journal.new machine.old.state machine.new.state) }
-    ensures refused { IfErr result (MayRefuse (step (over (tape_of tape.entry)) machine.old.state)) }
+    ensures refused { IfErr result (MayRefuse (step (over machine.old.width (tape_of tape.entry)) machine.old.state)) }
     ensures back { OnOk result (HasRoom machine.new machine.old.state) }
     ensures no_less { IsNoLess machine.old machine.new }
     ensures same { IfErr result (λ _. machine.new.state ≡ machine.old.state × journal.new ≡ journal.old) }

@@ -16,6 +16,7 @@ use std::marker::Model;
 use trac_gap::{SlidingBuf, TwoEnds};
 use trac_rules::limit::{JOURNAL_LIMIT, TAPE_LIMIT};
 use trac_rules::refusal::Refusal;
+use trac_rules::width::Width;
 use trac_step::{Core, Machine, Mark, Tape};
 
 /// A processor with its input and a journal of its steps. It is seen as a tape and the list of states
@@ -40,25 +41,25 @@ impl<A: Allocator + Copy> Model for Session<A> {
 
     ghost coded = { session_code };
 
-    ghost view = { λ s. plain_of before s.limit s.tape.items s.ended s.journal s.machine.state };
+    ghost view = { λ s. plain_of before s.limit s.machine.width s.tape.items s.ended s.journal s.machine.state };
 
     ghost invariant = { λ s. IsSound before weighed s.limit s.tape.items s.journal s.machine };
 }
 
 impl<A: Allocator + Copy> Session<A> {
-    /// A session in the initial state, with an empty tape. Its journal may hold so many records:
-    /// 1 to 1,048,576 (this project's profile).
+    /// A session in the initial state, with an empty tape and numbers of this width, which nothing changes later. Its journal
+    /// may hold so many records: 1 to 1,048,576 (this project's profile).
     /// Refused with `Memory` where the allocator refuses.
-    pub fn new(alloc: A, limit: usize) -> Result<Self, Refusal>
+    pub fn new(alloc: A, limit: usize, width: Width) -> Result<Self, Refusal>
         requires some { 1 ≤ limit }
         requires most { limit ≤ JOURNAL_LIMIT }
-        ensures made { IfOk result (λ s. s ≡ new_session limit) }
+        ensures made { IfOk result (λ s. s ≡ new_session limit width) }
         ensures err { IsOkUnless result Refusal.Memory }
     {
         Ok(Session {
             tape: SlidingBuf::new(alloc),
             ended: false,
-            machine: Machine::new(alloc)?,
+            machine: Machine::new(alloc, width)?,
             journal: Journal::new(alloc),
             limit,
         })
@@ -207,6 +208,7 @@ impl<A: Allocator + Copy> Session<A> {
     /// The machine, which shows the last state. It takes no memory (this project's profile).
     pub fn machine(&self) -> &Machine<A>
         ensures last { result.now.state ≡ self.now.last }
+        ensures width { result.now.width ≡ self.now.width }
         ensures on_tape { self.now.last.position ≤ length self.now.tape.bytes }
     {
         &self.machine
@@ -221,6 +223,7 @@ fn settle<E: TwoEnds<u8, A>, M: TwoEnds<Mark, A>, A: Allocator + Copy>(
 )
     requires { machine.old.state.position ≤ length tape.old.items }
     ensures state { machine.new.state ≡ settled machine.old.state }
+    ensures width { machine.new.width ≡ machine.old.width }
     ensures tape { tape.new.items ≡ drop machine.old.state.position tape.old.items }
 {
     tape.drop_front(machine.position());

@@ -9,6 +9,7 @@ use trac_gap::TwoEnds;
 use trac_machine_tests::shown::texts_shown;
 use trac_rules::limit::JOURNAL_LIMIT;
 use trac_rules::refusal::Refusal;
+use trac_rules::width::Width;
 use trac_session::Session;
 use trac_step::{Core, Mark};
 
@@ -194,7 +195,7 @@ fn play_all(rt: &impl Abort, alloc: Global, session: &mut Session, acts: &[Act])
 /// Carries out these acts, one after another, on a new session whose journal may hold so many records.
 pub(crate) fn play(rt: &impl Abort, alloc: Global, limit: usize, acts: &[Act]) -> Result<(), Fail> {
     assert!(rt; 1 <= limit && limit <= JOURNAL_LIMIT);
-    let mut session = Session::new(alloc, limit)?;
+    let mut session = Session::new(alloc, limit, Width::W128)?;
     play_all(rt, alloc, &mut session, acts);
     let_go(session);
     Ok(())

@@ -6,6 +6,7 @@ use std::process::Abort;
 use trac_faults::Refusing;
 use trac_rules::limit::JOURNAL_LIMIT;
 use trac_rules::refusal::Refusal;
+use trac_rules::width::Width;
 use trac_session::Session;
 
 /// Memory of which a request may be refused.
@@ -15,7 +16,7 @@ fn new_session(memory: Memory<'_>, limit: usize) -> Result<Session<Memory<'_>>, 
     requires some { 1 ≤ limit }
     requires most { limit ≤ JOURNAL_LIMIT }
 {
-    Session::new(memory, limit)
+    Session::new(memory, limit, Width::W128)
 }
 
 /// A session whose journal may hold so many records, where one request may be refused.

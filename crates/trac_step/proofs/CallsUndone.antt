@@ -4,6 +4,7 @@ use Rattle.std.specs.Prelude.{Option, Some, None, IsSome, codes, nat_le, ◌&&�
 use Rattle.std.specs.Bool.{then_some}
 use Rattle.std.specs.Option.{unwrap_or}
 use Rattle.std.proofs.lemmas.Bool.{and_parts, leb-true}
+use Rattle.trac_rules.specs.declared.width.Width.{Width}
 use Rattle.trac_gap.specs.Window.{Window}
 use Rattle.trac_gap.specs.Ends.{Ends, item_count}
 use Rattle.trac_rules.specs.declared.kind.Kind.{Kind}
@@ -191,13 +192,13 @@ rest_back called a change p rest h =
     let both = and_parts (nat_le called.read p.position) (nat_le called.printed (length p.output)) is.0 in
     record { read = leb-true called.read p.position both.0; printed = leb-true called.printed (length p.output) both.1; same = is.1 }
 
-module _ {A : Type 0} (called : Called) (a : Arguments) (change : Undone A) (p : Parts) (m : Shown) (sound : IsSound p) (view : shown_by p ≡ m)
+module _ {A : Type 0} {width : Width} (called : Called) (a : Arguments) (change : Undone A) (p : Parts) (m : Shown) (sound : IsSound p) (view : shown_by width p ≡ m)
     (h : CanShow m (restored_call (call_record called a change) m.state)) where
   abbrev call : CallRecord
   call = call_record called a change
 
-  there : CanShowParts call (shown_by p) (state_of p)
-  there = can_show_parts call (shown_by p) (state_of p) (subst (λ (n : Shown). CanShow n (restored_call call n.state)) (sym view) h)
+  there : CanShowParts call (shown_by width p) (state_of p)
+  there = can_show_parts call (shown_by width p) (state_of p) (subst (λ (n : Shown). CanShow n (restored_call call n.state)) (sym view) h)
 
   texts : AreTextsBack called a p there.texts
   texts = texts_back called a p there.texts sound.ordered there.texts_are

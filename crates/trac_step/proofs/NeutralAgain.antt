@@ -5,6 +5,7 @@ use Rattle.std.specs.Prelude.{Bool, true, false, IsSomeAnd, Option, Some, None}
 use Rattle.std.specs.List.{concat}
 use Rattle.std.proofs.lemmas.List.{append-nil, append_assoc, length-append, length-reverse}
 use Rattle.std.proofs.lemmas.Option.{none-some}
+use Rattle.trac_rules.specs.declared.width.Width.{Width}
 use Rattle.trac_rules.specs.declared.kind.Kind.{Kind}
 use Rattle.trac_gap.specs.Window.{Window}
 use Rattle.trac_gap.specs.Ends.{Ends}
@@ -131,13 +132,13 @@ can_leave base frames m h = by_test (is_idle m.state) refl
     by_test false is = absurd (subst (λ (b : Bool). IsSomeAnd (then_some b before) (λ s. HasRoom m s × IsProper s)) is h)
 
 -- the parts with base text and functions put back, where these can be shown: they are sound, and show them
-module _ (old new : Ends ℕ) (ms ns : Ends Mark) (store : Stored) (meta : ℕ) (trace : Bool) (position : ℕ) (output : Window ℕ) (base : List ℕ) (frames : List Frame) (m : Shown) (view : shown_by (parts_of old ms store meta trace position output) ≡ m) (right : new.right ≡ []) (text_room : new.capacity ≡ old.capacity) (mark_room : ns.capacity ≡ ms.capacity) (same : neutral new.left (reverse ns.left) ≡ record { base = base; frames = frames }) where
+module _ {width : Width} (old new : Ends ℕ) (ms ns : Ends Mark) (store : Stored) (meta : ℕ) (trace : Bool) (position : ℕ) (output : Window ℕ) (base : List ℕ) (frames : List Frame) (m : Shown) (view : shown_by width (parts_of old ms store meta trace position output) ≡ m) (right : new.right ≡ []) (text_room : new.capacity ≡ old.capacity) (mark_room : ns.capacity ≡ ms.capacity) (same : neutral new.left (reverse ns.left) ≡ record { base = base; frames = frames }) where
   abbrev q : Parts
   q = parts_of new ns store meta trace position output
 
-  pub back_shows : shown_by q ≡ record m { state = before_idle base frames m.state }
+  pub back_shows : shown_by width q ≡ record m { state = before_idle base frames m.state }
   back_shows =
-      (λ i. record (shown_by q) { state = record (state_of q) { active = right i; base = (same i).base; frames = (same i).frames }; text_room = text_room i; mark_room = mark_room i })
+      (λ i. record (shown_by width q) { state = record (state_of q) { active = right i; base = (same i).base; frames = (same i).frames }; text_room = text_room i; mark_room = mark_room i })
       ∙ ap (λ (n : Shown). record n { state = before_idle base frames n.state }) view
 
   pub back_sound : IsSound (parts_of old ms store meta trace position output) → AreMarks (length new.left) (reverse ns.left) → CanLeave base frames m → IsSound q

@@ -1,10 +1,11 @@
 -- The room of a machine, which holds its own state.
-use Rattle.std.proofs.Common.{◌≡◌, ℕ, ◌+◌, ◌≤◌, List, [], ◌∷◌, length, take, drop, sym, ap, ◌∙◌, subst, arith}
+use Rattle.std.proofs.Common.{◌≡◌, ℕ, ◌+◌, ◌≤◌, List, [], ◌∷◌, length, take, drop, refl, sym, ap, ◌∙◌, subst, arith}
 use Rattle.std.proofs.lemmas.List.{length-append, take-append-drop}
 use Rattle.std.proofs.lemmas.Bool.{or_right}
 use Rattle.std.specs.Cmp.Lexicographic.{slice_cmp, nat_list_cmp_total}
 use Rattle.std.specs.FinSet as set
 use Rattle.std.specs.Ordering.{nat_cmp, eq_by_cmp}
+use Rattle.trac_rules.specs.declared.width.Width.{Width}
 use Rattle.trac_forms.specs.Stored.{KnowsAll, Names}
 use Rattle.trac_rules.specs.Limits.{marks}
 use Rattle.trac_rules.specs.PlainRuns.{moved_on}
@@ -17,17 +18,18 @@ use Rattle.trac_step.proofs.Rules.{text_bytes-parts, marks-parts}
 -- ---- no less room
 
 pub no_less : (m : Shown) → IsNoLess m m
-no_less m = record { text = omega arith; marks = omega arith; output = omega arith; names = λ name h. h }
+no_less m = record { width = refl; text = omega arith; marks = omega arith; output = omega arith; names = λ name h. h }
 
 pub no_less_same : (m n : Shown) → n ≡ m → IsNoLess m n
 no_less_same m n e = subst (λ x. IsNoLess x n) e (no_less n)
 
 -- another state with the same rooms and names
 pub no_less_state : (m : Shown) (s : State) → IsNoLess m (record m { state = s })
-no_less_state m s = record { text = omega arith; marks = omega arith; output = omega arith; names = λ name h. h }
+no_less_state m s = record { width = refl; text = omega arith; marks = omega arith; output = omega arith; names = λ name h. h }
 
 pub no_less_then : (m n k : Shown) → IsNoLess m n → IsNoLess n k → IsNoLess m k
 no_less_then m n k first second = record {
+  width = second.width ∙ first.width;
   text = omega (arith, first.text, second.text);
   marks = omega (arith, first.marks, second.marks);
   output = omega (arith, first.output, second.output);
@@ -57,8 +59,8 @@ HasRoom-moved_on m s n within room = by_frames s.frames room
 -- ---- the room of parts
 
 -- a machine has room for its own state
-pub HasRoom-parts : (p : Parts) (m : Shown) → IsSound p → shown_by p ≡ m → length p.output ≤ p.output_room → KnowsAll p.known p.storage.forms → HasRoom m m.state
-HasRoom-parts p m sound view output names = subst (λ (n : Shown). HasRoom n n.state) view (record {
+pub HasRoom-parts : {width : Width} (p : Parts) (m : Shown) → IsSound p → shown_by width p ≡ m → length p.output ≤ p.output_room → KnowsAll p.known p.storage.forms → HasRoom m m.state
+HasRoom-parts {width} p m sound view output names = subst (λ (n : Shown). HasRoom n n.state) view (record {
   text = omega (arith, text_bytes-parts p sound.ordered, sound.text_room);
   marks = omega (arith, marks-parts p sound.ordered, sound.mark_room);
   output = output;
@@ -66,9 +68,9 @@ HasRoom-parts p m sound view output names = subst (λ (n : Shown). HasRoom n n.s
 })
 
 -- parts with no less room than those of a machine
-pub IsNoLess-parts : (p q : Parts) (m : Shown) → shown_by p ≡ m → p.text_room ≤ q.text_room → p.mark_room ≤ q.mark_room → p.output_room ≤ q.output_room → AreAmong p.known q.known →
-    IsNoLess m (shown_by q)
-IsNoLess-parts p q m view text marks output names = subst (λ (n : Shown). IsNoLess n (shown_by q)) view (record { text = text; marks = marks; output = output; names = names })
+pub IsNoLess-parts : {width : Width} (p q : Parts) (m : Shown) → shown_by width p ≡ m → p.text_room ≤ q.text_room → p.mark_room ≤ q.mark_room → p.output_room ≤ q.output_room → AreAmong p.known q.known →
+    IsNoLess m (shown_by width q)
+IsNoLess-parts {width} p q m view text marks output names = subst (λ (n : Shown). IsNoLess n (shown_by width q)) view (record { width = refl; text = text; marks = marks; output = output; names = names })
 
 -- ---- names
 

@@ -4,6 +4,7 @@ use Rattle.std.specs.Prelude.{Option, Some, None, IsSome, IsSomeAnd, codes, if�
 use Rattle.std.specs.Bool.{then_some}
 use Rattle.std.proofs.lemmas.Bool.{eqb-true, leb-true, ne_eqb}
 use Rattle.std.proofs.lemmas.List.{length-append, length-drop, length-take-le, reverse-append, reverse-reverse, take-append-drop, take_all, take_at}
+use Rattle.trac_rules.specs.declared.width.Width.{Width}
 use Rattle.trac_rules.specs.declared.kind.Kind.{Kind}
 use Rattle.trac_rules.specs.Performing.{beginning_of}
 use Rattle.trac_rules.specs.Proper.{IsProper}
@@ -210,10 +211,10 @@ reverse_front {X} xs = by_reverse (reverse xs) (reverse-reverse xs)
 -- ---- the parts of a machine that goes back
 
 -- parts in order, with rooms as before, which show a state that could be shown
-pub sound_back : (p q : Parts) (o : Option State) → CanShow (shown_by p) o → o ≡ Some (state_of q) → AreMarks (length q.text) (reverse q.marks) → q.text_room ≡ p.text_room → q.mark_room ≡ p.mark_room →
+pub sound_back : (width : Width) (p q : Parts) (o : Option State) → CanShow (shown_by width p) o → o ≡ Some (state_of q) → AreMarks (length q.text) (reverse q.marks) → q.text_room ≡ p.text_room → q.mark_room ≡ p.mark_room →
     IsSound q
-sound_back p q o can is ordered text_room mark_room =
-    let shown : HasRoom (shown_by p) (state_of q) × IsProper (state_of q) = subst (CanShow (shown_by p)) is can in
+sound_back width p q o can is ordered text_room mark_room =
+    let shown : HasRoom (shown_by width p) (state_of q) × IsProper (state_of q) = subst (CanShow (shown_by width p)) is can in
     sound_if_proper q ordered
     (omega (arith, shown.0.text, text_bytes-parts q ordered, text_room)) (omega (arith, shown.0.marks, marks-parts q ordered, mark_room)) shown.1
 
@@ -266,16 +267,16 @@ sound_moved_back n p sound back =
       storage = sound.storage;
     }
 
-back_unmarked : (r : Record) (bytes : List ℕ) (p : Parts) → CanShow (shown_by p) (restored r (state_of p)) →
+back_unmarked : (width : Width) (r : Record) (bytes : List ℕ) (p : Parts) → CanShow (shown_by width p) (restored r (state_of p)) →
     IsUnmarked p.text (reverse p.marks) (state_of p) bytes (restored r (state_of p)) → IsBack r p (unmarked_parts bytes p)
-back_unmarked r bytes p can rest =
+back_unmarked width r bytes p can rest =
     let state : restored r (state_of p) ≡ Some (state_of (unmarked_parts bytes p)) =
     rest.state ∙ ap (λ (ms : List Mark). back_to (state_of p) (neutral p.text ms) bytes) (sym (reverse_front p.marks)) in
     let ordered : AreMarks (length p.text) (reverse (take (length p.marks - 1) p.marks)) = subst (AreMarks (length p.text)) (sym (reverse_front p.marks)) rest.ordered in
-    record { state = state; sound = sound_back p (unmarked_parts bytes p) _ can state ordered refl refl }
+    record { state = state; sound = sound_back width p (unmarked_parts bytes p) _ can state ordered refl refl }
 
-module _ (p : Parts) (m : Shown) (sound : IsSound p) (view : shown_by p ≡ m) where
-  can_here : (r : Record) → CanShow m (restored r m.state) → CanShow (shown_by p) (restored r (state_of p))
+module _ {width : Width} (p : Parts) (m : Shown) (sound : IsSound p) (view : shown_by width p ≡ m) where
+  can_here : (r : Record) → CanShow m (restored r m.state) → CanShow (shown_by width p) (restored r (state_of p))
   can_here r = subst (λ (n : Shown). CanShow n (restored r n.state)) (sym view)
 
   pub moves_back : (n : ℕ) → IsSome (moved_back n m.state) → IsMovedBack n p × IsSound (moved_parts n p)
@@ -284,15 +285,15 @@ module _ (p : Parts) (m : Shown) (sound : IsSound p) (view : shown_by p ≡ m) w
       (back, sound_moved_back n p sound back)
 
   pub undeletes : (b : ℕ) → CanShow m (restored (Deleted b) m.state) → IsBack (Deleted b) p (record p { active = b ∷ p.active })
-  undeletes b can = record { state = refl; sound = sound_back p (record p { active = b ∷ p.active }) _ (can_here (Deleted b) can) refl sound.ordered refl refl }
+  undeletes b can = record { state = refl; sound = sound_back width p (record p { active = b ∷ p.active }) _ (can_here (Deleted b) can) refl sound.ordered refl refl }
 
   pub unprotects : (inner : ℕ) (closed : Bool) → CanShow m (restored (Quoted inner closed) m.state) → IsUnprotected inner closed p
   unprotects inner closed can =
-      let here : CanShow (shown_by p) (restored (Quoted inner closed) (state_of p)) = can_here (Quoted inner closed) can in
+      let here : CanShow (shown_by width p) (restored (Quoted inner closed) (state_of p)) = can_here (Quoted inner closed) can in
       let ended : Parts = record p { active = ending_of closed ++ p.active } in
       let moved : IsMovedBack inner ended = is_moved_back inner ended sound.ordered (some_map (put_before (codes "(")) _ (shown_is_some _ _ here)) in
       let state : restored (Quoted inner closed) (state_of p) ≡ Some (state_of (unprotected_parts inner closed p)) = ap (option_map (put_before (codes "("))) moved.state in
-      let back : IsSound (unprotected_parts inner closed p) = sound_back p (unprotected_parts inner closed p) _ here state moved.ordered refl refl in
+      let back : IsSound (unprotected_parts inner closed p) = sound_back width p (unprotected_parts inner closed p) _ here state moved.ordered refl refl in
       record {
         within = moved.within;
         room = omega (arith, back.text_room, moved_length inner ended moved.within, length-append (ending_of closed) p.active);
@@ -301,15 +302,15 @@ module _ (p : Parts) (m : Shown) (sound : IsSound p) (view : shown_by p ≡ m) w
 
   pub gathers_again : CanShow m (restored Comma m.state) → IsGatheredAgain p
   gathers_again can =
-      let here : CanShow (shown_by p) (restored Comma (state_of p)) = can_here Comma can in
+      let here : CanShow (shown_by width p) (restored Comma (state_of p)) = can_here Comma can in
       let rest = comma_unmarked p.text (reverse p.marks) (state_of p) sound.ordered (shown_is_some _ _ here) in
-      let back : IsBack Comma p (unmarked_parts (codes ",") p) = back_unmarked Comma (codes ",") p here rest in
+      let back : IsBack Comma p (unmarked_parts (codes ",") p) = back_unmarked width Comma (codes ",") p here rest in
       record { room = omega (arith, back.sound.text_room); back = back }
 
   pub takes_beginning_back : CanShow m (restored Begun m.state) → IsNotBegun p
   takes_beginning_back can =
-      let here : CanShow (shown_by p) (restored Begun (state_of p)) = can_here Begun can in
+      let here : CanShow (shown_by width p) (restored Begun (state_of p)) = can_here Begun can in
       let gone = begun_unmarked p.text (reverse p.marks) (state_of p) sound.ordered (shown_is_some _ _ here) in
       let bytes : List ℕ = beginning_by (last_begun (reverse p.marks)) in
-      let back : IsBack Begun p (unmarked_parts bytes p) = back_unmarked Begun bytes p here gone.rest in
+      let back : IsBack Begun p (unmarked_parts bytes p) = back_unmarked width Begun bytes p here gone.rest in
       record { begins = gone.begins; room = omega (arith, back.sound.text_room, length-append bytes p.active); back = back }

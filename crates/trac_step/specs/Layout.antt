@@ -2,12 +2,13 @@
 use Rattle.std.specs.Prelude.{ℕ, ◌≤◌, ◌+◌, List, length, Bool, refl}
 use Rattle.std.specs.Coded.{Coded, code_by, coded×, coded_ℕ}
 use Rattle.std.specs.FinSet as set
+use Rattle.trac_rules.specs.declared.width.Width.{Width}
 use Rattle.trac_gap.specs.Ends.{Ends}
 use Rattle.trac_gap.specs.Window.{Window}
 use Rattle.trac_rules.specs.declared.limit.TheConstants.{TEXT_LIMIT, MARK_LIMIT, OUTPUT_LIMIT}
 use Rattle.trac_rules.specs.State.{State, Storage}
 use Rattle.trac_rules.specs.Proper.{IsProperStorage}
-use Rattle.trac_rules.specs.Codes.{state_code, text_code}
+use Rattle.trac_rules.specs.Codes.{state_code, text_code, width_code}
 use Rattle.trac_forms.specs.Stored.{Names, Stored, storage_in}
 use Rattle.trac_prims.specs.declared.mark.Mark.{Mark}
 use Rattle.trac_prims.specs.Neutral.{MarkedText, IsOrdered, neutral_of}
@@ -78,19 +79,21 @@ pub record IsSound (p : Parts) : Type 0 where
 
 -- ---- what a contract sees of a machine
 
--- its state; how many bytes of texts, how many marks and how many bytes of output it has room for without more memory; the
--- names under which it can put a form without more memory, and how many blocks it can add so
+-- its state; how wide numbers are; how many bytes of texts, how many marks and how many bytes of output it has room for without more
+-- memory; the names under which it can put a form without more memory, and how many blocks it can add so
 pub record Shown : Type 0 where
   pub state : State
+  pub width : Width
   pub text_room : ℕ
   pub mark_room : ℕ
   pub output_room : ℕ
   pub known : Names
   pub spare : ℕ
 
-abbrev pub shown_by : Parts → Shown
-shown_by p = record {
+abbrev pub shown_by : Width → Parts → Shown
+shown_by width p = record {
   state = state_of p;
+  width = width;
   text_room = p.text_room;
   mark_room = p.mark_room;
   output_room = p.output_room;
@@ -100,7 +103,7 @@ shown_by p = record {
 
 abbrev pub shown_code : Coded Shown
 shown_code =
-    code_by (State × (ℕ × (ℕ × (ℕ × (Names × ℕ))))) (coded× state_code (coded× coded_ℕ (coded× coded_ℕ (coded× coded_ℕ (coded× (set.code text_code) coded_ℕ)))))
-    (λ m. (m.state, (m.text_room, (m.mark_room, (m.output_room, (m.known, m.spare))))))
-    (λ p. record { state = p.0; text_room = p.1.0; mark_room = p.1.1.0; output_room = p.1.1.1.0; known = p.1.1.1.1.0; spare = p.1.1.1.1.1 })
+    code_by (State × (Width × (ℕ × (ℕ × (ℕ × (Names × ℕ)))))) (coded× state_code (coded× width_code (coded× coded_ℕ (coded× coded_ℕ (coded× coded_ℕ (coded× (set.code text_code) coded_ℕ))))))
+    (λ m. (m.state, (m.width, (m.text_room, (m.mark_room, (m.output_room, (m.known, m.spare)))))))
+    (λ p. record { state = p.0; width = p.1.0; text_room = p.1.1.0; mark_room = p.1.1.1.0; output_room = p.1.1.1.1.0; known = p.1.1.1.1.1.0; spare = p.1.1.1.1.1.1 })
     (λ _. refl)

@@ -1,5 +1,5 @@
 -- The room of a machine.
-use Rattle.std.specs.Prelude.{◌≢◌, ℕ, ◌≤◌, List, length, IsTrue}
+use Rattle.std.specs.Prelude.{◌≡◌, ◌≢◌, ℕ, ◌≤◌, List, length, IsTrue}
 use Rattle.std.specs.FinSet as set
 use Rattle.trac_forms.specs.Stored.{KnowsAll, Names}
 use Rattle.trac_rules.specs.declared.scan.Front.TheVariants as front
@@ -20,8 +20,9 @@ pub record HasRoom (m : Shown) (s : State) : Type 0 where
   pub output : length s.output ≤ m.output_room
   pub names : KnowsAll m.known s.forms
 
--- a machine has no less room than it had, and has forgotten no name
+-- a machine has no less room than it had, and has forgotten no name; its numbers are as wide as they were
 pub record IsNoLess (old new : Shown) : Type 0 where
+  pub width : new.width ≡ old.width
   pub text : old.text_room ≤ new.text_room
   pub marks : old.mark_room ≤ new.mark_room
   pub output : old.output_room ≤ new.output_room

@@ -120,9 +120,9 @@ impl<E: TwoEnds<u8, A>, M: TwoEnds<Mark, A>, A: Allocator + Copy> Core<E, M, A> 
         requires front { front_of self.now.state.active ≡ Front.Closing }
         requires inside { 0 < length self.now.state.frames }
         requires within { self.now.state.position ≤ length tape.bytes.now }
-        ensures outcome { MayAnswer (λ r. state_after r.1 (scan self.now.state)) (step (environment_of tape.entry) self.now.state) result }
+        ensures outcome { MayAnswer (λ r. state_after r.1 (scan self.now.state)) (step (environment_of self.now.width tape.entry) self.now.state) result }
         ensures beginning { IfOk result (λ r. BeginsInnermost self.now.state r.0.beginning) }
-        ensures recorded { IfOk result (λ r. record_of (environment_of tape.entry) self.now.state
+        ensures recorded { IfOk result (λ r. record_of (environment_of self.now.width tape.entry) self.now.state
             ≡ Some (rules.Called (record_with r.0.called (arguments_in (scan self.now.state)) (undone_of r.1.change (storage_of self.now.state))))) }
         ensures given { IfOk result (λ r. NamesGiven (arguments_in (scan self.now.state)) (storage_of self.now.state) r.1.change) }
         ensures proper { IfOk result (λ r. IsProper (state_after r.1 (scan self.now.state))) }
@@ -137,6 +137,7 @@ impl<E: TwoEnds<u8, A>, M: TwoEnds<Mark, A>, A: Allocator + Copy> Core<E, M, A> 
             position: self.position,
             output: self.output.len(),
             text: self.text.right().len() - 1 + function.place,
+            width: self.width,
         };
         let effect = plan(
             *self.output.allocator(),
@@ -266,9 +267,9 @@ impl<E: TwoEnds<u8, A>, M: TwoEnds<Mark, A>, A: Allocator + Copy> Core<E, M, A> 
         requires front { front_of self.old.state.active ≡ Front.Closing }
         requires inside { 0 < length self.old.state.frames }
         requires within { self.old.state.position ≤ length tape.bytes.now }
-        ensures taken { OnOk result (step (environment_of tape.entry) self.old.state ≡ Ok self.new.state) }
-        ensures recorded { IfOk result (λ r. record_of (environment_of tape.entry) self.old.state ≡ Some (recorded_by r)) }
-        ensures refused { IfErr result (λ e. (self.new.state ≡ self.old.state) × MayRefuse (step (environment_of tape.entry) self.old.state) e) }
+        ensures taken { OnOk result (step (environment_of self.old.width tape.entry) self.old.state ≡ Ok self.new.state) }
+        ensures recorded { IfOk result (λ r. record_of (environment_of self.old.width tape.entry) self.old.state ≡ Some (recorded_by r)) }
+        ensures refused { IfErr result (λ e. (self.new.state ≡ self.old.state) × MayRefuse (step (environment_of self.old.width tape.entry) self.old.state) e) }
         ensures lacking { LacksRoomAhead self.old }
         ensures room { IsNoLess self.old self.new }
     {

@@ -13,14 +13,16 @@ use trac_gap::{GapBuf, SlidingBuf, TwoEnds};
 use trac_prims::Mark;
 use trac_rules::byte;
 use trac_rules::refusal::Refusal;
+use trac_rules::width::Width;
 
 /// What a processor with nothing to do runs: it reads a text of the input and prints its value.
 pub(crate) const IDLE_PROGRAM: &[u8; 11] = b"#(ps,#(rs))";
 
 /// A machine over lists with two ends: its neutral text stands on the left of the one pair of lists, its active text on the
 /// right; its marks stand on the left of the other. It is seen as the state that it shows, which is always a proper one; how
-/// many bytes of texts, how many marks and how many bytes of output it has room for without more memory; and the names under
-/// which it can put a form, and how many blocks it can add, without more memory.
+/// wide its numbers are, which nothing changes; how many bytes of texts, how many marks and how many bytes of output it has
+/// room for without more memory; and the names under which it can put a form, and how many blocks it can add, without more
+/// memory.
 #[derive(Drop)]
 pub struct Core<E: TwoEnds<u8, A>, M: TwoEnds<Mark, A>, A: Allocator + Copy> {
     pub(crate) text: E,
@@ -31,6 +33,7 @@ pub struct Core<E: TwoEnds<u8, A>, M: TwoEnds<Mark, A>, A: Allocator + Copy> {
     pub(crate) trace: bool,
     pub(crate) position: usize,
     pub(crate) output: SlidingBuf<u8, A>,
+    pub(crate) width: Width,
 }
 
 /// The machine: its texts in one block of memory, with the gap between neutral and active text, and its marks in another.
@@ -43,16 +46,18 @@ impl<E: TwoEnds<u8, A>, M: TwoEnds<Mark, A>, A: Allocator + Copy> Model for Core
 
     ghost coded = { shown_code };
 
-    ghost view = { λ m. shown_by (parts_of (E.ends m.text) (M.ends m.marks) m.store m.meta m.trace m.position m.output) };
+    ghost view = { λ m. shown_by m.width (parts_of (E.ends m.text) (M.ends m.marks) m.store m.meta m.trace m.position m.output) };
 
     ghost invariant = { λ m. IsSound (parts_of (E.ends m.text) (M.ends m.marks) m.store m.meta m.trace m.position m.output) };
 }
 
 impl<E: TwoEnds<u8, A>, M: TwoEnds<Mark, A>, A: Allocator + Copy> Core<E, M, A> {
-    /// A machine in the state in which a processor begins: it is about to run the idle program of T-64.
+    /// A machine in the state in which a processor begins, with numbers of this width: it is about to run the idle program of
+    /// T-64.
     /// Refused with `Memory` where the allocator refuses.
-    pub fn new(alloc: A) -> Result<Self, Refusal>
+    pub fn new(alloc: A, width: Width) -> Result<Self, Refusal>
         ensures made { IfOk result (λ m. m.state ≡ initial) }
+        ensures width { IfOk result (λ m. m.width ≡ width) }
         ensures err { IsOkUnless result Refusal.Memory }
     {
         let mut text = E::new(alloc);
@@ -66,6 +71,7 @@ impl<E: TwoEnds<u8, A>, M: TwoEnds<Mark, A>, A: Allocator + Copy> Core<E, M, A> 
             trace: false,
             position: 0,
             output: SlidingBuf::new(alloc),
+            width,
         })
     }
 

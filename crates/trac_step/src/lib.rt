@@ -34,4 +34,5 @@ pub use pieces::Pieces;
 pub use record::{Record, Short};
 pub use trac_forms::Store;
 pub use trac_prims::{Args, Kind, Mark, Refusal, Tape};
+pub use trac_rules::width::Width;
 pub use undone::Undone;

@@ -32,8 +32,8 @@ impl<E: TwoEnds<u8, A>, M: TwoEnds<Mark, A>, A: Allocator + Copy> Core<E, M, A> 
     /// accepted one there is room for the state before it. The tape has to hold at least as many bytes as are read.
     pub fn step(&mut self, tape: Tape<'_>) -> Result<Record<A>, Refusal>
         requires { self.old.state.position ≤ length tape.bytes.now }
-        ensures taken { IfOk result (λ r. (step (environment_of tape.entry) self.old.state ≡ Ok self.new.state) × (before r self.new.state ≡ Some self.old.state)) }
-        ensures recorded { IfOk result (λ r. record_of (environment_of tape.entry) self.old.state ≡ Some (recorded_by r)) }
+        ensures taken { IfOk result (λ r. (step (environment_of self.old.width tape.entry) self.old.state ≡ Ok self.new.state) × (before r self.new.state ≡ Some self.old.state)) }
+        ensures recorded { IfOk result (λ r. record_of (environment_of self.old.width tape.entry) self.old.state ≡ Some (recorded_by r)) }
         ensures weighs { IfOk result (λ r. weight (recorded_by r) ≤ loss self.old.state) }
 
         // Of a call each of three parts is got back by itself: texts and begun functions, forms and blocks, and all else.
@@ -42,7 +42,7 @@ impl<E: TwoEnds<u8, A>, M: TwoEnds<Mark, A>, A: Allocator + Copy> Core<E, M, A> 
         ensures rest { IfOk result (λ r. (c : CallRecord) → recorded_by r ≡ Called c → rest_before c (rest_of self.new.state) ≡ Some (rest_of self.old.state)) }
         ensures proper { OnOk result (IsProper self.new.state) }
         ensures held { OnOk result (HasRoom self.new self.old.state) }
-        ensures refused { IfErr result (λ e. (self.new.state ≡ self.old.state) × MayRefuse (step (environment_of tape.entry) self.old.state) e) }
+        ensures refused { IfErr result (λ e. (self.new.state ≡ self.old.state) × MayRefuse (step (environment_of self.old.width tape.entry) self.old.state) e) }
         ensures lacking { IfErr result (λ e. e ≡ Refusal.Memory → LacksRoomAhead self.old) }
         ensures room { IsNoLess self.old self.new }
     {
@@ -62,9 +62,9 @@ impl<E: TwoEnds<u8, A>, M: TwoEnds<Mark, A>, A: Allocator + Copy> Core<E, M, A> 
     // The next step, by whether it performs a function.
     fn next_step(&mut self, tape: Tape<'_>) -> Result<Record<A>, Refusal>
         requires { self.old.state.position ≤ length tape.bytes.now }
-        ensures taken { OnOk result (step (environment_of tape.entry) self.old.state ≡ Ok self.new.state) }
-        ensures recorded { IfOk result (λ r. record_of (environment_of tape.entry) self.old.state ≡ Some (recorded_by r)) }
-        ensures refused { IfErr result (λ e. (self.new.state ≡ self.old.state) × MayRefuse (step (environment_of tape.entry) self.old.state) e) }
+        ensures taken { OnOk result (step (environment_of self.old.width tape.entry) self.old.state ≡ Ok self.new.state) }
+        ensures recorded { IfOk result (λ r. record_of (environment_of self.old.width tape.entry) self.old.state ≡ Some (recorded_by r)) }
+        ensures refused { IfErr result (λ e. (self.new.state ≡ self.old.state) × MayRefuse (step (environment_of self.old.width tape.entry) self.old.state) e) }
         ensures lacking { IfErr result (λ e. e ≡ Refusal.Memory → LacksRoomAhead self.old) }
         ensures room { IsNoLess self.old self.new }
     {

@@ -1,6 +1,9 @@
 -- What a command line may ask for.
-use Rattle.std.specs.Prelude.{◌≤◌}
+use Rattle.std.specs.Prelude.{◌≤◌, ℕ, List, Option, None, Some, codes, if◌then◌else◌}
+use Rattle.std.specs.Str.{bytes_eq}
 use Rattle.trac_rules.specs.declared.limit.TheConstants.{JOURNAL_LIMIT}
+use Rattle.trac_rules.specs.declared.width.Width.{Width}
+use Rattle.trac_rules.specs.declared.width.Width.TheVariants.{W64, W128}
 use Rattle.trac_run.specs.declared.running.TheConstants.{BUDGET_LIMIT}
 use Rattle.trac_run.specs.declared.running.Options.{Options}
 use Rattle.trac_words.specs.declared.words.Line.{Line}
@@ -18,3 +21,7 @@ IsLine (Run options) = AreWithin options
 IsLine (Debug path options) = AreWithin options
 IsLine (Help text) = Unit {0}
 IsLine (Bad text) = Unit {0}
+
+-- the width of numbers that a word asks for, if it asks for one
+abbrev pub width_of : List ℕ → Option Width
+width_of bits = if bytes_eq bits (codes "64") then Some W64 else (if bytes_eq bits (codes "128") then Some W128 else None)

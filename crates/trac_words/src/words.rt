@@ -1,12 +1,14 @@
 //! The command line.
-ghost use Rattle.std.specs.Prelude.{◌≤◌, IfOk, IfSome};
-ghost use Rattle.trac_words.specs.Words.{IsLine};
+ghost use Rattle.std.specs.Prelude.{◌≡◌, ◌≤◌, IfOk, IfSome, MatchOption, Some};
+ghost use Rattle.trac_rules.specs.declared.width.Width.TheVariants.{W128};
+ghost use Rattle.trac_words.specs.Words.{IsLine, width_of};
 
 use crate::help::{DEBUG_TIP, DEBUG_USE, RUN_TIP, RUN_USE, USE, VERSION};
 use clap::error::ErrorKind;
 use clap::{Arg, ArgMatches, Command, Error};
 use std::alloc::{AllocError, Global};
 use trac_rules::limit::JOURNAL_LIMIT;
+use trac_rules::width::Width;
 use trac_run::{BUDGET_LIMIT, DEFAULT_BUDGET, Options};
 
 /// How many records a run's journal may hold where nothing else is said (this project's profile).
@@ -76,6 +78,7 @@ fn line_of(alloc: Global, matches: &ArgMatches<'_>) -> Result<Line, AllocError>
         None => Ok(Line::Run(Options {
             budget: DEFAULT_BUDGET,
             journal: DEFAULT_JOURNAL,
+            decimals: Width::W128,
         })),
     }
 }
@@ -89,7 +92,14 @@ fn run_line(alloc: Global, found: &ArgMatches<'_>) -> Result<Line, AllocError>
     let Some(journal) = journal_in(found) else {
         return out_of_range(alloc, found, "journal", JOURNAL_LIMIT as u64);
     };
-    Ok(Line::Run(Options { budget, journal }))
+    let Some(decimals) = decimals_of(found.get_str("decimals")) else {
+        return unknown_width(alloc, found);
+    };
+    Ok(Line::Run(Options {
+        budget,
+        journal,
+        decimals,
+    }))
 }
 
 fn debug_line(alloc: Global, found: &ArgMatches<'_>) -> Result<Line, AllocError>
@@ -98,10 +108,14 @@ fn debug_line(alloc: Global, found: &ArgMatches<'_>) -> Result<Line, AllocError>
     let Some(journal) = journal_in(found) else {
         return out_of_range(alloc, found, "journal", JOURNAL_LIMIT as u64);
     };
+    let Some(decimals) = decimals_of(found.get_str("decimals")) else {
+        return unknown_width(alloc, found);
+    };
     let path = String::from_str(alloc, found.get_str("FILE").unwrap_or(""))?;
     let options = Options {
         budget: DEFAULT_BUDGET,
         journal,
+        decimals,
     };
     Ok(Line::Debug(path, options))
 }
@@ -152,6 +166,34 @@ fn out_of_range(
     )?))
 }
 
+// How wide numbers are to be where this is asked for: of 128 bits where nothing is said. None where another width is asked
+// for.
+fn decimals_of(asked: Option<&str>) -> Option<Width>
+    ensures { MatchOption asked.entry (result ≡ Some W128) (λ bits. result ≡ width_of bits.now) }
+{
+    let Some(bits) = asked else {
+        return Some(Width::W128);
+    };
+    if bits == "64" {
+        return Some(Width::W64);
+    }
+    if bits == "128" {
+        return Some(Width::W128);
+    }
+    None
+}
+
+// What is said of a width that is neither of the two.
+fn unknown_width(alloc: Global, found: &ArgMatches<'_>) -> Result<Line, AllocError>
+    ensures { IfOk result IsLine }
+{
+    let value = found.get_str("decimals").unwrap_or("");
+    Ok(Line::Bad(format!(in alloc;
+        "error: invalid value '{value}' for '--decimals <BITS>': it has to be 64 or 128\n\n\
+         For more information, try '--help'.\n"
+    )?))
+}
+
 // The program's commands. What can be refused is made before what would have to be let go then.
 fn command<'a>(alloc: Global) -> Result<Command<'a>, AllocError> {
     let debug = debug_command(alloc)?;
@@ -181,7 +223,8 @@ fn run_command<'a>(alloc: Global) -> Result<Command<'a>, AllocError> {
         .arg(journal(
             alloc,
             "How many steps are kept before their output is written: 1 to 1048576 [default: 65536]",
-        ))
+        ))?
+        .arg(decimals(alloc))
 }
 
 fn debug_command<'a>(alloc: Global) -> Result<Command<'a>, AllocError> {
@@ -193,7 +236,8 @@ fn debug_command<'a>(alloc: Global) -> Result<Command<'a>, AllocError> {
         .arg(journal(
             alloc,
             "How many steps can be gone back over: 1 to 1048576 [default: 65536]",
-        ))
+        ))?
+        .arg(decimals(alloc))
 }
 
 fn file<'a>(alloc: Global) -> Arg<'a> {
@@ -216,4 +260,12 @@ fn journal<'a>(alloc: Global, help: &'a str) -> Arg<'a> {
         .long("journal")
         .value_name("N")
         .help(help)
+}
+
+// The option that says how wide numbers are.
+fn decimals<'a>(alloc: Global) -> Arg<'a> {
+    Arg::new(alloc, "decimals")
+        .long("decimals")
+        .value_name("BITS")
+        .help("How wide numbers are: 64 or 128 bits [default: 128]")
 }

@@ -1,7 +1,7 @@
 -- Whole digits are lost at the left, and zeros come in at the right.
-use Rattle.std.proofs.Common.{◌≡◌, ◌++◌, ◌+◌, ◌-◌, ◌≤◌, length, take, drop, replicate, vec_len, ap, ◌∙◌, arith, rules}
+use Rattle.std.proofs.Common.{◌≡◌, ◌*◌, ◌++◌, ◌+◌, ◌-◌, ◌≤◌, length, min, take, drop, replicate, vec_len, ap, ◌∙◌, arith, rules}
 use Rattle.trac_rules.specs.declared.octals.TheConstants.{ZERO}
-use Rattle.trac_rules.specs.Octal.{is_octal}
+use Rattle.trac_rules.specs.Octal.{bits_of, is_octal}
 use Rattle.trac_num.proofs.Bits.{octal-append, octal-drop, octal-zeros}
 use Rattle.trac_num.proofs.Sliding.{filled, shifted_left_by_digits}
 use Rattle.trac_num.proofs.places.shifted_left.Goals as goal
@@ -19,5 +19,5 @@ returns-clause-bits g c =
     let rest : c.extend_from_slice.new.self.items ≡ drop c.min-lost.result c.args.a.now = search rules in
     let made : c.resize.new.self.items ≡ take (length c.args.a.now + 1) c.extend_from_slice.new.self.items ++ replicate (length c.args.a.now + 1 - vec_len c.extend_from_slice.new.self) ZERO = search rules in
     let within : c.min-lost.result ≤ length c.args.a.now = omega (arith, c.min-lost.ensures) in
-    c.slide.ensures.bits ∙ shifted_left_by_digits c.args.a.now c.resize.new.self.items c.args.by c.min-lost.result c.min-lost.ensures
+    c.slide.ensures.bits ∙ ap (λ part. take (3 * (length c.resize.new.self.items - 1)) (drop part (bits_of c.resize.new.self.items))) c.digits_and_bits-whole.ensures.bits ∙ shifted_left_by_digits c.args.a.now c.resize.new.self.items c.args.by c.min-lost.result (c.min-lost.ensures ∙ ap (min (length c.args.a.now)) c.digits_and_bits-whole.ensures.digits)
     (made ∙ filled c.args.a.now c.extend_from_slice.new.self.items c.min-lost.result (vec_len c.extend_from_slice.new.self) within rest (search rules))

@@ -6,7 +6,7 @@ use Rattle.trac_prims.proofs.Kept.{given}
 use Rattle.trac_prims.proofs.bits.complement_of.Goals as goal
 
 pub returns : goal.returns
-returns g c = λ storage.
+returns g c = λ width storage.
     let wanted = complement (octal_argument 1 c.args.args.now) in
     given c.keeping.result storage (c.keeping.ensures.effect storage) c.in_ok-value.value (text_of wanted)
     (text_from_bits c.in_ok-value.value.items wanted c.in_ok-value.ensures.octal

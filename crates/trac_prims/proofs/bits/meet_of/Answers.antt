@@ -7,7 +7,7 @@ use Rattle.trac_prims.proofs.Kept.{given}
 use Rattle.trac_prims.proofs.bits.meet_of.Goals as goal
 
 pub returns : goal.returns
-returns g c = λ storage.
+returns g c = λ width storage.
     let first : c.octal_tail.result.now ≡ octal_tail (argument 1 c.args.args.now) = c.octal_tail.ensures.value ∙ ap octal_tail c.get.ensures in
     let second : c.octal_tail-2.result.now ≡ octal_tail (argument 2 c.args.args.now) = c.octal_tail-2.ensures.value ∙ ap octal_tail c.get-2.ensures in
     let wanted = meet (octal_argument 1 c.args.args.now) (octal_argument 2 c.args.args.now) in

@@ -1,4 +1,5 @@
-use Rattle.std.proofs.Common.{◌≡◌, ℕ, List, ap, ◌∙◌, w64, to_z, of_z}
+use Rattle.std.proofs.Common.{◌≡◌, ℕ, List, ap, ◌∙◌, to_z, of_z}
+use Rattle.std.specs.Int.{w128}
 use Rattle.std.specs.Prelude.{Vec}
 use Rattle.std.proofs.lemmas.Int.{to_z-of_z}
 use Rattle.trac_rules.specs.Computing.{moved, number_argument, octal_argument}
@@ -10,10 +11,10 @@ use Rattle.trac_prims.proofs.bits.rotation_of.Goals.{in-Some+in_ok-value-in-Some
 
 pub returns : goal.returns
 returns g c = λ storage.
-    let wanted = moved rotate (number_argument 1 c.args.args.now) (octal_argument 2 c.args.args.now) in
+    let wanted = moved rotate (number_argument c.args.width 1 c.args.args.now) (octal_argument 2 c.args.args.now) in
     let made : c.match-number_at.value.items ≡ wanted = elim c.match-number_at.branch [
       | in-Some+in_ok-value-in-Some w ↦
-          let read_back : to_z w64 (of_z w64 w.in-Some.by) ≡ w.in-Some.by = to_z-of_z w64 w.in-Some.by search in
+          let read_back : to_z w128 (of_z w128 w.in-Some.by) ≡ w.in-Some.by = to_z-of_z w128 w.in-Some.by search in
           ap (λ (v : Vec ℕ _). v.items) w.value-is
           ∙ text_from_bits w.in_ok-value-in-Some.value.items (rotate w.in-Some.by (octal_argument 2 c.args.args.now)) w.in_ok-value-in-Some.ensures.octal
           (w.in_ok-value-in-Some.ensures.bits

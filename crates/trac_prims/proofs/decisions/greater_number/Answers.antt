@@ -6,7 +6,7 @@ use Rattle.trac_prims.specs.Effects.{IsMade}
 use Rattle.trac_prims.proofs.decisions.greater_number.Goals as goal
 
 pub returns : goal.returns
-returns g c = λ storage.
+returns g c = λ width storage.
     let first : c.read_tail.result.numeral.now ≡ numeral_of (argument 1 c.args.args.now) = c.read_tail.ensures.numeral ∙ ap numeral_of c.get.ensures in
     let second : c.read_tail-2.result.numeral.now ≡ numeral_of (argument 2 c.args.args.now) = c.read_tail-2.ensures.numeral ∙ ap numeral_of c.get-2.ensures in
     let same : c.greater.result ≡ is_greater (numeral_of (argument 1 c.args.args.now)) (numeral_of (argument 2 c.args.args.now)) =

@@ -11,7 +11,7 @@ use Rattle.trac_prims.proofs.Kept.{given, value_beyond}
 use Rattle.trac_prims.proofs.forms.call.Goals as goal
 
 pub returns-in_default-call_len : goal.returns-in_default-call_len
-returns-in_default-call_len g c =
+returns-in_default-call_len g c = λ width.
     let storage = storage_in c.args.store.now in
     let held : named_form c.args.args.now storage ≡ Some c.in-Some.form.now = ap (finite.get storage.forms) (sym c.get.ensures) ∙ sym c.in-Some.ensures.value in
     let long : TEXT_LIMIT < length (called (drop 2 c.args.args.now) c.in-Some.form.now) =
@@ -20,7 +20,7 @@ returns-in_default-call_len g c =
     ∙ value_beyond (called (drop 2 c.args.args.now) c.in-Some.form.now) storage long
 
 pub returns : goal.returns
-returns g c =
+returns g c = λ width.
     let storage = storage_in c.args.store.now in
     let held : named_form c.args.args.now storage ≡ Some c.in-Some.form.now = ap (finite.get storage.forms) (sym c.get.ensures) ∙ sym c.in-Some.ensures.value in
     let same : c.call_into.new.out.items ≡ called (drop 2 c.args.args.now) c.in-Some.form.now =

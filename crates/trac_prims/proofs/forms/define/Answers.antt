@@ -12,7 +12,7 @@ use Rattle.trac_prims.proofs.Putting.{sound_defined}
 use Rattle.trac_prims.proofs.forms.define.Goals as goal
 
 pub returns-in_err-form-clause-outcome : goal.returns-in_err-form-clause-outcome
-returns-in_err-form-clause-outcome g c =
+returns-in_err-form-clause-outcome g c = λ width.
     let storage = storage_in c.args.store.now in
     let text = argument 2 c.args.args.now in
     let name = argument 1 c.args.args.now in
@@ -24,7 +24,7 @@ pub put-requires : goal.put-requires
 put-requires g c = subst IsSound (sym c.in_ok-form.ensures.made) (sound_defined c.get.result.now c.in_ok-form.ensures.fits)
 
 pub returns-clause-outcome : goal.returns-clause-outcome
-returns-clause-outcome g c =
+returns-clause-outcome g c = λ width.
     let storage = storage_in c.args.store.now in
     let form : c.in_ok-form.form ≡ defined (argument 2 c.args.args.now) = c.in_ok-form.ensures.made ∙ ap defined c.get.ensures in
     subst (λ (name : List ℕ). IsDone c.args.args.now storage (putting name (defined (argument 2 c.args.args.now)) storage) c.put.result) c.get-2.ensures

@@ -8,7 +8,7 @@ use Rattle.trac_prims.proofs.Changes.{removes}
 use Rattle.trac_prims.proofs.forms.delete.Goals as goal
 
 pub returns-clause-outcome : goal.returns-clause-outcome
-returns-clause-outcome g c = λ storage.
+returns-clause-outcome g c = λ width storage.
     ap (λ (names : List (List ℕ)). Ok (leaves (keeping (without names storage.forms) storage))) (sym (c.in_ok-names.ensures.made ∙ c.behind.ensures))
     ∙ ap Ok (sym (c.changing.ensures.effect c.args.args.now storage))
 

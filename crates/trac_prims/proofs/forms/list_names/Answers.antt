@@ -8,7 +8,7 @@ use Rattle.trac_prims.proofs.Kept.{given, value_beyond}
 use Rattle.trac_prims.proofs.forms.list_names.Goals as goal
 
 pub returns-in_default : goal.returns-in_default
-returns-in_default g c =
+returns-in_default g c = λ width.
     let all = listed (argument 1 c.args.args.now) c.args.store.now.forms in
     let same : flat_map (λ name. c.get-text.result.now ++ name.now) c.as_slice.result.now ≡ all =
     listed_names c.get-text.result.now c.in_ok-names.names.items c.as_slice.result.now c.args.store.now.forms c.in_ok-names.ensures.names c.as_slice.ensures.value
@@ -17,7 +17,7 @@ returns-in_default g c =
     value_beyond all (storage_in c.args.store.now) long
 
 pub returns : goal.returns
-returns g c =
+returns g c = λ width.
     let all = listed (argument 1 c.args.args.now) c.args.store.now.forms in
     let same : c.in_ok-value.value.items ≡ all =
     c.in_ok-value.ensures.made

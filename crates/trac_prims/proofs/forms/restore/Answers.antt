@@ -12,7 +12,7 @@ use Rattle.trac_prims.proofs.Held.{restored}
 use Rattle.trac_prims.proofs.forms.restore.Goals as goal
 
 pub returns-clause-outcome : goal.returns-clause-outcome
-returns-clause-outcome g c =
+returns-clause-outcome g c = λ width.
     let storage = storage_in c.args.store.now in
     let named : argument 1 c.args.args.now ≡ c.in_ok-name.name.items = sym (c.in_ok-name.ensures.items ∙ c.get-name.ensures) in
     restored (argument 1 c.args.args.now) (named_form c.args.args.now storage) storage

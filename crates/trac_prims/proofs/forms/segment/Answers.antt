@@ -16,7 +16,7 @@ use Rattle.trac_prims.proofs.Putting.{sound_segmented}
 use Rattle.trac_prims.proofs.forms.segment.Goals as goal
 
 pub returns-then-not-may_put-clause-outcome : goal.returns-then-not-may_put-clause-outcome
-returns-then-not-may_put-clause-outcome g c =
+returns-then-not-may_put-clause-outcome g c = λ width.
     let storage = storage_in c.args.store.now in
     let texts = drop 2 c.args.args.now in
     let form = c.in-Some.form.now in
@@ -26,7 +26,7 @@ returns-then-not-may_put-clause-outcome g c =
     (ap (λ (name : List ℕ). may_be_put name (segmented texts form) storage.forms) (sym c.get-name.ensures) ∙ sym may)
 
 pub returns-clause-outcome : goal.returns-clause-outcome
-returns-clause-outcome g c =
+returns-clause-outcome g c = λ width.
     let storage = storage_in c.args.store.now in
     let texts = drop 2 c.args.args.now in
     let form = c.in-Some.form.now in

@@ -62,7 +62,7 @@ returns-in-SetMeta-clause-outcome g c = λ s known. rw c.in-SetMeta.is (c.unchan
 pub returns-in-SetMeta-clause-within : goal.returns-in-SetMeta-clause-within
 returns-in-SetMeta-clause-within g c =
     c.unchanged-in-SetMeta.ensures.within c.args.now.position (length c.args.tape.bytes.now)
-    (reads_nothing c.args.now.position (length c.args.tape.bytes.now) (storage_of initial) (Ok (meta_set (argument 1 c.args.args.now) (storage_of initial))) (Ok c.set_meta.result) (ap Ok (sym (c.set_meta.ensures (storage_of initial)))) (effect_within SetMeta (record { tape = record { bytes = []; ended = false } }) c.args.args.now initial) c.requires.position)
+    (reads_nothing c.args.now.position (length c.args.tape.bytes.now) (storage_of initial) (Ok (meta_set (argument 1 c.args.args.now) (storage_of initial))) (Ok c.set_meta.result) (ap Ok (sym (c.set_meta.ensures (storage_of initial)))) (effect_within SetMeta (record { tape = record { bytes = []; ended = false }; width = c.args.now.width }) c.args.args.now initial) c.requires.position)
 
 pub returns-in-SetMeta-clause-change : goal.returns-in-SetMeta-clause-change
 returns-in-SetMeta-clause-change g c = rw c.in-SetMeta.is (c.unchanged-in-SetMeta.ensures.change (SetMeta) c.args.args.now (storage_in c.args.store.now) refl)
@@ -79,12 +79,12 @@ pub returns-in-SetTrace-clause-change : goal.returns-in-SetTrace-clause-change
 returns-in-SetTrace-clause-change g c = rw c.in-SetTrace.is (c.unchanged-in-SetTrace.ensures.change (SetTrace c.in-SetTrace.trace) c.args.args.now (storage_in c.args.store.now) refl)
 
 pub returns-in-Compute-clause-outcome : goal.returns-in-Compute-clause-outcome
-returns-in-Compute-clause-outcome g c = λ s known. rw c.in-Compute.is (c.unchanged-in-Compute.ensures.outcome c.args.args.now (storage_of s) (Ok (computed c.in-Compute.computation c.args.args.now (storage_of s))) (c.compute.ensures (storage_of s)))
+returns-in-Compute-clause-outcome g c = λ s known. rw c.in-Compute.is (c.unchanged-in-Compute.ensures.outcome c.args.args.now (storage_of s) (Ok (computed c.in-Compute.computation c.args.now.width c.args.args.now (storage_of s))) (c.compute.ensures (storage_of s)))
 
 pub returns-in-Compute-clause-within : goal.returns-in-Compute-clause-within
 returns-in-Compute-clause-within g c =
     c.unchanged-in-Compute.ensures.within c.args.now.position (length c.args.tape.bytes.now)
-    (reads_nothing c.args.now.position (length c.args.tape.bytes.now) (storage_of initial) (Ok (computed c.in-Compute.computation c.args.args.now (storage_of initial))) (c.compute.result) (c.compute.ensures (storage_of initial)) (effect_within (Compute c.in-Compute.computation) (record { tape = record { bytes = []; ended = false } }) c.args.args.now initial) c.requires.position)
+    (reads_nothing c.args.now.position (length c.args.tape.bytes.now) (storage_of initial) (Ok (computed c.in-Compute.computation c.args.now.width c.args.args.now (storage_of initial))) (c.compute.result) (c.compute.ensures (storage_of initial)) (effect_within (Compute c.in-Compute.computation) (record { tape = record { bytes = []; ended = false }; width = c.args.now.width }) c.args.args.now initial) c.requires.position)
 
 pub returns-in-Compute-clause-change : goal.returns-in-Compute-clause-change
 returns-in-Compute-clause-change g c = rw c.in-Compute.is (c.unchanged-in-Compute.ensures.change (Compute c.in-Compute.computation) c.args.args.now (storage_in c.args.store.now) refl)
@@ -92,14 +92,14 @@ returns-in-Compute-clause-change g c = rw c.in-Compute.is (c.unchanged-in-Comput
 pub returns-in-Handle-clause-within : goal.returns-in-Handle-clause-within
 returns-in-Handle-clause-within g c =
     let storage = storage_in c.args.store.now in
-    done_unread c.args.args.now c.args.now.position (length c.args.tape.bytes.now) storage (handled c.in-Handle.action c.args.args.now storage) c.handle.result c.handle.ensures.outcome
-    (effect_within (Handle c.in-Handle.action) (record { tape = record { bytes = []; ended = false } }) c.args.args.now (record initial { forms = storage.forms; blocks = storage.blocks })) c.requires.position
+    done_unread c.args.args.now c.args.now.position (length c.args.tape.bytes.now) storage (handled c.in-Handle.action c.args.now.width c.args.args.now storage) c.handle.result c.handle.ensures.outcome
+    (effect_within (Handle c.in-Handle.action) (record { tape = record { bytes = []; ended = false }; width = c.args.now.width }) c.args.args.now (record initial { forms = storage.forms; blocks = storage.blocks })) c.requires.position
 
 pub returns-in-HandleBlock-clause-within : goal.returns-in-HandleBlock-clause-within
 returns-in-HandleBlock-clause-within g c =
     let storage = storage_in c.args.store.now in
     done_unread c.args.args.now c.args.now.position (length c.args.tape.bytes.now) storage (block_handled c.in-HandleBlock.action c.args.args.now storage) c.handle_block.result c.handle_block.ensures.outcome
-    (effect_within (HandleBlock c.in-HandleBlock.action) (record { tape = record { bytes = []; ended = false } }) c.args.args.now (record initial { forms = storage.forms; blocks = storage.blocks })) c.requires.position
+    (effect_within (HandleBlock c.in-HandleBlock.action) (record { tape = record { bytes = []; ended = false }; width = c.args.now.width }) c.args.args.now (record initial { forms = storage.forms; blocks = storage.blocks })) c.requires.position
 
 pub returns-in-Unknown-clause-within : goal.returns-in-Unknown-clause-within
 returns-in-Unknown-clause-within g c =

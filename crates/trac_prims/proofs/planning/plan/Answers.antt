@@ -19,7 +19,7 @@ returns-in_err-done-clause-outcome g c = λ call given.
     let why = err_from_is_err_and c.from_residual.result c.from_residual.ensures.1 in
     let named : c.primitive_named.result ≡ primitive_of (argument 0 c.args.args.now) = c.primitive_named.ensures ∙ ap primitive_of c.get.ensures in
     rw (why.1, why.2)
-    (unplanned (environment_of c.args.tape) call c.args.kind c.args.args.now c.args.store.now c.args.now given c.primitive_named.result named
+    (unplanned (environment_of c.args.now.width c.args.tape) call c.args.kind c.args.args.now c.args.store.now c.args.now given c.primitive_named.result named
     c.in_err-done.field-0.0 (c.in_err-done.ensures.outcome call.state given.state_is))
 
 pub returns-in_err-made-clause-outcome : goal.returns-in_err-made-clause-outcome
@@ -27,14 +27,14 @@ returns-in_err-made-clause-outcome g c = λ call given.
     let why = err_from_is_err_and c.from_residual-in_err-made.result c.from_residual-in_err-made.ensures.1 in
     let named : c.primitive_named.result ≡ primitive_of (argument 0 c.args.args.now) = c.primitive_named.ensures ∙ ap primitive_of c.get.ensures in
     rw why.1
-    (subst (MayRefuse (seen_as (planned_from c.args.now) (limited (fits_after call) (performed (environment_of c.args.tape) call)))) (sym (why.2 ∙ c.in_err-made.ensures.err))
-    (lacks (environment_of c.args.tape) call c.args.kind c.args.args.now c.args.store.now c.args.now given c.primitive_named.result named
+    (subst (MayRefuse (seen_as (planned_from c.args.now) (limited (fits_after call) (performed (environment_of c.args.now.width c.args.tape) call)))) (sym (why.2 ∙ c.in_err-made.ensures.err))
+    (lacks (environment_of c.args.now.width c.args.tape) call c.args.kind c.args.args.now c.args.store.now c.args.now given c.primitive_named.result named
     (done_on c.args.args.now (storage_of call.state) c.in_ok-done.done) (c.in_ok-done.ensures.outcome call.state given.state_is)))
 
 pub returns-then-not-has_place-clause-outcome : goal.returns-then-not-has_place-clause-outcome
 returns-then-not-has_place-clause-outcome g c = λ call given.
     let named : c.primitive_named.result ≡ primitive_of (argument 0 c.args.args.now) = c.primitive_named.ensures ∙ ap primitive_of c.get.ensures in
-    beyond (environment_of c.args.tape) call c.args.kind c.args.args.now c.args.store.now c.args.now given c.primitive_named.result named
+    beyond (environment_of c.args.now.width c.args.tape) call c.args.kind c.args.args.now c.args.store.now c.args.now given c.primitive_named.result named
     c.completed-effect.result (done_on c.args.args.now (storage_of call.state) c.in_ok-done.done) (c.in_ok-done.ensures.outcome call.state given.state_is)
     (c.completed-effect.ensures.effect c.args.args.now (storage_of call.state) ∙ ap (planned_from c.args.now) (c.in_ok-made.ensures.made (changed c.args.args.now c.in_ok-done.done.change (storage_of call.state))))
     (λ place. false≢true (c.if-not-has_place.ensures.1 place))
@@ -42,7 +42,7 @@ returns-then-not-has_place-clause-outcome g c = λ call given.
 pub returns-clause-outcome : goal.returns-clause-outcome
 returns-clause-outcome g c = λ call given.
     let named : c.primitive_named.result ≡ primitive_of (argument 0 c.args.args.now) = c.primitive_named.ensures ∙ ap primitive_of c.get.ensures in
-    within (environment_of c.args.tape) call c.args.kind c.args.args.now c.args.store.now c.args.now given c.primitive_named.result named
+    within (environment_of c.args.now.width c.args.tape) call c.args.kind c.args.args.now c.args.store.now c.args.now given c.primitive_named.result named
     c.completed-effect.result (done_on c.args.args.now (storage_of call.state) c.in_ok-done.done) (c.in_ok-done.ensures.outcome call.state given.state_is)
     (c.completed-effect.ensures.effect c.args.args.now (storage_of call.state) ∙ ap (planned_from c.args.now) (c.in_ok-made.ensures.made (changed c.args.args.now c.in_ok-done.done.change (storage_of call.state))))
     (c.if-not-has_place.ensures.0 refl)

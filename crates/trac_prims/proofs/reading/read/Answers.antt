@@ -14,7 +14,7 @@ returns-in-None-clause-outcome g c =
     let arguments = c.args.args.now in
     let storage = storage_in c.args.store.now in
     let held : named_form arguments storage ≡ Some c.in-Some.form.now = ap (finite.get storage.forms) (sym c.get-name.ensures) ∙ sym c.in-Some.ensures.value in
-    let outcome = form_is_read c.args.reading arguments storage c.in-Some.form.now None held
+    let outcome = form_is_read c.args.reading c.args.width arguments storage c.in-Some.form.now None held
     (ap (option_map (λ p. taken p c.in-Some.form.now)) (sym c.in-None.is) ∙ c.in_ok-piece.ensures.read) in
     subst (λ o. IsDone arguments storage o c.force.result) (sym outcome)
     (subst (λ (text : List ℕ). IsDone arguments storage (Ok (forces text storage)) c.force.result) (c.get-in-None.ensures ∙ c.default_place.ensures arguments)
@@ -27,7 +27,7 @@ returns-in-Some-2-clause-outcome g c =
     let form = c.in-Some.form.now in
     let held : named_form arguments storage ≡ Some form = ap (finite.get storage.forms) (sym c.get-name.ensures) ∙ sym c.in-Some.ensures.value in
     let other = default_argument c.args.reading arguments in
-    let outcome = form_is_read c.args.reading arguments storage form (Some (taken c.in-Some-2.piece form)) held
+    let outcome = form_is_read c.args.reading c.args.width arguments storage form (Some (taken c.in-Some-2.piece form)) held
     (ap (option_map (λ p. taken p form)) (sym c.in-Some-2.is) ∙ c.in_ok-piece.ensures.read) in
     subst (λ o. IsDone arguments storage o c.give.result) (sym outcome)
     (subst (λ (name : List ℕ). IsDone arguments storage (Ok (gives_piece (Some (taken c.in-Some-2.piece form)) other name form storage)) c.give.result) c.get-name.ensures

@@ -4,10 +4,10 @@ use Rattle.trac_rules.proofs.Released.{before-released, loss-released, refused-r
 use Rattle.trac_rules.proofs.commits.released_states_go_on.Goals as goal
 
 pub returns-clause-taken : goal.returns-clause-taken
-returns-clause-taken c = λ tape s t o k read printed taken. step-released (over tape) o k s t read printed taken
+returns-clause-taken c = λ width tape s t o k read printed taken. step-released (over width tape) o k s t read printed taken
 
 pub returns-clause-refused : goal.returns-clause-refused
-returns-clause-refused c = λ tape s refusal o k read other refused. refused-released (over tape) o k s refusal read refused other
+returns-clause-refused c = λ width tape s refusal o k read other refused. refused-released (over width tape) o k s refusal read refused other
 
 pub returns-clause-before : goal.returns-clause-before
 returns-clause-before c = λ r s t o k read printed back. before-released o k r s t read printed back

@@ -5,7 +5,7 @@ use Rattle.trac_rules.proofs.Steps.{step_onward}
 use Rattle.trac_rules.proofs.commits.steps_print_more.Goals as goal
 
 pub returns-clause-onward : goal.returns-clause-onward
-returns-clause-onward c = λ tape s t taken. step_onward (over tape) s t taken
+returns-clause-onward c = λ width tape s t taken. step_onward (over width tape) s t taken
 
 pub returns-clause-more : goal.returns-clause-more
-returns-clause-more c = λ tape s t taken. step_prints_more (over tape) s t taken
+returns-clause-more c = λ width tape s t taken. step_prints_more (over width tape) s t taken

@@ -80,22 +80,6 @@ pub returns-clause-minus_zero : goal.returns-clause-minus_zero
 unfolding number_of whole_number
 returns-clause-minus_zero c = refl
 
-pub returns-clause-least : goal.returns-clause-least
-unfolding number_of whole_number
-returns-clause-least c = refl
-
-pub returns-clause-below_least : goal.returns-clause-below_least
-unfolding number_of whole_number
-returns-clause-below_least c = refl
-
-pub returns-clause-greatest : goal.returns-clause-greatest
-unfolding number_of whole_number
-returns-clause-greatest c = refl
-
-pub returns-clause-above_greatest : goal.returns-clause-above_greatest
-unfolding number_of whole_number
-returns-clause-above_greatest c = refl
-
 pub returns-clause-difference : goal.returns-clause-difference
 unfolding calculated prefix_of numeral_of number_of whole_number difference_of digits
 returns-clause-difference c = refl
@@ -119,26 +103,6 @@ returns-clause-cut c = refl
 pub returns-clause-cut_negative : goal.returns-clause-cut_negative
 unfolding calculated prefix_of numeral_of number_of whole_number quotient_of digits
 returns-clause-cut_negative c = refl
-
-pub returns-clause-sum_past : goal.returns-clause-sum_past
-unfolding calculated prefix_of numeral_of number_of whole_number sum_of digits
-returns-clause-sum_past c = refl
-
-pub returns-clause-difference_past : goal.returns-clause-difference_past
-unfolding calculated prefix_of numeral_of number_of whole_number difference_of digits
-returns-clause-difference_past c = refl
-
-pub returns-clause-operand_past : goal.returns-clause-operand_past
-unfolding calculated prefix_of numeral_of number_of whole_number sum_of digits
-returns-clause-operand_past c = refl
-
-pub returns-clause-least_turned : goal.returns-clause-least_turned
-unfolding calculated prefix_of numeral_of number_of whole_number quotient_of digits
-returns-clause-least_turned c = refl
-
-pub returns-clause-by_zero : goal.returns-clause-by_zero
-unfolding calculated prefix_of numeral_of number_of whole_number quotient_of digits
-returns-clause-by_zero c = refl
 
 pub returns-clause-minus_zero_first : goal.returns-clause-minus_zero_first
 unfolding is_greater whole_number

@@ -11,6 +11,7 @@ use Rattle.trac_rules.specs.Proper.{IsProper}
 use Rattle.trac_rules.specs.Session.{Feed, PlainSession, Step, answer, new_session, repeated}
 use Rattle.trac_rules.specs.State.{initial}
 use Rattle.trac_rules.specs.Stepping.{step}
+use Rattle.trac_rules.specs.declared.width.Width.TheVariants.{W128}
 use Rattle.trac_rules.proofs.ProperStates.{initial_proper}
 use Rattle.trac_rules.proofs.StepsBack.{all_go_back}
 use Rattle.trac_rules.proofs.records.worked_records.Goals as goal
@@ -29,10 +30,10 @@ returns-clause-eleventh_to_fifteenth c = refl
 
 -- the session before its steps, and after them
 abbrev first : PlainSession
-first = session_after (Feed (codes "a)b,c'") ∷ []) (new_session 64)
+first = session_after (Feed (codes "a)b,c'") ∷ []) (new_session 64 W128)
 
 abbrev final : PlainSession
-final = session_after (Feed (codes "a)b,c'") ∷ replicate 22 Step) (new_session 64)
+final = session_after (Feed (codes "a)b,c'") ∷ replicate 22 Step) (new_session 64 W128)
 
 begins : first.last ≡ initial
 unfolding answer

@@ -53,3 +53,47 @@ returns-clause-places c = refl
 pub returns-clause-names : goal.returns-clause-names
 unfolding match_of scan texts_fit performed step output_from calculated prefix_of numeral_of number_of whole_number is_greater sum_of difference_of product_of quotient_of digits
 returns-clause-names c = refl
+
+pub returns-clause-narrow_decimals : goal.returns-clause-narrow_decimals
+unfolding match_of scan texts_fit performed step output_from calculated prefix_of numeral_of number_of whole_number is_greater sum_of difference_of product_of quotient_of digits
+returns-clause-narrow_decimals c = refl
+
+pub returns-clause-narrow_products : goal.returns-clause-narrow_products
+unfolding match_of scan texts_fit performed step output_from calculated prefix_of numeral_of number_of whole_number is_greater sum_of difference_of product_of quotient_of digits
+returns-clause-narrow_products c = refl
+
+pub returns-clause-narrow_far_moves : goal.returns-clause-narrow_far_moves
+unfolding match_of scan texts_fit performed step output_from calculated prefix_of numeral_of number_of whole_number is_greater sum_of difference_of product_of quotient_of digits
+returns-clause-narrow_far_moves c = refl
+
+pub returns-clause-narrow_results : goal.returns-clause-narrow_results
+unfolding match_of scan texts_fit performed step output_from calculated prefix_of numeral_of number_of whole_number is_greater sum_of difference_of product_of quotient_of digits
+returns-clause-narrow_results c = refl
+
+pub returns-clause-narrow_places : goal.returns-clause-narrow_places
+unfolding match_of scan texts_fit performed step output_from calculated prefix_of numeral_of number_of whole_number is_greater sum_of difference_of product_of quotient_of digits
+returns-clause-narrow_places c = refl
+
+pub returns-clause-wide_ends : goal.returns-clause-wide_ends
+unfolding match_of scan texts_fit performed step output_from calculated prefix_of numeral_of number_of whole_number is_greater sum_of difference_of product_of quotient_of digits
+returns-clause-wide_ends c = refl
+
+pub returns-clause-wide_ends_of_narrow : goal.returns-clause-wide_ends_of_narrow
+unfolding match_of scan texts_fit performed step output_from calculated prefix_of numeral_of number_of whole_number is_greater sum_of difference_of product_of quotient_of digits
+returns-clause-wide_ends_of_narrow c = refl
+
+pub returns-clause-wide_products : goal.returns-clause-wide_products
+unfolding match_of scan texts_fit performed step output_from calculated prefix_of numeral_of number_of whole_number is_greater sum_of difference_of product_of quotient_of digits
+returns-clause-wide_products c = refl
+
+pub returns-clause-wide_products_of_narrow : goal.returns-clause-wide_products_of_narrow
+unfolding match_of scan texts_fit performed step output_from calculated prefix_of numeral_of number_of whole_number is_greater sum_of difference_of product_of quotient_of digits
+returns-clause-wide_products_of_narrow c = refl
+
+pub returns-clause-wide_moves : goal.returns-clause-wide_moves
+unfolding match_of scan texts_fit performed step output_from calculated prefix_of numeral_of number_of whole_number is_greater sum_of difference_of product_of quotient_of digits
+returns-clause-wide_moves c = refl
+
+pub returns-clause-wide_moves_of_narrow : goal.returns-clause-wide_moves_of_narrow
+unfolding match_of scan texts_fit performed step output_from calculated prefix_of numeral_of number_of whole_number is_greater sum_of difference_of product_of quotient_of digits
+returns-clause-wide_moves_of_narrow c = refl

@@ -10,6 +10,7 @@ use Rattle.trac_rules.specs.Session.{Back, Commit, End, Feed, Step, answer, new_
 use Rattle.trac_rules.specs.State.{State, initial}
 use Rattle.trac_rules.specs.Stepping.{step}
 use Rattle.trac_rules.specs.declared.kind.Kind.TheVariants.{Active}
+use Rattle.trac_rules.specs.declared.width.Width.TheVariants.{W128}
 use Rattle.trac_rules.proofs.rows.worked_rows.Goals as goal
 
 pub returns-clause-nothing_before_the_end : goal.returns-clause-nothing_before_the_end
@@ -124,11 +125,11 @@ resumed = record initial {
   position = 3;
 }
 
-resumed-first : state_after (Feed (codes "AB") ∷ replicate 8 Step ++ Feed (codes "'") ∷ Step ∷ []) (new_session 64) ≡ resumed
+resumed-first : state_after (Feed (codes "AB") ∷ replicate 8 Step ++ Feed (codes "'") ∷ Step ∷ []) (new_session 64 W128) ≡ resumed
 unfolding match_of scan texts_fit performed step answer resumed
 resumed-first = refl
 
-resumed-second : state_after (Feed (codes "AB") ∷ replicate 8 Step ++ Feed (codes "'") ∷ Step ∷ Back ∷ Feed (codes "C'") ∷ Step ∷ []) (new_session 64) ≡ resumed
+resumed-second : state_after (Feed (codes "AB") ∷ replicate 8 Step ++ Feed (codes "'") ∷ Step ∷ Back ∷ Feed (codes "C'") ∷ Step ∷ []) (new_session 64 W128) ≡ resumed
 unfolding match_of scan texts_fit performed step answer resumed
 resumed-second = refl
 
@@ -161,7 +162,7 @@ returns-clause-all_kinds_active c = refl
 
 pub returns-clause-all_kinds_run : goal.returns-clause-all_kinds_run
 unfolding match_of scan texts_fit performed step answer
-returns-clause-all_kinds_run c = (session_after (Feed (codes "AB'") ∷ []) (new_session 4), refl, (session_after (Feed (codes "AB'") ∷ Step ∷ []) (new_session 4), refl, (session_after (Feed (codes "AB'") ∷ Step ∷ Step ∷ []) (new_session 4), refl, (session_after (Feed (codes "AB'") ∷ Step ∷ Step ∷ Step ∷ []) (new_session 4), refl, (session_after (Feed (codes "AB'") ∷ Step ∷ Step ∷ Step ∷ Step ∷ []) (new_session 4), refl, (session_after (Feed (codes "AB'") ∷ Step ∷ Step ∷ Step ∷ Step ∷ Step ∷ []) (new_session 4), refl, (session_after (Feed (codes "AB'") ∷ Step ∷ Step ∷ Step ∷ Step ∷ Step ∷ Back ∷ []) (new_session 4), refl, (session_after (Feed (codes "AB'") ∷ Step ∷ Step ∷ Step ∷ Step ∷ Step ∷ Back ∷ End ∷ []) (new_session 4), refl, (session_after (Feed (codes "AB'") ∷ Step ∷ Step ∷ Step ∷ Step ∷ Step ∷ Back ∷ End ∷ Feed (codes "C") ∷ []) (new_session 4), refl, (session_after (Feed (codes "AB'") ∷ Step ∷ Step ∷ Step ∷ Step ∷ Step ∷ Back ∷ End ∷ Feed (codes "C") ∷ Commit 0 ∷ []) (new_session 4), refl, (session_after (Feed (codes "AB'") ∷ Step ∷ Step ∷ Step ∷ Step ∷ Step ∷ Back ∷ End ∷ Feed (codes "C") ∷ Commit 0 ∷ Back ∷ []) (new_session 4), refl, refl)))))))))))
+returns-clause-all_kinds_run c = (session_after (Feed (codes "AB'") ∷ []) (new_session 4 W128), refl, (session_after (Feed (codes "AB'") ∷ Step ∷ []) (new_session 4 W128), refl, (session_after (Feed (codes "AB'") ∷ Step ∷ Step ∷ []) (new_session 4 W128), refl, (session_after (Feed (codes "AB'") ∷ Step ∷ Step ∷ Step ∷ []) (new_session 4 W128), refl, (session_after (Feed (codes "AB'") ∷ Step ∷ Step ∷ Step ∷ Step ∷ []) (new_session 4 W128), refl, (session_after (Feed (codes "AB'") ∷ Step ∷ Step ∷ Step ∷ Step ∷ Step ∷ []) (new_session 4 W128), refl, (session_after (Feed (codes "AB'") ∷ Step ∷ Step ∷ Step ∷ Step ∷ Step ∷ Back ∷ []) (new_session 4 W128), refl, (session_after (Feed (codes "AB'") ∷ Step ∷ Step ∷ Step ∷ Step ∷ Step ∷ Back ∷ End ∷ []) (new_session 4 W128), refl, (session_after (Feed (codes "AB'") ∷ Step ∷ Step ∷ Step ∷ Step ∷ Step ∷ Back ∷ End ∷ Feed (codes "C") ∷ []) (new_session 4 W128), refl, (session_after (Feed (codes "AB'") ∷ Step ∷ Step ∷ Step ∷ Step ∷ Step ∷ Back ∷ End ∷ Feed (codes "C") ∷ Commit 0 ∷ []) (new_session 4 W128), refl, (session_after (Feed (codes "AB'") ∷ Step ∷ Step ∷ Step ∷ Step ∷ Step ∷ Back ∷ End ∷ Feed (codes "C") ∷ Commit 0 ∷ Back ∷ []) (new_session 4 W128), refl, refl)))))))))))
 
 pub returns-clause-walk_there : goal.returns-clause-walk_there
 unfolding match_of scan texts_fit performed step answer

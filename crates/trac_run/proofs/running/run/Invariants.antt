@@ -4,7 +4,7 @@ use Rattle.trac_run.proofs.running.run.Given as goal
 
 abbrev pub invariant-loop-ending : goal.invariant-loop-ending
 invariant-loop-ending g l =
-    SoFar (g.R.Read.remaining l.fn.input) (g.R.Read.remaining l.input) (g.W.Write.contents l.fn.output) (g.W.Write.contents l.output) l.fn.options.budget l.session l.left
+    SoFar (g.R.Read.remaining l.fn.input) (g.R.Read.remaining l.input) (g.W.Write.contents l.fn.output) (g.W.Write.contents l.output) l.fn.options.decimals l.fn.options.budget l.session l.left
 
 abbrev pub decreases-loop-ending : goal.decreases-loop-ending
 decreases-loop-ending g l = turns_left l.session l.left

@@ -49,22 +49,22 @@ keep_short-requires-clause-back g c =
 pub returns-in-Some-clause-taken : goal.returns-in-Some-clause-taken
 returns-in-Some-clause-taken g c =
     on_ok_weaker c.keep_short.result
-    (λ h. c.in-Some.ensures.taken (over (tape_of c.args.tape)) ∙ ap (λ (m : Shown). let o : Result State Refusal = Ok m.state in o) (sym h.1))
+    (λ h. c.in-Some.ensures.taken (over c.args.machine.now.width (tape_of c.args.tape)) ∙ ap (λ (m : Shown). let o : Result State Refusal = Ok m.state in o) (sym h.1))
     c.keep_short.ensures.kept
 
 pub returns-in-Some-clause-kept : goal.returns-in-Some-clause-kept
 returns-in-Some-clause-kept g c =
     let s = c.args.machine.now.state in
     on_ok_weaker c.keep_short.result
-    (λ h. remembered c.args.journal.now c.keep_short.new.journal c.in-Some.short s c.keep_short.new.machine.state (over (tape_of c.args.tape)) h.0
-    (ap (λ (m : Shown). state_before (said_by c.in-Some.short) m.state) h.1 ∙ c.in-Some.ensures.before) (c.in-Some.ensures.recorded (over (tape_of c.args.tape))))
+    (λ h. remembered c.args.journal.now c.keep_short.new.journal c.in-Some.short s c.keep_short.new.machine.state (over c.args.machine.now.width (tape_of c.args.tape)) h.0
+    (ap (λ (m : Shown). state_before (said_by c.in-Some.short) m.state) h.1 ∙ c.in-Some.ensures.before) (c.in-Some.ensures.recorded (over c.args.machine.now.width (tape_of c.args.tape))))
     c.keep_short.ensures.kept
 
 pub returns-in-Some-clause-refused : goal.returns-in-Some-clause-refused
 returns-in-Some-clause-refused g c =
-    let outcome = step (over (tape_of c.args.tape)) c.args.machine.now.state in
+    let outcome = step (over c.args.machine.now.width (tape_of c.args.tape)) c.args.machine.now.state in
     refused_for_memory c.keep_short.result (λ e. MayRefuse outcome e) c.keep_short.ensures.undone c.keep_short.ensures.err
-    (λ _. taken_lacks outcome c.scan_step.new.self.state (c.in-Some.ensures.taken (over (tape_of c.args.tape))))
+    (λ _. taken_lacks outcome c.scan_step.new.self.state (c.in-Some.ensures.taken (over c.args.machine.now.width (tape_of c.args.tape))))
 
 pub returns-in-Some-clause-back : goal.returns-in-Some-clause-back
 returns-in-Some-clause-back g c =
@@ -86,7 +86,7 @@ whole_step_kept-requires-clause-position g c =
 
 pub returns-in-None-clause-taken : goal.returns-in-None-clause-taken
 returns-in-None-clause-taken g c =
-    subst (λ (m : Shown). OnOk c.whole_step_kept.result (step (over (tape_of c.args.tape)) m.state ≡ Ok c.whole_step_kept.new.machine.state))
+    subst (λ (m : Shown). OnOk c.whole_step_kept.result (step (over m.width (tape_of c.args.tape)) m.state ≡ Ok c.whole_step_kept.new.machine.state))
     (c.in-None.ensures.unchanged refl) c.whole_step_kept.ensures.taken
 
 pub returns-in-None-clause-kept : goal.returns-in-None-clause-kept
@@ -96,7 +96,7 @@ returns-in-None-clause-kept g c =
 
 pub returns-in-None-clause-refused : goal.returns-in-None-clause-refused
 returns-in-None-clause-refused g c =
-    subst (λ (m : Shown). IfErr c.whole_step_kept.result (MayRefuse (step (over (tape_of c.args.tape)) m.state)))
+    subst (λ (m : Shown). IfErr c.whole_step_kept.result (MayRefuse (step (over m.width (tape_of c.args.tape)) m.state)))
     (c.in-None.ensures.unchanged refl) c.whole_step_kept.ensures.refused
 
 pub returns-in-None-clause-back : goal.returns-in-None-clause-back

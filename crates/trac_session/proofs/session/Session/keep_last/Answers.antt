@@ -57,4 +57,4 @@ returns g c =
     (omega (arith, c.saturating_sub-dropped.ensures, c.len.ensures)) c.drop_oldest-passed.ensures.kept c.drop_oldest-passed.ensures.printed c.drop_oldest-passed.ensures.read in
     Commit_of_fields before weighed read_of printed_of (IsWithinReach c.self.inside.machine (length c.self.inside.tape.items)) c.args.keep c.saturating_sub-dropped.result c.self.inside.limit c.self.inside.tape.items c.drop_front.new.self.items c.self.inside.ended
     c.self.inside.journal c.drop_oldest-passed.new.self c.self.inside.machine.state c.release.new.self.state _ _ c.args.self.now
-    c.self.view_is kept (ap (λ (w : Window ℕ). w.items) c.drop_front.ensures) (ap (λ (m : Shown). m.state) c.release.ensures)
+    c.self.view_is kept (ap (λ (w : Window ℕ). w.items) c.drop_front.ensures) (ap (λ (m : Shown). m.state) c.release.ensures) (ap (λ (m : Shown). m.width) c.release.ensures)

@@ -9,4 +9,4 @@ invariant_of-self g c =
 
 pub returns : goal.returns
 returns g c =
-    Commit_alone before _ _ _ _ c.self.inside.journal c.clear.new.self _ _ _ c.self.view_is c.settle.ensures.tape c.clear.ensures c.settle.ensures.state
+    Commit_alone before _ _ _ _ c.self.inside.journal c.clear.new.self _ _ _ c.self.view_is c.settle.ensures.tape c.clear.ensures c.settle.ensures.state c.settle.ensures.width

@@ -1,5 +1,6 @@
 use Rattle.std.proofs.Common.{◌≡◌, ℕ, ◌≤◌, false, List, [], length, reverse, sym, ap, subst, arith}
 use Rattle.std.specs.Prelude.{Option}
+use Rattle.trac_rules.specs.declared.width.Width.{Width}
 use Rattle.trac_rules.specs.declared.limit.TheConstants.{JOURNAL_LIMIT}
 use Rattle.trac_rules.specs.State.{State, initial}
 use Rattle.trac_rules.specs.Session.{new_session}
@@ -23,9 +24,9 @@ sound_at_first {R} before weigh limit bytes journal m some most none first at = 
       (record { nothing_pending = ap (λ (s : State). s.output) at; nothing_read = ap (λ (s : State). s.position) at });
 }
 
-plain_at_first : {R : Type 0} → (before : R → State → Option State) (limit : ℕ) (bytes : List ℕ) (journal : List R) (last : State) → bytes ≡ [] → journal ≡ [] → last ≡ initial →
-    plain_of before limit bytes false journal last ≡ new_session limit
-plain_at_first before limit bytes journal last none first at i = plain_of before limit (none i) false (first i) (at i)
+plain_at_first : {R : Type 0} → (before : R → State → Option State) (limit : ℕ) (width made : Width) (bytes : List ℕ) (journal : List R) (last : State) → made ≡ width → bytes ≡ [] → journal ≡ [] → last ≡ initial →
+    plain_of before limit made bytes false journal last ≡ new_session limit width
+plain_at_first before limit width made bytes journal last same none first at i = plain_of before limit (same i) (none i) false (first i) (at i)
 
 pub invariant_of-result : goal.invariant_of-result
 invariant_of-result g c =
@@ -33,4 +34,4 @@ invariant_of-result g c =
 
 pub returns-clause-made : goal.returns-clause-made
 returns-clause-made g c =
-    plain_at_first before c.args.limit c.new.result.items c.new-3.result c.in_ok-new.field-0.state (ap (λ (w : Window ℕ). w.items) c.new.ensures) c.new-3.ensures c.in_ok-new.ensures.made
+    plain_at_first before c.args.limit c.args.width c.in_ok-new.field-0.width c.new.result.items c.new-3.result c.in_ok-new.field-0.state c.in_ok-new.ensures.width (ap (λ (w : Window ℕ). w.items) c.new.ensures) c.new-3.ensures c.in_ok-new.ensures.made

@@ -25,6 +25,6 @@ returns-clause-weight g c =
     let fits : length c.self.inside.journal + c.move_plain-count.result ≤ c.self.inside.limit = omega (arith, c.self.invariant.within_limit) in
     let sound = IsSound-passed _ _ c.self.inside.journal c.push_moved.new.self c.self.inside.machine _ c.move_plain-count.result
     c.move_plain-count.ensures.proper c.move_plain-count.ensures.plain fits c.push_moved.ensures c.move_plain-count.ensures.moved c.move_plain-count.ensures.held c.self.invariant in
-    sym (journal_weighs _ c.self.inside.limit c.self.inside.tape.items c.self.inside.ended c.push_moved.new.self c.move_plain-count.new.self.state _ refl sound.records)
+    sym (journal_weighs {width = c.move_plain-count.new.self.width} _ c.self.inside.limit c.self.inside.tape.items c.self.inside.ended c.push_moved.new.self c.move_plain-count.new.self.state _ refl sound.records)
     ∙ moved_weigh_nothing c.self.inside.journal c.push_moved.new.self c.move_plain-count.result c.push_moved.ensures
     ∙ journal_weighs _ _ _ _ c.self.inside.journal _ _ c.self.view_is c.self.invariant.records

@@ -22,4 +22,4 @@ returns g c =
     let room : length c.self.inside.journal < c.self.inside.limit = omega arith in
     rw (← c.self.view_is) (Step_of_fields before weighed _ _ _ c.self.inside.ended c.self.inside.journal c.step_kept.new.journal _ _ c.step_kept.result room c.self.invariant.records
     (rw (← c.as_slice.ensures.items) c.step_kept.ensures.taken) c.step_kept.ensures.kept
-    (rw (← c.as_slice.ensures.items) c.step_kept.ensures.refused) c.step_kept.ensures.same)
+    (rw (← c.as_slice.ensures.items) c.step_kept.ensures.refused) c.step_kept.ensures.same c.step_kept.ensures.no_less.width)

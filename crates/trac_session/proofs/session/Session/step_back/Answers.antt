@@ -21,7 +21,7 @@ invariant_of-self-2 g c =
 
 pub returns : goal.returns
 returns g c =
-    Back_of_fields before _ _ _ c.self.inside.journal c.pop.new.self c.in-Some.record _ _ _ c.self.view_is c.in-Some.ensures c.undo.ensures.state
+    Back_of_fields before _ _ _ c.self.inside.journal c.pop.new.self c.in-Some.record _ _ _ c.self.view_is c.in-Some.ensures c.undo.ensures.state c.undo.ensures.room.width
 
 pub undo-requires : goal.undo-requires
 undo-requires g c =

@@ -17,14 +17,14 @@ use Rattle.trac_step.proofs.engine.Core.call_step.Goals as goal
 pub returns-in_err-plan-clause-refused : goal.returns-in_err-plan-clause-refused
 returns-in_err-plan-clause-refused g c =
     let p = err_from_is_err_and c.from_residual.result c.from_residual.ensures.1 in
-    rw p.1 (refl, subst (MayRefuse (step (environment_of c.args.tape) c.args.self.now.state)) (sym p.2) c.in_err-plan.ensures.outcome)
+    rw p.1 (refl, subst (MayRefuse (step (environment_of c.args.self.now.width c.args.tape) c.args.self.now.state)) (sym p.2) c.in_err-plan.ensures.outcome)
 
 pub returns-in_err-plan-clause-lacking : goal.returns-in_err-plan-clause-lacking
 returns-in_err-plan-clause-lacking g c = call_lacks_nothing c.args.self.now c.requires.front c.requires.inside
 
 pub returns-clause-taken : goal.returns-clause-taken
 returns-clause-taken g c =
-    taken_by c.carry_out.result (step (environment_of c.args.tape) c.args.self.now.state) (state_after c.in_ok-plan.effect (scan c.args.self.now.state)) c.carry_out.new.self.state
+    taken_by c.carry_out.result (step (environment_of c.args.self.now.width c.args.tape) c.args.self.now.state) (state_after c.in_ok-plan.effect (scan c.args.self.now.state)) c.carry_out.new.self.state
     c.in_ok-plan.ensures.outcome c.carry_out.ensures.done
 
 pub returns-clause-recorded : goal.returns-clause-recorded
@@ -36,7 +36,7 @@ returns-clause-recorded g c =
 pub returns-clause-refused : goal.returns-clause-refused
 returns-clause-refused g c =
     let s = c.args.self.now.state in
-    let outcome = step (environment_of c.args.tape) s in
+    let outcome = step (environment_of c.args.self.now.width c.args.tape) s in
     refused_for_memory c.carry_out.result (λ e. (c.carry_out.new.self.state ≡ s) × MayRefuse outcome e) c.carry_out.ensures.unchanged c.carry_out.ensures.err
     (λ same. (same, taken_lacks outcome (state_after c.in_ok-plan.effect (scan s)) c.in_ok-plan.ensures.outcome))
 

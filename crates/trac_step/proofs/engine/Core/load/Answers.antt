@@ -71,4 +71,4 @@ returns-clause-holds g c =
     sound_loaded parts (g.E.TwoEnds.ends c.in_ok-text.text) (g.M.TwoEnds.ends c.in_ok-text.marks) c.in_ok-store.store c.in_ok-output.output
     texts.neutral texts.active made.0 c.in_ok-output.ensures.items texts.ordered texts.holds texts.mark_holds (judged_apart parts within).texts
     (proper_storage parts within (kept.forms refl) (kept.blocks refl) made.1) in
-    HasRoom-parts p (shown_by p) sound refl c.in_ok-output.ensures.holds c.in_ok-store.ensures.names
+    HasRoom-parts p (shown_by c.args.width p) sound refl c.in_ok-output.ensures.holds c.in_ok-store.ensures.names

@@ -23,8 +23,8 @@ returns-clause-moved g c =
     let old = g.E.TwoEnds.ends c.self.inside.text in
     let p = parts_of old (g.M.TwoEnds.ends c.self.inside.marks) c.self.inside.store c.self.inside.meta c.self.inside.trace c.self.inside.position c.self.inside.output in
     let moved = λ (e : Ends ℕ). parts_of e (g.M.TwoEnds.ends c.self.inside.marks) c.self.inside.store c.self.inside.meta c.self.inside.trace c.self.inside.position c.self.inside.output in
-    ap (λ (e : Ends ℕ). shown_by (moved e)) c.shift_left.ensures
-    ∙ ap (λ (s : State). record (shown_by p) { state = s }) (gather_parts p (drop n old.right) (take n old.right) c.self.invariant)
+    ap (λ (e : Ends ℕ). shown_by c.self.inside.width (moved e)) c.shift_left.ensures
+    ∙ ap (λ (s : State). record (shown_by c.self.inside.width p) { state = s }) (gather_parts p (drop n old.right) (take n old.right) c.self.invariant)
     ∙ ap (λ (m : Shown). record m { state = moved_on n m.state }) c.self.view_is
 
 pub returns-clause-held : goal.returns-clause-held

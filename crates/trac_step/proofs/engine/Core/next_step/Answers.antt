@@ -33,4 +33,4 @@ returns-clause-recorded g c =
       | else-eq-via-then-eq+else-not-is_outside w ↦ no_frames c.args.self.now.state.frames w.is_outside.result (w.is_outside.ensures ∙ ap (λ (n : Neutral). length n.frames == 0) w.neutral.ensures) w.if-not-is_outside.false
       | else-eq-via-else-eq w ↦ absurd (let unset : false ≡ true = sym w.if-eq.false ∙ c.eq.ensures ∙ ap (λ front. sameb the_type front Closing) is in cc)
     ]) in
-    recorded_as c.move_step.result recorded_by (recorded s) (record_of (environment_of c.args.tape) s) (move_recorded (environment_of c.args.tape) s moves) c.move_step.ensures.recorded
+    recorded_as c.move_step.result recorded_by (recorded s) (record_of (environment_of c.args.self.now.width c.args.tape) s) (move_recorded (environment_of c.args.self.now.width c.args.tape) s moves) c.move_step.ensures.recorded

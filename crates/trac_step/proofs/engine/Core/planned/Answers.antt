@@ -45,6 +45,7 @@ returns-in_err-effect-clause-outcome g c =
     let s = c.args.self.now.state in
     let p = parts_of (g.E.TwoEnds.ends c.self.inside.text) (g.M.TwoEnds.ends c.self.inside.marks) c.self.inside.store c.self.inside.meta c.self.inside.trace c.self.inside.position c.self.inside.output in
     let state_is = ap (λ (m : Shown). m.state) c.self.view_is in
+    let width_is = ap (λ (m : Shown). m.width) (sym c.self.view_is) in
     let proper = subst IsProper state_is (proper_of_sound p c.self.invariant) in
     let f = c.in-Some.function in
     let frames = frames_of s c.neutral.result f.number f.place f.kind f.arguments proper c.neutral.ensures c.in-Some.ensures in
@@ -55,20 +56,22 @@ returns-in_err-effect-clause-outcome g c =
       position = c.self.inside.position;
       output = c.len.result;
       text = length c.right.result.now - 1 + f.place;
+      width = c.self.inside.width;
     })
     (ap (λ (t : State). storage_of t) (sym state_is)) (ap (λ (t : State). t.meta) (sym state_is)) (ap (λ (t : State). t.trace) (sym state_is)) (ap (λ (t : State). t.position) (sym state_is))
     (ap (λ (t : State). length t.output) (sym state_is) ∙ sym c.len.ensures.len)
     (ap (λ (t : State). length t.active - 1 + f.place) (sym state_is) ∙ ap (λ (xs : List ℕ). length xs - 1 + f.place) (sym c.right.ensures.right)) in
     let rest = behind s c.neutral.result f.number f.place f.kind f.arguments proper c.neutral.ensures c.in-Some.ensures in
-    let e = environment_of c.args.tape in
+    let e = environment_of c.self.inside.width c.args.tape in
     let err = err_from_is_err_and c.from_residual.result c.from_residual.ensures.1 in
-    rw (err.1, err.2) (step_unplanned e s c.in-Some.ensures.frame rest c.requires.front frames f.kind f.arguments c.self.inside.store _ given _ (c.in_err-effect.ensures.outcome _ given))
+    rw (err.1, err.2, width_is) (step_unplanned e s c.in-Some.ensures.frame rest c.requires.front frames f.kind f.arguments c.self.inside.store _ given _ (c.in_err-effect.ensures.outcome _ given))
 
 pub returns-clause-outcome : goal.returns-clause-outcome
 returns-clause-outcome g c =
     let s = c.args.self.now.state in
     let p = parts_of (g.E.TwoEnds.ends c.self.inside.text) (g.M.TwoEnds.ends c.self.inside.marks) c.self.inside.store c.self.inside.meta c.self.inside.trace c.self.inside.position c.self.inside.output in
     let state_is = ap (λ (m : Shown). m.state) c.self.view_is in
+    let width_is = ap (λ (m : Shown). m.width) (sym c.self.view_is) in
     let proper = subst IsProper state_is (proper_of_sound p c.self.invariant) in
     let f = c.in-Some.function in
     let frames = frames_of s c.neutral.result f.number f.place f.kind f.arguments proper c.neutral.ensures c.in-Some.ensures in
@@ -79,19 +82,21 @@ returns-clause-outcome g c =
       position = c.self.inside.position;
       output = c.len.result;
       text = length c.right.result.now - 1 + f.place;
+      width = c.self.inside.width;
     })
     (ap (λ (t : State). storage_of t) (sym state_is)) (ap (λ (t : State). t.meta) (sym state_is)) (ap (λ (t : State). t.trace) (sym state_is)) (ap (λ (t : State). t.position) (sym state_is))
     (ap (λ (t : State). length t.output) (sym state_is) ∙ sym c.len.ensures.len)
     (ap (λ (t : State). length t.active - 1 + f.place) (sym state_is) ∙ ap (λ (xs : List ℕ). length xs - 1 + f.place) (sym c.right.ensures.right)) in
     let rest = behind s c.neutral.result f.number f.place f.kind f.arguments proper c.neutral.ensures c.in-Some.ensures in
-    let e = environment_of c.args.tape in
-    step_planned e s c.in-Some.ensures.frame rest c.requires.front frames f.kind f.arguments c.self.inside.store _ given c.in_ok-effect.effect (c.in_ok-effect.ensures.outcome _ given)
+    let e = environment_of c.self.inside.width c.args.tape in
+    rw width_is (step_planned e s c.in-Some.ensures.frame rest c.requires.front frames f.kind f.arguments c.self.inside.store _ given c.in_ok-effect.effect (c.in_ok-effect.ensures.outcome _ given))
 
 pub returns-in_err-arguments-clause-outcome : goal.returns-in_err-arguments-clause-outcome
 returns-in_err-arguments-clause-outcome g c =
     let s = c.args.self.now.state in
     let p = parts_of (g.E.TwoEnds.ends c.self.inside.text) (g.M.TwoEnds.ends c.self.inside.marks) c.self.inside.store c.self.inside.meta c.self.inside.trace c.self.inside.position c.self.inside.output in
     let state_is = ap (λ (m : Shown). m.state) c.self.view_is in
+    let width_is = ap (λ (m : Shown). m.width) (sym c.self.view_is) in
     let proper = subst IsProper state_is (proper_of_sound p c.self.invariant) in
     let f = c.in-Some.function in
     let frames = frames_of s c.neutral.result f.number f.place f.kind f.arguments proper c.neutral.ensures c.in-Some.ensures in
@@ -102,15 +107,16 @@ returns-in_err-arguments-clause-outcome g c =
       position = c.self.inside.position;
       output = c.len.result;
       text = length c.right.result.now - 1 + f.place;
+      width = c.self.inside.width;
     })
     (ap (λ (t : State). storage_of t) (sym state_is)) (ap (λ (t : State). t.meta) (sym state_is)) (ap (λ (t : State). t.trace) (sym state_is)) (ap (λ (t : State). t.position) (sym state_is))
     (ap (λ (t : State). length t.output) (sym state_is) ∙ sym c.len.ensures.len)
     (ap (λ (t : State). length t.active - 1 + f.place) (sym state_is) ∙ ap (λ (xs : List ℕ). length xs - 1 + f.place) (sym c.right.ensures.right)) in
     let rest = behind s c.neutral.result f.number f.place f.kind f.arguments proper c.neutral.ensures c.in-Some.ensures in
-    let e = environment_of c.args.tape in
+    let e = environment_of c.self.inside.width c.args.tape in
     let taken = step_planned e s c.in-Some.ensures.frame rest c.requires.front frames f.kind f.arguments c.self.inside.store _ given c.in_ok-effect.effect (c.in_ok-effect.ensures.outcome _ given) in
     let err = err_from_is_err_and c.from_residual-in_err-arguments.result c.from_residual-in_err-arguments.ensures.1 in
-    rw err.1 (subst (MayRefuse (step e s)) (sym (err.2 ∙ c.in_err-arguments.ensures.err)) (taken_lacks (step e s) (state_after c.in_ok-effect.effect (scan s)) taken))
+    rw (err.1, width_is) (subst (MayRefuse (step e s)) (sym (err.2 ∙ c.in_err-arguments.ensures.err)) (taken_lacks (step e s) (state_after c.in_ok-effect.effect (scan s)) taken))
 
 pub returns-clause-beginning : goal.returns-clause-beginning
 returns-clause-beginning g c =
@@ -132,12 +138,13 @@ returns-clause-proper g c =
       position = c.self.inside.position;
       output = c.len.result;
       text = length c.right.result.now - 1 + f.place;
+      width = c.self.inside.width;
     })
     (ap (λ (t : State). storage_of t) (sym state_is)) (ap (λ (t : State). t.meta) (sym state_is)) (ap (λ (t : State). t.trace) (sym state_is)) (ap (λ (t : State). t.position) (sym state_is))
     (ap (λ (t : State). length t.output) (sym state_is) ∙ sym c.len.ensures.len)
     (ap (λ (t : State). length t.active - 1 + f.place) (sym state_is) ∙ ap (λ (xs : List ℕ). length xs - 1 + f.place) (sym c.right.ensures.right)) in
     let rest = behind s c.neutral.result f.number f.place f.kind f.arguments proper c.neutral.ensures c.in-Some.ensures in
-    let e = environment_of c.args.tape in
+    let e = environment_of c.self.inside.width c.args.tape in
     step_proper e s (state_after c.in_ok-effect.effect (scan s)) proper
     (step_planned e s c.in-Some.ensures.frame rest c.requires.front frames f.kind f.arguments c.self.inside.store _ given c.in_ok-effect.effect (c.in_ok-effect.ensures.outcome _ given))
 
@@ -156,12 +163,13 @@ called_by-called-requires g c =
       position = c.self.inside.position;
       output = c.len.result;
       text = length c.right.result.now - 1 + f.place;
+      width = c.self.inside.width;
     })
     (ap (λ (t : State). storage_of t) (sym state_is)) (ap (λ (t : State). t.meta) (sym state_is)) (ap (λ (t : State). t.trace) (sym state_is)) (ap (λ (t : State). t.position) (sym state_is))
     (ap (λ (t : State). length t.output) (sym state_is) ∙ sym c.len.ensures.len)
     (ap (λ (t : State). length t.active - 1 + f.place) (sym state_is) ∙ ap (λ (xs : List ℕ). length xs - 1 + f.place) (sym c.right.ensures.right)) in
     let rest = behind s c.neutral.result f.number f.place f.kind f.arguments proper c.neutral.ensures c.in-Some.ensures in
-    let e = environment_of c.args.tape in
+    let e = environment_of c.self.inside.width c.args.tape in
     position_planned e s c.in-Some.ensures.frame rest c.requires.front frames f.kind f.arguments c.self.inside.store _ given _ (c.in_ok-effect.ensures.outcome _ given)
 
 pub returns-clause-recorded : goal.returns-clause-recorded
@@ -169,6 +177,7 @@ returns-clause-recorded g c =
     let s = c.args.self.now.state in
     let p = parts_of (g.E.TwoEnds.ends c.self.inside.text) (g.M.TwoEnds.ends c.self.inside.marks) c.self.inside.store c.self.inside.meta c.self.inside.trace c.self.inside.position c.self.inside.output in
     let state_is = ap (λ (m : Shown). m.state) c.self.view_is in
+    let width_is = ap (λ (m : Shown). m.width) (sym c.self.view_is) in
     let proper = subst IsProper state_is (proper_of_sound p c.self.invariant) in
     let f = c.in-Some.function in
     let frames = frames_of s c.neutral.result f.number f.place f.kind f.arguments proper c.neutral.ensures c.in-Some.ensures in
@@ -179,15 +188,16 @@ returns-clause-recorded g c =
       position = c.self.inside.position;
       output = c.len.result;
       text = length c.right.result.now - 1 + f.place;
+      width = c.self.inside.width;
     })
     (ap (λ (t : State). storage_of t) (sym state_is)) (ap (λ (t : State). t.meta) (sym state_is)) (ap (λ (t : State). t.trace) (sym state_is)) (ap (λ (t : State). t.position) (sym state_is))
     (ap (λ (t : State). length t.output) (sym state_is) ∙ sym c.len.ensures.len)
     (ap (λ (t : State). length t.active - 1 + f.place) (sym state_is) ∙ ap (λ (xs : List ℕ). length xs - 1 + f.place) (sym c.right.ensures.right)) in
     let rest = behind s c.neutral.result f.number f.place f.kind f.arguments proper c.neutral.ensures c.in-Some.ensures in
-    let e = environment_of c.args.tape in
+    let e = environment_of c.self.inside.width c.args.tape in
     let told = c.called_by-called.ensures in
-    record_planned e s c.in-Some.ensures.frame rest c.requires.front frames f.kind f.arguments c.self.inside.store _ given c.in_ok-effect.effect (c.in_ok-effect.ensures.outcome _ given) c.in_ok-effect.ensures.change
-    c.called_by-called.result told.kind told.value told.scanned told.printed told.read told.meta told.trace
+    rw width_is (record_planned e s c.in-Some.ensures.frame rest c.requires.front frames f.kind f.arguments c.self.inside.store _ given c.in_ok-effect.effect (c.in_ok-effect.ensures.outcome _ given) c.in_ok-effect.ensures.change
+    c.called_by-called.result told.kind told.value told.scanned told.printed told.read told.meta told.trace)
 
 pub returns-clause-given : goal.returns-clause-given
 returns-clause-given g c =
@@ -204,12 +214,13 @@ returns-clause-given g c =
       position = c.self.inside.position;
       output = c.len.result;
       text = length c.right.result.now - 1 + f.place;
+      width = c.self.inside.width;
     })
     (ap (λ (t : State). storage_of t) (sym state_is)) (ap (λ (t : State). t.meta) (sym state_is)) (ap (λ (t : State). t.trace) (sym state_is)) (ap (λ (t : State). t.position) (sym state_is))
     (ap (λ (t : State). length t.output) (sym state_is) ∙ sym c.len.ensures.len)
     (ap (λ (t : State). length t.active - 1 + f.place) (sym state_is) ∙ ap (λ (xs : List ℕ). length xs - 1 + f.place) (sym c.right.ensures.right)) in
     let rest = behind s c.neutral.result f.number f.place f.kind f.arguments proper c.neutral.ensures c.in-Some.ensures in
-    let e = environment_of c.args.tape in
+    let e = environment_of c.self.inside.width c.args.tape in
     names_given e s c.in-Some.ensures.frame rest c.requires.front frames f.kind f.arguments c.self.inside.store _ given c.in_ok-effect.effect c.in_ok-effect.ensures.change
 
 pub returns-clause-arguments : goal.returns-clause-arguments

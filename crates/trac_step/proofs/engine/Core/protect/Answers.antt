@@ -20,8 +20,8 @@ returns-clause-shown g c =
     let old = g.E.TwoEnds.ends c.self.inside.text in
     let moved = λ (e : Ends ℕ). parts_of e (g.M.TwoEnds.ends c.self.inside.marks) c.self.inside.store c.self.inside.meta c.self.inside.trace c.self.inside.position c.self.inside.output in
     let kept = protected (drop 1 old.right) in
-    ap (λ (e : Ends ℕ). shown_by (moved e)) c.take_protected.ensures.taken
-    ∙ ap (λ (s : State). record (shown_by (moved old)) { state = s }) (gather_parts (moved old) kept.rest kept.inner c.self.invariant)
+    ap (λ (e : Ends ℕ). shown_by c.self.inside.width (moved e)) c.take_protected.ensures.taken
+    ∙ ap (λ (s : State). record (shown_by c.self.inside.width (moved old)) { state = s }) (gather_parts (moved old) kept.rest kept.inner c.self.invariant)
     ∙ ap (λ (m : Shown). record m { state = protect (protected (drop 1 m.state.active)) m.state }) c.self.view_is
 
 pub returns-clause-inner : goal.returns-clause-inner

@@ -19,5 +19,5 @@ invariant_of-self g c = record {
 pub returns : goal.returns
 returns g c =
     let i = c.self.inside in
-    ap (λ (w : Window ℕ). shown_by (parts_of (g.E.TwoEnds.ends i.text) (g.M.TwoEnds.ends i.marks) i.store i.meta i.trace (i.position - c.args.position) w)) c.drop_front.ensures
+    ap (λ (w : Window ℕ). shown_by i.width (parts_of (g.E.TwoEnds.ends i.text) (g.M.TwoEnds.ends i.marks) i.store i.meta i.trace (i.position - c.args.position) w)) c.drop_front.ensures
     ∙ ap (λ (m : Shown). record m { state = released c.args.output c.args.position m.state }) c.self.view_is

@@ -16,7 +16,7 @@ returns-in-Ok-clause-taken g c = λ environment.
 pub returns-in-Ok-clause-before : goal.returns-in-Ok-clause-before
 returns-in-Ok-clause-before g c =
     let s = c.args.self.now.state in
-    let e : Environment = record { tape = record { bytes = []; ended = false } } in
+    let e : Environment = record { tape = record { bytes = []; ended = false }; width = c.args.self.now.width } in
     let is : record_of e s ≡ Some (said_by c.in-Ok.short) = move_recorded e s (c.if-not-is_brief.ensures.moves refl) ∙ ap Some (sym c.in-Ok.ensures.recorded) in
     record_leads_back e s c.move_briefly.new.self.state (said_by c.in-Ok.short) c.is_in_its_room.ensures.proper
     (move_taken e s c.move_briefly.new.self.state c.in-Ok.ensures.ok c.if-not-move_fits.ensures) is

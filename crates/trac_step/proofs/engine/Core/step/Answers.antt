@@ -8,27 +8,27 @@ use Rattle.trac_step.proofs.engine.Core.step.Goals as goal
 
 pub returns-clause-taken : goal.returns-clause-taken
 returns-clause-taken g c =
-    taken_and_before c.next_step.result (λ r. recorded_by r) (environment_of c.args.tape) c.args.self.now.state c.next_step.new.self.state
+    taken_and_before c.next_step.result (λ r. recorded_by r) (environment_of c.args.self.now.width c.args.tape) c.args.self.now.state c.next_step.new.self.state
     c.is_in_its_room.ensures.proper c.next_step.ensures.taken c.next_step.ensures.recorded
 
 pub returns-clause-weighs : goal.returns-clause-weighs
-returns-clause-weighs g c = weighs_within c.next_step.result recorded_by (environment_of c.args.tape) c.args.self.now.state c.next_step.ensures.recorded
+returns-clause-weighs g c = weighs_within c.next_step.result recorded_by (environment_of c.args.self.now.width c.args.tape) c.args.self.now.state c.next_step.ensures.recorded
 
 pub returns-clause-texts : goal.returns-clause-texts
 returns-clause-texts g c =
-    texts_are_back recorded_by (environment_of c.args.tape) c.args.self.now.state c.next_step.new.self.state c.next_step.result c.next_step.ensures.taken c.next_step.ensures.recorded
+    texts_are_back recorded_by (environment_of c.args.self.now.width c.args.tape) c.args.self.now.state c.next_step.new.self.state c.next_step.result c.next_step.ensures.taken c.next_step.ensures.recorded
 
 pub returns-clause-storage : goal.returns-clause-storage
 returns-clause-storage g c =
-    storage_is_back recorded_by (environment_of c.args.tape) c.args.self.now.state c.next_step.new.self.state c.next_step.result c.next_step.ensures.taken c.next_step.ensures.recorded
+    storage_is_back recorded_by (environment_of c.args.self.now.width c.args.tape) c.args.self.now.state c.next_step.new.self.state c.next_step.result c.next_step.ensures.taken c.next_step.ensures.recorded
 
 pub returns-clause-rest : goal.returns-clause-rest
 returns-clause-rest g c =
-    rest_is_back recorded_by (environment_of c.args.tape) c.args.self.now.state c.next_step.new.self.state c.next_step.result c.next_step.ensures.taken c.next_step.ensures.recorded
+    rest_is_back recorded_by (environment_of c.args.self.now.width c.args.tape) c.args.self.now.state c.next_step.new.self.state c.next_step.result c.next_step.ensures.taken c.next_step.ensures.recorded
 
 pub returns-clause-proper : goal.returns-clause-proper
 returns-clause-proper g c =
-    on_ok_weaker c.next_step.result (λ h. step_proper (environment_of c.args.tape) c.args.self.now.state c.next_step.new.self.state c.is_in_its_room.ensures.proper h)
+    on_ok_weaker c.next_step.result (λ h. step_proper (environment_of c.args.self.now.width c.args.tape) c.args.self.now.state c.next_step.new.self.state c.is_in_its_room.ensures.proper h)
     c.next_step.ensures.taken
 
 pub returns-clause-held : goal.returns-clause-held
