@@ -197,11 +197,11 @@ function drawTicks() {
 // What the page has of the run, in words.
 function showExtent() {
   const end = data.first + run.count;
-  const why = data.why === "Ended" ? "" : `; the run ends there: ${data.why}`;
-  const stopped = data.why ? why : "; the program goes on after that";
-  byId("extent").textContent = data.first
-    ? `It has the last ${grouped(run.count)} of ${grouped(end)} steps, from step ${grouped(data.first)} on${stopped}.`
-    : `It has all ${grouped(end)} steps${stopped}.`;
+  const steps = (count) => (count === 1 ? "1 step" : `${grouped(count)} steps`);
+  const which = data.first ? `the last ${grouped(run.count)} of ${steps(end)}, from step ${grouped(data.first)} on`
+    : data.why ? `all ${steps(end)}` : `the first ${steps(end)}`;
+  const how = data.why === "Ended" ? "" : data.why ? `; the run ends there: ${data.why}` : "; the program goes on after that";
+  byId("extent").textContent = `The page has ${which}${how}.`;
 }
 
 function start() {
