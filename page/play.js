@@ -108,7 +108,15 @@ const ACTIONS = {
   large: () => toggle("large", "large"),
   whole: () => toggle("whole", "whole"),
   theme: () => changeTheme(),
+  read: () => showHelp(),
 };
+
+// Opens what says how to read the page, and the keys.
+function showHelp() {
+  for (const id of ["keys", "help"]) byId(id).open = true;
+  byId("help").scrollIntoView();
+  byId("help").firstElementChild.focus();
+}
 
 // Turns a look of the page on or off.
 function toggle(id, name) {
@@ -152,6 +160,7 @@ function actionOf(event) {
     l: "large",
     w: "whole",
     d: "theme",
+    "?": "read",
   }[event.key];
   if (name) return name;
   if (event.key !== " " || event.target.closest("button, summary")) return null;
