@@ -1,7 +1,7 @@
 // The parts of a state beside its text: begun functions, forms, blocks, settings, and what was printed.
 
 const BOXES = 10;
-const WHOLE_BOXES = 1000;
+const WHOLE_BOXES = 200;
 const ROWS = 200;
 const TERMINAL = 6000;
 
