@@ -118,14 +118,17 @@ function callStep(step, isForward) {
   return low > 0 ? calls.all[low - 1].step : 0;
 }
 
-// Has a click on a row go to its call, and arrow keys go from row to row.
+// Has a click on a row go to its call, arrow keys go from row to row, and Enter in the filter to the first call that is left.
 function startCalls(go) {
   gatherCalls();
   const box = byId("calls");
   box.addEventListener("scroll", () => requestAnimationFrame(drawCalls));
   box.addEventListener("click", (event) => {
     const row = event.target.closest("button.call");
-    if (row) go(calls.shown[Number(row.dataset.index)].step);
+    if (!row) return;
+    go(calls.shown[Number(row.dataset.index)].step);
+    // on a small screen the list is far below what the click changes
+    byId("rules").scrollIntoView({ block: "nearest" });
   });
   box.addEventListener("keydown", (event) => {
     const by = { ArrowDown: 1, ArrowUp: -1 }[event.key];
@@ -140,4 +143,7 @@ function startCalls(go) {
     box.querySelector(`[data-index="${index}"]`)?.focus({ preventScroll: true });
   });
   byId("filter").addEventListener("input", (event) => filterCalls(event.target.value));
+  byId("filter").addEventListener("keydown", (event) => {
+    if (event.key === "Enter" && calls.shown.length) go(calls.shown[0].step);
+  });
 }
