@@ -93,7 +93,7 @@ function showCall(step) {
   drawCalls();
 }
 
-// Shows the calls that have the filter's text.
+// Shows the calls that have the filter's text, from the first of them on.
 function filterCalls(word) {
   const wanted = word.toLowerCase();
   const has = (entry) => `${entry.call} ${valueWords(entry).join(" ")}`.toLowerCase().includes(wanted);
@@ -103,6 +103,7 @@ function filterCalls(word) {
     : grouped(calls.all.length);
   calls.current = -1;
   showCall(run.at);
+  if (wanted) byId("calls").scrollTop = 0;
   drawCalls();
 }
 
@@ -125,7 +126,10 @@ function startCalls(go) {
   box.addEventListener("scroll", () => requestAnimationFrame(drawCalls));
   box.addEventListener("click", (event) => {
     const row = event.target.closest("button.call");
-    if (row) go(calls.shown[Number(row.dataset.index)].step);
+    if (!row) return;
+    go(calls.shown[Number(row.dataset.index)].step);
+    // a finger or the mouse is to see what it did; keys stay where they are
+    if (event.detail > 0 && byId("stage").getBoundingClientRect().top < 0) byId("stage").scrollIntoView();
   });
   box.addEventListener("keydown", (event) => {
     const by = { ArrowDown: 1, ArrowUp: -1 }[event.key];
