@@ -93,17 +93,28 @@ function showCall(step) {
   drawCalls();
 }
 
-// Shows the calls that have the filter's text, from the first of them on.
+// Draws the list anew, with the call of the step in its middle. The list must have its height before it is scrolled.
+function redrawCalls() {
+  calls.current = -1;
+  drawCalls();
+  showCall(run.at);
+}
+
+// Shows the calls that have the filter's text, from the first of them on. `->` does for the arrow, which few keyboards have.
 function filterCalls(word) {
   const wanted = word.toLowerCase();
-  const has = (entry) => `${entry.call} ${valueWords(entry).join(" ")}`.toLowerCase().includes(wanted);
+  const arrowed = wanted.replace(/->|=>/, (sign) => (sign === "->" ? "→" : "⇒"));
+  const has = (entry) => {
+    const text = `${entry.call} ${valueWords(entry).join(" ")}`.toLowerCase();
+    return text.includes(wanted) || text.includes(arrowed);
+  };
   calls.shown = wanted ? calls.all.filter(has) : calls.all;
   byId("calls-count").textContent = wanted
     ? `${grouped(calls.shown.length)} of ${grouped(calls.all.length)}`
     : grouped(calls.all.length);
-  calls.current = -1;
-  showCall(run.at);
-  if (wanted) byId("calls").scrollTop = 0;
+  redrawCalls();
+  if (!wanted) return;
+  byId("calls").scrollTop = 0;
   drawCalls();
 }
 

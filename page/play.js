@@ -126,7 +126,7 @@ function toggle(id, name) {
   looks[name] = isOn;
   draw();
   drawTicks();
-  drawCalls();
+  redrawCalls();
 }
 
 // Goes from dark to light or back.
