@@ -93,16 +93,28 @@ function showCall(step) {
   drawCalls();
 }
 
-// Shows the calls that have the filter's text.
+// Draws the list anew, with the call of the step in its middle. The list must have its height before it is scrolled.
+function redrawCalls() {
+  calls.current = -1;
+  drawCalls();
+  showCall(run.at);
+}
+
+// Shows the calls that have the filter's text, from the first of them on. `->` does for the arrow, which few keyboards have.
 function filterCalls(word) {
   const wanted = word.toLowerCase();
-  const has = (entry) => `${entry.call} ${valueWords(entry).join(" ")}`.toLowerCase().includes(wanted);
+  const arrowed = wanted.replace(/->|=>/, (sign) => (sign === "->" ? "→" : "⇒"));
+  const has = (entry) => {
+    const text = `${entry.call} ${valueWords(entry).join(" ")}`.toLowerCase();
+    return text.includes(wanted) || text.includes(arrowed);
+  };
   calls.shown = wanted ? calls.all.filter(has) : calls.all;
   byId("calls-count").textContent = wanted
     ? `${grouped(calls.shown.length)} of ${grouped(calls.all.length)}`
     : grouped(calls.all.length);
-  calls.current = -1;
-  showCall(run.at);
+  redrawCalls();
+  if (!wanted) return;
+  byId("calls").scrollTop = 0;
   drawCalls();
 }
 
@@ -118,7 +130,7 @@ function callStep(step, isForward) {
   return low > 0 ? calls.all[low - 1].step : 0;
 }
 
-// Has a click on a row go to its call, arrow keys go from row to row, and Enter in the filter to the first call that is left.
+// Has a click on a row go to its call, and arrow keys go from row to row.
 function startCalls(go) {
   gatherCalls();
   const box = byId("calls");
@@ -127,8 +139,8 @@ function startCalls(go) {
     const row = event.target.closest("button.call");
     if (!row) return;
     go(calls.shown[Number(row.dataset.index)].step);
-    // on a small screen the list is far below what the click changes
-    byId("rules").scrollIntoView({ block: "nearest" });
+    // a finger or the mouse is to see what it did; keys stay where they are
+    if (event.detail > 0 && byId("stage").getBoundingClientRect().top < 0) byId("stage").scrollIntoView();
   });
   box.addEventListener("keydown", (event) => {
     const by = { ArrowDown: 1, ArrowUp: -1 }[event.key];
@@ -143,7 +155,4 @@ function startCalls(go) {
     box.querySelector(`[data-index="${index}"]`)?.focus({ preventScroll: true });
   });
   byId("filter").addEventListener("input", (event) => filterCalls(event.target.value));
-  byId("filter").addEventListener("keydown", (event) => {
-    if (event.key === "Enter" && calls.shown.length) go(calls.shown[0].step);
-  });
 }

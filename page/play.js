@@ -126,7 +126,7 @@ function toggle(id, name) {
   looks[name] = isOn;
   draw();
   drawTicks();
-  drawCalls();
+  redrawCalls();
 }
 
 // Goes from dark to light or back.
@@ -177,6 +177,8 @@ function onKey(event) {
     filter.value = "";
     filterCalls("");
     filter.blur();
+  } else if (event.key === "Enter" && event.target === filter) {
+    if (calls.shown.length) stopAndGo(calls.shown[0].step);
   } else {
     const name = actionOf(event);
     if (!name) return;
