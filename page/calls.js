@@ -93,16 +93,28 @@ function showCall(step) {
   drawCalls();
 }
 
-// Shows the calls that have the filter's text.
+// Draws the list anew, with the call of the step in its middle. The list must have its height before it is scrolled.
+function redrawCalls() {
+  calls.current = -1;
+  drawCalls();
+  showCall(run.at);
+}
+
+// Shows the calls that have the filter's text, from the first of them on. `->` does for the arrow, which few keyboards have.
 function filterCalls(word) {
   const wanted = word.toLowerCase();
-  const has = (entry) => `${entry.call} ${valueWords(entry).join(" ")}`.toLowerCase().includes(wanted);
+  const arrowed = wanted.replace(/->|=>/, (sign) => (sign === "->" ? "→" : "⇒"));
+  const has = (entry) => {
+    const text = `${entry.call} ${valueWords(entry).join(" ")}`.toLowerCase();
+    return text.includes(wanted) || text.includes(arrowed);
+  };
   calls.shown = wanted ? calls.all.filter(has) : calls.all;
   byId("calls-count").textContent = wanted
     ? `${grouped(calls.shown.length)} of ${grouped(calls.all.length)}`
     : grouped(calls.all.length);
-  calls.current = -1;
-  showCall(run.at);
+  redrawCalls();
+  if (!wanted) return;
+  byId("calls").scrollTop = 0;
   drawCalls();
 }
 
@@ -125,7 +137,10 @@ function startCalls(go) {
   box.addEventListener("scroll", () => requestAnimationFrame(drawCalls));
   box.addEventListener("click", (event) => {
     const row = event.target.closest("button.call");
-    if (row) go(calls.shown[Number(row.dataset.index)].step);
+    if (!row) return;
+    go(calls.shown[Number(row.dataset.index)].step);
+    // a finger or the mouse is to see what it did; keys stay where they are
+    if (event.detail > 0 && byId("stage").getBoundingClientRect().top < 0) byId("stage").scrollIntoView();
   });
   box.addEventListener("keydown", (event) => {
     const by = { ArrowDown: 1, ArrowUp: -1 }[event.key];

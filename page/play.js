@@ -108,7 +108,15 @@ const ACTIONS = {
   large: () => toggle("large", "large"),
   whole: () => toggle("whole", "whole"),
   theme: () => changeTheme(),
+  read: () => showHelp(),
 };
+
+// Opens what says how to read the page, and the keys.
+function showHelp() {
+  for (const id of ["keys", "help"]) byId(id).open = true;
+  byId("help").scrollIntoView();
+  byId("help").firstElementChild.focus();
+}
 
 // Turns a look of the page on or off.
 function toggle(id, name) {
@@ -118,7 +126,7 @@ function toggle(id, name) {
   looks[name] = isOn;
   draw();
   drawTicks();
-  drawCalls();
+  redrawCalls();
 }
 
 // Goes from dark to light or back.
@@ -152,6 +160,7 @@ function actionOf(event) {
     l: "large",
     w: "whole",
     d: "theme",
+    "?": "read",
   }[event.key];
   if (name) return name;
   if (event.key !== " " || event.target.closest("button, summary")) return null;
@@ -168,6 +177,8 @@ function onKey(event) {
     filter.value = "";
     filterCalls("");
     filter.blur();
+  } else if (event.key === "Enter" && event.target === filter) {
+    if (calls.shown.length) stopAndGo(calls.shown[0].step);
   } else {
     const name = actionOf(event);
     if (!name) return;
@@ -197,11 +208,11 @@ function drawTicks() {
 // What the page has of the run, in words.
 function showExtent() {
   const end = data.first + run.count;
-  const why = data.why === "Ended" ? "" : `; the run ends there: ${data.why}`;
-  const stopped = data.why ? why : "; the program goes on after that";
-  byId("extent").textContent = data.first
-    ? `It has the last ${grouped(run.count)} of ${grouped(end)} steps, from step ${grouped(data.first)} on${stopped}.`
-    : `It has all ${grouped(end)} steps${stopped}.`;
+  const steps = (count) => (count === 1 ? "1 step" : `${grouped(count)} steps`);
+  const which = data.first ? `the last ${grouped(run.count)} of ${steps(end)}, from step ${grouped(data.first)} on`
+    : data.why ? `all ${steps(end)}` : `the first ${steps(end)}`;
+  const how = data.why === "Ended" ? "" : data.why ? `; the run ends there: ${data.why}` : "; the program goes on after that";
+  byId("extent").textContent = `The page has ${which}${how}.`;
 }
 
 function start() {

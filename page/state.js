@@ -1,7 +1,7 @@
 // The parts of a state beside its text: begun functions, forms, blocks, settings, and what was printed.
 
 const BOXES = 10;
-const WHOLE_BOXES = 1000;
+const WHOLE_BOXES = 200;
 const ROWS = 200;
 const TERMINAL = 6000;
 
@@ -76,11 +76,18 @@ function addForm(parent, name, text) {
   } else {
     for (const part of text.slice(0, front).split(/(<(?:\d+|\^)>)/)) {
       if (part === "<^>") parent.append(labelled(make("span", "pointer"), "pointer"));
-      else if (/^<\d+>$/.test(part)) parent.append(labelled(make("span", "gap", part.slice(1, -1)), `gap ${part.slice(1, -1)}`));
+      else if (/^<\d+>$/.test(part)) parent.append(gapOf(part.slice(1, -1)));
       else addText(parent, part);
     }
   }
   if (front < text.length) parent.append(leftOut(lengthOf(text.slice(front))));
+}
+
+// A gap as a pill. Who copies it gets it as the debugger prints it.
+function gapOf(number) {
+  const gap = labelled(make("span", "gap"), `gap ${number}`);
+  gap.append(make("span", "copied", "<"), number, make("span", "copied", ">"));
+  return gap;
 }
 
 // Gives an element a name for screen readers.

@@ -9,7 +9,7 @@ import tempfile
 import time
 
 # What keys have beside their names.
-CODES = {"ArrowLeft": 37, "ArrowRight": 39, "Home": 36, "End": 35, " ": 32}
+CODES = {"ArrowLeft": 37, "ArrowRight": 39, "Home": 36, "End": 35, " ": 32, "Enter": 13, "Escape": 27}
 
 
 def find():

@@ -47,6 +47,7 @@ FILE is the whole input of the program. Commands are read from standard input, o
   r NAME        back to a call of NAME
   p             show the state
   c             show what was printed, and forget the steps so far
+  c COUNT       keep the last COUNT steps, and show what was printed before them
   q             end
 
 There is no prompt. NAME is a primitive or any other name that a call begins with; a form is met as
