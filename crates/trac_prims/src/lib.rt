@@ -29,4 +29,5 @@ pub use planning::plan;
 pub use tape::Tape;
 pub use trac_rules::kind::Kind;
 pub use trac_rules::refusal::Refusal;
+pub use trac_rules::width::Width;
 pub use tracing::beginning_of;

@@ -7,9 +7,10 @@ use Rattle.trac_rules.specs.declared.refusal.Refusal.{Refusal}
 use Rattle.trac_rules.specs.declared.refusal.Refusal.TheVariants.{TooLong, NeedInput, Ended, JournalFull, AtStart, Closed}
 use Rattle.trac_rules.specs.declared.reply.Reply.{Reply}
 use Rattle.trac_rules.specs.declared.reply.Reply.TheVariants.{Done, Refused}
+use Rattle.trac_rules.specs.declared.width.Width.{Width}
 use Rattle.trac_rules.specs.State.{State}
 use Rattle.trac_rules.specs.Stepping.{step}
-use Rattle.trac_rules.specs.Session.{PlainSession, Feed, End, Step, Back, Commit, Answer, done, refused, stepped_to, backed_to, committed, answer, accepted_by, over}
+use Rattle.trac_rules.specs.Session.{PlainSession, Command, Feed, End, Step, Back, Commit, Answer, done, refused, stepped_to, backed_to, committed, answer, accepted_by, over}
 use Rattle.trac_rules.proofs.Refusals.{step_refusals, step_refused_otherwise}
 
 -- a refused command is not done
@@ -223,3 +224,33 @@ backed_to_refused (s ∷ rest) p q r h = absurd (done_of_refused r q (record p {
 pub Back_refused : (p q : PlainSession) (refusal : Refusal) → answer Back p ≡ refused refusal q → (q ≡ p) × (refusal ≡ AtStart) × (p.earlier ≡ [])
 unfolding answer
 Back_refused p q r h = backed_to_refused p.earlier p q r h
+
+-- ---- what no command changes
+
+-- where two answers leave this width, the chosen one does
+pub either_width : (b : Bool) (x y : Answer) (width : Width) → x.session.width ≡ width → y.session.width ≡ width → (if b then x else y).session.width ≡ width
+either_width true x y width first second = first
+either_width false x y width first second = second
+
+pub stepped_to_width : (x : Result State Refusal) (p : PlainSession) → (stepped_to x p).session.width ≡ p.width
+stepped_to_width (Ok t) p = refl
+stepped_to_width (Err refusal) p = refl
+
+pub backed_to_width : (earlier : List State) (p : PlainSession) → (backed_to earlier p).session.width ≡ p.width
+backed_to_width [] p = refl
+backed_to_width (s ∷ earlier) p = refl
+
+-- a session has numbers of the same width after each command
+pub answer_width : (command : Command) (p : PlainSession) → (answer command p).session.width ≡ p.width
+unfolding answer
+answer_width (Feed bytes) p =
+    let more : PlainSession = record p { tape = record p.tape { bytes = p.tape.bytes ++ bytes } } in
+    let within : Bool = leb (length p.tape.bytes + length bytes) TAPE_LIMIT in
+    either_width p.tape.ended (refused Closed p) (if within then done more else refused TooLong p) p.width refl
+        (either_width within (done more) (refused TooLong p) p.width refl refl)
+answer_width End p = refl
+answer_width Step p =
+    either_width (ltb (length p.earlier) p.limit) (stepped_to (step (over p.width p.tape) p.last) p) (refused JournalFull p) p.width
+        (stepped_to_width (step (over p.width p.tape) p.last) p) refl
+answer_width Back p = backed_to_width p.earlier p
+answer_width (Commit keep) p = refl

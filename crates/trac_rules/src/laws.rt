@@ -9,6 +9,7 @@ ghost use Rattle.trac_rules.specs.Handling.{keeping};
 ghost use Rattle.trac_rules.specs.Limits.{may_be_put};
 ghost use Rattle.trac_rules.specs.Matching.{protected, IsBalanced};
 ghost use Rattle.trac_rules.specs.Proper.{AreProperForms, IsProper, IsProperStorage, is_proper};
+ghost use Rattle.trac_rules.specs.Session.{Command, PlainSession, answer};
 ghost use Rattle.trac_rules.specs.State.{Block, Environment, Forms, State, Storage, initial};
 ghost use Rattle.trac_rules.specs.Stepping.{step};
 
@@ -82,4 +83,9 @@ pub fn limits_are_as_stated()
     ensures output { OUTPUT_LIMIT ≡ 16777216 }
     ensures tape { TAPE_LIMIT ≡ 33554432 }
     ensures journal { JOURNAL_LIMIT ≡ 1048576 }
+{}
+
+/// Whatever is asked of a session, it has numbers of the width that it began with.
+pub fn widths_stay()
+    ensures { (command : Command) (p : PlainSession) → (answer command p).session.width ≡ p.width }
 {}

@@ -73,7 +73,7 @@ pub fn worked_numerals()
     ensures minus_zero_second { is_greater (codes "0") (codes "-0") ≡ false }
     ensures longer { is_greater (numeral_of (codes "a10")) (numeral_of (codes "b9")) ≡ true }
     ensures leading_zeros { is_greater (codes "0009") (codes "10") ≡ false }
-    ensures past_the_range { is_greater (codes "9223372036854775809") (codes "9223372036854775808") ≡ true }
+    ensures past_the_range { is_greater (codes "340282366920938463463374607431768211457") (codes "340282366920938463463374607431768211456") ≡ true }
 {}
 
 /// Where numbers of each width end.

@@ -7,3 +7,4 @@ pub mod writing;
 
 pub use ending::Ending;
 pub use running::{BUDGET_LIMIT, DEFAULT_BUDGET, Options, budget_of, run};
+pub use trac_rules::width::Width;

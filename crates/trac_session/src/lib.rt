@@ -12,5 +12,5 @@ mod walking;
 pub use commands::{Command, Replies, Reply};
 pub use session::Session;
 pub use trac_rules::refusal::Refusal;
-pub use trac_step::{Machine, Store};
+pub use trac_step::{Machine, Store, Width};
 pub use walk::Walk;
