@@ -247,10 +247,10 @@ answer_width (Feed bytes) p =
     let more : PlainSession = record p { tape = record p.tape { bytes = p.tape.bytes ++ bytes } } in
     let within : Bool = leb (length p.tape.bytes + length bytes) TAPE_LIMIT in
     either_width p.tape.ended (refused Closed p) (if within then done more else refused TooLong p) p.width refl
-        (either_width within (done more) (refused TooLong p) p.width refl refl)
+    (either_width within (done more) (refused TooLong p) p.width refl refl)
 answer_width End p = refl
 answer_width Step p =
     either_width (ltb (length p.earlier) p.limit) (stepped_to (step (over p.width p.tape) p.last) p) (refused JournalFull p) p.width
-        (stepped_to_width (step (over p.width p.tape) p.last) p) refl
+    (stepped_to_width (step (over p.width p.tape) p.last) p) refl
 answer_width Back p = backed_to_width p.earlier p
 answer_width (Commit keep) p = refl
