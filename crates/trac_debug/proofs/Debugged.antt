@@ -1,10 +1,10 @@
 -- A session of the debugger, line by line.
-use Rattle.std.proofs.Common.{◌≡◌, ℕ, ◌+◌, ◌==◌, ◌<◌, ◌≤◌, not, Bool, true, false, List, [], ◌∷◌, ◌++◌, length, take, drop, refl, sym, ap, subst, ◌∙◌, arith, inl, inr, ⊎_elim}
+use Rattle.std.proofs.Common.{◌≡◌, ℕ, ◌+◌, ◌-◌, ◌*◌, ◌==◌, ◌<◌, ◌≤◌, not, Bool, true, false, List, [], ◌∷◌, ◌++◌, length, take, drop, refl, sym, ap, subst, ◌∙◌, arith, inl, inr, ⊎_elim}
 use Rattle.std.specs.Prelude.{Option, Some, Result, Ok, Err, IfErr, IsOkUnless, nat_le, if◌then◌else◌}
 use Rattle.std.specs.Io.KnownBytes.{Appends, Consumes, IsAtEnd, Keeps}
 use Rattle.std.proofs.lemmas.Bool.{false≢true, cond-true, cond-false, le-leb, lt-leb, cases_lt}
 use Rattle.std.proofs.lemmas.Bool.Decides.{nat_tests}
-use Rattle.std.proofs.lemmas.List.{append-nil, append_assoc, length-append, length-take-le}
+use Rattle.std.proofs.lemmas.List.{append-nil, append_assoc, length-append, length-drop, length-take-le}
 use Rattle.std.proofs.Math.Seq.{take-append_seam}
 use Rattle.trac_rules.specs.declared.width.Width.{Width}
 use Rattle.trac_rules.specs.declared.limit.TheConstants.{TAPE_LIMIT}
@@ -25,7 +25,7 @@ use Rattle.trac_debug.specs.Replies.{Replies}
 use Rattle.trac_debug.specs.Debugging.{Turn, Passes, Does, Ends, Takes, MayWrite, MayFollow, FollowsFirst, MayShow, RepliesToFirst, ready, shown_where, turn_at, turn_of}
 use Rattle.trac_debug.specs.Debugs.{UnlessFault, UnlessWrite, Debugs, IsReady, MayRefuseTape, IsNotReplied, Settles, Stops, Advances, Halts}
 use Rattle.trac_debug.specs.Pending.{Pending}
-use Rattle.trac_debug.specs.Reading.{IsFront, Gathers, MayFail}
+use Rattle.trac_debug.specs.Reading.{HELD_LIMIT, IsFront, Gathers, MayFail}
 use Rattle.trac_debug.specs.Views.{command_seen}
 use Rattle.trac_debug.proofs.Existing.{some_reply, some_text}
 use Rattle.trac_debug.proofs.Splitting.{first_line}
@@ -180,12 +180,26 @@ stopped (Ends stop) p a b ending stops = record {
 read_on : (old new : Pending) (got more : List ℕ) → new.bytes ≡ old.bytes ++ got → new.bytes ++ more ≡ old.bytes ++ (got ++ more)
 read_on old new got more e = ap (λ t. t ++ more) e ∙ append_assoc old.bytes got more
 
--- a line is done with
-pub advances : (in_old in_new out_old out_new : Option (List ℕ)) (number : ℕ) (old mid new : Pending) (p q : PlainSession) (len whole : ℕ) →
+-- what is held after bytes were read
+held_after : (in_old in_new : Option (List ℕ)) (old mid : Pending) → (read : Gathers in_old in_new old mid) →
+    (length old.bytes + length read.got ≡ length mid.bytes) × (length old.bytes ≤ HELD_LIMIT → length mid.bytes ≤ HELD_LIMIT)
+held_after in_old in_new old mid read =
+    let all : length old.bytes + length read.got ≡ length mid.bytes = sym (ap length read.bytes ∙ length-append old.bytes read.got) in (
+      all,
+      λ held. ⊎_elim
+          (λ (none : read.got ≡ []). omega (arith, all, held, ap length none))
+          (λ (few : length mid.bytes ≤ HELD_LIMIT). few)
+          read.few,
+    )
+
+-- a line is done with, which is not too long
+pub advances : (in_old in_new out_old out_new : Option (List ℕ)) (number : ℕ) (old mid new : Pending) (p q : PlainSession) (len whole : ℕ) → len ≤ LINE_LIMIT →
     Gathers in_old in_new old mid → IsFront mid.bytes mid.ended (Line len whole) → Settles (turn_at number (take len mid.bytes)) p q out_old out_new →
     new ≡ record mid { bytes = drop whole mid.bytes } → Advances in_old in_new out_old out_new number old p new q
-advances in_old in_new out_old out_new number old mid new p q len whole read front over_ after =
+advances in_old in_new out_old out_new number old mid new p q len whole short read front over_ after =
     let line : List ℕ = take len mid.bytes in
+    let held = held_after in_old in_new old mid read in
+    let left : length new.bytes ≡ length mid.bytes - whole = ap (λ (l : Pending). length l.bytes) after ∙ length-drop whole mid.bytes in
     let ended : new.ended ≡ mid.ended = ap (λ (l : Pending). l.ended) after in
     let turn : IsSettled (turn_at number line) p q out_old out_new = settled (turn_at number line) p q out_old out_new over_ in
     record {
@@ -200,6 +214,8 @@ advances in_old in_new out_old out_new number old mid new p q len whole read fro
           ap lines_of (sym (read_on old mid read.got more read.bytes)) ∙ front.2 more (λ over. none (ended ∙ over))
           ∙ ap (λ (l : Pending). line ∷ lines_of (l.bytes ++ more)) (sym after);
       rest = λ lines text stop rest_. turn.takes lines (number + 1) text stop rest_;
+      few = omega (arith, held.0, left, short, front.3);
+      held = λ old_held. omega (arith, held.1 old_held, left);
     }
 
 -- what is said of lines that are the same
@@ -232,6 +248,7 @@ halts_in in_old in_new out_old out_new number old mid p len whole ending read fr
           let all : line ∷ left ≡ lines_of (old.bytes ++ (read.got ++ more)) = sym (front.2 more none) ∙ ap lines_of (read_on old mid read.got more read.bytes) in
           unless_same ending number p turn.written (line ∷ left) (lines_of (old.bytes ++ (read.got ++ more))) all (turn.whole left (number + 1));
       nothing = turn.nothing;
+      held = λ old_held. let held_ = held_after in_old in_new old mid read in omega (arith, held_.0, held_.1 old_held);
     }
 
 -- the session ends before a line, and nothing is written: the lines, whatever more there are, say that it ends so
@@ -251,6 +268,7 @@ halts_before in_old in_new output number old mid p ending read says =
       front = λ more none. ([], ending, all more none, front_of_nothing []);
       whole = λ more none. unless_always ending (MayWrite (lines_of (old.bytes ++ (read.got ++ more))) number p [] ending) (all more none);
       nothing = wrote_nothing ending [] refl;
+      held = λ old_held. let held_ = held_after in_old in_new old mid read in omega (arith, held_.0, held_.1 old_held);
     }
 
 -- at the end of the lines
@@ -292,10 +310,10 @@ halts_late number mid p late some more none =
     ends_first number p (lines_of (mid.bytes ++ more)) at.1 at.0 Budget at.2 (turn_late number at.0 late)
 
 -- a read failed: nothing is written, and more may come
-pub halts_unread : (in_old in_new output : Option (List ℕ)) (number : ℕ) (old : Pending) (p : PlainSession) (ending : Ending) → MayFail in_old in_new old ending →
+pub halts_unread : (in_old in_new output : Option (List ℕ)) (number : ℕ) (old new : Pending) (p : PlainSession) (ending : Ending) → MayFail in_old in_new old new ending →
     Halts in_old in_new output output number old p ending
-halts_unread in_old in_new output number old p ending failed = record {
-  got = failed.got;
+halts_unread in_old in_new output number old new p ending failed = record {
+  got = failed.kept ++ failed.lost;
   written = [];
   saw_end = false;
   took = failed.took;
@@ -303,19 +321,20 @@ halts_unread in_old in_new output number old p ending failed = record {
   closed = λ over. absurd (false≢true (sym failed.open_ ∙ over));
   at_end = λ over. absurd (false≢true over);
   front = λ more none.
-      let some = some_text (lines_of (old.bytes ++ (failed.got ++ more))) number p in
+      let some = some_text (lines_of (old.bytes ++ ((failed.kept ++ failed.lost) ++ more))) number p in
       (some.0, some.1, some.2, front_of_nothing some.0);
   whole = λ more none. ⊎_elim
-      (λ (none_ : ending ≡ Memory). unless_Memory ending (MayWrite (lines_of (old.bytes ++ (failed.got ++ more))) number p [] ending) none_)
-      (λ (fault : ending ≡ Read). unless_Read ending (MayWrite (lines_of (old.bytes ++ (failed.got ++ more))) number p [] ending) fault)
+      (λ (none_ : ending ≡ Memory). unless_Memory ending (MayWrite (lines_of (old.bytes ++ ((failed.kept ++ failed.lost) ++ more))) number p [] ending) none_)
+      (λ (fault : (ending ≡ Read) × (failed.lost ≡ [])). unless_Read ending (MayWrite (lines_of (old.bytes ++ ((failed.kept ++ failed.lost) ++ more))) number p [] ending) fault.0)
       failed.fault;
   nothing = wrote_nothing ending [] refl;
+  held = λ _. failed.few;
 }
 
 -- ---- a whole session
 
 -- what a session has done so far: what was read, what was written, the lines that were replied to, and that what may be written from the
--- line of this number on is the rest
+-- line of this number on is the rest. No more was read than these lines may have and is held
 pub record SoFar (in_old in_now out_old out_now : Option (List ℕ)) (start : PlainSession) (number : ℕ) (lines : Pending) (p : PlainSession) : Type 0 where
   pub got : List ℕ
   pub written : List ℕ
@@ -325,6 +344,9 @@ pub record SoFar (in_old in_now out_old out_now : Option (List ℕ)) (start : Pl
   pub before : List (List ℕ)
   pub splits : (more : List ℕ) → (lines.ended ≡ true → more ≡ []) → lines_of (got ++ more) ≡ before ++ lines_of (lines.bytes ++ more)
   pub rest : (behind : List (List ℕ)) → (text : List ℕ) → (stop : Ending) → MayWrite behind number p text stop → MayWrite (before ++ behind) 1 start (written ++ text) stop
+  pub count : length before + 1 ≡ number
+  pub few : length got ≤ length before * (LINE_LIMIT + 2) + length lines.bytes
+  pub held : length lines.bytes ≤ HELD_LIMIT
 
 -- a tape that is not too long is gone over
 shown_within : (tape : List ℕ) (limit : ℕ) (width : Width) (commands text : List ℕ) (stop : Ending) → length tape ≤ TAPE_LIMIT →
@@ -348,6 +370,9 @@ so_far_none input output lines p none = record {
   before = [];
   splits = λ more _. ap (λ (l : Pending). lines_of (l.bytes ++ more)) (sym none);
   rest = λ behind text stop may. may;
+  count = refl;
+  few = omega arith;
+  held = omega (arith, ap (λ (l : Pending). length l.bytes) none);
 }
 
 -- a line more
@@ -368,6 +393,9 @@ so_far_more in_old in_now in_new out_old out_now out_new start number lines afte
       let here = far.rest (on.line ∷ behind) (on.written ++ text) stop (on.rest behind text stop may) in
       subst (λ ls. MayWrite ls 1 start ((far.written ++ on.written) ++ text) stop) (sym (append_assoc far.before (on.line ∷ []) behind))
       (subst (λ w. MayWrite (far.before ++ (on.line ∷ behind)) 1 start w stop) (sym (append_assoc far.written on.written text)) here);
+  count = omega (arith, length-append far.before (on.line ∷ []), far.count);
+  few = omega (arith, length-append far.got on.got, length-append far.before (on.line ∷ []), far.few, on.few);
+  held = on.held far.held;
 }
 
 -- what is said of an ending without a fault, after what was written
@@ -389,10 +417,10 @@ first_replied start before behind lines written nothing splits none may =
     (subst (λ t. MayWrite (before ++ []) 1 start (written ++ t) Ended) (sym none) may)
 
 -- the end
-pub debugged : (in_old in_now in_new out_old out_now out_new : Option (List ℕ)) (start : PlainSession) (number : ℕ) (lines : Pending) (p : PlainSession) (ending : Ending) →
+pub debugged : (in_old in_now in_new out_old out_now out_new : Option (List ℕ)) (start : PlainSession) (number : ℕ) (lines : Pending) (p : PlainSession) (ending : Ending) → number ≤ LINE_COUNT_LIMIT + 1 →
     SoFar in_old in_now out_old out_now start number lines p → Halts in_now in_new out_now out_new number lines p ending →
     Debugs in_old in_new out_old out_new (MayFollow start) (FollowsFirst start) ending
-debugged in_old in_now in_new out_old out_now out_new start number lines p ending far last =
+debugged in_old in_now in_new out_old out_now out_new start number lines p ending few_lines far last =
     let splits : (more : List ℕ) → (last.saw_end ≡ true → more ≡ []) → lines_of ((far.got ++ last.got) ++ more) ≡ far.before ++ lines_of (lines.bytes ++ (last.got ++ more)) =
     λ more none.
     ap lines_of (append_assoc far.got last.got more) ∙ far.splits (last.got ++ more) (λ over. let at = last.closed over in ap (λ g. g ++ more) at.0 ∙ none at.1) in
@@ -403,6 +431,7 @@ debugged in_old in_now in_new out_old out_now out_new start number lines p endin
     (far.rest (lines_of (lines.bytes ++ (last.got ++ more))) text stop may) in
     record {
       got = far.got ++ last.got;
+      few = omega (arith, length-append far.got last.got, far.count, few_lines, far.few, last.held far.held);
       written = far.written ++ last.written;
       saw_end = last.saw_end;
       took = Consumes-both in_old in_now in_new far.got last.got far.took last.took;
@@ -416,6 +445,7 @@ debugged in_old in_now in_new out_old out_now out_new start number lines p endin
           (MayFollow start ((far.got ++ last.got) ++ more) (far.written ++ last.written) ending)
           (λ may. all more none last.written ending may) (last.whole more none);
       replied = length far.before;
+      few_lines = omega (arith, far.count, few_lines);
       replies = λ more none.
           behind_unless ending (last.written ≡ []) (FollowsFirst start (length far.before) ((far.got ++ last.got) ++ more) (far.written ++ last.written))
           (λ nothing. first_replied start far.before (lines_of (lines.bytes ++ (last.got ++ more))) (lines_of ((far.got ++ last.got) ++ more)) far.written last.written (splits more none) nothing
@@ -431,6 +461,7 @@ debugged_over in_old in_new out_old out_new tape limit width p ending is all =
     λ commands text stop may. shown_within tape limit width commands text stop is.within (subst (λ q. MayFollow q commands text stop) is.is may) in
     record {
       got = all.got;
+      few = all.few;
       written = all.written;
       saw_end = all.saw_end;
       took = all.took;
@@ -441,6 +472,7 @@ debugged_over in_old in_new out_old out_new tape limit width p ending is all =
           unless_behind ending (MayFollow p (all.got ++ more) all.written ending) (MayShow tape limit width (all.got ++ more) all.written ending) (shown (all.got ++ more) all.written ending)
           (all.whole more none);
       replied = all.replied;
+      few_lines = all.few_lines;
       replies = λ more none.
           behind_unless ending (FollowsFirst p all.replied (all.got ++ more) all.written) (RepliesToFirst tape limit width all.replied (all.got ++ more) all.written)
           (λ first. subst (λ q. FollowsFirst q all.replied (all.got ++ more) all.written) is.is first) (all.replies more none);
@@ -459,6 +491,7 @@ some_shown tape limit width commands = ⊎_elim
 pub debugged_not : (input output : Option (List ℕ)) (tape : List ℕ) (limit : ℕ) (width : Width) (ending : Ending) → MayRefuseTape tape ending → Debugs input input output output (MayShow tape limit width) (RepliesToFirst tape limit width) ending
 debugged_not input output tape limit width ending why = record {
   got = [];
+  few = omega arith;
   written = [];
   saw_end = false;
   took = Consumes-nothing input;
@@ -471,6 +504,7 @@ debugged_not input output tape limit width ending why = record {
       unless_always ending (MayShow tape limit width more [] ending) (subst (λ stop. MayShow tape limit width more [] stop) (sym beyond.0) (shown_beyond tape limit width more beyond.1)))
       why;
   replied = 0;
+  few_lines = omega arith;
   replies = λ more none. always_unless ending (RepliesToFirst tape limit width 0 more []) (refl, refl);
 }
 

@@ -1,16 +1,17 @@
 -- Bytes that are read, a read after the other.
-use Rattle.std.proofs.Common.{◌≡◌, ℕ, ◌+◌, ◌-◌, ◌<◌, Bool, true, false, List, [], ◌++◌, length, refl, sym, ap, subst, ◌∙◌, arith, ⊎_elim}
-use Rattle.std.specs.Prelude.{Option, if◌then◌else◌}
-use Rattle.std.specs.Io.KnownBytes.{IsAtEnd}
+use Rattle.std.proofs.Common.{◌≡◌, ℕ, ◌+◌, ◌-◌, ◌<◌, ◌≤◌, Bool, true, false, List, [], ◌++◌, length, refl, sym, ap, subst, ◌∙◌, arith, inl, inr, ⊎_elim}
+use Rattle.std.specs.Prelude.{◌⊎◌, Option, None, Some, take, if◌then◌else◌}
+use Rattle.std.specs.Io.KnownBytes.{Consumes, IsAtEnd, Keeps}
 use Rattle.std.proofs.lemmas.Bool.{false≢true, cases_Bool}
-use Rattle.std.proofs.lemmas.List.{append-nil, append_assoc}
+use Rattle.std.proofs.lemmas.List.{append-nil, append_assoc, length-append, length-take-le}
 use Rattle.trac_run.specs.declared.ending.Ending.{Ending}
+use Rattle.trac_run.specs.declared.ending.Ending.TheVariants.{Memory, Read}
 use Rattle.trac_run.proofs.Known.{Consumes-nothing, Consumes-both}
 use Rattle.trac_debug.specs.declared.lines.Front.{Front}
 use Rattle.trac_debug.specs.declared.lines.Front.TheVariants.{Part}
 use Rattle.trac_debug.specs.declared.lines.TheConstants.{LINE_LIMIT}
 use Rattle.trac_debug.specs.Pending.{Pending}
-use Rattle.trac_debug.specs.Reading.{Gathers, IsFront, MayFail, ReadsMore}
+use Rattle.trac_debug.specs.Reading.{Gathers, HELD_LIMIT, IsFront, MayFail, ReadsMore}
 
 -- nothing is read
 pub gathers_none : (input : Option (List ℕ)) (old : Pending) → (old.ended ≡ true → IsAtEnd input) → Gathers input input old old
@@ -20,7 +21,18 @@ gathers_none input old at_end = record {
   bytes = sym (append-nil old.bytes);
   closed = λ over. (refl, over);
   at_end = at_end;
+  few = inl refl;
 }
+
+-- no more is held after two parts than after the last that gave any
+few_of_both : (got more mid new : List ℕ) → new ≡ mid ++ more → (got ≡ []) ⊎ (length mid ≤ HELD_LIMIT) → (more ≡ []) ⊎ (length new ≤ HELD_LIMIT) → (got ++ more ≡ []) ⊎ (length new ≤ HELD_LIMIT)
+few_of_both got more mid new is first second = ⊎_elim
+    (λ (none : more ≡ []). ⊎_elim
+    (λ (nothing : got ≡ []). inl (ap (λ g. g ++ more) nothing ∙ none))
+    (λ (few : length mid ≤ HELD_LIMIT). inr (omega (arith, few, ap length is, length-append mid more, ap length none)))
+    first)
+    (λ (few : length new ≤ HELD_LIMIT). inr few)
+    second
 
 -- one read more
 pub gathers_more : (a b c : Option (List ℕ)) (old mid new : Pending) → Gathers a b old mid → Gathers b c mid new → Gathers a c old new
@@ -33,18 +45,68 @@ gathers_more a b c old mid new first second = record {
       let two = second.closed one.1 in
       (ap (λ t. t ++ second.got) one.0 ∙ two.0, two.1);
   at_end = second.at_end;
+  few = few_of_both first.got second.got mid.bytes new.bytes second.bytes first.few second.few;
 }
 
+-- what stays as it was has nothing more
+stands_same : (old new : Pending) → new ≡ old → new ≡ record old { bytes = old.bytes ++ [] }
+stands_same old new same = same ∙ ap (λ t. record old { bytes = t }) (sym (append-nil old.bytes))
+
+-- what a reader kept, nothing was read of
+Consumes-kept : (a b : Option (List ℕ)) → Keeps a b → Consumes a b []
+Consumes-kept None b kept = tt
+Consumes-kept (Some xs) None kept = absurd kept
+Consumes-kept (Some xs) (Some ys) kept = sym kept
+
+-- a read that failed
+pub fails_unread : (a b : Option (List ℕ)) (old : Pending) → old.ended ≡ false → length old.bytes ≤ LINE_LIMIT + 1 → Keeps a b → MayFail a b old old Read
+fails_unread a b old open_ short kept = record {
+  kept = [];
+  lost = [];
+  took = Consumes-kept a b kept;
+  stands = stands_same old old refl;
+  fault = inr (refl, refl);
+  open_ = open_;
+  few = omega (arith, short);
+}
+
+-- no memory for what a read gave
+pub fails_unkept : (a b : Option (List ℕ)) (old new : Pending) (buffer : List ℕ) (n : ℕ) → old.ended ≡ false → length old.bytes ≤ LINE_LIMIT + 1 → n ≤ length buffer → length buffer ≤ 4096 →
+    Consumes a b (take n buffer) → new ≡ old → MayFail a b old new Memory
+fails_unkept a b old new buffer n open_ short within size took same = record {
+  kept = [];
+  lost = take n buffer;
+  took = took;
+  stands = stands_same old new same;
+  fault = inl refl;
+  open_ = open_;
+  few = omega (arith, short, size, length-take-le n buffer within);
+}
+
+-- a text that goes on has gone on before
+open_before : (a b : Option (List ℕ)) (old mid : Pending) → Gathers a b old mid → mid.ended ≡ false → old.ended ≡ false
+open_before a b old mid first on = ⊎_elim
+    (λ (over : old.ended ≡ true). absurd (false≢true (sym on ∙ (first.closed over).1)))
+    (λ (open_ : old.ended ≡ false). open_)
+    (cases_Bool old.ended)
+
+-- what was read before a failed read stands after what was there
+stands_later : (old mid new : Pending) (got kept : List ℕ) → mid.bytes ≡ old.bytes ++ got → old.ended ≡ false → mid.ended ≡ false →
+    new ≡ record mid { bytes = mid.bytes ++ kept } → new ≡ record old { bytes = old.bytes ++ (got ++ kept) }
+stands_later old mid new got kept is open_ on stands =
+    let bytes : mid.bytes ++ kept ≡ old.bytes ++ (got ++ kept) = ap (λ t. t ++ kept) is ∙ append_assoc old.bytes got kept in
+    stands ∙ ap (λ t. record mid { bytes = t }) bytes ∙ ap (λ (b : Bool). record { bytes = old.bytes ++ (got ++ kept); ended = b }) (on ∙ sym open_)
+
 -- a read that failed after others
-pub fails_later : (a b c : Option (List ℕ)) (old mid : Pending) (ending : Ending) → Gathers a b old mid → MayFail b c mid ending → MayFail a c old ending
-fails_later a b c old mid ending first failed = record {
+pub fails_later : (a b c : Option (List ℕ)) (old mid new : Pending) (ending : Ending) → Gathers a b old mid → MayFail b c mid new ending → MayFail a c old new ending
+fails_later a b c old mid new ending first failed = record {
+  kept = first.got ++ failed.kept;
+  lost = failed.lost;
   fault = failed.fault;
-  open_ = ⊎_elim
-      (λ (over : old.ended ≡ true). absurd (false≢true (sym failed.open_ ∙ (first.closed over).1)))
-      (λ (open__ : old.ended ≡ false). open__)
-      (cases_Bool old.ended);
-  got = first.got ++ failed.got;
-  took = Consumes-both a b c first.got failed.got first.took failed.took;
+  open_ = open_before a b old mid first failed.open_;
+  took = subst (Consumes a c) (sym (append_assoc first.got failed.kept failed.lost)) (Consumes-both a b c first.got (failed.kept ++ failed.lost) first.took failed.took);
+  stands = stands_later old mid new first.got failed.kept first.bytes (open_before a b old mid first failed.open_) failed.open_ failed.stands;
+  few = omega (arith, failed.few, ap length first.bytes, length-append old.bytes first.got, ap length (append_assoc first.got failed.kept failed.lost), length-append first.got (failed.kept ++ failed.lost));
 }
 
 if_ended : (b : Bool) → b ≡ true → ◌≡◌ {A = ℕ} (if b then 0 else 1) 0

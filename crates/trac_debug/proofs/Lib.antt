@@ -5,4 +5,6 @@ pub mod Said
 pub mod Gathered
 pub mod Taped
 pub mod Existing
+pub mod OneText
 pub mod Debugged
+pub mod Unreplied

@@ -5,7 +5,7 @@ use Rattle.std.specs.List.{ends_with, onto_first, slice_split}
 use Rattle.std.proofs.Math.Seq.{drop-cons}
 use Rattle.std.proofs.lemmas.Bool.{cond-false, cond-true, cases_Bool, ne_eqb}
 use Rattle.std.proofs.lemmas.Bool.Decides.{nat_tests}
-use Rattle.std.proofs.lemmas.List.{append-nil, append_assoc, length-append, length-take, take_more, take-append-drop, take-take, drop_all}
+use Rattle.std.proofs.lemmas.List.{append-nil, append_assoc, length-append, length-take, length-take-le, take_more, take-append-drop, take-take, drop_all}
 use Rattle.trac_rules.specs.declared.byte.TheConstants.{CARRIAGE_RETURN, LINE_FEED}
 use Rattle.trac_debug.specs.declared.lines.TheConstants.{LINE_LIMIT}
 use Rattle.trac_debug.specs.Lines.{between_feeds, lines_of, without_return}
@@ -142,12 +142,18 @@ front_line bytes line ended place len found is within cut =
       omega (arith, within_, length-take place bytes),
       omega (arith, found.0),
       λ more none. line_at bytes more place len found.0 found.1 found.2 within_ cut_,
+      omega (arith, found.0, within_, length-take place bytes, ap length cut_, length-take-le len (take place bytes) within_, length-without_return (take place bytes)),
     )
 
 -- a line at the end of the text, as it is found
 pub front_last : (bytes : List ℕ) (ended : Bool) (len : ℕ) → 0 < length bytes → HasNone is_feed bytes → ended ≡ true → len ≤ length bytes → take len bytes ≡ without_return bytes →
     IsFront bytes ended (Line len (length bytes))
-front_last bytes ended len some none over within cut = (within, omega arith, λ more nothing. line_last bytes more len some none (nothing over) cut)
+front_last bytes ended len some none over within cut = (
+  within,
+  omega arith,
+  λ more nothing. line_last bytes more len some none (nothing over) cut,
+  omega (arith, within, ap length cut, length-take-le len bytes within, length-without_return bytes),
+)
 
 -- ---- tests
 

@@ -8,7 +8,7 @@ use Rattle.trac_run.specs.declared.ending.Ending.TheVariants.{Ended, Budget, Lim
 use Rattle.trac_debug.specs.declared.lines.TheConstants.{LINE_COUNT_LIMIT}
 use Rattle.trac_debug.specs.Lines.{is_within, lines_of}
 use Rattle.trac_debug.specs.Commands.{Command, Quit, command_of}
-use Rattle.trac_debug.specs.Replies.{Replies}
+use Rattle.trac_debug.specs.Replies.{Replies, RepliesWithMemory}
 
 -- ---- one line
 
@@ -37,19 +37,27 @@ turn_at number (b ∷ bs) =
 
 -- ---- all lines
 
--- where the next line comes to this turn, this text in all may be written from this session on, and then the session ends so; `Rest` says
--- it of the lines after, from the session after the turn
-abbrev pub Takes : Turn → PlainSession → (PlainSession → List ℕ → Type 0) → List ℕ → Ending → Type 0
-Takes Passes p Rest text ending = Rest p text
-Takes (Does command) p Rest text ending =
-    (reply : List ℕ) × (q : PlainSession) × (rest : List ℕ) × Replies command p reply q × (text ≡ reply ++ rest) × Rest q rest
-Takes (Ends stop) p Rest text ending = (text ≡ []) × (ending ≡ stop)
+-- where the next line comes to this turn, this text in all may be written from this session on, and then the session ends so; `Replied` says
+-- how a command may be replied to, and `Rest` the same of the lines after, from the session after the turn
+abbrev pub TakesBy : (Command → PlainSession → List ℕ → PlainSession → Type 0) → Turn → PlainSession → (PlainSession → List ℕ → Type 0) → List ℕ → Ending → Type 0
+TakesBy Replied Passes p Rest text ending = Rest p text
+TakesBy Replied (Does command) p Rest text ending =
+    (reply : List ℕ) × (q : PlainSession) × (rest : List ℕ) × Replied command p reply q × (text ≡ reply ++ rest) × Rest q rest
+TakesBy Replied (Ends stop) p Rest text ending = (text ≡ []) × (ending ≡ stop)
 
--- from this session, where the lines from this number on are these, this text may be written, and then the session ends so: at the
--- end of the lines as if asked to
+-- from this session, where the lines from this number on are these and commands are replied to so, this text may be written, and then the
+-- session ends so: at the end of the lines as if asked to
+abbrev pub WritesBy : (Command → PlainSession → List ℕ → PlainSession → Type 0) → List (List ℕ) → ℕ → PlainSession → List ℕ → Ending → Type 0
+WritesBy Replied [] number p text ending = (text ≡ []) × (ending ≡ Ended)
+WritesBy Replied (line ∷ lines) number p text ending =
+    TakesBy Replied (turn_at number line) p (λ q rest. WritesBy Replied lines (number + 1) q rest ending) text ending
+
+-- the same with all replies that there may be
+abbrev pub Takes : Turn → PlainSession → (PlainSession → List ℕ → Type 0) → List ℕ → Ending → Type 0
+Takes turn p Rest text ending = TakesBy Replies turn p Rest text ending
+
 abbrev pub MayWrite : List (List ℕ) → ℕ → PlainSession → List ℕ → Ending → Type 0
-MayWrite [] number p text ending = (text ≡ []) × (ending ≡ Ended)
-MayWrite (line ∷ lines) number p text ending = Takes (turn_at number line) p (λ q rest. MayWrite lines (number + 1) q rest ending) text ending
+MayWrite lines number p text ending = WritesBy Replies lines number p text ending
 
 -- from this session on, with these commands, this text may be written, and then the session ends so
 abbrev pub MayFollow : PlainSession → List ℕ → List ℕ → Ending → Type 0
@@ -65,14 +73,22 @@ FollowsFirst p count commands text = MayWrite (take count (lines_of commands)) 1
 abbrev pub ready : List ℕ → ℕ → Width → PlainSession
 ready tape limit width = record (new_session limit width) { tape = record { bytes = tape; ended = true } }
 
--- the same over any tape, by whether it is not too long: nothing is written where it is
+-- the same over any tape, by whether it is not too long: nothing is written where it is. `Writes` says what is written from a session on
+abbrev pub shown_by : (List (List ℕ) → ℕ → PlainSession → List ℕ → Ending → Type 0) → List ℕ → ℕ → Width → List ℕ → List ℕ → Ending → Bool → Type 0
+shown_by Writes tape limit width commands text ending true = Writes (lines_of commands) 1 (ready tape limit width) text ending
+shown_by Writes tape limit width commands text ending false = (text ≡ []) × (ending ≡ Limit)
+
 abbrev pub shown_where : List ℕ → ℕ → Width → List ℕ → List ℕ → Ending → Bool → Type 0
-shown_where tape limit width commands text ending true = MayWrite (lines_of commands) 1 (ready tape limit width) text ending
-shown_where tape limit width commands text ending false = (text ≡ []) × (ending ≡ Limit)
+shown_where tape limit width commands text ending within = shown_by MayWrite tape limit width commands text ending within
 
 -- over this tape, with such a journal, such numbers and these commands, this text may be written, and then the session ends so
 abbrev pub MayShow : List ℕ → ℕ → Width → List ℕ → List ℕ → Ending → Type 0
 MayShow tape limit width commands text ending = shown_where tape limit width commands text ending (nat_le (length tape) TAPE_LIMIT)
+
+-- the same where there is memory for each step: no reply says that memory was refused
+abbrev pub ShowsWithMemory : List ℕ → ℕ → Width → List ℕ → List ℕ → Ending → Type 0
+ShowsWithMemory tape limit width commands text ending =
+    shown_by (WritesBy RepliesWithMemory) tape limit width commands text ending (nat_le (length tape) TAPE_LIMIT)
 
 -- over this tape, with such a journal and such numbers, this text may be written where the first so many of the lines of these commands are
 -- all that there are: each of them is replied to whole

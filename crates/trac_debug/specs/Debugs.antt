@@ -1,5 +1,5 @@
 -- What the debugger reads and writes.
-use Rattle.std.specs.Prelude.{◌≡◌, ◌⊎◌, ℕ, ◌+◌, ◌<◌, ◌≤◌, Bool, true, List, [], ◌∷◌, ◌++◌, length, Option}
+use Rattle.std.specs.Prelude.{◌≡◌, ◌⊎◌, ℕ, ◌+◌, ◌*◌, ◌<◌, ◌≤◌, Bool, true, List, [], ◌∷◌, ◌++◌, length, Option}
 use Rattle.std.specs.Io.KnownBytes.{Appends, Consumes, IsAtEnd, Keeps}
 use Rattle.trac_rules.specs.declared.width.Width.{Width}
 use Rattle.trac_rules.specs.declared.limit.TheConstants.{TAPE_LIMIT}
@@ -11,7 +11,9 @@ use Rattle.trac_debug.specs.Lines.{lines_of}
 use Rattle.trac_debug.specs.Commands.{Command}
 use Rattle.trac_debug.specs.Replies.{Replies}
 use Rattle.trac_debug.specs.Debugging.{Turn, Passes, Does, Ends, MayWrite, ready}
+use Rattle.trac_debug.specs.declared.lines.TheConstants.{LINE_LIMIT, LINE_COUNT_LIMIT}
 use Rattle.trac_debug.specs.Pending.{Pending}
+use Rattle.trac_debug.specs.Reading.{HELD_LIMIT}
 
 -- ---- a whole session
 
@@ -27,12 +29,18 @@ abbrev pub UnlessWrite : Ending → Type 0 → Type 0
 UnlessWrite Write Fact = Unit {0}
 UnlessWrite ending Fact = Fact
 
--- a session read some commands, and perhaps saw the end of them, and wrote some bytes: however the commands go on after what was
+-- a session reads no more bytes of commands than this: as many lines as there may be, each as long as it may be and with what ends it,
+-- and then as many as are held at most
+abbrev pub MOST_READ : ℕ
+MOST_READ = LINE_COUNT_LIMIT * (LINE_LIMIT + 2) + HELD_LIMIT
+
+-- a session read some commands, no more than it may, and perhaps saw the end of them, and wrote some bytes: however the commands go on after what was
 -- read (not at all where the end was seen), what was written is a front of a text that is stated for all of the commands; where its
 -- ending is not a fault or want of memory it is a whole one, with that ending; and unless the writer failed, what was written are whole
 -- replies, those to the first so many lines: so a reply for which memory was refused is not written in part
 pub record Debugs (in_old in_new out_old out_new : Option (List ℕ)) (Stated : List ℕ → List ℕ → Ending → Type 0) (ToFirst : ℕ → List ℕ → List ℕ → Type 0) (ending : Ending) : Type 0 where
   pub got : List ℕ
+  pub few : length got ≤ MOST_READ
   pub written : List ℕ
   pub saw_end : Bool
   pub took : Consumes in_old in_new got
@@ -41,6 +49,7 @@ pub record Debugs (in_old in_new out_old out_new : Option (List ℕ)) (Stated : 
   pub front : (more : List ℕ) → (saw_end ≡ true → more ≡ []) → (text : List ℕ) × (stop : Ending) × Stated (got ++ more) text stop × IsFrontOf written text
   pub whole : (more : List ℕ) → (saw_end ≡ true → more ≡ []) → UnlessFault ending (Stated (got ++ more) written ending)
   pub replied : ℕ
+  pub few_lines : replied ≤ LINE_COUNT_LIMIT
   pub replies : (more : List ℕ) → (saw_end ≡ true → more ≡ []) → UnlessWrite ending (ToFirst replied (got ++ more) written)
 
 -- ---- parts of a session
@@ -82,7 +91,7 @@ Stops Passes old out_old out_new ending = ⊥
 Stops (Does command) old out_old out_new ending = IsNotReplied command old out_old out_new ending
 Stops (Ends stop) old out_old out_new ending = (ending ≡ stop) × Keeps out_old out_new
 
--- a line stands at the front of the text, whatever comes after it; and what may be written from the next line on, after what was
+-- a line stands at the front of the text, whatever comes after it, and is taken with what ends it; and what may be written from the next line on, after what was
 -- written, may be written from the line of this number on
 pub record Advances (in_old in_new out_old out_new : Option (List ℕ)) (number : ℕ) (lines_old : Pending) (p : PlainSession) (lines_new : Pending) (q : PlainSession) : Type 0 where
   pub got : List ℕ
@@ -94,6 +103,8 @@ pub record Advances (in_old in_new out_old out_new : Option (List ℕ)) (number 
   pub line : List ℕ
   pub splits : (more : List ℕ) → (lines_new.ended ≡ true → more ≡ []) → lines_of (lines_old.bytes ++ (got ++ more)) ≡ line ∷ lines_of (lines_new.bytes ++ more)
   pub rest : (lines : List (List ℕ)) → (text : List ℕ) → (stop : Ending) → MayWrite lines (number + 1) q text stop → MayWrite (line ∷ lines) number p (written ++ text) stop
+  pub few : length lines_old.bytes + length got ≤ length lines_new.bytes + (LINE_LIMIT + 2)
+  pub held : length lines_old.bytes ≤ HELD_LIMIT → length lines_new.bytes ≤ HELD_LIMIT
 
 -- the session ends: a front was written of what may be written from the line of this number on, or, without a fault, the whole; and
 -- nothing, unless the writer failed
@@ -108,3 +119,4 @@ pub record Halts (in_old in_new out_old out_new : Option (List ℕ)) (number : �
   pub front : (more : List ℕ) → (saw_end ≡ true → more ≡ []) → (text : List ℕ) × (stop : Ending) × MayWrite (lines_of (lines_old.bytes ++ (got ++ more))) number p text stop × IsFrontOf written text
   pub whole : (more : List ℕ) → (saw_end ≡ true → more ≡ []) → UnlessFault ending (MayWrite (lines_of (lines_old.bytes ++ (got ++ more))) number p written ending)
   pub nothing : UnlessWrite ending (written ≡ [])
+  pub held : length lines_old.bytes ≤ HELD_LIMIT → length lines_old.bytes + length got ≤ HELD_LIMIT

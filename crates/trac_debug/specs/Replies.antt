@@ -49,3 +49,21 @@ Replies Print old reply new = (reply ≡ state_text old) × (new ≡ old)
 Replies (Commit keep) old reply new = (reply ≡ text_line (codes "commit") (first_kept keep old).output) × (answer (session.Commit keep) old ≡ done new)
 -- it is never replied to: the session ends
 Replies Quit old reply new = (reply ≡ []) × (new ≡ old)
+
+-- the same where there is memory for each step: then a walk says of no step that memory was refused for it
+abbrev pub RepliesWithMemory : Command → PlainSession → List ℕ → PlainSession → Type 0
+RepliesWithMemory (Forward n) old reply new =
+    ShowsWalk (λ steps why. IsWalk session.Step no_goal n old steps why new × (why ≡ Some refusals.Memory → ⊥)) (codes "forward") reply
+RepliesWithMemory (Until name n) old reply new =
+    ShowsWalk (λ steps why. IsSearch session.Step (is_call_of name) n old steps why new × (why ≡ Some refusals.Memory → ⊥)) (codes "until") reply
+RepliesWithMemory command old reply new = Replies command old reply new
+
+-- a reply says that memory was refused for a step
+abbrev pub SaysMemory : List ℕ → Type 0
+SaysMemory reply = (word : List ℕ) × (steps : ℕ) × (reply ≡ walk_line word steps (Some refusals.Memory))
+
+-- what stands where memory is refused for the reply to this command: it is carried out, and there is a reply to that; but nothing is
+-- committed
+abbrev pub StandsUnreplied : Command → PlainSession → PlainSession → Type 0
+StandsUnreplied (Commit keep) old new = new ≡ old
+StandsUnreplied command old new = (reply : List ℕ) × Replies command old reply new

@@ -4,6 +4,7 @@
 mod command;
 mod debugging;
 mod lines;
+mod one_text;
 mod places;
 mod replies;
 mod states;
@@ -13,5 +14,6 @@ mod texts;
 pub use command::{Command, command_in};
 pub use debugging::debug;
 pub use lines::{Front, Lines};
+pub use one_text::one_text_has_no_refused_memory;
 pub use replies::reply_to;
 pub use tape::read_tape;

@@ -1,5 +1,5 @@
 //! The lines of a text that comes in pieces.
-ghost use Rattle.std.specs.Prelude.{◌≡◌, ◌++◌, ◌<◌, ◌≤◌, true, false, [], length, take, drop, not, ◌==◌, IfOk, IfErr, OnOk};
+ghost use Rattle.std.specs.Prelude.{◌≡◌, ◌+◌, ◌++◌, ◌<◌, ◌≤◌, true, false, [], length, take, drop, not, ◌==◌, IfOk, IfErr, OnOk};
 ghost use Rattle.std.specs.Io.KnownBytes.{IsAtEnd};
 ghost use Rattle.trac_debug.specs.Lines.{without_return};
 ghost use Rattle.trac_debug.specs.Reading.{IsFront, IsWhole, Gathers, ReadsMore, MayFail};
@@ -75,13 +75,14 @@ impl<A: Allocator + Copy> Lines<A> {
     /// What stands at the front of the text, after as many reads as it takes to see a whole line, or that it is too long, or
     /// the end; each read asks for at most 4,096 bytes.
     ///
-    /// `Ending::Read`: the reader failed. `Ending::Memory`: memory was refused.
+    /// `Ending::Read`: the reader failed. `Ending::Memory`: memory was refused. What was there stands then, with what was read
+    /// before the last read, and what that one gave is lost.
     pub fn seek<R: Read>(&mut self, input: &mut R) -> Result<Front, Ending>
         requires at_end { self.old.ended ≡ true → IsAtEnd (R.remaining input.old) }
         ensures front { IfOk result (IsFront self.new.bytes self.new.ended) }
         ensures whole { IfOk result IsWhole }
         ensures read { OnOk result (Gathers (R.remaining input.old) (R.remaining input.new) self.old self.new) }
-        ensures failed { IfErr result (MayFail (R.remaining input.old) (R.remaining input.new) self.old) }
+        ensures failed { IfErr result (MayFail (R.remaining input.old) (R.remaining input.new) self.old self.new) }
     {
         loop {
             let front = front_of(self.rest(), self.ended);
@@ -94,13 +95,13 @@ impl<A: Allocator + Copy> Lines<A> {
 
     /// Whether there is any byte more, after one read where that is needed.
     ///
-    /// `Ending::Read`: the reader failed. `Ending::Memory`: memory was refused.
+    /// `Ending::Read`: the reader failed. `Ending::Memory`: memory was refused. As after a refused `seek`, what was there stands.
     pub fn has_more<R: Read>(&mut self, input: &mut R) -> Result<bool, Ending>
         requires at_end { self.old.ended ≡ true → IsAtEnd (R.remaining input.old) }
         ensures more { IfOk result (λ more. more ≡ not (length self.new.bytes == 0)) }
         ensures ended { IfOk result (λ more. more ≡ false → self.new.ended ≡ true) }
         ensures read { OnOk result (Gathers (R.remaining input.old) (R.remaining input.new) self.old self.new) }
-        ensures failed { IfErr result (MayFail (R.remaining input.old) (R.remaining input.new) self.old) }
+        ensures failed { IfErr result (MayFail (R.remaining input.old) (R.remaining input.new) self.old self.new) }
     {
         if self.rest().is_empty() && !self.ended {
             self.read_more(input)?;
@@ -133,9 +134,10 @@ impl<A: Allocator + Copy> Lines<A> {
 
     // Reads once: more bytes, or the end.
     fn read_more<R: Read>(&mut self, input: &mut R) -> Result<(), Ending>
-        requires { self.old.ended ≡ false }
+        requires open_ { self.old.ended ≡ false }
+        requires short { length self.old.bytes ≤ LINE_LIMIT + 1 }
         ensures more { OnOk result (ReadsMore (R.remaining input.old) (R.remaining input.new) self.old self.new) }
-        ensures failed { IfErr result (MayFail (R.remaining input.old) (R.remaining input.new) self.old) }
+        ensures failed { IfErr result (MayFail (R.remaining input.old) (R.remaining input.new) self.old self.new) }
     {
         let mut bytes = [0; READ_SIZE];
         let Ok(count) = input.read(&mut bytes) else {
@@ -147,10 +149,10 @@ impl<A: Allocator + Copy> Lines<A> {
         }
         drop_front(&mut self.bytes, self.taken);
         self.taken = 0;
-        match self.bytes.extend_from_slice(&bytes[..count]) {
-            Ok(()) => Ok(()),
-            Err(_) => Err(Ending::Memory),
-        }
+        let Ok(()) = self.bytes.extend_from_slice(&bytes[..count]) else {
+            return Err(Ending::Memory);
+        };
+        Ok(())
     }
 }
 

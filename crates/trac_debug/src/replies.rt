@@ -1,7 +1,7 @@
 //! The reply to a command.
-ghost use Rattle.std.specs.Prelude.{◌≡◌, ◌++◌, IfOk, OnOk, codes};
+ghost use Rattle.std.specs.Prelude.{◌≡◌, ◌++◌, IfOk, OnErr, OnOk, codes};
 ghost use Rattle.trac_debug.specs.Commands.{Commit};
-ghost use Rattle.trac_debug.specs.Replies.{Replies, reason, refusal_name, walk_line};
+ghost use Rattle.trac_debug.specs.Replies.{Replies, StandsUnreplied, reason, refusal_name, walk_line};
 ghost use Rattle.trac_debug.specs.Texts.{text_line};
 ghost use Rattle.trac_debug.specs.Views.{command_seen};
 
@@ -14,13 +14,14 @@ use trac_session::{Refusal, Session, Walk};
 
 /// Carries out a command, and gives the reply to it, which is exact: a word, how many steps were taken, and why no more
 /// were; or what was released; or the state (this project's profile). To `Quit` nothing is replied. The error is that memory
-/// was refused for the reply: the command is carried out then, but for `Commit`.
+/// was refused for the reply: the command is carried out then, but for `Commit`, which changes nothing.
 pub fn reply_to<A: Allocator + Copy>(
     alloc: A,
     session: &mut Session<A>,
     command: Command<'_>,
 ) -> Result<Vec<u8, A>, AllocError>
-    ensures { IfOk result (λ reply. Replies (command_seen command.entry) session.old reply.items session.new) }
+    ensures replied { IfOk result (λ reply. Replies (command_seen command.entry) session.old reply.items session.new) }
+    ensures unreplied { OnErr result (StandsUnreplied (command_seen command.entry) session.old session.new) }
 {
     match command {
         Command::Forward(count) => walk_reply(alloc, b"forward", session.forward(count)),
@@ -39,7 +40,8 @@ fn commit_reply<A: Allocator + Copy>(
     session: &mut Session<A>,
     keep: usize,
 ) -> Result<Vec<u8, A>, AllocError>
-    ensures { IfOk result (λ reply. Replies (Commit keep) session.old reply.items session.new) }
+    ensures replied { IfOk result (λ reply. Replies (Commit keep) session.old reply.items session.new) }
+    ensures unreplied { OnErr result (session.new ≡ session.old) }
 {
     let mut reply = Vec::new(alloc);
     text_line_into(b"commit", session.pending_before(keep), &mut reply)?;

@@ -4,8 +4,22 @@ use trac_forms::{Block, Form, Item, Store};
 use trac_gap::TwoEnds;
 use trac_step::{Args, Core, Kind, Mark};
 
+/// The whole input of a program that performs each primitive but `hl`, and what it prints.
+pub const EACH_PRIMITIVE: (&[u8], &[u8]) = (
+    b"\
+        #(ds,A,abcbd)#(ss,A,b)#(pf,A)'\
+        #(cl,A,-)#(cs,A,z)#(cc,A,z)#(cn,A,1,z)#(cr,A)#(in,A,d,z)'\
+        #(eq,x,x,1,2)#(gr,2,1,3,4)#(ad,2,3)#(su,9,2)#(ml,2,4)#(dv,9,1)'\
+        #(bu,1,2)#(bi,6,3)#(bc,7)#(bs,1,1)#(br,-1,1)'\
+        #(ds,B,x)#(sb,G,A,B)#(ds,A,y)#(fb,G)#(cl,B)#(eb,G)#(ln,;)'\
+        #(dd,A)#(da)#(ln,;)#(rc)'q#(tn)#(tf)#(cm,;)'\
+        (en)d##(no)#)z;",
+    b"<^>a<1>c<1>da-c-dacdac13578932024x;A;Bq#(tf)\nend#",
+);
+
 /// Whole inputs, and what they print where numbers are of 128 bits. Each run ends with its input.
 pub const PROGRAMS: &[(&[u8], &[u8])] = &[
+    EACH_PRIMITIVE,
     (b"", b""),
     (b"AB'", b"AB"),
     (

@@ -35,6 +35,8 @@ fn each_fault(rt: HostRuntime) -> Result<(), Fail> {
     for (fault, output, ending) in FAULTS.iter() {
         expect_session(&rt, b"AB'", COMMANDS, 1, *fault, output, *ending)?;
     }
+    let (fault, reply) = (Fault::ReadAtEnd, b"forward 3\n");
+    expect_session(&rt, b"AB'", b"s 3\n", 4, fault, reply, Ending::Read)?;
     Ok(())
 }
 

@@ -5,7 +5,8 @@ use crate::faulty::{Fault, Trial, expect_trial, reader_of, writer_of};
 use std::alloc::{AllocError, Allocator, Global};
 use std::process::Abort;
 use std::test::Fail;
-use trac_faults::Refusing;
+use trac_faults::{Call, CallLog, FaultyReader, FaultyWriter, Logged, Refusing};
+use trac_machine_tests::shown::EACH_PRIMITIVE;
 use trac_rules::width::Width;
 use trac_run::{Ending, Options, run};
 
@@ -13,6 +14,12 @@ use trac_run::{Ending, Options, run};
 fn expect(rt: &impl Abort, is_met: bool, most: usize) {
     assert!(rt; is_met, "{most} bytes a read");
 }
+
+const OPTIONS: Options = Options {
+    budget: 1_000_000_000,
+    journal: 64,
+    decimals: Width::W128,
+};
 
 // How a run over this input ends, which comes at most so many bytes at a time, and what it has written.
 fn run_over<A: Allocator + Copy>(
@@ -22,14 +29,9 @@ fn run_over<A: Allocator + Copy>(
     most: usize,
     fault: Fault,
 ) -> Result<(Ending, Vec<u8>), AllocError> {
-    let options = Options {
-        budget: 1_000_000_000,
-        journal: 64,
-        decimals: Width::W128,
-    };
     let mut reader = reader_of(input, most, fault);
     let mut writer = writer_of(rt.alloc(), fault);
-    let ending = run(alloc, &mut reader, &mut writer, options);
+    let ending = run(alloc, &mut reader, &mut writer, OPTIONS);
     Ok((ending, Vec::from_slice(rt.alloc(), writer.contents())?))
 }
 
@@ -129,6 +131,12 @@ const FAULTS_IN_LINES: &[(Fault, &[u8], Ending)] = &[
     (Fault::Read(13), b"<'>it'stail", Ending::Ended),
 ];
 
+// A step is taken before all is read: what it prints is written before the read that fails.
+const FAULTS_AFTER_A_TEXT: &[(Fault, &[u8], Ending)] = &[
+    (Fault::ReadAtEnd, b"AB", Ending::Read),
+    (Fault::None, b"AB", Ending::Ended),
+];
+
 // Where a call fails, the run writes all that was to be written before it, and no more.
 fn expect_faults(
     rt: &(impl Abort + AllocGlobal),
@@ -146,12 +154,64 @@ fn expect_faults(
 fn each_fault(rt: HostRuntime) -> Result<(), Fail> {
     expect_faults(&rt, INPUT, 1, FAULTS)?;
     expect_faults(&rt, LINES, 3, FAULTS_IN_LINES)?;
+    expect_faults(&rt, b"AB'", 3, FAULTS_AFTER_A_TEXT)?;
     Ok(())
 }
 
-// A run over `INPUT`, which writes a front of its output where a request is refused.
+// The calls of a run over `INPUT`, one byte a read: the first line is whole with its eighth byte, and the second with the tenth.
+const CALLS: &[Call] = &[
+    Call::Flush,
+    Call::Read(1),
+    Call::Flush,
+    Call::Read(1),
+    Call::Flush,
+    Call::Read(1),
+    Call::Flush,
+    Call::Read(1),
+    Call::Flush,
+    Call::Read(1),
+    Call::Flush,
+    Call::Read(1),
+    Call::Flush,
+    Call::Read(1),
+    Call::Flush,
+    Call::Read(1),
+    Call::Write(1),
+    Call::Flush,
+    Call::Read(1),
+    Call::Flush,
+    Call::Read(1),
+    Call::Write(1),
+    Call::Flush,
+    Call::Read(0),
+    Call::Flush,
+];
+
+// The calls of a run over a reader and a writer that note them in one log.
+fn noted(rt: &(impl Abort + AllocGlobal)) -> Option<Vec<Call>> {
+    let log = CallLog::new(rt.alloc());
+    let mut reader = Logged::new(FaultyReader::new(INPUT).at_most(1), &log);
+    let mut writer = Logged::new(FaultyWriter::new(rt.alloc()), &log);
+    let ending = run(rt.alloc(), &mut reader, &mut writer, OPTIONS);
+    assert!(rt; ending == Ending::Ended);
+    log.take_calls()
+}
+
+// What is pending is written and flushed before each read.
+#[test]
+fn output_is_flushed_before_more_is_read(rt: HostRuntime) {
+    let Some(calls) = noted(&rt) else {
+        panic!(rt; "there was memory")
+    };
+    assert!(rt; calls.as_slice() == CALLS);
+}
+
+// A run over this input, which writes a front of this output where a request is refused.
 #[derive(Clone, Copy)]
-struct Refused;
+struct Refused {
+    input: &'static [u8],
+    output: &'static [u8],
+}
 
 impl Trial for Refused {
     fn run(
@@ -160,19 +220,27 @@ impl Trial for Refused {
         memory: &Refusing<Global>,
     ) -> Result<(), AllocError> {
         let refusals = memory.refusals();
-        let (ending, written) = run_over(rt, memory, INPUT, 4096, Fault::None)?;
+        let (ending, written) = run_over(rt, memory, self.input, 4096, Fault::None)?;
         let is_met = if memory.refusals() == refusals {
-            ending == Ending::Ended && written.as_slice() == b"AB".as_slice()
+            ending == Ending::Ended && written.as_slice() == self.output
         } else {
-            ending == Ending::Memory && b"AB".starts_with(written.as_slice())
+            ending == Ending::Memory && self.output.starts_with(written.as_slice())
         };
         expect(rt, is_met, 4096);
         Ok(())
     }
 }
 
+const REFUSED: &[(&[u8], &[u8])] = &[(INPUT, b"AB"), EACH_PRIMITIVE];
+
 #[test]
 fn each_request(rt: HostRuntime) -> Result<(), Fail> {
-    expect_trial(&rt, 19, &Refused)?;
+    for (input, output) in REFUSED.iter() {
+        let trial = Refused {
+            input: *input,
+            output: *output,
+        };
+        expect_trial(&rt, 19, &trial)?;
+    }
     Ok(())
 }

@@ -1,12 +1,11 @@
 -- What a step from a proper state may lose is bounded by the limits on states.
-use Rattle.std.proofs.Common.{◌≡◌, ℕ, ◌+◌, ◌*◌, ◌^◌, ◌≤◌, true, List, [], ◌∷◌, ◌++◌, length, take, drop, All, refl, ap, ◌∙◌, arith}
-use Rattle.std.specs.Prelude.{Option, None, Some, nat_le, ◌&&◌, cond, is_some}
-use Rattle.std.specs.Cmp.Lexicographic.{nat_list_cmp_total}
+use Rattle.std.proofs.Common.{◌≡◌, ℕ, ◌+◌, ◌*◌, ◌^◌, ◌≤◌, true, List, [], ◌∷◌, ◌++◌, length, take, drop, All, refl, ◌∙◌, arith}
+use Rattle.std.specs.Prelude.{Option, None, Some, nat_le, ◌&&◌}
 use Rattle.std.specs.FinMap as finite
 use Rattle.std.specs.Option.{option_map_or}
 use Rattle.std.proofs.lemmas.Bool.{and_parts, leb-true}
 use Rattle.std.proofs.lemmas.List.{length-append}
-use Rattle.std.proofs.lemmas.List.Elements.{All-head, All-tail, All-weaker}
+use Rattle.std.proofs.lemmas.List.Elements.{All-head, All-tail}
 use Rattle.trac_rules.specs.declared.item.Item.{Item}
 use Rattle.trac_rules.specs.declared.item.Item.TheVariants.{Byte, Gap}
 use Rattle.trac_rules.specs.declared.limit.TheConstants.{FORM_COUNT_LIMIT, FORM_LIMIT, MARK_LIMIT, NAME_LIMIT, OUTPUT_LIMIT, TEXT_LIMIT}
@@ -18,7 +17,7 @@ use Rattle.trac_rules.specs.declared.primitive.Primitive.{Primitive}
 use Rattle.trac_rules.specs.declared.primitive.Primitive.TheVariants.{PrintString, ReadString, ReadByte, Halt, SetMeta, SetTrace, Compute, Handle, HandleBlock, Unknown}
 use Rattle.trac_rules.specs.declared.scan.Front.{Front}
 use Rattle.trac_rules.specs.declared.scan.Front.TheVariants as front
-use Rattle.trac_rules.specs.Blocks.{block_at, forms_in, moved_out, named_block_number, with_name}
+use Rattle.trac_rules.specs.Blocks.{block_at, forms_in, named_block_number}
 use Rattle.trac_rules.specs.Effect.{argument}
 use Rattle.trac_rules.specs.Form.{Form, all_items, extent}
 use Rattle.trac_rules.specs.Handling.{named_form, without}
@@ -29,12 +28,10 @@ use Rattle.trac_rules.specs.Scanning.{front_of}
 use Rattle.trac_rules.specs.Segmenting.{segmented}
 use Rattle.trac_rules.specs.State.{Block, Forms, Frame, Held, State, Storage, storage_of}
 use Rattle.trac_rules.specs.Undone.{names_in}
-use Rattle.trac_rules.specs.Weights.{block_loss, closing_loss, comma_loss, form_loss, gap_count, gaps_made, handled_loss, held_weight, loss, loss_at, losses_from, primitive_loss, weights_from}
+use Rattle.trac_rules.specs.Weights.{all_loss, block_loss, closing_loss, comma_loss, form_loss, gap_count, gaps_made, handled_loss, loss, loss_at, losses_from, named_loss, primitive_loss, taken_loss, weights_from}
 use Rattle.trac_rules.proofs.CallsWeighed.{step_weight_within}
 use Rattle.trac_rules.proofs.Cutting.{count_within_extent, extent-segmented, wide-segmented_from}
-use Rattle.trac_rules.proofs.FormsBack.{swapped, taken_differs}
-use Rattle.trac_rules.proofs.NamedForms.{len-taken}
-use Rattle.trac_rules.proofs.ProperBlocks.{IsProperEntry, WasAmong, block_at_proper, get_taken, in_proper, moved_out_among}
+use Rattle.trac_rules.proofs.ProperBlocks.{IsProperEntry, block_at_proper, in_proper}
 use Rattle.trac_rules.proofs.ProperDecided.{all_entries}
 use Rattle.trac_rules.proofs.ProperStates.{without_proper}
 
@@ -57,13 +54,13 @@ form_parts name form proper =
       leb-true (extent (all_items form)) FORM_LIMIT two.1,
     )
 
-each_within : (held : Held) → All IsProperEntry held → held_weight held ≤ length held * form_most
+each_within : (held : Held) → All IsProperEntry held → all_loss held ≤ length held * form_most
 each_within [] all = omega arith
 each_within (entry ∷ held) all =
     let parts = form_parts entry.0 entry.1 (All-head IsProperEntry entry held all) in
-    omega (arith, parts.0, parts.1, each_within held (All-tail IsProperEntry entry held all))
+    omega (arith, parts.0, parts.1, length-append entry.1.before entry.1.after, each_within held (All-tail IsProperEntry entry held all))
 
-held_within : (held : Held) → All IsProperEntry held → length held ≤ FORM_COUNT_LIMIT → held_weight held ≤ forms_most
+held_within : (held : Held) → All IsProperEntry held → length held ≤ FORM_COUNT_LIMIT → all_loss held ≤ forms_most
 held_within held all few = omega (arith, each_within held all, few)
 
 each_entry : (forms : Forms) → AreProperForms forms → All IsProperEntry (finite.entries forms)
@@ -71,41 +68,21 @@ each_entry forms proper =
     all_entries IsProperForm (finite.entries forms) (finite.entries_sorted forms)
     (λ name form there. proper.each name form (finite.get-entries forms name ∙ there))
 
-found_within : (name : List ℕ) (forms : Forms) → AreProperForms forms → form_loss name forms ≤ form_most
+found_within : (name : List ℕ) (forms : Forms) → AreProperForms forms → named_loss name forms ≤ form_most
 found_within name forms proper = by_found (finite.get forms name) refl
   where
-    by_found : (found : Option Form) → finite.get forms name ≡ found → held_weight (with_name name found) ≤ form_most
+    by_found : (found : Option Form) → finite.get forms name ≡ found → option_map_or (form_loss name) found 0 ≤ form_most
     by_found None there = omega arith
-    by_found (Some form) there = let parts = form_parts name form (proper.each name form there) in omega (arith, parts.0, parts.1)
+    by_found (Some form) there =
+        let parts = form_parts name form (proper.each name form there) in
+        omega (arith, parts.0, parts.1, length-append form.before form.after)
 
--- ---- forms that are moved out
+-- all forms, and so those that are taken
+entries_within : (forms : Forms) → AreProperForms forms → all_loss (finite.entries forms) ≤ forms_most
+entries_within forms proper = held_within (finite.entries forms) (each_entry forms proper) (omega (arith, finite.len-entries forms, proper.count))
 
-len_found : (forms : Forms) (name : List ℕ) (found : Option Form) → finite.get forms name ≡ found →
-    length (with_name name found) + finite.len (finite.remove forms name) ≤ finite.len forms
-len_found forms name None there = omega (arith, len-taken forms name)
-len_found forms name (Some form) there =
-    let back : finite.insert (finite.remove forms name) name form ≡ forms = swapped name (Some form) (finite.remove forms name) forms there (taken_differs name forms) in
-    let more : finite.len (finite.insert (finite.remove forms name) name form) ≡ finite.len (finite.remove forms name) + 1 =
-    finite.len-insert nat_list_cmp_total (finite.remove forms name) name form
-    ∙ ap (λ (o : Option Form). cond (is_some o) (finite.len (finite.remove forms name)) (finite.len (finite.remove forms name) + 1)) (get_taken forms name) in
-    omega (arith, ap (λ (m : Forms). finite.len m) back, more)
-
--- no more of them are moved out than there are
-moved_out_few : (names : List (List ℕ)) (forms : Forms) → length (moved_out names forms) ≤ finite.len forms
-moved_out_few [] forms = omega arith
-moved_out_few (name ∷ names) forms =
-    omega (
-      arith,
-      len_found forms name (finite.get forms name) refl,
-      moved_out_few names (finite.remove forms name),
-      length-append (with_name name (finite.get forms name)) (moved_out names (finite.remove forms name)),
-    )
-
-moved_out_within : (names : List (List ℕ)) (forms : Forms) → AreProperForms forms → held_weight (moved_out names forms) ≤ forms_most
-moved_out_within names forms proper =
-    held_within (moved_out names forms)
-    (All-weaker (WasAmong forms) IsProperEntry (λ entry there. proper.each entry.0 entry.1 there) (moved_out names forms) (moved_out_among names forms))
-    (omega (arith, moved_out_few names forms, proper.count))
+taken_within : (names : List (List ℕ)) (forms : Forms) → AreProperForms forms → taken_loss names forms ≤ forms_most
+taken_within names forms proper = omega (arith, entries_within forms proper)
 
 -- ---- gaps
 
@@ -138,9 +115,8 @@ module _ (arguments : List (List ℕ)) (storage : Storage) (proper : IsProperSto
 
   handled_bounded : (action : FormAction) → handled_loss action arguments storage ≤ forms_most
   handled_bounded action.Define = omega (arith, found_within (argument 1 arguments) storage.forms proper.forms)
-  handled_bounded action.Delete = moved_out_within (drop 1 arguments) storage.forms proper.forms
-  handled_bounded action.DeleteAll =
-      held_within (finite.entries storage.forms) (each_entry storage.forms proper.forms) (omega (arith, finite.len-entries storage.forms, proper.forms.count))
+  handled_bounded action.Delete = taken_within (drop 1 arguments) storage.forms proper.forms
+  handled_bounded action.DeleteAll = entries_within storage.forms proper.forms
   handled_bounded action.Segment = omega (arith, segmenting_within (named_form arguments storage) refl)
   handled_bounded action.Restore = omega arith
   handled_bounded action.Call = omega arith
@@ -153,18 +129,18 @@ module _ (arguments : List (List ℕ)) (storage : Storage) (proper : IsProperSto
   few_in None held = omega arith
   few_in (Some held) is = is.count
 
-  block_within : (number : ℕ) → held_weight (forms_in (block_at number storage.blocks)) ≤ forms_most
+  block_within : (number : ℕ) → all_loss (forms_in (block_at number storage.blocks)) ≤ forms_most
   block_within number =
       let is : IsProperBlock (block_at number storage.blocks) = block_at_proper storage.blocks number proper.blocks in
       held_within (forms_in (block_at number storage.blocks)) (in_proper (block_at number storage.blocks) is) (few_in (block_at number storage.blocks) is)
 
   fetching_bounded : (number : Option ℕ) →
-      option_map_or (λ k. held_weight (moved_out (names_in (forms_in (block_at k storage.blocks))) storage.forms)) number 0 ≤ forms_most
+      option_map_or (λ k. taken_loss (names_in (forms_in (block_at k storage.blocks))) storage.forms) number 0 ≤ forms_most
   fetching_bounded None = omega arith
-  fetching_bounded (Some number) = moved_out_within (names_in (forms_in (block_at number storage.blocks))) storage.forms proper.forms
+  fetching_bounded (Some number) = taken_within (names_in (forms_in (block_at number storage.blocks))) storage.forms proper.forms
 
   erasing_bounded : (number : Option ℕ) →
-      option_map_or (λ k. held_weight (forms_in (block_at k storage.blocks)) + form_loss (argument 1 arguments) storage.forms) number 0 ≤ forms_most + form_most
+      option_map_or (λ k. all_loss (forms_in (block_at k storage.blocks)) + named_loss (argument 1 arguments) storage.forms) number 0 ≤ forms_most + form_most
   erasing_bounded None = omega arith
   erasing_bounded (Some number) = omega (arith, block_within number, found_within (argument 1 arguments) storage.forms proper.forms)
 

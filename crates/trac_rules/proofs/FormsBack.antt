@@ -1,19 +1,19 @@
 -- Forms are got back as they were before some of them were put or taken.
-use Rattle.std.proofs.Common.{◌≡◌, Bool, true, false, ℕ, List, [], ◌∷◌, ◌++◌, All, refl, sym, ap, ◌∙◌, inl, inr, ⊎_elim}
-use Rattle.std.specs.Prelude.{Option, None, Some, ◌⊎◌}
+use Rattle.std.proofs.Common.{◌≡◌, Bool, true, false, ℕ, List, [], ◌∷◌, ◌++◌, All, refl, sym, ap, subst, ◌∙◌, inl, inr, ⊎_elim}
+use Rattle.std.specs.Prelude.{Option, None, Some, ◌⊎◌, not, is_some}
 use Rattle.std.specs.Cmp.Lexicographic.{slice_cmp, nat_list_cmp_total}
 use Rattle.std.specs.FinMap as finite
 use Rattle.std.specs.FinMap.Entries.{find}
 use Rattle.std.specs.Ordering.{nat_cmp, eq_by_cmp}
-use Rattle.std.proofs.lemmas.Bool.{cases_Bool, cond-false, cond-true}
+use Rattle.std.proofs.lemmas.Bool.{and_from, cases_Bool, cond-false, cond-true}
 use Rattle.std.proofs.lemmas.List.Elements.{All-head, All-tail}
 use Rattle.trac_rules.specs.Blocks.{moved_out, with_all, with_name}
 use Rattle.trac_rules.specs.Form.{Form}
 use Rattle.trac_rules.specs.Handling.{without}
 use Rattle.trac_rules.specs.State.{Forms, Held}
-use Rattle.trac_rules.specs.Undone.{names_in, swapped_back}
+use Rattle.trac_rules.specs.Undone.{are_free, are_there, is_free, names_in, swapped_back}
 use Rattle.trac_rules.proofs.NamedForms.{get-put, one_name, only_equal_tie, ties_itself}
-use Rattle.trac_rules.proofs.ProperBlocks.{WasAmong, moved_out_among}
+use Rattle.trac_rules.proofs.ProperBlocks.{WasAmong, get_taken, moved_out_among}
 use Rattle.trac_rules.proofs.ProperDecided.{all_entries}
 
 -- ---- what stands under a name
@@ -149,6 +149,45 @@ moved_or_same (name ∷ names) forms q =
         (λ (there : IsOneOf q (names_in rest)). inr (one_of_later q (with_name name (finite.get forms name)) rest there))
         later
 
+-- no form is left under a name that was taken
+pub none_left : (names : List (List ℕ)) (forms : Forms) (q : List ℕ) → IsOneOf q names → finite.get (without names forms) q ≡ None
+none_left [] forms q there = absurd there
+none_left (name ∷ names) forms q (inl is) =
+    none_without names (finite.remove forms name) q (subst (λ n. finite.get (finite.remove forms n) q ≡ None) (sym is) (get_taken forms q))
+none_left (name ∷ names) forms q (inr there) = none_left names (finite.remove forms name) q there
+
+-- a form that was moved out has one of the names that were given
+pub moved_are_named : (names : List (List ℕ)) (forms : Forms) (q : List ℕ) → IsOneOf q (names_in (moved_out names forms)) → IsOneOf q names
+moved_are_named [] forms q there = absurd there
+moved_are_named (name ∷ names) forms q there =
+    by_found (finite.get forms name) (λ later. moved_are_named names (finite.remove forms name) q later) there
+  where
+    by_found : (found : Option Form) → (IsOneOf q (names_in (moved_out names (finite.remove forms name))) → IsOneOf q names) →
+        IsOneOf q (names_in (with_name name found ++ moved_out names (finite.remove forms name))) → (name ≡ q) ⊎ IsOneOf q names
+    by_found None others there = inr (others there)
+    by_found (Some form) others (inl is) = inl is
+    by_found (Some form) others (inr there) = inr (others there)
+
+-- ---- names under which no form stands, or one each
+
+pub all_free : (names : List (List ℕ)) (forms : Forms) → ((q : List ℕ) → IsOneOf q names → finite.get forms q ≡ None) → are_free names forms ≡ true
+all_free [] forms free = refl
+all_free (name ∷ names) forms free =
+    and_from (is_free name forms) (are_free names forms) (ap (λ (o : Option Form). not (is_some o)) (free name (inl refl))) (all_free names forms (λ q there. free q (inr there)))
+
+pub all_there : (names : List (List ℕ)) (forms : Forms) → ((q : List ℕ) → IsOneOf q names → is_some (finite.get forms q) ≡ true) → are_there names forms ≡ true
+all_there [] forms stands = refl
+all_there (name ∷ names) forms stands =
+    and_from (is_some (finite.get forms name)) (are_there names forms) (stands name (inl refl)) (all_there names forms (λ q there. stands q (inr there)))
+
+-- after names were taken
+pub taken_free : (names : List (List ℕ)) (forms : Forms) → are_free names (without names forms) ≡ true
+taken_free names forms = all_free names (without names forms) (λ q there. none_left names forms q there)
+
+pub moved_free : (names : List (List ℕ)) (forms : Forms) → are_free (names_in (moved_out names forms)) (without names forms) ≡ true
+moved_free names forms =
+    all_free (names_in (moved_out names forms)) (without names forms) (λ q there. none_left names forms q (moved_are_named names forms q there))
+
 -- forms that were moved out, put back
 pub moved_back_in : (names : List (List ℕ)) (forms : Forms) → with_all (moved_out names forms) (without names forms) ≡ forms
 moved_back_in names forms =
@@ -165,6 +204,34 @@ put_or_same (entry ∷ held) forms q =
     by_tie q entry.0 (λ t. inr (inl (sym (one_name q entry.0 t)))) (λ t. inl (same ∙ get_put_aside forms entry.0 q entry.1 t)))
     (λ (there : IsOneOf q (names_in held)). inr (inr there))
     (put_or_same held (finite.insert forms entry.0 entry.1) q)
+
+-- a form stands still where entries were put
+still_there : (held : Held) (forms : Forms) (q : List ℕ) → is_some (finite.get forms q) ≡ true → is_some (finite.get (with_all held forms) q) ≡ true
+still_there [] forms q stands = stands
+still_there (entry ∷ held) forms q stands =
+    still_there held (finite.insert forms entry.0 entry.1) q
+    (by_tie q entry.0 (λ t. ap is_some (get_put_at forms entry.0 q entry.1 t)) (λ t. ap is_some (get_put_aside forms entry.0 q entry.1 t) ∙ stands))
+
+-- and one under each of their names
+put_there : (held : Held) (forms : Forms) (q : List ℕ) → IsOneOf q (names_in held) → is_some (finite.get (with_all held forms) q) ≡ true
+put_there [] forms q there = absurd there
+put_there (entry ∷ held) forms q (inl is) =
+    still_there held (finite.insert forms entry.0 entry.1) q
+    (ap (λ n. is_some (finite.get (finite.insert forms entry.0 entry.1) n)) (sym is) ∙ ap is_some (get-put forms entry.0 entry.1))
+put_there (entry ∷ held) forms q (inr there) = put_there held (finite.insert forms entry.0 entry.1) q there
+
+-- copies stand under their names, those of what they replaced among them, and nothing under these when they are taken out again
+pub copies_there : (held : Held) (forms : Forms) → are_there (names_in held) (with_all held forms) ≡ true
+copies_there held forms = all_there (names_in held) (with_all held forms) (λ q there. put_there held forms q there)
+
+pub replaced_there : (held : Held) (forms : Forms) → are_there (names_in (moved_out (names_in held) forms)) (with_all held forms) ≡ true
+replaced_there held forms =
+    all_there (names_in (moved_out (names_in held) forms)) (with_all held forms) (λ q there. put_there held forms q (moved_are_named (names_in held) forms q there))
+
+pub replaced_free : (held : Held) (forms : Forms) → are_free (names_in (moved_out (names_in held) forms)) (without (names_in held) (with_all held forms)) ≡ true
+replaced_free held forms =
+    all_free (names_in (moved_out (names_in held) forms)) (without (names_in held) (with_all held forms))
+    (λ q there. none_left (names_in held) (with_all held forms) q (moved_are_named (names_in held) forms q there))
 
 -- forms that agree but under some names are the same without these
 same_without : (names : List (List ℕ)) (m n : Forms) → ((q : List ℕ) → AgreeOr names m n q) → without names m ≡ without names n
@@ -198,6 +265,10 @@ found_or_none (e ∷ es) q =
     (λ (none : find (slice_cmp nat_cmp) q es ≡ None). inl (cond-false (ties q e.0) (Some e.1) (find (slice_cmp nat_cmp) q es) t ∙ none))
     (λ (there : IsOneOf q (names_in es)). inr (inr there))
     (found_or_none es q))
+
+-- none are left under any names
+pub empty_free : (names : List (List ℕ)) → are_free names finite.empty ≡ true
+empty_free names = all_free names finite.empty (λ q there. finite.get-empty (slice_cmp nat_cmp) q)
 
 -- all forms put back where none are left
 pub all_put_back : (forms : Forms) → with_all (finite.entries forms) finite.empty ≡ forms

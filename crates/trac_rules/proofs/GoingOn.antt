@@ -13,7 +13,8 @@ use Rattle.trac_rules.specs.Stepping.{step}
 use Rattle.trac_rules.specs.Session.{PlainSession, Feed, End, Step, Commit, done, refused, settled, committed, answer, accepted_by, over, repeated}
 use Rattle.trac_rules.specs.Running.{Output, Stop, BudgetSpent, InputEnded, LimitPassed, stop_of, silent, going_on, output_from}
 use Rattle.trac_rules.specs.GoingOn.{whole, prepended, going_on_from}
-use Rattle.trac_rules.proofs.Steps.{step_within, step-whole, step-silent_Ok, step-silent_Err, silent_of_none, output_from-output, output_from-cut, moved_back}
+use Rattle.trac_rules.proofs.LongerTapes.{step-whole}
+use Rattle.trac_rules.proofs.Steps.{step_within, step-silent_Ok, step-silent_Err, silent_of_none, output_from-output, output_from-cut, moved_back}
 use Rattle.trac_rules.proofs.Refusals.{step_hopeless-silent}
 use Rattle.trac_rules.proofs.Replies.{accepted_done, Step_done, Step_refused_TooLong, Step_refused_NeedInput, Step_refused_Ended, Feed_done, End_done, Commit_done}
 
@@ -68,7 +69,7 @@ pub going_on-Step : (p q : PlainSession) (more : List ℕ) (n : ℕ) → p.last.
     going_on_from p more (suc n) ≡ going_on_from q more n
 going_on-Step p q more n l h none =
     let at = Step_done p q h in
-    let e : step (over p.width (whole p.tape more)) p.last ≡ Ok at.0 = step-whole (over p.width p.tape) more p.last l none (λ w. cc) ∙ at.1 in
+    let e : step (over p.width (whole p.tape more)) p.last ≡ Ok at.0 = step-whole (over p.width p.tape) more p.last none (λ w. cc) ∙ at.1 in
     output_from_Ok n (over p.width (whole p.tape more)) p.last at.0 e ∙ ap (λ (s : PlainSession). going_on_from s more n) (sym at.2)
 
 -- what many accepted steps leave
@@ -167,7 +168,7 @@ pub going_on_ended : (p q : PlainSession) (more : List ℕ) (n : ℕ) → p.last
     going_on_from p more (suc n) ≡ record { bytes = p.last.output; stop = InputEnded }
 going_on_ended p q more n l h none =
     let e : step (over p.width p.tape) p.last ≡ Err Ended = Step_refused_Ended p q h in
-    let f : step (over p.width (whole p.tape more)) p.last ≡ Err Ended = step-whole (over p.width p.tape) more p.last l none (λ w. cc) ∙ e in
+    let f : step (over p.width (whole p.tape more)) p.last ≡ Err Ended = step-whole (over p.width p.tape) more p.last none (λ w. cc) ∙ e in
     output_from_Err n (over p.width (whole p.tape more)) p.last Ended (step-silent_Err (over p.width (whole p.tape more)) p.last Ended f (λ w. cc))
 
 -- where a step is refused for a limit and nothing is pending, the run ends for the limit
@@ -175,7 +176,7 @@ pub going_on_too_long : (p q : PlainSession) (more : List ℕ) (n : ℕ) → p.l
     going_on_from p more (suc n) ≡ record { bytes = []; stop = LimitPassed }
 going_on_too_long p q more n l h none nothing =
     let e : step (over p.width p.tape) p.last ≡ Err TooLong = Step_refused_TooLong p q h in
-    let f : step (over p.width (whole p.tape more)) p.last ≡ Err TooLong = step-whole (over p.width p.tape) more p.last l none (λ w. cc) ∙ e in
+    let f : step (over p.width (whole p.tape more)) p.last ≡ Err TooLong = step-whole (over p.width p.tape) more p.last none (λ w. cc) ∙ e in
     output_from_Err n (over p.width (whole p.tape more)) p.last TooLong (ap (step (over p.width (whole p.tape more))) (silent_of_none p.last nothing) ∙ f)
     ∙ ap (λ (bytes : List ℕ). record { bytes = bytes; stop = LimitPassed }) nothing
 

@@ -8,6 +8,7 @@ pub mod Scans
 pub mod Changed
 pub mod Positions
 pub mod Steps
+pub mod LongerTapes
 pub mod NamedForms
 pub mod Addresses
 pub mod ProperBlocks

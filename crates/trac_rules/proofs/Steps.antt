@@ -1,9 +1,8 @@
 -- What a step keeps, and how it depends on the tape and on the output.
-use Rattle.std.proofs.Common.{◌≡◌, ℕ, zero, suc, ◌+◌, ◌-◌, ◌<◌, ◌≤◌, Bool, true, false, List, [], ◌∷◌, ◌++◌, length, take, drop, refl, sym, ap, ◌∙◌, arith, ⊎_elim}
+use Rattle.std.proofs.Common.{◌≡◌, ℕ, zero, suc, ◌+◌, ◌-◌, ◌<◌, ◌≤◌, Bool, true, false, List, [], ◌∷◌, ◌++◌, length, drop, refl, sym, ap, ◌∙◌, arith, ⊎_elim}
 use Rattle.std.specs.Prelude.{Option, None, Some, Result, Ok, Err, decimal, nat_le, position, ◌==◌, if◌then◌else◌}
 use Rattle.std.specs.FinMap as map
-use Rattle.std.proofs.lemmas.List.{append-nil, append_assoc, length-drop, drop-append-le, take-append-le, drop-drop}
-use Rattle.std.proofs.lemmas.Bool.{cases_Bool}
+use Rattle.std.proofs.lemmas.List.{append-nil, append_assoc, length-drop, drop-drop}
 use Rattle.std.proofs.lemmas.List.Quantifiers.{position-Some}
 use Rattle.trac_rules.specs.declared.kind.Kind.{Kind}
 use Rattle.trac_rules.specs.declared.kind.Kind.TheVariants.{Active, Neutral}
@@ -17,7 +16,7 @@ use Rattle.trac_rules.specs.declared.primitive.FormAction.TheVariants.{Define, D
 use Rattle.trac_rules.specs.declared.primitive.Primitive.{Primitive}
 use Rattle.trac_rules.specs.declared.primitive.Primitive.TheVariants.{PrintString, ReadString, ReadByte, Halt, SetMeta, SetTrace, Compute, Handle, HandleBlock, Unknown}
 use Rattle.trac_rules.specs.declared.refusal.Refusal.{Refusal}
-use Rattle.trac_rules.specs.declared.refusal.Refusal.TheVariants.{TooLong, NeedInput}
+use Rattle.trac_rules.specs.declared.refusal.Refusal.TheVariants.{TooLong}
 use Rattle.trac_rules.specs.declared.width.Width.{Width}
 use Rattle.trac_rules.specs.State.{Environment, State, Storage, Tape, storage_of}
 use Rattle.trac_rules.specs.Scanning.{Call, Scanned, Moves, Calls, scan}
@@ -32,14 +31,12 @@ use Rattle.trac_rules.specs.Computing.{computed}
 use Rattle.trac_rules.specs.Handling.{default_argument, form_read, gives_piece, handled, keeping, named_form, on_form, piece_read, pointing, putting}
 use Rattle.trac_rules.specs.Pieces.{Piece}
 use Rattle.trac_rules.specs.Outcomes.{limited, seen_as}
-use Rattle.trac_rules.specs.Reading.{byte_read, read_up_to, rest_read, string_read, unread}
+use Rattle.trac_rules.specs.Reading.{byte_read, read_up_to, rest_read, unread}
 use Rattle.trac_rules.specs.Performing.{after_call, changed_by, effect_of, meta_set, performed, placed, primitive_of, printed_behind, trace_line}
 use Rattle.trac_rules.specs.Stepping.{carried_out, step}
 use Rattle.trac_rules.specs.Running.{Output, silent, going_on, output_from}
-use Rattle.trac_rules.specs.GoingOn.{whole}
 use Rattle.trac_rules.proofs.Outcomes.{limited_within, limited_Ok, limited_Err, seen_as-Ok, seen_as-Err}
 use Rattle.trac_rules.proofs.Scans.{ScanShows, gathered_in_shows, place_of, scan_keeps_place}
-use Rattle.trac_rules.proofs.Positions.{position-append_Some}
 use Rattle.trac_rules.proofs.Changed.{changed, GoesUnnoticed, scanned_out-changed, texts_fit_of_more, limited-moved}
 
 -- ---- the position
@@ -239,98 +236,6 @@ step_within e s t h l = (step_further e s t h).within l
 -- a step reads onward
 pub step_onward : (e : Environment) (s t : State) → step e s ≡ Ok t → s.position ≤ t.position
 step_onward e s t h = (step_further e s t h).onward
-
--- ---- a longer tape
-
--- a tape that has ended is whole
-pub whole_of_ended : (tape : Tape) (more : List ℕ) → tape.ended ≡ true → more ≡ [] → whole tape more ≡ tape
-whole_of_ended tape more ended none =
-    let bytes : tape.bytes ++ more ≡ tape.bytes = ap (λ m. tape.bytes ++ m) none ∙ append-nil tape.bytes in
-    let end : true ≡ tape.ended = sym ended in
-    λ i. record { bytes = bytes i; ended = end i }
-
--- what is unread of a whole tape
-pub unread-whole : (tape : Tape) (more : List ℕ) (s : State) → s.position ≤ length tape.bytes → unread (whole tape more) s ≡ unread tape s ++ more
-unread-whole tape more s l = drop-append-le s.position tape.bytes more l
-
--- the same environment over a tape with so much more, and the end
-abbrev pub lengthened : List ℕ → Environment → Environment
-lengthened more e = record e { tape = whole e.tape more }
-
--- a text that was found stays found
-up_to-whole : (more text : List ℕ) (at after : Option ℕ) (storage : Storage) →
-    ((k : ℕ) → at ≡ Some k → (after ≡ Some k) × (k < length text)) →
-    (read_up_to at text false storage ≡ Err NeedInput → ⊥) → read_up_to after (text ++ more) true storage ≡ read_up_to at text false storage
-up_to-whole more text (Some k) after storage found wanted =
-    let here = found k refl in
-    let same : take k (text ++ more) ≡ take k text = take-append-le k text more (omega (arith, here.1)) in
-    rw (here.0, same) refl
-up_to-whole more text None after storage found wanted = absurd (wanted refl)
-
--- what is read without more input is read with more
-string_read-whole : (more text : List ℕ) (meta : ℕ) (storage : Storage) → (string_read text false meta storage ≡ Err NeedInput → ⊥) →
-    string_read (text ++ more) true meta storage ≡ string_read text false meta storage
-string_read-whole more text meta storage wanted =
-    up_to-whole more text (position (λ b. b == meta) text) (position (λ b. b == meta) (text ++ more)) storage
-    (λ k e. (position-append_Some (λ b. b == meta) text more k e, (position-Some (λ b. b == meta) text k 0 e).0))
-    wanted
-
--- a byte that is there is read, however the input goes on
-byte_read-whole : (more text : List ℕ) (storage : Storage) → (byte_read text false storage ≡ Err NeedInput → ⊥) →
-    byte_read (text ++ more) true storage ≡ byte_read text false storage
-byte_read-whole more [] storage wanted = absurd (wanted refl)
-byte_read-whole more (b ∷ rest) storage wanted = refl
-
--- what a primitive does without more input it does on a whole tape
-pub effect_of-whole : (primitive : Primitive) (e : Environment) (more : List ℕ) (arguments : List (List ℕ)) (s : State) → s.position ≤ length e.tape.bytes → e.tape.ended ≡ false →
-    (effect_of primitive e arguments s ≡ Err NeedInput → ⊥) → effect_of primitive (lengthened more e) arguments s ≡ effect_of primitive e arguments s
-effect_of-whole PrintString e more arguments s l unended wanted = refl
-effect_of-whole ReadString e more arguments s l unended wanted =
-    let open_tape : string_read (unread e.tape s) e.tape.ended s.meta (storage_of s) ≡ string_read (unread e.tape s) false s.meta (storage_of s) =
-    ap (λ (ended : Bool). string_read (unread e.tape s) ended s.meta (storage_of s)) unended in
-    ap (λ (text : List ℕ). string_read text true s.meta (storage_of s)) (unread-whole e.tape more s l)
-    ∙ string_read-whole more (unread e.tape s) s.meta (storage_of s) (λ none. wanted (open_tape ∙ none))
-    ∙ sym open_tape
-effect_of-whole ReadByte e more arguments s l unended wanted =
-    let open_tape : byte_read (unread e.tape s) e.tape.ended (storage_of s) ≡ byte_read (unread e.tape s) false (storage_of s) =
-    ap (λ (ended : Bool). byte_read (unread e.tape s) ended (storage_of s)) unended in
-    ap (λ (text : List ℕ). byte_read text true (storage_of s)) (unread-whole e.tape more s l)
-    ∙ byte_read-whole more (unread e.tape s) (storage_of s) (λ none. wanted (open_tape ∙ none))
-    ∙ sym open_tape
-effect_of-whole Halt e more arguments s l unended wanted = refl
-effect_of-whole SetMeta e more arguments s l unended wanted = refl
-effect_of-whole (SetTrace trace) e more arguments s l unended wanted = refl
-effect_of-whole (Compute computation) e more arguments s l unended wanted = refl
-effect_of-whole (Handle action) e more arguments s l unended wanted = refl
-effect_of-whole (HandleBlock action) e more arguments s l unended wanted = refl
-effect_of-whole Unknown e more arguments s l unended wanted = refl
-
--- a call that does not want input does the same on a whole tape
-pub performed-whole : (e : Environment) (more : List ℕ) (call : Call) → call.state.position ≤ length e.tape.bytes → e.tape.ended ≡ false →
-    (performed e call ≡ Err NeedInput → ⊥) → performed (lengthened more e) call ≡ performed e call
-unfolding performed
-performed-whole e more call l unended wanted =
-    let line = trace_line call.state.trace call.kind call.arguments in
-    ap (seen_as (printed_behind line)) (effect_of-whole (primitive_of (argument 0 call.arguments)) e more call.arguments call.state l unended
-    (λ none. wanted (ap (seen_as (printed_behind line)) none)))
-
--- what does not want input is carried out alike on a whole tape
-pub carried_out-whole : (e : Environment) (more : List ℕ) (s : State) (x : Scanned) → ScanShows place_of s x → s.position ≤ length e.tape.bytes → e.tape.ended ≡ false →
-    (carried_out e x ≡ Err NeedInput → ⊥) → carried_out (lengthened more e) x ≡ carried_out e x
-carried_out-whole e more s (Moves t) kept l unended wanted = refl
-carried_out-whole e more s (Calls call) kept l unended wanted =
-    ap (seen_as (after_call call)) (performed-whole e more call (omega (arith, kept)) unended (λ none. wanted (ap (seen_as (after_call call)) none)))
-
--- a step that does not want input is the same once a tape that has not ended is lengthened and ended
-pub step-whole : (e : Environment) (more : List ℕ) (s : State) → s.position ≤ length e.tape.bytes → (e.tape.ended ≡ true → more ≡ []) →
-    (step e s ≡ Err NeedInput → ⊥) → step (lengthened more e) s ≡ step e s
-unfolding step
-step-whole e more s l none wanted =
-    ⊎_elim
-    (λ (ended : e.tape.ended ≡ true). ap (λ (t : Tape). limited texts_fit (carried_out (record e { tape = t }) (scan s))) (whole_of_ended e.tape more ended (none ended)))
-    (λ (unended : e.tape.ended ≡ false).
-    ap (limited texts_fit) (carried_out-whole e more s (scan s) (scan_keeps_place s) l unended (λ short. wanted (ap (limited texts_fit) short))))
-    (cases_Bool e.tape.ended)
 
 -- ---- the output
 

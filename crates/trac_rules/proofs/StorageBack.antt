@@ -1,6 +1,6 @@
 -- Forms and blocks before a call are got back from what the call destroyed and those after it.
 use Rattle.std.proofs.Common.{◌≡◌, ℕ, zero, suc, ◌-◌, ◌<◌, Bool, true, false, List, [], ◌∷◌, ◌++◌, length, take, drop, refl, sym, ap, subst, ◌∙◌, arith}
-use Rattle.std.specs.Prelude.{Option, None, Some, Result, Ok, Err, ◌==◌, not, nat_le, nat_lt, if◌then◌else◌, is_some, option_map, option_and_then, position, slice_set, decimal}
+use Rattle.std.specs.Prelude.{Option, None, Some, Result, Ok, Err, ◌==◌, ◌&&◌, not, nat_le, nat_lt, if◌then◌else◌, is_some, option_and_then, position, slice_set, decimal}
 use Rattle.std.specs.Bool.{then_some}
 use Rattle.std.specs.FinMap as finite
 use Rattle.std.specs.Str.{bytes_eq}
@@ -34,12 +34,13 @@ use Rattle.trac_rules.specs.Segmenting.{segmented}
 use Rattle.trac_rules.specs.Showing.{shown}
 use Rattle.trac_rules.specs.declared.width.Width.{Width}
 use Rattle.trac_rules.specs.State.{Block, Environment, Forms, Held, State, Storage, storage_of}
-use Rattle.trac_rules.specs.Undone.{Undone, Nothing, Point, Join, Swap, MoveOut, block_handling_lost, block_lost, bytes_lost, handling_lost, joined_back, last_block, moved_out_again, names_in, pointed_back, pointer_back, pointer_lost, replaced_lost, storage_before, swapped_back, undone_by, unerased}
+use Rattle.trac_rules.specs.Undone.{Undone, Nothing, Point, Join, Swap, MoveOut, are_free, are_there, block_handling_lost, block_lost, bytes_lost, handling_lost, is_erased, is_free, joined_back, last_block, moved_out_again, names_in, pointed_back, pointer_back, pointer_lost, replaced_lost, storage_before, swapped_back, undefined, undone_by, unerased}
 use Rattle.trac_rules.specs.Weights.{meta_kept, meta_weight}
 use Rattle.trac_rules.proofs.Balanced.{first_place_passes}
 use Rattle.trac_rules.proofs.Cuts.{cut_joined}
-use Rattle.trac_rules.proofs.FormsBack.{DifferAt, all_put_back, copies_taken_back, moved_back_in, put_differs, swapped, taken_differs}
+use Rattle.trac_rules.proofs.FormsBack.{DifferAt, all_put_back, copies_taken_back, copies_there, empty_free, moved_back_in, moved_free, put_differs, replaced_free, replaced_there, swapped, taken_differs, taken_free}
 use Rattle.trac_rules.proofs.NamedForms.{get-put}
+use Rattle.trac_rules.proofs.ProperBlocks.{get_taken}
 
 -- what is done is undone: the storage before comes back from the one that is left, and no meta character is set
 abbrev pub IsUndone : List (List ℕ) → Undone → Storage → Result Effect Refusal → Type 0
@@ -98,10 +99,19 @@ segmented_back texts name form storage there =
 
 -- a form that was put under a name
 defined_back : (name : List ℕ) (form : Form) (storage : Storage) →
-    keeping (swapped_back name (finite.get storage.forms name) (finite.insert storage.forms name form)) storage ≡ storage
+    undefined name (finite.get storage.forms name) (keeping (finite.insert storage.forms name form) storage) ≡ Some storage
 defined_back name form storage =
-    ap (λ (forms : Forms). keeping forms storage)
-    (swapped name (finite.get storage.forms name) (finite.insert storage.forms name form) storage.forms refl (put_differs name form storage.forms))
+    let m = finite.insert storage.forms name form in
+    let old = finite.get storage.forms name in
+    ap (λ (found : Option Form). then_some (is_some found) (keeping (swapped_back name old m) storage)) (get-put storage.forms name form)
+    ∙ ap (λ (forms : Forms). Some (keeping forms storage)) (swapped name old m storage.forms refl (put_differs name form storage.forms))
+
+-- what is tested of names before forms are put back, and then the forms
+put_back_free : (names others : List (List ℕ)) (left before : Forms) (storage : Storage) → are_free names left ≡ true → are_free others left ≡ true → before ≡ storage.forms →
+    then_some (are_free names left && are_free others left) (keeping before storage) ≡ Some storage
+put_back_free names others left before storage free apart same =
+    ap (λ (b : Bool). then_some b (keeping before storage)) (and_from (are_free names left) (are_free others left) free apart)
+    ∙ ap (λ (forms : Forms). Some (keeping forms storage)) same
 
 -- a call on a form, where it is there or not
 module _ (arguments : List (List ℕ)) (storage : Storage) where
@@ -134,9 +144,20 @@ module _ (arguments : List (List ℕ)) (storage : Storage) where
   handled_back action.Define width =
       or_refused arguments (Swap (named_form arguments storage)) storage (may_be_put (argument 1 arguments) (defined (argument 2 arguments)) storage.forms)
       (Ok (leaves (keeping (finite.insert storage.forms (argument 1 arguments) (defined (argument 2 arguments))) storage)))
-      (ap Some (defined_back (argument 1 arguments) (defined (argument 2 arguments)) storage), refl)
-  handled_back action.Delete width = (ap (λ (forms : Forms). Some (keeping forms storage)) (moved_back_in (drop 1 arguments) storage.forms), refl)
-  handled_back action.DeleteAll width = (ap (λ (forms : Forms). Some (keeping forms storage)) (all_put_back storage.forms), refl)
+      (defined_back (argument 1 arguments) (defined (argument 2 arguments)) storage, refl)
+  handled_back action.Delete width =
+      let names = drop 1 arguments in
+      let held = moved_out names storage.forms in
+      let left = without names storage.forms in (
+        put_back_free names (names_in held) left (with_all held left) storage (taken_free names storage.forms) (moved_free names storage.forms) (moved_back_in names storage.forms),
+        refl,
+      )
+  handled_back action.DeleteAll width =
+      let names = drop 1 arguments in
+      let held = finite.entries storage.forms in (
+        put_back_free names (names_in held) finite.empty (with_all held finite.empty) storage (empty_free names) (empty_free (names_in held)) (all_put_back storage.forms),
+        refl,
+      )
   handled_back action.Segment width = segmenting_back (named_form arguments storage) refl
   handled_back action.Restore width = restoring_back (named_form arguments storage) refl
   handled_back action.Call width =
@@ -152,6 +173,16 @@ module _ (arguments : List (List ℕ)) (storage : Storage) where
 
 -- ---- blocks
 
+-- the storage of these forms and blocks
+abbrev stored_in : Forms → List Block → Storage
+stored_in forms blocks = record { forms = forms; blocks = blocks }
+
+-- what was there before copies of these forms were put among the others, in place of those
+abbrev without_copies : Held → Held → Storage → Option Storage
+without_copies held replaced storage =
+    let left : Forms = without (names_in held) storage.forms in
+    then_some (are_there (names_in held) storage.forms && (are_there (names_in replaced) storage.forms && are_free (names_in replaced) left)) (keeping (with_all replaced left) storage)
+
 -- the block that was put last is the last one, and without it the blocks are as before
 last_put : (blocks : List Block) (held : Held) → last_block (blocks ++ Some held ∷ []) ≡ Some held
 last_put blocks held =
@@ -162,25 +193,35 @@ all_but_last blocks block = take_at blocks (block ∷ []) (length (blocks ++ blo
 
 -- forms that were put aside, also where the name of the block's address is among them
 put_aside_back : (name : List ℕ) (names : List (List ℕ)) (address : Form) (storage : Storage) →
-    moved_out_again name (finite.get (without names storage.forms) name) (keeping (finite.insert (without names storage.forms) name address) (put_aside names storage)) ≡ Some storage
+    moved_out_again name names (finite.get (without names storage.forms) name) (keeping (finite.insert (without names storage.forms) name address) (put_aside names storage)) ≡ Some storage
 put_aside_back name names address storage =
     let held = moved_out names storage.forms in
     let left = without names storage.forms in
     let old = finite.get left name in
+    let m = finite.insert left name address in
     let blocks = storage.blocks ++ Some held ∷ [] in
     let taken = take (length blocks - 1) blocks in
-    ap (option_map (λ (block : Held). let before : Storage = record { forms = with_all block (swapped_back name old (finite.insert left name address)); blocks = taken } in before))
-    (last_put storage.blocks held)
-    ∙ ap (λ (forms : Forms). let before : Storage = record { forms = with_all held forms; blocks = taken } in Some before)
-    (swapped name old (finite.insert left name address) left refl (put_differs name address left))
-    ∙ (λ i. let before : Storage = record { forms = moved_back_in names storage.forms i; blocks = all_but_last storage.blocks (Some held) i } in Some before)
+    let standing : is_some (finite.get m name) ≡ true = ap is_some (get-put left name address) in
+    let before = λ (forms : Forms) (block : Held). then_some (is_some (finite.get m name) && (are_free names forms && are_free (names_in block) forms)) (stored_in (with_all block forms) taken) in
+    ap (option_and_then (before (swapped_back name old m))) (last_put storage.blocks held)
+    ∙ ap (λ (forms : Forms). before forms held) (swapped name old m left refl (put_differs name address left))
+    ∙ ap (λ (b : Bool). then_some b (stored_in (with_all held left) taken))
+    (and_from (is_some (finite.get m name)) (are_free names left && are_free (names_in held) left) standing
+    (and_from (are_free names left) (are_free (names_in held) left) (taken_free names storage.forms) (moved_free names storage.forms)))
+    ∙ (λ i. Some (stored_in (moved_back_in names storage.forms i) (all_but_last storage.blocks (Some held) i)))
 
 -- copies that were put among the forms
 fetched_back : (block : Block) (storage : Storage) → is_some block ≡ true →
-    option_map (λ held. keeping (with_all (moved_out (names_in (forms_in block)) storage.forms) (without (names_in held) (with_all (forms_in block) storage.forms))) storage) block
-    ≡ Some storage
+    option_and_then (λ held. without_copies held (moved_out (names_in (forms_in block)) storage.forms) (keeping (with_all (forms_in block) storage.forms) storage)) block ≡ Some storage
 fetched_back None storage live = absurd (cc)
-fetched_back (Some held) storage live = ap (λ (forms : Forms). Some (keeping forms storage)) (copies_taken_back held storage.forms)
+fetched_back (Some held) storage live =
+    let replaced = moved_out (names_in held) storage.forms in
+    let m = with_all held storage.forms in
+    let left = without (names_in held) m in
+    ap (λ (b : Bool). then_some b (keeping (with_all replaced left) storage))
+    (and_from (are_there (names_in held) m) (are_there (names_in replaced) m && are_free (names_in replaced) left) (copies_there held storage.forms)
+    (and_from (are_there (names_in replaced) m) (are_free (names_in replaced) left) (replaced_there held storage.forms) (replaced_free held storage.forms)))
+    ∙ ap (λ (forms : Forms). Some (keeping forms storage)) (copies_taken_back held storage.forms)
 
 -- a block that was erased is an erased one
 erased_stands : (blocks : List Block) (number : ℕ) → is_some (block_at number blocks) ≡ true →
@@ -204,9 +245,11 @@ erased_back number name address storage live there =
     let held = forms_in (block_at number storage.blocks) in
     let stands = erased_stands storage.blocks number live in
     let within : nat_lt number (length blocks) ≡ true = lt-ltb number (length blocks) (omega (arith, stands.0, length-set storage.blocks number None)) in
-    let free : not (is_some (block_at number blocks)) ≡ true = ap (λ (block : Block). not (is_some block)) stands.1 in
-    ap (λ (b : Bool). let before : Storage = record { forms = finite.insert (finite.remove storage.forms name) name address; blocks = slice_set blocks number (Some held) } in then_some b before)
-    (and_from (nat_lt number (length blocks)) (not (is_some (block_at number blocks))) within free)
+    let none : not (is_some (block_at number blocks)) ≡ true = ap (λ (block : Block). not (is_some block)) stands.1 in
+    let gone = finite.remove storage.forms name in
+    let free : is_free name gone ≡ true = ap (λ (o : Option Form). not (is_some o)) (get_taken storage.forms name) in
+    ap (λ (b : Bool). then_some b (stored_in (finite.insert gone name address) (slice_set blocks number (Some held))))
+    (and_from (is_erased number blocks) (is_free name gone) (and_from (nat_lt number (length blocks)) (not (is_some (block_at number blocks))) within none) free)
     ∙ (λ i. let before : Storage = record {
       forms = swapped name (Some address) (finite.remove storage.forms name) storage.forms there (taken_differs name storage.forms) i;
       blocks = held_again storage.blocks number live i;

@@ -1,9 +1,10 @@
 -- What a call destroys of forms and blocks, and how they are got back from that and what stands there afterwards. Nothing is kept that
 -- still stands there: of a form whose pointer moved the old pointer is kept, of one that was segmented which of its gaps are new, and of
 -- forms that went into a block nothing.
-use Rattle.std.specs.Prelude.{ℕ, ◌-◌, ◌&&◌, not, nat_le, nat_lt, List, length, map, take, drop, slice_set, Bool, Option, None, Some, is_some, option_map, option_and_then}
+use Rattle.std.specs.Prelude.{ℕ, ◌-◌, ◌&&◌, not, nat_le, nat_lt, List, length, map, take, drop, slice_set, Bool, Option, None, Some, is_some, option_and_then}
 use Rattle.std.specs.Bool.{then_some}
 use Rattle.std.specs.FinMap as finite
+use Rattle.std.specs.List.{list_all}
 use Rattle.trac_rules.specs.declared.item.CutGap.{CutGap}
 use Rattle.trac_rules.specs.declared.item.Item.{Item}
 use Rattle.trac_rules.specs.declared.primitive.BlockAction.{BlockAction}
@@ -86,6 +87,20 @@ undone_by (Handle action) arguments storage = handling_lost action arguments sto
 undone_by (HandleBlock action) arguments storage = block_handling_lost action arguments storage
 undone_by primitive arguments storage = Nothing
 
+-- ---- what stands where
+
+-- whether no form stands under a name
+abbrev pub is_free : List ℕ → Forms → Bool
+is_free name forms = not (is_some (finite.get forms name))
+
+-- whether no form stands under any of these names
+abbrev pub are_free : List (List ℕ) → Forms → Bool
+are_free names forms = list_all (λ name. is_free name forms) names
+
+-- whether a form stands under each of these names
+abbrev pub are_there : List (List ℕ) → Forms → Bool
+are_there names forms = list_all (λ name. is_some (finite.get forms name)) names
+
 -- ---- how forms and blocks are got back
 
 -- forms with this one under a name again, or with none under it
@@ -107,32 +122,53 @@ abbrev pub joined_back : List (List ℕ) → List CutGap → List ℕ → ℕ �
 joined_back texts cut name place found storage =
     option_and_then (λ form. option_and_then (λ items. pointed_back name place items storage) (joined texts cut (all_items form))) found
 
+-- the form under a name is gone again, or this one is there in its place; none where no form stands under that name
+abbrev pub undefined : List ℕ → Option Form → Storage → Option Storage
+undefined name old storage =
+    then_some (is_some (finite.get storage.forms name)) (keeping (swapped_back name old storage.forms) storage)
+
+-- these forms are put among the others, after these names were given to delete their forms; none where a form stands under one of those
+-- names, or under the name of one of these forms
+abbrev pub undeleted : List (List ℕ) → Held → Storage → Option Storage
+undeleted names held storage =
+    then_some (are_free names storage.forms && are_free (names_in held) storage.forms) (keeping (with_all held storage.forms) storage)
+
 -- the last block; where there are none it is as if erased
 abbrev pub last_block : List Block → Block
 last_block blocks = block_at (length blocks - 1) blocks
 
--- the last block is off the list, a form is under a name again or none is, and then what the block held is put among the forms; none where
--- the last block is erased
-abbrev pub moved_out_again : List ℕ → Option Form → Storage → Option Storage
-moved_out_again name old storage =
-    option_map (λ held. record {
-      forms = with_all held (swapped_back name old storage.forms);
+-- the last block is off the list, the form under a name is gone or an old one is there in its place, and then what the block held is put
+-- among the forms, after these names were given for the block. None where the last block is erased, where no form stands under that name,
+-- and where a form stands already under one of those names, or under the name of one that the block held
+abbrev pub moved_out_again : List ℕ → List (List ℕ) → Option Form → Storage → Option Storage
+moved_out_again name names old storage =
+    let left : Forms = swapped_back name old storage.forms in
+    option_and_then
+    (λ held. then_some (is_some (finite.get storage.forms name) && (are_free names left && are_free (names_in held) left)) (record {
+      forms = with_all held left;
       blocks = take (length storage.blocks - 1) storage.blocks;
-    }) (last_block storage.blocks)
+    })) (last_block storage.blocks)
 
--- the forms of the names in the block of this number are gone, and these ones put among the forms; none where that block is erased
+-- the forms of the names in the block of this number are gone, and these ones put among the forms, in whose places they were; none where
+-- that block is erased, where no form stands under the name of one that it holds or of one of these, and where a form stands under such a
+-- name that the block does not hold
 abbrev pub unbrought : ℕ → Held → Storage → Option Storage
 unbrought number replaced storage =
-    option_map (λ held. keeping (with_all replaced (without (names_in held) storage.forms)) storage) (block_at number storage.blocks)
+    option_and_then
+    (λ held.
+    let left : Forms = without (names_in held) storage.forms in
+    then_some (are_there (names_in held) storage.forms && (are_there (names_in replaced) storage.forms && are_free (names_in replaced) left))
+    (keeping (with_all replaced left) storage)) (block_at number storage.blocks)
 
 -- whether there was a block of this number and it is erased
 abbrev pub is_erased : ℕ → List Block → Bool
 is_erased number blocks = nat_lt number (length blocks) && not (is_some (block_at number blocks))
 
--- the erased block of this number holds these forms again, and this form is under a name; none where the block is not an erased one
+-- the erased block of this number holds these forms again, and this form is under a name; none where the block is not an erased one, and
+-- where a form stands under that name
 abbrev pub unerased : ℕ → Held → List ℕ → Form → Storage → Option Storage
 unerased number held name address storage =
-    then_some (is_erased number storage.blocks)
+    then_some (is_erased number storage.blocks && is_free name storage.forms)
     (record { forms = finite.insert storage.forms name address; blocks = slice_set storage.blocks number (Some held) })
 
 -- forms and blocks before a call of these arguments, from what it destroyed and those after it; none where these do not show what is named
@@ -141,8 +177,8 @@ storage_before arguments Nothing storage = Some storage
 storage_before arguments (Point place) storage = pointer_back (argument 1 arguments) place (named_form arguments storage) storage
 storage_before arguments (Join cut place) storage =
     joined_back (drop 2 arguments) cut (argument 1 arguments) place (named_form arguments storage) storage
-storage_before arguments (Swap old) storage = Some (keeping (swapped_back (argument 1 arguments) old storage.forms) storage)
-storage_before arguments (Restore held) storage = Some (keeping (with_all held storage.forms) storage)
-storage_before arguments (MoveOut old) storage = moved_out_again (argument 1 arguments) old storage
+storage_before arguments (Swap old) storage = undefined (argument 1 arguments) old storage
+storage_before arguments (Restore held) storage = undeleted (drop 1 arguments) held storage
+storage_before arguments (MoveOut old) storage = moved_out_again (argument 1 arguments) (drop 2 arguments) old storage
 storage_before arguments (Unbring number replaced) storage = unbrought number replaced storage
 storage_before arguments (Unerase number held address) storage = unerased number held (argument 1 arguments) address storage

@@ -1,6 +1,6 @@
 -- What a record weighs, by what it keeps, and what a step may cost the journal, by the state before it: bytes of texts and names, items of
 -- forms, places of gaps, and one for each comma, frame and name. Lengths, flags, old pointers and numbers of blocks are not weighed.
-use Rattle.std.specs.Prelude.{ℕ, ◌+◌, ◌-◌, List, [], ◌∷◌, ◌++◌, length, map, take, drop, Option, None, Some}
+use Rattle.std.specs.Prelude.{ℕ, ◌+◌, ◌-◌, List, [], ◌∷◌, ◌++◌, length, take, drop, Option, None, Some}
 use Rattle.std.specs.FinMap as finite
 use Rattle.std.specs.Option.{option_map_or}
 use Rattle.trac_rules.specs.declared.item.Item.{Item}
@@ -13,7 +13,7 @@ use Rattle.trac_rules.specs.declared.primitive.Primitive.{Primitive}
 use Rattle.trac_rules.specs.declared.primitive.Primitive.TheVariants.{SetMeta, Handle, HandleBlock}
 use Rattle.trac_rules.specs.declared.scan.Front.{Front}
 use Rattle.trac_rules.specs.declared.scan.Front.TheVariants as front
-use Rattle.trac_rules.specs.Blocks.{block_at, forms_in, moved_out, named_block_number, with_name}
+use Rattle.trac_rules.specs.Blocks.{block_at, forms_in, named_block_number}
 use Rattle.trac_rules.specs.Effect.{argument}
 use Rattle.trac_rules.specs.Form.{Form, all_items}
 use Rattle.trac_rules.specs.Handling.{named_form, without}
@@ -23,7 +23,7 @@ use Rattle.trac_rules.specs.Records.{CallRecord, Record, Moved, Comma, Begun, Qu
 use Rattle.trac_rules.specs.Scanning.{Scanned, Moves, Calls, front_of, scan}
 use Rattle.trac_rules.specs.Segmenting.{segmented}
 use Rattle.trac_rules.specs.State.{Forms, Frame, Held, State, Storage, storage_of}
-use Rattle.trac_rules.specs.Undone.{Undone, Nothing, Point, Join, Swap, Restore, MoveOut, Unbring, Unerase, undone_by}
+use Rattle.trac_rules.specs.Undone.{Undone, Nothing, Point, Join, Swap, Restore, MoveOut, Unbring, Unerase, names_in, undone_by}
 
 -- ---- what is kept
 
@@ -99,11 +99,24 @@ abbrev pub weights_from : List State → ℕ
 weights_from [] = 0
 weights_from (s ∷ states) = step_weight s + weights_from states
 
--- ---- what a call may lose beside its arguments
+-- ---- what a call may lose beside its arguments: counted in the forms that there are, whatever a record keeps of them
+
+-- a form under a name: its items, the bytes of its name, and one
+abbrev pub form_loss : List ℕ → Form → ℕ
+form_loss name form = length form.before + length form.after + length name + 1
 
 -- the form of this name, where there is one
-abbrev pub form_loss : List ℕ → Forms → ℕ
-form_loss name forms = held_weight (with_name name (finite.get forms name))
+abbrev pub named_loss : List ℕ → Forms → ℕ
+named_loss name forms = option_map_or (form_loss name) (finite.get forms name) 0
+
+-- all of these forms
+abbrev pub all_loss : Held → ℕ
+all_loss [] = 0
+all_loss (entry ∷ held) = form_loss entry.0 entry.1 + all_loss held
+
+-- the forms of these names, those that there are: all forms less those that are left without them
+abbrev pub taken_loss : List (List ℕ) → Forms → ℕ
+taken_loss names forms = all_loss (finite.entries forms) - all_loss (finite.entries (without names forms))
 
 -- how many gaps there are among items
 abbrev pub gap_count : List Item → ℕ
@@ -117,23 +130,19 @@ gaps_made texts form = gap_count (all_items (segmented texts form)) - gap_count 
 
 -- a replaced form, the deleted forms, or one for each gap made
 abbrev pub handled_loss : FormAction → List (List ℕ) → Storage → ℕ
-handled_loss Define arguments storage = form_loss (argument 1 arguments) storage.forms
-handled_loss Delete arguments storage = held_weight (moved_out (drop 1 arguments) storage.forms)
-handled_loss DeleteAll arguments storage = held_weight (finite.entries storage.forms)
+handled_loss Define arguments storage = named_loss (argument 1 arguments) storage.forms
+handled_loss Delete arguments storage = taken_loss (drop 1 arguments) storage.forms
+handled_loss DeleteAll arguments storage = all_loss (finite.entries storage.forms)
 handled_loss Segment arguments storage = option_map_or (gaps_made (drop 2 arguments)) (named_form arguments storage) 0
 handled_loss action arguments storage = 0
 
--- the forms that copies of these replace
-abbrev pub replaced_loss : Held → Forms → ℕ
-replaced_loss held forms = held_weight (moved_out (map (λ entry. entry.0) held) forms)
-
 -- the replaced form, where it was not put aside; the forms that copies replace; the forms of the block, and the form that was its address
 abbrev pub block_loss : BlockAction → List (List ℕ) → Storage → ℕ
-block_loss StoreBlock arguments storage = form_loss (argument 1 arguments) (without (drop 2 arguments) storage.forms)
+block_loss StoreBlock arguments storage = named_loss (argument 1 arguments) (without (drop 2 arguments) storage.forms)
 block_loss FetchBlock arguments storage =
-    option_map_or (λ number. replaced_loss (forms_in (block_at number storage.blocks)) storage.forms) (named_block_number arguments storage) 0
+    option_map_or (λ number. taken_loss (names_in (forms_in (block_at number storage.blocks))) storage.forms) (named_block_number arguments storage) 0
 block_loss EraseBlock arguments storage =
-    option_map_or (λ number. held_weight (forms_in (block_at number storage.blocks)) + form_loss (argument 1 arguments) storage.forms)
+    option_map_or (λ number. all_loss (forms_in (block_at number storage.blocks)) + named_loss (argument 1 arguments) storage.forms)
     (named_block_number arguments storage) 0
 
 -- one for a meta character that is set, or what is lost of forms and blocks

@@ -86,6 +86,19 @@ pub fn worked_given_back()
     ensures fetched_block_missing { GivesNothingBack (texts_of (codes "fb,G")) (Unbring 1 []) ((codes "G", defined (codes "1")) ∷ []) (Some [] ∷ []) }
     ensures block_not_erased { GivesNothingBack (texts_of (codes "eb,G")) (Unerase 0 [] (defined (codes "0"))) [] (Some [] ∷ []) }
     ensures block_missing { GivesNothingBack (texts_of (codes "eb,G")) (Unerase 0 [] (defined (codes "0"))) [] [] }
+    // Nor does a state that lacks the form which was put there, or has one where none was left: under a name that was
+    // given to delete or to move it, under that of a form that comes back, and under that of an address.
+    ensures no_form_to_undefine { GivesNothingBack (texts_of (codes "ds,a,1")) (Swap None) ((codes "b", defined (codes "2")) ∷ []) [] }
+    ensures deleted_form_there { GivesNothingBack (texts_of (codes "dd,a")) (Restore ((codes "a", defined (codes "1")) ∷ [])) ((codes "a", defined (codes "2")) ∷ []) [] }
+    ensures deleted_name_there { GivesNothingBack (texts_of (codes "dd,a,b")) (Restore ((codes "a", defined (codes "1")) ∷ [])) ((codes "b", defined (codes "2")) ∷ []) [] }
+    ensures no_address_of_the_block { GivesNothingBack (texts_of (codes "sb,G,A")) (MoveOut None) [] (Some ((codes "A", defined (codes "1")) ∷ []) ∷ []) }
+    ensures form_of_the_block_there { GivesNothingBack (texts_of (codes "sb,G,A")) (MoveOut None) ((codes "A", defined (codes "2")) ∷ (codes "G", defined (codes "0")) ∷ []) (Some ((codes "A", defined (codes "1")) ∷ []) ∷ []) }
+    ensures moved_name_there { GivesNothingBack (texts_of (codes "sb,G,C")) (MoveOut None) ((codes "C", defined (codes "3")) ∷ (codes "G", defined (codes "0")) ∷ []) (Some [] ∷ []) }
+    ensures old_form_in_the_block { GivesNothingBack (texts_of (codes "sb,G,G")) (MoveOut (Some (defined (codes "xy")))) ((codes "G", defined (codes "0")) ∷ []) (Some ((codes "G", defined (codes "xy")) ∷ []) ∷ []) }
+    ensures copy_missing { GivesNothingBack (texts_of (codes "fb,G")) (Unbring 0 []) ((codes "A", defined (codes "1")) ∷ (codes "G", defined (codes "0")) ∷ []) (Some ((codes "A", defined (codes "1")) ∷ (codes "B", defined (codes "2")) ∷ []) ∷ []) }
+    ensures replaced_form_there { GivesNothingBack (texts_of (codes "fb,G")) (Unbring 0 ((codes "C", defined (codes "3")) ∷ [])) ((codes "A", defined (codes "1")) ∷ (codes "C", defined (codes "4")) ∷ (codes "G", defined (codes "0")) ∷ []) (Some ((codes "A", defined (codes "1")) ∷ []) ∷ []) }
+    ensures no_copy_over_the_replaced { GivesNothingBack (texts_of (codes "fb,G")) (Unbring 0 ((codes "C", defined (codes "3")) ∷ [])) ((codes "A", defined (codes "1")) ∷ (codes "G", defined (codes "0")) ∷ []) (Some ((codes "A", defined (codes "1")) ∷ []) ∷ []) }
+    ensures address_there { GivesNothingBack (texts_of (codes "eb,G")) (Unerase 0 [] (defined (codes "0"))) ((codes "G", defined (codes "0")) ∷ []) (None ∷ []) }
 {}
 
 /// What records of calls weigh.

@@ -20,4 +20,5 @@ pub mod reply;
 pub mod rows;
 pub mod scan;
 pub mod segmenting;
+pub mod tapes;
 pub mod width;

@@ -1,9 +1,10 @@
 -- A whole run, turn by turn.
-use Rattle.std.proofs.Common.{◌≡◌, ℕ, ◌≤◌, true, false, List, [], ◌++◌, refl, sym, ap, subst, ◌∙◌, ⊎_elim}
+use Rattle.std.proofs.Common.{◌≡◌, ℕ, ◌+◌, ◌*◌, ◌≤◌, true, false, List, [], ◌++◌, length, refl, sym, ap, subst, ◌∙◌, arith, ⊎_elim}
 use Rattle.std.specs.Prelude.{Option}
 use Rattle.std.proofs.lemmas.Bool.{false≢true}
 use Rattle.std.specs.Io.KnownBytes.{Appends, Consumes, IsAtEnd}
-use Rattle.std.proofs.lemmas.List.{append_assoc}
+use Rattle.std.proofs.lemmas.List.{append_assoc, length-append}
+use Rattle.trac_rules.specs.declared.limit.TheConstants.{TAPE_LIMIT}
 use Rattle.trac_rules.specs.declared.width.Width.{Width}
 use Rattle.trac_rules.specs.Session.{PlainSession, new_session}
 use Rattle.trac_rules.specs.Running.{Output, output_of}
@@ -13,11 +14,12 @@ use Rattle.trac_run.specs.declared.ending.Ending.{Ending}
 use Rattle.trac_run.specs.declared.ending.Ending.TheVariants.{Ended, Budget, Limit, Memory, Read, Write, NotUnderstood}
 use Rattle.trac_rules.specs.Fronts.{IsFrontOf}
 use Rattle.trac_run.specs.Written.{Closes}
-use Rattle.trac_run.specs.Runs.{Shows, Runs, IsFresh, GoesOn, Finishes}
+use Rattle.trac_run.specs.Runs.{Shows, Runs, IsFresh, GoesOn, Finishes, most_read, unread_count}
 use Rattle.trac_run.proofs.Known.{Appends-nothing, Appends-both, Consumes-nothing, Consumes-both, front_of_nothing, empty_front}
 use Rattle.trac_run.proofs.Turned.{Shows-Write}
 
--- what a run has done so far: what was read, what was written, and that the rest is written from this session on
+-- what a run has done so far: what was read, and that it is no more than the steps so far may take and what is unread; what was written,
+-- and that the rest is written from this session on
 pub record SoFar (in_old in_now out_old out_now : Option (List ℕ)) (width : Width) (budget : ℕ) (p : PlainSession) (left : ℕ) : Type 0 where
   pub fresh : IsFresh p
   pub got : List ℕ
@@ -26,6 +28,8 @@ pub record SoFar (in_old in_now out_old out_now : Option (List ℕ)) (width : Wi
   pub gave : Appends out_old out_now written
   pub at_end : p.tape.ended ≡ true → IsAtEnd in_now
   pub rest : (more : List ℕ) → (p.tape.ended ≡ true → more ≡ []) → output_of width (got ++ more) budget ≡ prepended written (going_on_from p more left)
+  pub fits : length p.tape.bytes ≤ TAPE_LIMIT
+  pub few : length got + left * TAPE_LIMIT ≤ unread_count p + budget * TAPE_LIMIT
 
 -- at the beginning nothing is read, and nothing written
 pub so_far_new : (input output : Option (List ℕ)) (width : Width) (budget limit : ℕ) (p : PlainSession) → 1 ≤ limit → p ≡ new_session limit width → SoFar input input output output width budget p budget
@@ -38,6 +42,8 @@ so_far_new input output width budget limit p some e =
       gave = Appends-nothing output;
       at_end = λ over. absurd (false≢true over);
       rest = λ more none. refl;
+      fits = omega arith;
+      few = omega arith;
     })
 
 -- a turn
@@ -55,6 +61,8 @@ so_far_turn in_old in_now in_new out_old out_now out_new width budget p q m n fa
       ∙ far.rest (on.got ++ more) (λ over. let at = on.closed over in ap (λ g. g ++ more) at.0 ∙ none at.1)
       ∙ ap (prepended far.written) (on.rest more none)
       ∙ prepended-prepended far.written on.written (going_on_from q more n);
+  fits = on.fits far.fits;
+  few = omega (arith, length-append far.got on.got, far.few, on.few far.fits);
 }
 
 -- a front after what was written
@@ -73,7 +81,7 @@ Shows-prepended (NotUnderstood line) text written o shows = absurd shows
 
 -- the last turn
 pub ran : (in_old in_now in_new out_old out_now out_new : Option (List ℕ)) (width : Width) (budget : ℕ) (p : PlainSession) (m : ℕ) (ending : Ending) →
-    SoFar in_old in_now out_old out_now width budget p m → Finishes in_now in_new out_now out_new p m ending → Runs in_old in_new out_old out_new (λ text. output_of width text budget) ending
+    SoFar in_old in_now out_old out_now width budget p m → Finishes in_now in_new out_now out_new p m ending → Runs in_old in_new out_old out_new (λ text. output_of width text budget) (most_read budget) ending
 ran in_old in_now in_new out_old out_now out_new width budget p m ending far last =
     let all : (more : List ℕ) → (p.tape.ended ≡ true → more ≡ []) → output_of width ((far.got ++ last.got) ++ more) budget ≡ prepended far.written (going_on_from p (last.got ++ more) m) =
     λ more none.
@@ -81,6 +89,7 @@ ran in_old in_now in_new out_old out_now out_new width budget p m ending far las
     ∙ far.rest (last.got ++ more) (λ over. ap (λ g. g ++ more) (last.closed over) ∙ none over) in
     record {
       got = far.got ++ last.got;
+      few = omega (arith, length-append far.got last.got, far.few, last.few far.fits);
       written = far.written ++ last.written;
       saw_end = p.tape.ended;
       took = Consumes-both in_old in_now in_new far.got last.got far.took last.took;
@@ -93,10 +102,11 @@ ran in_old in_now in_new out_old out_now out_new width budget p m ending far las
     }
 
 -- a run that did not begin for want of memory
-pub ran_not : (input : Option (List ℕ)) (out_old out_new : Option (List ℕ)) (text : List ℕ) (stated : List ℕ → Output) (result : Ending) → text ≡ [] → Closes out_old out_new text Memory result →
-    Runs input input out_old out_new stated result
-ran_not input out_old out_new text stated result none closes = record {
+pub ran_not : (input : Option (List ℕ)) (out_old out_new : Option (List ℕ)) (text : List ℕ) (stated : List ℕ → Output) (most : ℕ) (result : Ending) → text ≡ [] → Closes out_old out_new text Memory result →
+    Runs input input out_old out_new stated most result
+ran_not input out_old out_new text stated most result none closes = record {
   got = [];
+  few = omega arith;
   written = closes.written;
   saw_end = false;
   took = Consumes-nothing input;

@@ -16,9 +16,9 @@ use Rattle.trac_rules.proofs.Replies.{Commit_done, End_done, Feed_done, Feed_ref
 use Rattle.trac_run.specs.declared.ending.Ending.{Ending}
 use Rattle.trac_run.specs.declared.ending.Ending.TheVariants.{Ended, Budget, Limit, Memory, Read, Write, NotUnderstood}
 use Rattle.trac_run.specs.Written.{WritesFront, Closes}
-use Rattle.trac_run.specs.Runs.{Shows, ending_of_feed, IsFresh, turns_left, GoesOn, Finishes, EndsFor, TakesNone, TakesMore}
+use Rattle.trac_run.specs.Runs.{Shows, ending_of_feed, IsFresh, turns_left, unread_count, most_read, GoesOn, Finishes, EndsFor, TakesNone, TakesMore}
 use Rattle.trac_run.proofs.Known.{Appends-both, Appends-kept, Consumes-nothing, front_of_front, front_of_itself, empty_front}
-use Rattle.trac_run.proofs.Turned.{front_pending, Shows-Write, ended_after_Commit, end_turns}
+use Rattle.trac_run.proofs.Turned.{front_pending, Shows-Write, ended_after_Commit, end_turns, few_of_none, unread_after_Commit}
 
 -- ---- one read
 
@@ -48,8 +48,9 @@ feed_ends p q got refusals.NotMet open_ few h = too_long_for p q got refusals.No
 pub takes_none : (in_old in_new : Option (List ℕ)) (p q : PlainSession) (buffer : List ℕ) (n : ℕ) (refusal : Refusal) (ending : Ending) → p.tape.ended ≡ false → n ≤ length buffer → length buffer ≤ 4096 →
     ending ≡ ending_of_feed refusal → Consumes in_old in_new (take n buffer) → Answers (Feed (take n buffer)) p (Refused refusal) q → TakesNone in_old in_new p q ending
 takes_none in_old in_new p q buffer n refusal ending open_ l few is took h =
-    let at = feed_ends p q (take n buffer) refusal open_ (omega (arith, length-take-le n buffer l)) h in
-    record { got = take n buffer; took = took; same = at.0; why = subst (λ e. EndsFor e p (take n buffer)) (sym is) at.1 }
+    let few_ : length (take n buffer) ≤ 4096 = omega (arith, length-take-le n buffer l) in
+    let at = feed_ends p q (take n buffer) refusal open_ few_ h in
+    record { got = take n buffer; few = few_; took = took; same = at.0; why = subst (λ e. EndsFor e p (take n buffer)) (sym is) at.1 }
 
 -- what was fed
 pub takes_more : (in_old in_new : Option (List ℕ)) (p q : PlainSession) (buffer : List ℕ) (n : ℕ) → 0 < n → n ≤ length buffer →
@@ -100,6 +101,24 @@ pub ended_rest : (q r s : PlainSession) (got more : List ℕ) (n : ℕ) → q.la
 ended_rest q r s got more n on_tape e none last h =
     rw (none, last) (going_on-Commit q r [] n on_tape e ∙ ap (prepended q.last.output) (going_on-End r s n h))
 
+-- what the reader gave is unread
+pub unread_taken : (in_old in_new : Option (List ℕ)) (q r s : PlainSession) → answer (Commit 0) q ≡ done r → (taken : TakesMore in_old in_new r s) →
+    (length taken.got + unread_count q ≡ unread_count s) × (length q.tape.bytes ≤ TAPE_LIMIT → length s.tape.bytes ≤ TAPE_LIMIT)
+unread_taken in_old in_new q r s e taken =
+    let left = unread_after_Commit q r e in
+    let start = (after_Commit q r e).2 in
+    ⊎_elim
+    (λ (end : (taken.got ≡ []) × IsAtEnd in_new × (answer End r ≡ done s)).
+    let same : length s.tape.bytes ≡ length r.tape.bytes = ap (λ (t : PlainSession). length t.tape.bytes) (End_done r s end.2) in
+    let at : s.last.position ≡ 0 = ap (λ t. t.position) (after_End r s (on_tape_after_Commit q r e) end.2).0 ∙ start in
+    (omega (arith, ap length end.0, same, left.0, at), λ fits. omega (arith, fits, same, left.0)))
+    (λ (fed : (0 < length taken.got) × (answer (Feed taken.got) r ≡ done s)).
+    let done_ = Feed_done taken.got r s fed.1 in
+    let longer : length s.tape.bytes ≡ length r.tape.bytes + length taken.got = ap (λ (t : PlainSession). length t.tape.bytes) done_.0 ∙ length-append r.tape.bytes taken.got in
+    let at : s.last.position ≡ 0 = ap (λ t. t.position) (after_Feed r s taken.got (on_tape_after_Commit q r e) fed.1).0 ∙ start in
+    (omega (arith, longer, left.0, at), λ fits. omega (arith, longer, done_.2)))
+    taken.fed
+
 -- the session goes on from what the reader gave
 pub taken_on : (in_old in_new out_old out_new : Option (List ℕ)) (q r s : PlainSession) (n : ℕ) → answer Step q ≡ refused refusals.NeedInput q → q.last.position ≤ length q.tape.bytes → answer (Commit 0) q ≡ done r →
     Appends out_old out_new q.last.output → TakesMore in_old in_new r s → GoesOn in_old in_new out_old out_new q n s n
@@ -121,6 +140,8 @@ taken_on in_old in_new out_old out_new q r s n wanted on_tape e gave taken =
           ended_rest q r s taken.got more n on_tape e end.0 (none (after_End r s (on_tape_after_Commit q r e) end.2).4) end.2)
           (λ (fed : (0 < length taken.got) × (answer (Feed taken.got) r ≡ done s)). fed_rest q r s taken.got more n on_tape e fed.1)
           taken.fed;
+      fits = (unread_taken in_old in_new q r s e taken).1;
+      few = λ fits. omega (arith, (unread_taken in_old in_new q r s e taken).0);
     }
 
 -- a session that is as fresh as the committed one
@@ -183,6 +204,7 @@ unwritten_finish input out_old out_new q n ending wanted fault front = record {
   at_end = λ over. absurd (false≢true (sym (wanted_open q wanted) ∙ over));
   front = λ more none. front_of_front front.written q.last.output (going_on_from q more n).bytes front.front (front_pending q more n);
   shows = λ more none. Shows-Write ending front.written (going_on_from q more n) fault;
+  few = few_of_none q n;
 }
 
 -- all that is pending was written, and a flush failed
@@ -209,6 +231,10 @@ shows_unfed q r n got Read wanted on_tape e why more = tt
 shows_unfed q r n got Write wanted on_tape e why more = absurd why
 shows_unfed q r n got (NotUnderstood line) wanted on_tape e why more = absurd why
 
+-- no more was read than one read gives
+pub few_of_read : (q : PlainSession) (n : ℕ) (got : List ℕ) → length got ≤ 4096 → length q.tape.bytes ≤ TAPE_LIMIT → length got + unread_count q ≤ most_read n
+few_of_read q n got few fits = omega (arith, few, fits)
+
 -- all that is pending was written, and the run ends for what the reader gave or did not give
 pub unfed_finish : (in_old in_new out_old out_new : Option (List ℕ)) (q r s : PlainSession) (n : ℕ) (ending : Ending) → answer Step q ≡ refused refusals.NeedInput q → q.last.position ≤ length q.tape.bytes → answer (Commit 0) q ≡ done r →
     Appends out_old out_new q.last.output → TakesNone in_old in_new r s ending → Finishes in_old in_new out_old out_new q (n + 1) ending
@@ -223,6 +249,7 @@ unfed_finish in_old in_new out_old out_new q r s n ending wanted on_tape e gave 
       at_end = λ over. absurd (shut over);
       front = λ more none. front_pending q (taken.got ++ more) (n + 1);
       shows = λ more none. shows_unfed q r n taken.got ending wanted on_tape e taken.why (taken.got ++ more);
+      few = few_of_read q (n + 1) taken.got taken.few;
     }
 
 -- what is written when the pending text is empty: nothing
@@ -251,4 +278,5 @@ unfed_closed in_old in_new out_old out_mid out_new q r s n ending result wanted 
           (shows_unfed q r n taken.got ending wanted on_tape e taken.why (taken.got ++ more)))
           (λ (fault : result ≡ Write). Shows-Write result q.last.output (going_on_from q (taken.got ++ more) (n + 1)) fault)
           closes.ends;
+      few = few_of_read q (n + 1) taken.got taken.few;
     }

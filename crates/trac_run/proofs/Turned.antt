@@ -1,9 +1,11 @@
 -- One turn of a run, from a session with nothing to go back over and nothing pending.
-use Rattle.std.proofs.Common.{◌≡◌, ℕ, zero, suc, ◌+◌, ◌-◌, ◌<◌, ◌≤◌, Bool, true, false, List, [], ◌++◌, length, refl, sym, ap, subst, ◌∙◌, arith, ⊎_elim}
+use Rattle.std.proofs.Common.{◌≡◌, ℕ, zero, suc, ◌+◌, ◌-◌, ◌*◌, ◌<◌, ◌≤◌, Bool, true, false, List, [], ◌++◌, length, refl, sym, ap, subst, ◌∙◌, arith, ⊎_elim}
 use Rattle.std.specs.Prelude.{Option, None, Some, MatchOption, Result, Ok, Err, OnOk, IfErr, if◌then◌else◌, ◌⊎◌, ◌==◌}
 use Rattle.std.specs.Io.KnownBytes.{Appends, IsAtEnd}
 use Rattle.std.proofs.lemmas.Bool.{false≢true}
 use Rattle.std.proofs.lemmas.Bool.Decides.{nat_tests}
+use Rattle.std.proofs.lemmas.List.{length-drop}
+use Rattle.trac_rules.specs.declared.limit.TheConstants.{TAPE_LIMIT}
 use Rattle.trac_rules.specs.declared.refusal.Refusal.{Refusal}
 use Rattle.trac_rules.specs.declared.refusal.Refusal.TheVariants as refusals
 use Rattle.trac_rules.specs.declared.reply.Reply.TheVariants.{Refused}
@@ -17,7 +19,7 @@ use Rattle.trac_run.specs.declared.ending.Ending.{Ending}
 use Rattle.trac_run.specs.declared.ending.Ending.TheVariants.{Ended, Budget, Limit, Write}
 use Rattle.trac_rules.specs.Fronts.{IsFrontOf}
 use Rattle.trac_run.specs.Written.{WritesFront, Closes}
-use Rattle.trac_run.specs.Runs.{Shows, IsFresh, turns_left, GoesOn, Finishes}
+use Rattle.trac_run.specs.Runs.{Shows, IsFresh, turns_left, unread_count, most_read, GoesOn, Finishes}
 use Rattle.trac_run.proofs.Known.{Consumes-nothing, front_of_front}
 
 -- ---- the walk
@@ -53,6 +55,26 @@ after_walk most p m k why q fresh walk =
       unmoved = unmoved_by_none k p q walk.walk.walked;
       rest = λ more none. ap (going_on_from p more) count ∙ going_on-repeated k (m - k) p q more start none walk.walk.walked;
     }
+
+-- the tape after a walk is the one before
+pub tape_after_walk : (p : PlainSession) (m k : ℕ) (q : PlainSession) → AfterWalk p m k q → length q.tape.bytes ≡ length p.tape.bytes
+tape_after_walk p m k q after = ap (λ t. length t.bytes) after.tape
+
+-- a walk reads no more than its steps may
+pub unread_by_walk : (p : PlainSession) (m k : ℕ) (q : PlainSession) → AfterWalk p m k q → length p.tape.bytes ≤ TAPE_LIMIT → unread_count p ≤ unread_count q + k * TAPE_LIMIT
+unread_by_walk p m zero q after fits = omega (arith, ap unread_count (after.unmoved refl))
+unread_by_walk p m (suc k) q after fits = omega (arith, fits)
+
+-- a run that ends with nothing read
+pub few_of_none : (p : PlainSession) (m : ℕ) → length p.tape.bytes ≤ TAPE_LIMIT → 0 + unread_count p ≤ most_read m
+few_of_none p m fits = omega (arith, fits)
+
+-- what a commit leaves on the tape is what was unread
+pub unread_after_Commit : (q r : PlainSession) → answer (Commit 0) q ≡ done r → (length r.tape.bytes ≡ unread_count q) × (unread_count r ≡ unread_count q)
+unread_after_Commit q r h =
+    let kept : length r.tape.bytes ≡ unread_count q =
+    ap (λ (s : PlainSession). length s.tape.bytes) (Commit_done 0 q r h) ∙ length-drop q.last.position q.tape.bytes in
+    (kept, omega (arith, kept, (after_Commit q r h).2))
 
 -- why a walk was stopped
 pub stopped_for : (most : ℕ) (p : PlainSession) (m k : ℕ) (why : Option Refusal) (q : PlainSession) (refusal r : Refusal) → IsWalkWithin most m p k why q → why ≡ Some refusal → refusal ≡ r →
@@ -129,6 +151,7 @@ closed_run input out_old out_new p m k q text ending result after at_end pending
   shows = λ more none. subst (λ (o : Output). Shows result closes.written o) (sym (after.rest more none))
       (Shows-closed ending result closes.written q.last.output (going_on_from q more (m - k))
       (subst (λ t. ((result ≡ ending) × (closes.written ≡ t)) ⊎ (result ≡ Write)) pending closes.ends) (shows more (none_after p q more after.tape none)));
+  few = few_of_none p m;
 }
 
 -- the budget is spent
@@ -192,6 +215,8 @@ released_on input out_old out_new p m k q r (Ok u) after at_end gave h =
       closed = λ over. (refl, ended ∙ over);
       at_end = λ over. at_end (sym ended ∙ over);
       rest = λ more none. released_rest p m k q r after h more (λ over. none (ended ∙ over));
+      fits = λ fits_. omega (arith, fits_, (unread_after_Commit q r h).0, tape_after_walk p m k q after);
+      few = λ fits_. omega (arith, (unread_after_Commit q r h).1, unread_by_walk p m k q after fits_, after.within);
     }
 
 -- a front of what is pending was written
@@ -207,6 +232,7 @@ finished_front input out_old out_new p m k q ending after at_end fault front = r
   front = λ more none. subst (λ (o : Output). IsFrontOf front.written o.bytes) (sym (after.rest more none))
       (front_of_front front.written q.last.output (going_on_from q more (m - k)).bytes front.front (front_pending q more (m - k)));
   shows = λ more none. Shows-Write ending front.written (going_on_from p more m) fault;
+  few = few_of_none p m;
 }
 
 -- a release that failed
@@ -266,6 +292,8 @@ walked_on in_old in_new out_old out_new p m k q r (Ok u) after on =
       rest = λ more none.
           after.rest (on.got ++ more) (λ over. let at = on.closed (ended ∙ over) in ap (λ g. g ++ more) at.0 ∙ none at.1)
           ∙ on.rest more none;
+      fits = λ fits_. on.fits (omega (arith, fits_, tape_after_walk p m k q after));
+      few = λ fits_. omega (arith, on.few (omega (arith, fits_, tape_after_walk p m k q after)), unread_by_walk p m k q after fits_, after.within);
     }
 
 -- finishing from the session after the walk
@@ -285,6 +313,7 @@ walked_finish in_old in_new out_old out_new p m k q (Err e) after on =
       at_end = λ over. on.at_end (ended ∙ over);
       front = λ more none. subst (λ (o : Output). IsFrontOf on.written o.bytes) (sym (all more none)) (on.front more (λ over. none (sym ended ∙ over)));
       shows = λ more none. subst (λ (o : Output). Shows e on.written o) (sym (all more none)) (on.shows more (λ over. none (sym ended ∙ over)));
+      few = λ fits_. omega (arith, on.few (omega (arith, fits_, tape_after_walk p m k q after)), unread_by_walk p m k q after fits_, after.within);
     }
 
 -- the same with at least one step left, which the input says with a number after it

@@ -3,7 +3,7 @@ use Rattle.std.proofs.Common.{◌≡◌, ℕ, ◌+◌, ◌<◌, ◌≤◌, Bool,
 use Rattle.std.specs.Prelude.{Option, None, Some, is_some, not, ◌==◌}
 use Rattle.std.proofs.lemmas.Bool.{false≢true, true≢false}
 use Rattle.std.proofs.lemmas.Bool.Decides.{nat_tests}
-use Rattle.std.proofs.lemmas.List.{append_assoc}
+use Rattle.std.proofs.lemmas.List.{append_assoc, length-append}
 use Rattle.trac_rules.specs.declared.refusal.Refusal.TheVariants as refusals
 use Rattle.trac_rules.specs.Fronts.{IsFrontOf}
 use Rattle.trac_rules.specs.Session.{PlainSession, Step, refused, answer}
@@ -33,6 +33,8 @@ goes_on_twice in_old in_now in_new out_old out_now out_new p q r l m n first sec
       ∙ first.rest (second.got ++ more) (λ over. let at = second.closed over in ap (λ g. g ++ more) at.0 ∙ none at.1)
       ∙ ap (prepended first.written) (second.rest more none)
       ∙ prepended-prepended first.written second.written (going_on_from r more n);
+  fits = λ fits_. second.fits (first.fits fits_);
+  few = λ fits_. omega (arith, length-append first.got second.got, first.few fits_, second.few (first.fits fits_));
 }
 
 -- going on, and then finishing from a session whose input has not ended
@@ -53,6 +55,7 @@ goes_on_to_finish in_old in_now in_new out_old out_now out_new p q l m ending un
           (front_behind on.written last.written (going_on_from q (last.got ++ more) m).bytes (last.front more (λ over. absurd (shut over))));
       shows = λ more none. subst (λ (o : Output). Shows ending (on.written ++ last.written) o) (sym (all more))
           (Shows-prepended ending on.written last.written (going_on_from q (last.got ++ more) m) (last.shows more (λ over. absurd (shut over))));
+      few = λ fits_. omega (arith, length-append on.got last.got, on.few fits_, last.few (on.fits fits_));
     }
 
 -- ---- piece after piece

@@ -8,6 +8,7 @@ use Rattle.trac_rules.specs.Session.{PlainSession, Feed, End, Step, done, refuse
 use Rattle.trac_rules.specs.Running.{Output, BudgetSpent, InputEnded, LimitPassed}
 use Rattle.trac_rules.specs.GoingOn.{prepended, going_on_from}
 use Rattle.trac_run.specs.declared.ending.Ending.{Ending}
+use Rattle.trac_run.specs.declared.running.TheConstants.{READ_SIZE}
 use Rattle.trac_run.specs.declared.ending.Ending.TheVariants.{Ended, Budget, Limit, Memory, Read, Write, NotUnderstood}
 use Rattle.trac_rules.specs.Fronts.{IsFrontOf}
 
@@ -40,11 +41,17 @@ Shows (NotUnderstood line) written o = ⊥
 
 -- ---- a whole run
 
+-- a run of so many steps reads no more bytes than this: for each step as many as a tape may have, then a tape that no step reads, and
+-- one read for which that has no place
+abbrev pub most_read : ℕ → ℕ
+most_read steps = steps * TAPE_LIMIT + (TAPE_LIMIT + READ_SIZE)
+
 -- a run read some bytes, and perhaps saw the end of the input, and wrote some: however the input goes on after what
 -- was read (not at all where the end was seen), what was written is a front of the output that is stated for all of
--- the input, and its ending is the stated one where it is not a fault or want of memory: all is written then
-pub record Runs (in_old in_new out_old out_new : Option (List ℕ)) (stated : List ℕ → Output) (ending : Ending) : Type 0 where
+-- the input, and its ending is the stated one where it is not a fault or want of memory: all is written then. It read no more than `most`
+pub record Runs (in_old in_new out_old out_new : Option (List ℕ)) (stated : List ℕ → Output) (most : ℕ) (ending : Ending) : Type 0 where
   pub got : List ℕ
+  pub few : length got ≤ most
   pub written : List ℕ
   pub saw_end : Bool
   pub took : Consumes in_old in_new got
@@ -66,7 +73,12 @@ pub record IsFresh (p : PlainSession) : Type 0 where
 abbrev pub turns_left : PlainSession → ℕ → ℕ
 turns_left p n = n * (TAPE_LIMIT + 2) + (TAPE_LIMIT - length p.tape.bytes) + (if p.tape.ended then 0 else 1)
 
--- what was to be written from one session on, is what was written and what is to be written from the other on
+-- how many bytes of the tape are not read yet
+abbrev pub unread_count : PlainSession → ℕ
+unread_count p = length p.tape.bytes - p.last.position
+
+-- what was to be written from one session on, is what was written and what is to be written from the other on. What was read is unread
+-- there, or steps took it, each no more than a tape may have
 pub record GoesOn (in_old in_new out_old out_new : Option (List ℕ)) (p : PlainSession) (m : ℕ) (q : PlainSession) (n : ℕ) : Type 0 where
   pub got : List ℕ
   pub written : List ℕ
@@ -75,8 +87,10 @@ pub record GoesOn (in_old in_new out_old out_new : Option (List ℕ)) (p : Plain
   pub closed : p.tape.ended ≡ true → (got ≡ []) × (q.tape.ended ≡ true)
   pub at_end : q.tape.ended ≡ true → IsAtEnd in_new
   pub rest : (more : List ℕ) → (q.tape.ended ≡ true → more ≡ []) → going_on_from p (got ++ more) m ≡ prepended written (going_on_from q more n)
+  pub fits : length p.tape.bytes ≤ TAPE_LIMIT → length q.tape.bytes ≤ TAPE_LIMIT
+  pub few : length p.tape.bytes ≤ TAPE_LIMIT → length got + unread_count p + n * TAPE_LIMIT ≤ unread_count q + m * TAPE_LIMIT
 
--- what was written is a front of what was to be written from a session on, and the ending is the stated one
+-- what was written is a front of what was to be written from a session on, and the ending is the stated one. No more was read than may be
 pub record Finishes (in_old in_new out_old out_new : Option (List ℕ)) (p : PlainSession) (m : ℕ) (ending : Ending) : Type 0 where
   pub got : List ℕ
   pub written : List ℕ
@@ -86,6 +100,7 @@ pub record Finishes (in_old in_new out_old out_new : Option (List ℕ)) (p : Pla
   pub at_end : p.tape.ended ≡ true → IsAtEnd in_new
   pub front : (more : List ℕ) → (p.tape.ended ≡ true → more ≡ []) → IsFrontOf written (going_on_from p (got ++ more) m).bytes
   pub shows : (more : List ℕ) → (p.tape.ended ≡ true → more ≡ []) → Shows ending written (going_on_from p (got ++ more) m)
+  pub few : length p.tape.bytes ≤ TAPE_LIMIT → length got + unread_count p ≤ most_read m
 
 -- ---- one read
 
@@ -103,9 +118,10 @@ EndsFor Budget p got = ⊥
 EndsFor Write p got = ⊥
 EndsFor (NotUnderstood line) p got = ⊥
 
--- the reader took these bytes from its input, and the session stays as it was
+-- the reader took these bytes from its input, no more than one read gives, and the session stays as it was
 pub record TakesNone (in_old in_new : Option (List ℕ)) (p q : PlainSession) (ending : Ending) : Type 0 where
   pub got : List ℕ
+  pub few : length got ≤ READ_SIZE
   pub took : Consumes in_old in_new got
   pub same : q ≡ p
   pub why : EndsFor ending p got

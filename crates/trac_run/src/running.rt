@@ -4,7 +4,7 @@ ghost use Rattle.std.specs.Io.KnownBytes.{Appends, IsAtEnd};
 ghost use Rattle.trac_rules.specs.Session.{PlainSession, Feed, Step, Commit, done, refused, answer};
 ghost use Rattle.trac_rules.specs.Running.{output_of};
 ghost use Rattle.trac_run.specs.Written.{WritesFront};
-ghost use Rattle.trac_run.specs.Runs.{Runs, ending_of_feed as ending_of, IsFresh, GoesOn, Finishes, TakesMore, TakesNone, StillWaits, turns_left};
+ghost use Rattle.trac_run.specs.Runs.{Runs, most_read, ending_of_feed as ending_of, IsFresh, GoesOn, Finishes, TakesMore, TakesNone, StillWaits, turns_left};
 
 use crate::ending::Ending;
 use crate::writing::{finish, flush, write_whole};
@@ -55,7 +55,8 @@ pub fn budget_of(asked: Option<u64>) -> u64
 
 /// Runs what the reader gives, and writes what it prints, until the budget is spent, the input has ended, or a limit,
 /// memory, the reader or the writer ends it. Output is written and flushed before each read, and before the end.
-/// After a read fault it does not flush again.
+/// After a read fault it does not flush again. Each read asks for at most 4,096 bytes, and all of them together give no
+/// more than 33,554,432 for each step that it may take, as many once more, and one read.
 pub fn run<R: Read, W: Write, A: Allocator + Copy>(
     alloc: A,
     input: &mut R,
@@ -67,7 +68,7 @@ pub fn run<R: Read, W: Write, A: Allocator + Copy>(
     requires some_records { 1 ≤ options.journal }
     requires most_records { options.journal ≤ JOURNAL_LIMIT }
     ensures { Runs (R.remaining input.old) (R.remaining input.new) (W.contents output.old) (W.contents output.new)
-        (λ text. output_of options.decimals text options.budget) result }
+        (λ text. output_of options.decimals text options.budget) (most_read options.budget) result }
 {
     let Ok(mut session) = Session::new(alloc, options.journal, options.decimals) else {
         return finish(output, &[], Ending::Memory);

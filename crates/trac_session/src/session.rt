@@ -126,9 +126,11 @@ impl<A: Allocator + Copy> Session<A> {
         self.machine.output()
     }
 
-    /// What is fed and not read yet. It takes no memory (this project's profile).
+    /// What is fed and not read yet. The whole tape, with what is read of it and not released, never passes 33,554,432
+    /// bytes. It takes no memory (this project's profile).
     pub fn unread(&self) -> &[u8]
-        ensures { result.now ≡ unread self.now.tape self.now.last }
+        ensures rest { result.now ≡ unread self.now.tape self.now.last }
+        ensures tape { length self.now.tape.bytes ≤ TAPE_LIMIT }
     {
         self.tape.as_slice().split_at(self.machine.position()).1
     }
@@ -181,9 +183,12 @@ impl<A: Allocator + Copy> Session<A> {
         self.machine.release(passed.printed, passed.read);
     }
 
-    /// How many steps can be gone back over. It takes no memory (this project's profile).
+    /// How many steps can be gone back over: never more than the limit that the session was made with, which is at most
+    /// 1,048,576. It takes no memory (this project's profile).
     pub fn len(&self) -> usize
-        ensures { result ≡ length self.now.earlier }
+        ensures count { result ≡ length self.now.earlier }
+        ensures within { result ≤ self.now.limit }
+        ensures most { self.now.limit ≤ JOURNAL_LIMIT }
     {
         self.journal.len()
     }

@@ -21,6 +21,8 @@ pub(crate) enum Act {
     FeedRefused(&'static [u8], Refusal),
     /// So many letters `a` are fed.
     FeedLetters(usize),
+    /// So many letters `a` are fed and not read yet, and nothing else.
+    UnreadLetters(usize),
     End,
     /// A commit keeps so many steps.
     Commit(usize),
@@ -58,11 +60,13 @@ fn expect(rt: &impl Abort, is_met: bool, at: usize) {
     assert!(rt; is_met, "at act {at}");
 }
 
-fn feed_letters(session: &mut Session, alloc: Global, count: usize) -> Result<(), Refusal> {
-    let Ok(letters) = vec![in alloc; b'a'; count] else {
-        return Err(Refusal::Memory);
-    };
-    session.feed(letters.as_slice())
+// So many letters `a`.
+fn letters(rt: &impl Abort, alloc: Global, count: usize) -> Vec<u8> {
+    vec![in alloc; b'a'; count].expect(rt, "there was no memory")
+}
+
+fn feed_letters(rt: &impl Abort, session: &mut Session, alloc: Global, count: usize) -> bool {
+    feeds(session, letters(rt, alloc, count).as_slice(), Ok(()))
 }
 
 // The refusal that ends all steps forward, of which there may be a thousand.
@@ -103,11 +107,11 @@ fn goes_in_window(session: &mut Session, n: u64, keep: usize) -> bool {
 }
 
 // Carries out one act that may change the session, and says whether it is answered so.
-fn carry_out(alloc: Global, session: &mut Session, act: &Act) -> bool {
+fn carry_out(rt: &impl Abort, alloc: Global, session: &mut Session, act: &Act) -> bool {
     match *act {
         Act::Feed(bytes) => feeds(session, bytes, Ok(())),
         Act::FeedRefused(bytes, why) => feeds(session, bytes, Err(why)),
-        Act::FeedLetters(count) => feed_letters(session, alloc, count).is_ok(),
+        Act::FeedLetters(count) => feed_letters(rt, session, alloc, count),
         Act::End => {
             session.end();
             true
@@ -166,6 +170,10 @@ fn look_at<E: TwoEnds<u8, A>, M: TwoEnds<Mark, A>, A: Allocator + Copy>(
     }
 }
 
+fn has_letters(rt: &impl Abort, alloc: Global, session: &Session, count: usize) -> bool {
+    session.unread() == letters(rt, alloc, count).as_slice()
+}
+
 fn has_records(session: &Session, count: usize) -> bool {
     session.len() == count && session.is_empty() == (count == 0)
 }
@@ -177,6 +185,7 @@ fn weighs(session: &Session, weight: u64) -> bool {
 // Whether the part that an act speaks of is so.
 fn look(rt: &impl Abort, alloc: Global, session: &Session, act: &Act) -> bool {
     match *act {
+        Act::UnreadLetters(count) => has_letters(rt, alloc, session, count),
         Act::Records(count) => has_records(session, count),
         Act::Weighs(weight) => weighs(session, weight),
         Act::Pending(text) => session.pending() == text,
@@ -187,7 +196,7 @@ fn look(rt: &impl Abort, alloc: Global, session: &Session, act: &Act) -> bool {
 
 fn play_all(rt: &impl Abort, alloc: Global, session: &mut Session, acts: &[Act]) {
     for (at, act) in acts.iter().enumerate() {
-        let is_met = carry_out(alloc, session, act) && look(rt, alloc, session, act);
+        let is_met = carry_out(rt, alloc, session, act) && look(rt, alloc, session, act);
         expect(rt, is_met, at);
     }
 }

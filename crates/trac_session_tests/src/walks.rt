@@ -411,11 +411,12 @@ const A_FULL_JOURNAL: &[Act] = &[
     Back(0),
 ];
 
-// A tape one byte too long is refused, and a value one byte longer than the texts may be.
+// A tape one byte too long is refused and stays as it was, and a value one byte longer than the texts may be.
 const LIMITS_ARE_KEPT: &[Act] = &[
     FeedLetters(16_777_217),
     FeedLetters(16_777_215),
     FeedRefused(b"a", TooLong),
+    UnreadLetters(33_554_432),
     Feed(b""),
     End,
     ForwardRefused(8, 7, TooLong),

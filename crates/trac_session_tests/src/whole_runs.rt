@@ -6,7 +6,7 @@ use std::alloc::Global;
 use std::process::Abort;
 use std::test::Fail;
 use trac_faults::Refusing;
-use trac_machine_tests::shown::{PROGRAMS, state_shown_after};
+use trac_machine_tests::shown::{EACH_PRIMITIVE, PROGRAMS, state_shown_after};
 use trac_rules::limit::JOURNAL_LIMIT;
 use trac_rules::refusal::Refusal;
 use trac_session::{Session, Walk};
@@ -18,6 +18,7 @@ const EACH_READING: &[u8] =
 
 // Three print `AB`: in one part, in two, and by calls on a form. The last one puts three forms aside and brings them back.
 const SHORT_RUNS: &[(&[u8], &[u8])] = &[
+    EACH_PRIMITIVE,
     (b"AB'", b"AB"),
     (b"#(ps,A)'B'", b"AB"),
     (
@@ -104,21 +105,20 @@ fn feed(session: &mut Session<Memory<'_>>, input: &[u8]) -> Result<(), Refusal> 
     session.feed(input)
 }
 
-// All of this input is fed, where one request may be refused: nothing is done then.
-fn feed_all(rt: &impl Abort, session: &mut Session<Memory<'_>>, input: &[u8]) {
-    if feed(session, input).is_err() {
-        feed(session, input).expect(rt, "it was refused again");
+// These bytes are fed after others, where one request may be refused: the tape is as before then.
+fn feed_after(rt: &impl Abort, session: &mut Session<Memory<'_>>, before: &[u8], bytes: &[u8]) {
+    if feed(session, bytes).is_err() {
+        expect_text(rt, session.unread(), before, bytes);
+        feed(session, bytes).expect(rt, "it was refused again");
     }
-    session.end();
 }
 
-// Takes a step, where one request may be refused: nothing has changed then, and the next try is accepted. Returns why no
-// step is taken.
-fn step(session: &mut Session<Memory<'_>>) -> Option<Refusal> {
-    match forward(session, 1).why {
-        Some(Refusal::Memory) => forward(session, 1).why,
-        why => why,
-    }
+// All of this input is fed, its first byte alone, and then it ends.
+fn feed_all(rt: &impl Abort, session: &mut Session<Memory<'_>>, input: &[u8]) {
+    let first = front(input, 1);
+    feed_after(rt, session, b"", first);
+    feed_after(rt, session, first, rest(input, 1));
+    session.end();
 }
 
 // Makes the commit of this run, where there is one, and returns what is released by then. What the commit says to release is
@@ -168,7 +168,7 @@ fn to_end(
     for _ in 0..5_000 {
         if why.is_none() {
             keep(rt, run, session, released, states);
-            why = step(session);
+            why = forward(session, 1).why;
             released = commit(rt, run, session, released);
         }
     }
@@ -319,6 +319,15 @@ fn expect_state(
     assert!(rt; is_state(states, steps, text.as_slice()));
 }
 
+// To the end. A refused request is answered as such, and nothing else is.
+fn forward_to_end(rt: &impl Abort, memory: Memory<'_>, session: &mut Session<Memory<'_>>) -> Walk {
+    let refusals = memory.refusals();
+    let walk = forward(session, u64::MAX);
+    let is_refused = memory.refusals() > refusals;
+    assert!(rt; is_refused == (walk.why == Some(Refusal::Memory)));
+    walk
+}
+
 // To the end, where one request may be refused: nothing has changed then, and the next try goes on.
 fn to_end_at_once(
     rt: &impl Abort,
@@ -327,7 +336,7 @@ fn to_end_at_once(
     states: &[Vec<u8>],
 ) {
     let steps = steps_over(states);
-    let walk = forward(session, u64::MAX);
+    let walk = forward_to_end(rt, run.memory, session);
     expect_state(rt, run, session, states, walk.done);
     if walk.why == Some(Refusal::Memory) {
         let left = steps.saturating_sub(walk.done);
@@ -360,10 +369,66 @@ fn at_once(rt: &impl Abort, run: &Run<'_>, states: &[Vec<u8>]) -> Result<(), Fai
     Ok(())
 }
 
+// Takes the step from this state, where one request may be refused: nothing has changed then, and the next try is accepted.
+// Returns why no step is taken.
+fn step_from(
+    rt: &impl Abort,
+    run: &Run<'_>,
+    session: &mut Session<Memory<'_>>,
+    released: Released,
+    state: &[u8],
+) -> Option<Refusal> {
+    let why = forward(session, 1).why;
+    if why != Some(Refusal::Memory) {
+        return why;
+    }
+    expect_shown(rt, run, session, released, state);
+    forward(session, 1).why
+}
+
+// To the end, step by step, from each of these states to the next. Returns what is released.
+fn to_end_again(
+    rt: &impl Abort,
+    run: &Run<'_>,
+    session: &mut Session<Memory<'_>>,
+    states: &[Vec<u8>],
+) -> Released {
+    let mut released = NOTHING_RELEASED;
+    let mut why = None;
+    for state in states.iter() {
+        assert!(rt; why.is_none());
+        why = step_from(rt, run, session, released, state.as_slice());
+        released = commit(rt, run, session, released);
+    }
+    assert!(rt; why == Some(Refusal::Ended));
+    released
+}
+
+// To the end, where one request may be refused, and back over the steps that the commits have kept.
+fn there_and_back_again(
+    rt: &impl Abort,
+    run: &Run<'_>,
+    session: &mut Session<Memory<'_>>,
+    states: &[Vec<u8>],
+) {
+    feed_all(rt, session, run.input);
+    let released = to_end_again(rt, run, session, states);
+    to_start(rt, run, session, released, kept_of(states, run.window));
+}
+
+fn step_by_step(rt: &impl Abort, run: &Run<'_>, states: &[Vec<u8>]) -> Result<(), Fail> {
+    let limit = journal_of(run.window);
+    assert!(rt; 1 <= limit && limit <= JOURNAL_LIMIT);
+    let mut session = made(run.memory, limit)?;
+    there_and_back_again(rt, run, &mut session, states);
+    let_go(session);
+    Ok(())
+}
+
 // A run again: without a commit all steps at once, and else step by step.
 fn again(rt: &impl Abort, run: &Run<'_>, states: &[Vec<u8>]) -> Result<(), Fail> {
     match run.window {
-        Some(_) => expect_states(rt, run, states),
+        Some(_) => step_by_step(rt, run, states),
         None => at_once(rt, run, states),
     }
 }

@@ -1,6 +1,6 @@
 -- Forms and blocks that are put back: the names of the forms are known, and the order in which they come does not matter.
 use Rattle.std.proofs.Common.{◌≡◌, ℕ, zero, suc, ◌+◌, ◌-◌, ◌≤◌, Bool, true, false, cond, List, [], ◌∷◌, ◌++◌, length, take, drop, refl, sym, ap, subst, ◌∙◌, arith, is_some, IsTrue}
-use Rattle.std.specs.Prelude.{Option, Some, None, bytes_eq, nat_le, nat_lt, not, slice_get, slice_set, option_and_then, option_map}
+use Rattle.std.specs.Prelude.{Option, Some, None, ◌&&◌, bytes_eq, nat_le, nat_lt, not, slice_get, slice_set, option_and_then, option_map}
 use Rattle.std.specs.Bool.{then_some}
 use Rattle.std.specs.FinMap as finite
 use Rattle.std.specs.FinSet as set
@@ -16,7 +16,7 @@ use Rattle.trac_rules.specs.Cuts.{joined}
 use Rattle.trac_rules.specs.Form.{Form, all_items, at_start, pointed_at}
 use Rattle.trac_rules.specs.Handling.{keeping, pointing, without}
 use Rattle.trac_rules.specs.State.{Block, Forms, Held, Storage}
-use Rattle.trac_rules.specs.Undone.{is_erased, joined_back, last_block, moved_out_again, names_in, pointed_back, pointer_back, swapped_back, unbrought}
+use Rattle.trac_rules.specs.Undone.{are_free, are_there, is_erased, joined_back, last_block, moved_out_again, names_in, pointed_back, pointer_back, swapped_back, unbrought}
 use Rattle.trac_rules.proofs.NamedForms.{get-put, one_name, only_equal_tie}
 use Rattle.trac_forms.specs.Stored.{AreApart, KnowsAll, Names, Stored}
 use Rattle.trac_prims.specs.Effects.{pointed}
@@ -151,22 +151,29 @@ erased_there number blocks is =
 -- ---- blocks whose forms come back
 
 -- what there was where the last block held these forms, which go back
-pub record IsMovedOut (known : Names) (name : List ℕ) (old : Option Form) (storage : Storage) (held : Held) : Type 0 where
-  pub state : moved_out_again name old storage ≡ Some (record { forms = with_all held (swapped_back name old storage.forms); blocks = take (length storage.blocks - 1) storage.blocks })
+pub record IsMovedOut (known : Names) (name : List ℕ) (names : List (List ℕ)) (old : Option Form) (storage : Storage) (held : Held) : Type 0 where
+  pub state : moved_out_again name names old storage ≡ Some (record { forms = with_all held (swapped_back name old storage.forms); blocks = take (length storage.blocks - 1) storage.blocks })
   pub knows : KnowsAll known (with_all held (swapped_back name old storage.forms))
 
-module _ (known : Names) (name : List ℕ) (old : Option Form) (storage : Storage) where
+module _ (known : Names) (name : List ℕ) (names : List (List ℕ)) (old : Option Form) (storage : Storage) where
+  abbrev moves : Held → Bool
+  moves held =
+      is_some (finite.get storage.forms name)
+      && (are_free names (swapped_back name old storage.forms) && are_free (names_in held) (swapped_back name old storage.forms))
+
   abbrev before : Held → Storage
   before held = record { forms = with_all held (swapped_back name old storage.forms); blocks = take (length storage.blocks - 1) storage.blocks }
 
-  pub is_moved_out : (held : Held) → last_block storage.blocks ≡ Some held → KnowsBefore known (moved_out_again name old storage) → IsMovedOut known name old storage held
-  is_moved_out held last knows = record {
-    state = ap (option_map before) last;
-    knows = subst (λ (block : Block). KnowsBefore known (option_map before block)) last knows;
-  }
+  abbrev moved : Held → Option Storage
+  moved held = then_some (moves held) (before held)
 
-  pub never_none : last_block storage.blocks ≡ None → KnowsBefore known (moved_out_again name old storage) → ⊥
-  never_none last knows = subst (λ (block : Block). KnowsBefore known (option_map before block)) last knows
+  pub is_moved_out : (held : Held) → last_block storage.blocks ≡ Some held → KnowsBefore known (moved_out_again name names old storage) → IsMovedOut known name names old storage held
+  is_moved_out held last knows =
+      let at = tested (moves held) known (before held) (subst (λ (block : Block). KnowsBefore known (option_and_then moved block)) last knows) in
+      record { state = ap (option_and_then moved) last ∙ at.2; knows = at.1 }
+
+  pub never_none : last_block storage.blocks ≡ None → KnowsBefore known (moved_out_again name names old storage) → ⊥
+  never_none last knows = subst (λ (block : Block). KnowsBefore known (option_and_then moved block)) last knows
 
 -- what there was where the block of a number holds these forms, of which copies were put among the forms
 pub record IsUnbrought (known : Names) (number : ℕ) (replaced : Held) (storage : Storage) (held : Held) : Type 0 where
@@ -174,18 +181,25 @@ pub record IsUnbrought (known : Names) (number : ℕ) (replaced : Held) (storage
   pub knows : KnowsAll known (with_all replaced (without (names_in held) storage.forms))
 
 module _ (known : Names) (number : ℕ) (replaced : Held) (storage : Storage) where
+  abbrev brings : Held → Bool
+  brings held =
+      are_there (names_in held) storage.forms
+      && (are_there (names_in replaced) storage.forms && are_free (names_in replaced) (without (names_in held) storage.forms))
+
   abbrev without_copies : Held → Storage
   without_copies held = keeping (with_all replaced (without (names_in held) storage.forms)) storage
 
+  abbrev brought : Held → Option Storage
+  brought held = then_some (brings held) (without_copies held)
+
   pub is_unbrought : (held : Held) → block_at number storage.blocks ≡ Some held → KnowsBefore known (unbrought number replaced storage) →
       IsUnbrought known number replaced storage held
-  is_unbrought held there knows = record {
-    state = ap (option_map without_copies) there;
-    knows = subst (λ (block : Block). KnowsBefore known (option_map without_copies block)) there knows;
-  }
+  is_unbrought held there knows =
+      let at = tested (brings held) known (without_copies held) (subst (λ (block : Block). KnowsBefore known (option_and_then brought block)) there knows) in
+      record { state = ap (option_and_then brought) there ∙ at.2; knows = at.1 }
 
   pub never_erased : block_at number storage.blocks ≡ None → KnowsBefore known (unbrought number replaced storage) → ⊥
-  never_erased none knows = subst (λ (block : Block). KnowsBefore known (option_map without_copies block)) none knows
+  never_erased none knows = subst (λ (block : Block). KnowsBefore known (option_and_then brought block)) none knows
 
 -- a block that is taken away leaves an erased one, in whose place it can be put again
 pub set_again : (blocks : List Block) (number : ℕ) (held : Held) → block_at number blocks ≡ Some held →

@@ -4,7 +4,7 @@ ghost use Rattle.std.specs.FinMap as finite;
 ghost use Rattle.std.specs.FinSet as set;
 ghost use Rattle.trac_rules.specs.Blocks.{block_at, with_all};
 ghost use Rattle.trac_rules.specs.Handling.{keeping, without};
-ghost use Rattle.trac_rules.specs.Undone.{Join, moved_out_again, names_in, storage_before, swapped_back, unbrought, unerased};
+ghost use Rattle.trac_rules.specs.Undone.{Join, MoveOut, names_in, storage_before, swapped_back, unbrought, unerased};
 ghost use Rattle.trac_forms.specs.Stored.{storage_in};
 ghost use Rattle.trac_prims.specs.Effects.{named_forms};
 ghost use Rattle.trac_step.specs.Changing.{KnowsNamed};
@@ -38,7 +38,7 @@ pub(crate) fn put_storage<A: Allocator + Copy>(
         Undone::Join { cut, pointer } => join(store, arguments, cut, pointer),
         Undone::Swap(old) => swap(store, name, old),
         Undone::Restore(forms) => put_each(store, forms),
-        Undone::MoveOut(old) => move_out(store, name, old),
+        Undone::MoveOut(old) => move_out(store, arguments, old),
         Undone::Unbring { number, replaced } => unbring(store, number, replaced),
         Undone::Unerase {
             number,
@@ -80,13 +80,14 @@ fn swap<A: Allocator + Copy>(store: &mut Store<A>, name: &[u8], old: Option<Form
     };
 }
 
-// Takes the last block off the list, puts a form under a name again, or takes it away, and then
+// Takes the last block off the list, puts a form again under the name that the arguments give, or takes it away, and then
 // puts back what the block holds.
-fn move_out<A: Allocator + Copy>(store: &mut Store<A>, name: &[u8], old: Option<Form<A>>)
-    requires { KnowsBefore store.old.known (moved_out_again name.now old (storage_in store.old)) }
-    ensures storage { moved_out_again name.now old (storage_in store.old) ≡ Some (storage_in store.new) }
+fn move_out<A: Allocator + Copy>(store: &mut Store<A>, arguments: &Args<'_>, old: Option<Form<A>>)
+    requires { KnowsBefore store.old.known (storage_before arguments.now (MoveOut old) (storage_in store.old)) }
+    ensures storage { storage_before arguments.now (MoveOut old) (storage_in store.old) ≡ Some (storage_in store.new) }
     ensures names { store.new.known ≡ store.old.known }
 {
+    let name = arguments.get(1);
     let Some(block) = store.pop_block() else {
         unreachable!()
     };

@@ -57,7 +57,8 @@ Exit status: 0 at the end; 2 command line, 3 too many lines, 4 FILE too long, 5 
 commands not readable, 7 write fault, 8 a command is not understood. `trac help` lists all.";
 
 /// The tip for a word that `trac` or `trac run` does not understand: a file is often named there.
-pub const RUN_TIP: &str = "\n  tip: to run the program in FILE, write: trac run < FILE\n";
+pub const RUN_TIP: &str =
+    "\n  tip: to run the program in FILE, write: trac run < FILE; trac help and trac --version say more\n";
 
 /// The tip for an option that `trac debug` does not understand.
 pub const DEBUG_TIP: &str =

@@ -59,7 +59,7 @@ fn line_without(alloc: Global, words: &[&str], error: &Error) -> Result<Line, Al
 
 // What may help after this text of clap, by the first word of the command line.
 fn tip_for(first: &str, kind: ErrorKind, text: &str) -> &'static str {
-    let is_option = text.contains("argument '-");
+    let is_option = text.contains("argument '-") && !text.contains("argument '-' ");
     match (kind, first) {
         (ErrorKind::InvalidSubcommand, _) => RUN_TIP,
         (ErrorKind::UnknownArgument, "run") if !is_option => RUN_TIP,
@@ -222,7 +222,7 @@ fn run_command<'a>(alloc: Global) -> Result<Command<'a>, AllocError> {
         .arg(budget(alloc))?
         .arg(journal(
             alloc,
-            "How many steps are kept before their output is written: 1 to 1048576 [default: 65536]",
+            "After how many steps output is written at the latest: 1 to 1048576 [default: 65536]",
         ))?
         .arg(decimals(alloc))
 }

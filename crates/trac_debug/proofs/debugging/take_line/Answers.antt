@@ -1,4 +1,4 @@
-use Rattle.std.proofs.Common.{sym, subst, take}
+use Rattle.std.proofs.Common.{sym, subst, take, arith}
 use Rattle.std.proofs.lemmas.Result.{err_from_is_err_and}
 use Rattle.trac_run.specs.declared.ending.Ending.TheVariants.{Ended, NotUnderstood}
 use Rattle.trac_debug.specs.Debugs.{Halts}
@@ -11,7 +11,7 @@ returns-in_err-seek-clause-err g c =
     let out = err_from_is_err_and c.from_residual.result c.from_residual.ensures.1 in
     rw out.1 (subst (Halts (g.R.Read.remaining c.args.commands.now) (g.R.Read.remaining c.seek.new.input) (g.W.Write.contents c.args.output.now) (g.W.Write.contents c.args.output.now)
     c.args.number c.args.lines.now c.args.session.now) (sym out.2)
-    (halts_unread _ _ _ c.args.number c.args.lines.now c.args.session.now _ c.in_err-seek.ensures.failed))
+    (halts_unread _ _ _ c.args.number c.args.lines.now _ c.args.session.now _ c.in_err-seek.ensures.failed))
 
 pub returns-then-len-gt-LINE_LIMIT-clause-err : goal.returns-then-len-gt-LINE_LIMIT-clause-err
 returns-then-len-gt-LINE_LIMIT-clause-err g c =
@@ -34,7 +34,7 @@ returns-in_err-carry_out-in-Line-clause-err g c =
 
 pub returns-in_ok-carry_out-in-Line-clause-ok : goal.returns-in_ok-carry_out-in-Line-clause-ok
 returns-in_ok-carry_out-in-Line-clause-ok g c =
-    advances _ _ _ _ c.args.number c.args.lines.now c.seek.new.self c.pass.new.self c.args.session.now c.carry_out.new.session c.in-Line.len c.in-Line.whole c.in_ok-seek.ensures.read
+    advances _ _ _ _ c.args.number c.args.lines.now c.seek.new.self c.pass.new.self c.args.session.now c.carry_out.new.session c.in-Line.len c.in-Line.whole (omega (arith, c.if-len-gt-LINE_LIMIT.false)) c.in_ok-seek.ensures.read
     (subst (IsFront c.seek.new.self.bytes c.seek.new.self.ended) c.in-Line.is c.in_ok-seek.ensures.front)
     (settles_at c.args.number c.front.result.now (take c.in-Line.len c.seek.new.self.bytes) c.args.session.now c.carry_out.new.session _ _ c.front.ensures c.in_ok-carry_out-in-Line.ensures.ok)
     c.pass.ensures

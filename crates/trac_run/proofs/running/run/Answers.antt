@@ -3,7 +3,7 @@ use Rattle.trac_run.proofs.Ran.{so_far_new, so_far_turn, ran, ran_not}
 use Rattle.trac_run.proofs.running.run.Goals as goal
 
 pub returns-in_default : goal.returns-in_default
-returns-in_default g c = ran_not _ _ _ _ _ c.finish.result refl c.finish.ensures
+returns-in_default g c = ran_not _ _ _ _ _ _ c.finish.result refl c.finish.ensures
 
 pub loop-ending-init : goal.loop-ending-init
 loop-ending-init g c = so_far_new _ _ c.args.options.decimals c.args.options.budget c.args.options.journal c.in-Ok.session c.requires.some_records c.in-Ok.ensures.made

@@ -1,22 +1,36 @@
 -- The names of the forms that come back are known, and each part puts back what the rules say.
-use Rattle.std.proofs.Common.{List, ℕ, ap, sym, subst, ◌∙◌}
-use Rattle.std.specs.Prelude.{Some}
+use Rattle.std.proofs.Common.{List, ℕ, ap, drop, is_some, sym, subst, ◌∙◌}
+use Rattle.std.specs.Prelude.{Some, ◌&&◌}
 use Rattle.std.specs.FinMap as finite
 use Rattle.trac_rules.specs.Effect.{argument}
 use Rattle.trac_rules.specs.Handling.{keeping}
-use Rattle.trac_rules.specs.Undone.{storage_before, swapped_back}
+use Rattle.trac_rules.specs.Undone.{are_free, names_in, storage_before, swapped_back}
 use Rattle.trac_forms.specs.Stored.{storage_in}
 use Rattle.trac_prims.specs.Effects.{named_forms, pointed}
 use Rattle.trac_step.specs.Returning.{KnowsBefore}
 use Rattle.trac_step.specs.Undone.{undone_in}
-use Rattle.trac_step.proofs.StorageBack.{knows_each, pointed_again}
+use Rattle.trac_step.proofs.StorageBack.{knows_each, pointed_again, tested}
 use Rattle.trac_step.proofs.storage_back.put_storage.Goals as goal
 
 pub put_each-requires : goal.put_each-requires
 put_each-requires g c =
     let store = c.args.store.now in
-    knows_each (named_forms c.in-Restore.forms.items) store.known store.forms
-    (subst (λ change. KnowsBefore store.known (storage_before c.args.arguments.now (undone_in change) (storage_in store))) c.in-Restore.is c.requires)
+    let names = drop 1 c.args.arguments.now in
+    let held = named_forms c.in-Restore.forms.items in
+    knows_each held store.known store.forms
+    (tested (are_free names store.forms && are_free (names_in held) store.forms) store.known _
+    (subst (λ change. KnowsBefore store.known (storage_before c.args.arguments.now (undone_in change) (storage_in store))) c.in-Restore.is c.requires)).1
+
+pub returns-in-Restore-clause-storage : goal.returns-in-Restore-clause-storage
+returns-in-Restore-clause-storage g c =
+    let store = c.args.store.now in
+    let arguments = c.args.arguments.now in
+    let names = drop 1 arguments in
+    let held = named_forms c.in-Restore.forms.items in
+    ap (λ change. storage_before arguments (undone_in change) (storage_in store)) c.in-Restore.is
+    ∙ (tested (are_free names store.forms && are_free (names_in held) store.forms) store.known _
+    (subst (λ change. KnowsBefore store.known (storage_before arguments (undone_in change) (storage_in store))) c.in-Restore.is c.requires)).2
+    ∙ ap (λ s. Some (storage_in s)) (sym c.put_each.ensures)
 
 pub returns-in-Point-clause-storage : goal.returns-in-Point-clause-storage
 returns-in-Point-clause-storage g c =
@@ -32,13 +46,17 @@ returns-in-Point-clause-storage g c =
 pub swap-requires : goal.swap-requires
 swap-requires g c =
     let store = c.args.store.now in
+    let arguments = c.args.arguments.now in
     subst (λ (n : List ℕ). KnowsBefore store.known (Some (keeping (swapped_back n c.in-Swap.old store.forms) (storage_in store)))) (sym c.get-name.ensures)
-    (subst (λ change. KnowsBefore store.known (storage_before c.args.arguments.now (undone_in change) (storage_in store))) c.in-Swap.is c.requires)
+    (tested (is_some (finite.get store.forms (argument 1 arguments))) store.known _
+    (subst (λ change. KnowsBefore store.known (storage_before arguments (undone_in change) (storage_in store))) c.in-Swap.is c.requires)).1
 
 pub returns-in-Swap-clause-storage : goal.returns-in-Swap-clause-storage
 returns-in-Swap-clause-storage g c =
     let store = c.args.store.now in
     let arguments = c.args.arguments.now in
     ap (λ change. storage_before arguments (undone_in change) (storage_in store)) c.in-Swap.is
+    ∙ (tested (is_some (finite.get store.forms (argument 1 arguments))) store.known _
+    (subst (λ change. KnowsBefore store.known (storage_before arguments (undone_in change) (storage_in store))) c.in-Swap.is c.requires)).2
     ∙ ap (λ (n : List ℕ). Some (keeping (swapped_back n c.in-Swap.old store.forms) (storage_in store))) (sym c.get-name.ensures)
     ∙ ap (λ s. Some (storage_in s)) (sym c.swap.ensures)

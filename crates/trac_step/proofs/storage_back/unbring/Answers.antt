@@ -8,8 +8,13 @@ use Rattle.trac_rules.specs.Undone.{names_in}
 use Rattle.trac_forms.specs.Stored.{Names, Stored, storage_in}
 use Rattle.trac_prims.specs.Effects.{named_forms}
 use Rattle.trac_step.specs.Changing.{KnowsNamed}
-use Rattle.trac_step.proofs.StorageBack.{is_unbrought, knows_each, set_again}
+use Rattle.trac_step.proofs.StorageBack.{is_unbrought, knows_each, never_erased, set_again}
 use Rattle.trac_step.proofs.storage_back.unbring.Goals as goal
+
+pub unreachable-requires : goal.unreachable-requires
+unreachable-requires g c =
+    let store = c.args.store.now in
+    never_erased store.known c.args.number (named_forms c.args.replaced.items) (storage_in store) (sym c.in_default.ensures.taken) c.requires
 
 pub set_block-requires : goal.set_block-requires
 set_block-requires g c =
