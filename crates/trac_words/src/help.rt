@@ -4,7 +4,7 @@
 /// What `--version` shows after the program's name: the program's version, and what `rt version` prints of the toolchain
 /// that proves and builds it. No crate can ask for that line, so it is written here, and `tests/launcher` compares the two:
 /// with another toolchain this text is changed too.
-pub const VERSION: &str = "0.1.0 (rattle-kit-13b logic dac8208d650f15bf)";
+pub const VERSION: &str = "0.1.0 (rattle-kit-13f logic dac8208d650f15bf)";
 
 /// What stands at the end of the help of `trac`.
 pub const USE: &str = "\
