@@ -1,15 +1,15 @@
 -- Runs of bytes among items.
-use Rattle.std.proofs.Common.{◌≡◌, ℕ, ◌+◌, ◌<◌, Bool, true, List, [], ◌∷◌, ◌++◌, length, take, drop, get_or, false, refl, sym, ap, ◌∙◌, arith}
+use Rattle.std.proofs.Common.{◌≡◌, ℕ, zero, suc, ◌+◌, ◌<◌, Bool, true, List, [], ◌∷◌, ◌++◌, length, take, drop, get_or, false, refl, sym, ap, ◌∙◌, arith}
 use Rattle.std.specs.Prelude.{◌||◌}
 use Rattle.std.proofs.lemmas.Grind.{flat_map-append}
-use Rattle.std.proofs.lemmas.List.{append_assoc, length-append, take-append-drop}
+use Rattle.std.proofs.lemmas.List.{append_assoc, length-append, take_more}
 use Rattle.trac_rules.specs.declared.item.Item.{Item}
 use Rattle.trac_rules.specs.declared.item.Item.TheVariants.{Byte, Gap}
 use Rattle.trac_rules.specs.Filling.{all_filled, filled}
 use Rattle.trac_rules.specs.Fronts.{IsFrontOf}
-use Rattle.trac_rules.specs.Pieces.{bytes_in, is_gap}
+use Rattle.trac_rules.specs.Pieces.{byte_of, bytes_in, is_gap}
 use Rattle.trac_rules.specs.Weights.{gap_count}
-use Rattle.trac_forms.proofs.Segments.{gap_count-append, gaps_more}
+use Rattle.trac_forms.proofs.Segments.{gaps_more}
 
 -- a byte is no gap
 no_gap : (item : Item) → is_gap item ≡ false → gap_count (item ∷ []) ≡ 0
@@ -17,25 +17,30 @@ no_gap (Byte b) h = refl
 no_gap (Gap k w) h = absurd cc
 
 -- a byte more
-pub byte_passed : (items : List Item) (n m : ℕ) (d : Item) → m ≡ n + 1 → n < length items → gap_count (take n items) ≡ 0 → is_gap (get_or items n d) ≡ false → gap_count (take m items) ≡ 0
-byte_passed items n m d e l before h =
-    omega (arith, ap (λ k. gap_count (take k items)) e, gaps_more items n d l, before, no_gap (get_or items n d) h)
+pub byte_passed : (items : List Item) (n m : ℕ) (item : Item) → m ≡ n + 1 → n < length items → gap_count (take n items) ≡ 0 → item ≡ get_or items n item → is_gap item ≡ false → gap_count (take m items) ≡ 0
+byte_passed items n m item e l before is h =
+    omega (arith, ap (λ k. gap_count (take k items)) e, gaps_more items n item l, before, ap (λ (x : Item). gap_count (x ∷ [])) is, no_gap item h)
+
+pub bytes_in-append : (xs ys : List Item) → bytes_in (xs ++ ys) ≡ bytes_in xs ++ bytes_in ys
+bytes_in-append xs ys = flat_map-append byte_of xs ys
 
 -- neither of two
 pub neither : (a b : Bool) → (a || b) ≡ false → (a ≡ false) × (b ≡ false)
 neither false b h = (refl, h)
 neither true b h = absurd cc
 
--- where there is no gap each item is a byte
-pub all_bytes : (items : List Item) (i : ℕ) (d : Item) → i < length items → gap_count items ≡ 0 → ((b : ℕ) → get_or items i d ≡ Byte b → ⊥) → ⊥
-all_bytes items i d l none other =
-    let first = gaps_more items i d l in
-    let rest : gap_count (get_or items i d ∷ []) ≡ 0 = omega (arith, first, ap gap_count (take-append-drop (i + 1) items), gap_count-append (take (i + 1) items) (drop (i + 1) items), none) in
-    gapless (get_or items i d) rest other
-  where
-    gapless : (item : Item) → gap_count (item ∷ []) ≡ 0 → ((b : ℕ) → item ≡ Byte b → ⊥) → ⊥
-    gapless (Byte b) h other = other b refl
-    gapless (Gap k w) h other = omega (arith, h)
+-- where there is no gap no item is one
+pub no_gap_at : (items : List Item) (i : ℕ) (d : Item) → i < length items → gap_count items ≡ 0 → is_gap (get_or items i d) ≡ false
+no_gap_at [] i d l none = let past : ⊥ = omega (arith, l) in absurd past
+no_gap_at (Gap k w ∷ items) i d l none = let one : ⊥ = omega (arith, none) in absurd one
+no_gap_at (Byte b ∷ items) zero d l none = refl
+no_gap_at (Byte b ∷ items) (suc i) d l none = no_gap_at items i d (omega (arith, l)) none
+
+-- the bytes so far, and the next one
+pub bytes_more : (items : List Item) (i b : ℕ) (item : Item) → i < length items → item ≡ get_or items i item → item ≡ Byte b → bytes_in (take (i + 1) items) ≡ bytes_in (take i items) ++ b ∷ []
+bytes_more items i b item l is byte =
+    ap bytes_in (take_more items i item l) ∙ flat_map-append byte_of (take i items) (get_or items i item ∷ [])
+    ∙ ap (λ (x : Item). bytes_in (take i items) ++ bytes_in (x ∷ [])) (sym is ∙ byte)
 
 -- what a run gives in a call are its bytes, whatever the texts are
 pub run_filled : (texts : List (List ℕ)) (run : List Item) → gap_count run ≡ 0 → all_filled texts run ≡ bytes_in run

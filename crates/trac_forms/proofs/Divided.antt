@@ -2,7 +2,7 @@
 use Rattle.std.proofs.Common.{◌≡◌, ℕ, ◌+◌, ◌-◌, ◌≤◌, List, [], ◌++◌, length, take, drop, sym, ap, subst, ◌∙◌, append_assoc, arith}
 use Rattle.std.specs.List.{All}
 use Rattle.std.proofs.lemmas.List.{append-nil, take-append-drop, take-append-le, take_all, drop-append-le, length-append, length-map}
-use Rattle.std.proofs.Math.Seq.{take-append-add, drop-append-add}
+use Rattle.std.proofs.Math.Seq.{take-append-add, take-append_seam, drop-append-add, drop-append_seam}
 use Rattle.trac_gap.specs.Ends.{Ends}
 use Rattle.trac_rules.specs.declared.item.Item.{Item}
 use Rattle.trac_rules.specs.declared.item.Item.TheVariants.{Byte}
@@ -79,11 +79,8 @@ kept_text items text e short roomy =
     }
 
 -- all bytes of a text go after the pointer
-module _ (old new : Ends Item) (text : List ℕ) (i : ℕ) (all : length text ≤ i) (left : old.left ≡ as_items (take i text)) (right : old.right ≡ [])
+module _ (old new : Ends Item) (text : List ℕ) (whole : old.left ≡ as_items text) (right : old.right ≡ [])
     (moved : new ≡ record old { left = take (length old.left - length text) old.left; right = drop (length old.left - length text) old.left ++ old.right }) where
-  whole : old.left ≡ as_items text
-  whole = left ∙ ap as_items (take_all i text all)
-
   none : length old.left - length text ≡ 0
   none = omega (arith, ap length whole, length-map text Byte)
 
@@ -100,15 +97,32 @@ module _ (old new : Ends Item) (text : List ℕ) (i : ℕ) (all : length text �
 pub count_within : (before after : List Item) (bytes : ℕ) → bytes ≡ extent (before ++ after) → All IsWide (before ++ after) → length before + length after ≤ bytes
 count_within before after bytes e wide = omega (arith, e, count_within_extent (before ++ after) wide, length-append before after)
 
--- items that are put on both sides of nothing, where there is room for as many as they stand for bytes
-pub kept_put : (start out : Ends Item) (before after : List Item) (bytes : ℕ) → out ≡ record start { left = start.left ++ before; right = after ++ start.right } →
-    start.left ≡ [] → start.right ≡ [] → bytes ≡ extent (before ++ after) → bytes ≤ FORM_LIMIT → All IsWide (before ++ after) → bytes ≤ start.capacity → IsKept out
-kept_put start out before after bytes put no_left no_right is fits wide room =
-    let left : out.left ≡ before = ap (λ (e : Ends Item). e.left) put ∙ ap (λ (xs : List Item). xs ++ before) no_left in
-    let right : out.right ≡ after = ap (λ (e : Ends Item). e.right) put ∙ ap (λ (xs : List Item). after ++ xs) no_right ∙ append-nil after in
-    let same : out.left ++ out.right ≡ before ++ after = (λ i. left i ++ right i) in
-    record {
-      within = omega (arith, ap extent same, is, fits);
-      wide = subst (λ (xs : List Item). All IsWide xs) (sym same) wide;
-      room = omega (arith, ap extent same, is, room, ap (λ (e : Ends Item). e.capacity) put);
-    }
+-- items that are put on the left of nothing, where the last of them then go to the right, and there is room for as many as they stand for bytes
+module _ (start first second out : Ends Item) (before after : List Item) (no_left : start.left ≡ []) (no_right : start.right ≡ [])
+    (put : first ≡ record start { left = start.left ++ before }) (more : second ≡ record first { left = first.left ++ after })
+    (moved : out ≡ record second { left = take (length second.left - length after) second.left; right = drop (length second.left - length after) second.left ++ second.right }) where
+  pub both_put : second.left ≡ before ++ after
+  both_put =
+      ap (λ (e : Ends Item). e.left) more ∙ ap (λ (e : Ends Item). e.left ++ after) put ∙ ap (λ (xs : List Item). (xs ++ before) ++ after) no_left
+
+  seam : length second.left - length after ≡ length before
+  seam = omega (arith, ap length both_put, length-append before after)
+
+  nothing_behind : second.right ≡ []
+  nothing_behind = ap (λ (e : Ends Item). e.right) more ∙ ap (λ (e : Ends Item). e.right) put ∙ no_right
+
+  pub divided_put : divided out ≡ record { before = before; after = after }
+  divided_put =
+      let front : out.left ≡ before = ap (λ (e : Ends Item). e.left) moved ∙ (λ i. take (seam i) (both_put i)) ∙ take-append_seam before after in
+      let back : out.right ≡ after =
+      ap (λ (e : Ends Item). e.right) moved ∙ (λ i. drop (seam i) (both_put i) ++ nothing_behind i) ∙ append-nil (drop (length before) (before ++ after)) ∙ drop-append_seam before after in
+      λ i. record { before = front i; after = back i }
+
+  pub kept_put : (bytes : ℕ) → bytes ≡ extent (before ++ after) → bytes ≤ FORM_LIMIT → All IsWide (before ++ after) → bytes ≤ start.capacity → IsKept out
+  kept_put bytes is fits wide room =
+      let same : out.left ++ out.right ≡ before ++ after = ap all_items divided_put in
+      record {
+        within = omega (arith, ap extent same, is, fits);
+        wide = subst (λ (xs : List Item). All IsWide xs) (sym same) wide;
+        room = omega (arith, ap extent same, is, room, ap (λ (e : Ends Item). e.capacity) moved, ap (λ (e : Ends Item). e.capacity) more, ap (λ (e : Ends Item). e.capacity) put);
+      }

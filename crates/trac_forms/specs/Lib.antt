@@ -5,4 +5,5 @@ pub mod Stored
 pub mod Taken
 -- How forms and stores are kept.
 pub mod Layout
+pub mod Packed
 pub mod Table

@@ -13,7 +13,8 @@ use crate::cutting::push_item;
 use crate::error::FormError;
 use crate::filling::text;
 use crate::form::{Form, Items};
-use crate::reading::is_gap;
+use crate::packed::PackedItem;
+use crate::runs::put_text;
 use crate::texts::Texts;
 use std::alloc::{Allocator, Global};
 use std::marker::Model;
@@ -83,7 +84,7 @@ impl<A: Allocator + Copy> Form<A> {
     }
 
     // The gaps that these items have where the form has bytes.
-    fn gaps_made(&self, items: &[Item]) -> Result<Vec<CutGap, A>, FormError>
+    fn gaps_made(&self, items: &[PackedItem]) -> Result<Vec<CutGap, A>, FormError>
         requires within { extent items.now ≤ FORM_LIMIT }
         requires wide { All IsWide items.now }
         ensures made { IfOk result (λ gaps. gaps.items ≡ cut_between 0 (all_items self.now) items.now) }
@@ -96,7 +97,7 @@ impl<A: Allocator + Copy> Form<A> {
         // how many items of the form the items so far stand for
         let mut old = 0;
         for place in 0..items.len() {
-            let Item::Gap { ordinal, width } = items[place] else {
+            let Item::Gap { ordinal, width } = items[place].item() else {
                 old += 1;
                 continue;
             };
@@ -114,15 +115,15 @@ impl<A: Allocator + Copy> Form<A> {
     fn has_gap(&self, place: usize) -> bool
         ensures { result ≡ begins_with_gap (drop place (all_items self.now)) }
     {
-        match self.item(place) {
-            Some(item) => is_gap(item),
+        match self.packed(place) {
+            Some(item) => item.is_gap(),
             None => false,
         }
     }
 }
 
 // How many of these items are gaps.
-fn gaps_among(items: &[Item]) -> usize
+fn gaps_among(items: &[PackedItem]) -> usize
     ensures { result ≡ gap_count items.now }
 {
     let mut count = 0;
@@ -133,10 +134,10 @@ fn gaps_among(items: &[Item]) -> usize
 }
 
 // One for a gap.
-fn gaps_in(item: Item) -> usize
+fn gaps_in(item: PackedItem) -> usize
     ensures { result ≡ gap_count (item ∷ []) }
 {
-    match item {
+    match item.item() {
         Item::Byte(_) => 0,
         Item::Gap { .. } => 1,
     }
@@ -172,10 +173,10 @@ fn cut_gap<A: Allocator + Copy>(items: &mut Items<A>, passed: usize, ordinal: u3
 {
     items.shift_left(passed);
     items.cut_right(width);
-    items.push_left(Item::Gap {
+    items.push_left(PackedItem::new(Item::Gap {
         ordinal,
         width: width as u32,
-    });
+    }));
 }
 
 // Puts the texts of these gaps in their place again, and leaves all items on the right.
@@ -208,7 +209,5 @@ fn fill_gap<A: Allocator + Copy>(items: &mut Items<A>, passed: usize, text: &[u8
 {
     items.shift_left(passed);
     items.cut_right(1);
-    for b in text {
-        items.push_left(Item::Byte(*b));
-    }
+    put_text(text, items);
 }

@@ -5,7 +5,8 @@ ghost use Rattle.trac_rules.specs.Form.{IsWide, all_items, as_items, extent};
 ghost use Rattle.trac_rules.specs.Segmenting.{cut_out, part, segmented_from};
 
 use crate::error::FormError;
-use crate::form::{Form, extent_within, items_of};
+use crate::form::Form;
+use crate::packed::PackedItem;
 use crate::texts::Texts;
 use memchr::memmem::Finder;
 use std::alloc::Allocator;
@@ -14,7 +15,7 @@ use trac_rules::limit::{FORM_LIMIT, MARK_LIMIT};
 
 impl<A: Allocator + Copy> Form<A> {
     // All items, these texts cut out in turn.
-    pub(crate) fn items_without<T: Texts>(&self, texts: &T) -> Result<Vec<Item, A>, FormError>
+    pub(crate) fn items_without<T: Texts>(&self, texts: &T) -> Result<Vec<PackedItem, A>, FormError>
         requires { length (T.texts texts.now) ≤ MARK_LIMIT }
         ensures cut { IfOk result (λ items. items.items ≡ segmented_from 1 (T.texts texts.now) (all_items self.now)) }
         ensures within { IfOk result (λ items. extent items.items ≤ FORM_LIMIT) }
@@ -37,8 +38,8 @@ fn without_text<A: Allocator + Copy>(
     alloc: A,
     number: u32,
     text: &[u8],
-    items: Vec<Item, A>,
-) -> Result<Vec<Item, A>, FormError>
+    items: Vec<PackedItem, A>,
+) -> Result<Vec<PackedItem, A>, FormError>
     requires { extent items.items ≤ FORM_LIMIT }
     ensures cut { IfOk result (λ out. out.items ≡ cut_out number text.now items.items) }
     ensures err { IsOkUnless result FormError.Memory }
@@ -54,8 +55,8 @@ fn without<A: Allocator + Copy>(
     alloc: A,
     number: u32,
     text: &[u8],
-    items: &[Item],
-) -> Result<Vec<Item, A>, FormError>
+    items: &[PackedItem],
+) -> Result<Vec<PackedItem, A>, FormError>
     requires some { 0 < length text.now }
     requires fits { extent items.now ≤ FORM_LIMIT }
     ensures cut { IfOk result (λ out. out.items ≡ cut_out number text.now items.now) }
@@ -65,7 +66,7 @@ fn without<A: Allocator + Copy>(
     let mut out = Vec::with_capacity(alloc, items.len())?;
     let mut run = Vec::new(alloc);
     for item in items {
-        if let Item::Byte(b) = *item {
+        if let Item::Byte(b) = item.item() {
             push_item(b, &mut run)?;
             continue;
         }
@@ -90,7 +91,7 @@ fn part_into<A: Allocator>(
     text: &[u8],
     finder: &Finder<'_>,
     run: &[u8],
-    out: &mut Vec<Item, A>,
+    out: &mut Vec<PackedItem, A>,
 ) -> Result<(), FormError>
     requires finds { finder.now ≡ text.now }
     requires some { 0 < length text.now }
@@ -101,10 +102,10 @@ fn part_into<A: Allocator>(
     let mut rest = run;
     'occurrences: while let Some(place) = finder.find(rest) {
         bytes_into(rest.split_at(place).0, out)?;
-        let gap = Item::Gap {
+        let gap = PackedItem::new(Item::Gap {
             ordinal: number,
             width: text.len() as u32,
-        };
+        });
         push_item(gap, out)?;
         rest = rest.split_at(place + text.len()).1;
     }
@@ -112,12 +113,12 @@ fn part_into<A: Allocator>(
 }
 
 // Puts bytes at the end of `out`.
-fn bytes_into<A: Allocator>(bytes: &[u8], out: &mut Vec<Item, A>) -> Result<(), FormError>
+fn bytes_into<A: Allocator>(bytes: &[u8], out: &mut Vec<PackedItem, A>) -> Result<(), FormError>
     ensures ok { OnOk result (out.new.items ≡ out.old.items ++ as_items bytes.now) }
     ensures err { IsOkUnless result FormError.Memory }
 {
     for b in bytes {
-        push_item(Item::Byte(*b), out)?;
+        push_item(PackedItem::from_byte(*b), out)?;
     }
     Ok(())
 }

@@ -5,6 +5,7 @@ ghost use Rattle.trac_rules.specs.Filling.{called, filled, text_numbered};
 
 use crate::error::FormError;
 use crate::form::Form;
+use crate::packed::PackedItem;
 use crate::runs::{run_into, run_len};
 use crate::texts::Texts;
 use std::alloc::Allocator;
@@ -66,10 +67,10 @@ impl<A: Allocator + Copy> Form<A> {
 }
 
 // How many bytes an item gives in a call.
-fn filled_len<T: Texts>(item: Item, args: &T) -> usize
+fn filled_len<T: Texts>(item: PackedItem, args: &T) -> usize
     ensures { result ≡ length (filled (T.texts args.now) item) }
 {
-    match item {
+    match item.item() {
         Item::Byte(_) => 1,
         Item::Gap { ordinal, width: _ } => text(args, ordinal).len(),
     }
@@ -77,7 +78,7 @@ fn filled_len<T: Texts>(item: Item, args: &T) -> usize
 
 // Puts what an item gives in a call at the end of `out`.
 fn fill_into<T: Texts, B: Allocator>(
-    item: Item,
+    item: PackedItem,
     args: &T,
     out: &mut Vec<u8, B>,
 ) -> Result<(), FormError>
@@ -85,7 +86,7 @@ fn fill_into<T: Texts, B: Allocator>(
     ensures left { OnErr result (out.new.items ≡ out.old.items) }
     ensures err { IsOkUnless result FormError.Memory }
 {
-    match item {
+    match item.item() {
         Item::Byte(b) => Ok(out.push(b)?),
         Item::Gap { ordinal, width: _ } => {
             out.extend_from_slice(text(args, ordinal))?;

@@ -1,11 +1,14 @@
 //! A form: a text with gaps and a pointer.
-ghost use Rattle.std.specs.Prelude.{◌≡◌, ◌++◌, ◌≤◌, length, slice_get, IfOk, IfErr, OnOk, IsOkUnless, SomeIff};
+ghost use Rattle.std.specs.Prelude.{◌≡◌, ◌+◌, ◌++◌, ◌≤◌, length, slice_get, IfOk, IfErr, OnOk, IsOkUnless, SomeIff};
 ghost use Rattle.std.specs.List.{All};
+ghost use Rattle.trac_gap.specs.Ends.{item_count};
 ghost use Rattle.trac_rules.specs.Form.{IsWide, all_items, as_items, at_start, defined, extent, pointed_at, width_of};
 ghost use Rattle.trac_forms.specs.Layout.{IsKept, IsSound, divided};
 ghost use Rattle.trac_forms.specs.Outcomes.{MayRefuseForm};
 
 use crate::error::FormError;
+use crate::packed::PackedItem;
+use crate::runs::put_text;
 use std::alloc::{Allocator, Global};
 use std::marker::Model;
 use trac_gap::{GapBuf, TwoEnds};
@@ -13,7 +16,7 @@ use trac_rules::item::Item;
 use trac_rules::limit::FORM_LIMIT;
 
 /// What holds the items of a form: those before its pointer on the left, those after it on the right.
-pub(crate) type Items<A> = GapBuf<Item, A>;
+pub(crate) type Items<A> = GapBuf<PackedItem, A>;
 
 /// A text in which gaps may stand, with a pointer before one of its items or at its end.
 /// It is seen as the items before and after its pointer. Lengths and places count items.
@@ -99,11 +102,8 @@ impl<A: Allocator + Copy> Form<A> {
     pub fn item(&self, i: usize) -> Option<Item>
         ensures { result ≡ slice_get (all_items self.now) i }
     {
-        let before = self.before();
-        if i < before.len() {
-            return Some(before[i]);
-        }
-        self.after().get(i - before.len()).copied()
+        let packed = self.packed(i)?;
+        Some(packed.item())
     }
 
     /// A second form of the same items and with the same pointer, with memory and room of its own (this project's profile).
@@ -135,15 +135,26 @@ impl<A: Allocator + Copy> Form<A> {
         old
     }
 
+    // The item at this place, as it is kept.
+    pub(crate) fn packed(&self, i: usize) -> Option<PackedItem>
+        ensures { result ≡ slice_get (all_items self.now) i }
+    {
+        let before = self.before();
+        if i < before.len() {
+            return Some(before[i]);
+        }
+        self.after().get(i - before.len()).copied()
+    }
+
     // The items before the pointer.
-    pub(crate) fn before(&self) -> &[Item]
+    pub(crate) fn before(&self) -> &[PackedItem]
         ensures { result.now ≡ self.now.before }
     {
         self.items.left()
     }
 
     // The items after the pointer.
-    pub(crate) fn after(&self) -> &[Item]
+    pub(crate) fn after(&self) -> &[PackedItem]
         ensures { result.now ≡ self.now.after }
     {
         self.items.right()
@@ -159,15 +170,13 @@ fn bytes_of<A: Allocator + Copy>(alloc: A, text: &[u8]) -> Result<Items<A>, Form
 {
     let mut items = Items::new(alloc);
     items.reserve(text.len())?;
-    for b in text {
-        items.push_left(Item::Byte(*b));
-    }
+    put_text(text, &mut items);
     items.shift_right(text.len());
     Ok(items)
 }
 
 // These items, the pointer between the two lists, with room for as many as they stand for bytes.
-pub(crate) fn items_of<A: Allocator + Copy>(
+fn items_of<A: Allocator + Copy>(
     alloc: A,
     before: &[Item],
     after: &[Item],
@@ -182,13 +191,25 @@ pub(crate) fn items_of<A: Allocator + Copy>(
 {
     let mut items = Items::new(alloc);
     items.reserve(bytes)?;
-    items.put_left(before);
-    items.put_right(after);
+    put_items(before, &mut items);
+    put_items(after, &mut items);
+    items.shift_right(after.len());
     Ok(items)
 }
 
+// Puts these items at the end of those on the left, where there is room for them.
+fn put_items<A: Allocator + Copy>(from: &[Item], items: &mut Items<A>)
+    requires wide { All IsWide from.now }
+    requires room { item_count items.old + length from.now ≤ items.old.capacity }
+    ensures { items.new ≡ record items.old { left = items.old.left ++ from.now } }
+{
+    for item in from {
+        items.push_left(PackedItem::new(*item));
+    }
+}
+
 // How many bytes these items stand for, where that is no more than `most`.
-pub(crate) fn extent_within(items: &[Item], most: usize) -> Option<usize>
+fn extent_within(items: &[Item], most: usize) -> Option<usize>
     ensures { SomeIff result (extent items.now ≤ most) (extent items.now) }
 {
     let mut total = 0;

@@ -11,6 +11,7 @@ mod filling;
 pub mod form;
 mod listing;
 mod looking;
+mod packed;
 pub mod reading;
 mod runs;
 mod showing;

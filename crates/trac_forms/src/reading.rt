@@ -9,6 +9,7 @@ ghost use Rattle.trac_forms.specs.Taken.{IsThere, taken};
 use crate::cutting::end_run;
 use crate::error::FormError;
 use crate::form::Form;
+use crate::packed::PackedItem;
 use memchr::memmem::Finder;
 use std::alloc::Allocator;
 use trac_gap::TwoEnds;
@@ -173,22 +174,15 @@ struct Reached {
     bytes: usize,
 }
 
-// Whether an item is a gap.
-pub(crate) fn is_gap(item: Item) -> bool
-    ensures { result ≡ is_gap item }
-{
-    matches!(item, Item::Gap { .. })
-}
-
 // The items of the first segment: those up to the first gap and that gap, or all where there is none.
-fn segment(items: &[Item]) -> Reached
+fn segment(items: &[PackedItem]) -> Reached
     ensures items { result.items ≡ segment_items (position is_gap items.now) items.now }
     ensures bytes { result.bytes ≡ length (bytes_in (take result.items items.now)) }
     ensures within { result.items ≤ length items.now }
 {
     let mut bytes = 0;
     for item in items {
-        if is_gap(*item) {
+        if item.is_gap() {
             return Reached {
                 items: bytes + 1,
                 bytes,
@@ -203,7 +197,7 @@ fn segment(items: &[Item]) -> Reached
 }
 
 // The place right after the first `n` bytes of these items, or after all bytes where there are fewer.
-fn reach(items: &[Item], n: usize) -> Reached
+fn reach(items: &[PackedItem], n: usize) -> Reached
     ensures place { Some result.items ≡ place_behind (at_most_all n items.now) items.now }
     ensures bytes { result.bytes ≡ at_most_all n items.now }
     ensures passed { result.bytes ≡ length (bytes_in (take result.items items.now)) }
@@ -216,7 +210,7 @@ fn reach(items: &[Item], n: usize) -> Reached
             return reached;
         }
         passed += 1;
-        if is_gap(*item) {
+        if item.is_gap() {
             continue;
         }
         reached = Reached {
@@ -228,7 +222,7 @@ fn reach(items: &[Item], n: usize) -> Reached
 }
 
 // The place right before the last `n` bytes of these items, or before all bytes where there are fewer.
-fn reach_back(items: &[Item], n: usize) -> Reached
+fn reach_back(items: &[PackedItem], n: usize) -> Reached
     ensures place { Some result.items ≡ place_before (at_most_all n items.now) items.now }
     ensures bytes { result.bytes ≡ at_most_all n items.now }
     ensures passed { result.bytes ≡ length (bytes_in (drop result.items items.now)) }
@@ -243,7 +237,7 @@ fn reach_back(items: &[Item], n: usize) -> Reached
             return reached;
         }
         let place = items.len() - passed - 1;
-        if is_gap(items[place]) {
+        if items[place].is_gap() {
             continue;
         }
         reached = Reached {
@@ -258,7 +252,7 @@ fn reach_back(items: &[Item], n: usize) -> Reached
 fn place_of<A: Allocator>(
     alloc: A,
     text: &[u8],
-    items: &[Item],
+    items: &[PackedItem],
 ) -> Result<Option<Reached>, FormError>
     ensures place { IfOk result (λ r. option_map (λ at. at.items) r ≡ place_of_text text.now items.now) }
     ensures bytes { IfOk result (λ r. IfSome r (λ at. at.bytes ≡ length (bytes_in (take at.items items.now)))) }
@@ -278,7 +272,7 @@ const FIRST_ROOM: usize = 16;
 fn first_place_of<A: Allocator>(
     alloc: A,
     text: &[u8],
-    items: &[Item],
+    items: &[PackedItem],
 ) -> Result<Option<Reached>, FormError>
     requires { 0 < length text.now }
     ensures place { IfOk result (λ r. option_map (λ at. at.items) r ≡ place_of_text text.now items.now) }
@@ -291,7 +285,7 @@ fn first_place_of<A: Allocator>(
     let mut run = Vec::new(alloc);
     let mut start = Reached { items: 0, bytes: 0 };
     for item in items {
-        if let Item::Byte(b) = *item {
+        if let Item::Byte(b) = item.item() {
             // Searched each time before its room doubles: so it is read at most about twice as far as the text stands, and
             // searched about twice in all, however much is left of it.
             if run.len() == run.capacity() {
@@ -332,7 +326,7 @@ fn place_in_run(finder: &Finder<'_>, run: &[u8], start: Reached) -> Option<Reach
 
 // Puts the first `most` bytes of these items, or as many as there are, at the end of `out`, and returns how many.
 fn first_bytes_into<B: Allocator>(
-    items: &[Item],
+    items: &[PackedItem],
     most: usize,
     out: &mut Vec<u8, B>,
 ) -> Result<usize, FormError>
@@ -347,7 +341,7 @@ fn first_bytes_into<B: Allocator>(
         if put == most {
             return Ok(put);
         }
-        if let Item::Byte(b) = *item {
+        if let Item::Byte(b) = item.item() {
             out.push_reserved(b);
             put += 1;
         }

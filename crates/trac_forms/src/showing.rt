@@ -5,6 +5,7 @@ ghost use Rattle.trac_rules.specs.Showing.{shown, shown_item, shown_items};
 
 use crate::error::FormError;
 use crate::form::Form;
+use crate::packed::PackedItem;
 use itoa::Buffer;
 use std::alloc::Allocator;
 use trac_rules::item::Item;
@@ -39,7 +40,7 @@ impl<A: Allocator + Copy> Form<A> {
 }
 
 // How many bytes these items are printed as, where that is no more than `most`.
-fn items_len(items: &[Item], most: usize) -> Option<usize>
+fn items_len(items: &[PackedItem], most: usize) -> Option<usize>
     ensures { SomeIff result (length (shown_items items.now) ≤ most) (length (shown_items items.now)) }
 {
     let mut total = 0;
@@ -54,10 +55,10 @@ fn items_len(items: &[Item], most: usize) -> Option<usize>
 }
 
 // How many bytes an item is printed as.
-fn item_len(item: Item) -> usize
+fn item_len(item: PackedItem) -> usize
     ensures { result ≡ length (shown_item item) }
 {
-    match item {
+    match item.item() {
         Item::Byte(_) => 1,
         Item::Gap { ordinal, width: _ } => gap_len(ordinal),
     }
@@ -72,7 +73,7 @@ fn gap_len(ordinal: u32) -> usize
 }
 
 // Puts items as they are printed at the end of `out`.
-fn items_into<B: Allocator>(items: &[Item], out: &mut Vec<u8, B>) -> Result<(), FormError>
+fn items_into<B: Allocator>(items: &[PackedItem], out: &mut Vec<u8, B>) -> Result<(), FormError>
     ensures ok { OnOk result (out.new.items ≡ out.old.items ++ shown_items items.now) }
     ensures left { OnErr result (IsFrontOf out.old.items out.new.items) }
     ensures err { IsOkUnless result FormError.Memory }
@@ -84,12 +85,12 @@ fn items_into<B: Allocator>(items: &[Item], out: &mut Vec<u8, B>) -> Result<(), 
 }
 
 // Puts an item as it is printed at the end of `out`.
-fn item_into<B: Allocator>(item: Item, out: &mut Vec<u8, B>) -> Result<(), FormError>
+fn item_into<B: Allocator>(item: PackedItem, out: &mut Vec<u8, B>) -> Result<(), FormError>
     ensures ok { OnOk result (out.new.items ≡ out.old.items ++ shown_item item) }
     ensures left { OnErr result (IsFrontOf out.old.items out.new.items) }
     ensures err { IsOkUnless result FormError.Memory }
 {
-    match item {
+    match item.item() {
         Item::Byte(b) => Ok(out.push(b)?),
         Item::Gap { ordinal, width: _ } => gap_into(ordinal, out),
     }

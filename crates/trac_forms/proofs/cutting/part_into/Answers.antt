@@ -1,5 +1,5 @@
 -- The leftmost occurrence is cut first.
-use Rattle.std.proofs.Common.{◌≡◌, ◌++◌, List, ℕ, sym, ap, subst, ◌∙◌, arith}
+use Rattle.std.proofs.Common.{◌≡◌, [], ◌∷◌, ◌++◌, List, ℕ, sym, ap, subst, ◌∙◌, arith}
 use Rattle.std.specs.Prelude.{None, Some}
 use Rattle.std.proofs.lemmas.Result.{on_ok_weaker}
 use Rattle.memchr.specs.Find.{FindsNeedle}
@@ -14,7 +14,7 @@ occurrences-preserved g c = (
   cut_more c.args.number c.args.text.now c.occurrences.rest.now c.in-Some.place c.occurrences.out.items c.bytes_into.new.out.items c.push_item.new.out.items c.split_at-in-Some.result.1.now c.requires.some
       (subst (λ (t : List ℕ). FindsNeedle c.occurrences.rest.now t 0 (Some c.in-Some.place)) c.requires.finds c.in-Some.ensures)
       (c.in_ok-bytes_into.ensures.ok ∙ ap (λ (xs : List ℕ). c.occurrences.out.items ++ as_items xs) c.split_at.ensures.front)
-      c.in_ok-push_item.ensures.ok
+      (c.in_ok-push_item.ensures.ok ∙ ap (λ (gap : Item). c.bytes_into.new.out.items ++ gap ∷ []) c.new-gap.ensures)
       c.split_at-in-Some.ensures.back
       ∙ c.occurrences.invariant.0,
   omega (arith, c.occurrences.invariant.1, c.split_at-in-Some.ensures.back_len),

@@ -1,7 +1,7 @@
 -- A run ends before a gap, or with the items; the first run in which the text occurs has its first place.
 use Rattle.std.proofs.Common.{◌≡◌, ◌+◌, ◌-◌, ◌++◌, List, ℕ, length, drop, take, get_or, refl, sym, ap, ◌∙◌, arith}
 use Rattle.std.specs.Prelude.{None, Some}
-use Rattle.std.proofs.lemmas.List.{drop_all}
+use Rattle.std.proofs.lemmas.List.{drop_all, get_or_read}
 use Rattle.trac_rules.specs.declared.item.Item.TheVariants.{Byte}
 use Rattle.trac_rules.specs.Form.{as_items}
 use Rattle.trac_rules.specs.Pieces.{bytes_in}
@@ -37,6 +37,8 @@ loop-item-preserved g c =
     let start = c.loop-item.start.items in
     let run = c.loop-item.run.items in
     let finds = searched run c.args.text.now _ _ None c.as_slice-in-loop-item.ensures.value c.new-finder.ensures c.in_default-place_in_run-2.ensures.place in
+    let read = get_or_read items i c.item-item.result (omega arith) c.item-item.is (Byte 0) in
+    let other = λ (b : ℕ) (is : get_or items i (Byte 0) ≡ Byte b). c.in_default.not-Byte b (c.item.ensures ∙ read ∙ is) in
     let length_is : c.len-in-loop-item.result ≡ length run = omega arith in
     let at : start + c.len-in-loop-item.result + 1 ≡ i + 1 = omega arith in
     record {
@@ -45,14 +47,14 @@ loop-item-preserved g c =
       counted =
           omega (
             arith,
-            count_over_gap c.args.text.now items start run i (omega arith) c.loop-item.invariant.rest c.in_default.not-Byte (omega arith, omega arith),
+            count_over_gap c.args.text.now items start run i (omega arith) c.loop-item.invariant.rest other (omega arith, omega arith),
             ap (λ k. length (bytes_in (take k items))) at,
             c.loop-item.invariant.counted,
             length_is,
           );
       fewer = omega arith;
       none = λ k l.
-          nowhere_yet c.args.text.now items start run (drop i items) (omega arith) c.loop-item.invariant.rest (bound_gap items i (get_or items i (Byte 0)) (omega arith) refl c.in_default.not-Byte) finds
+          nowhere_yet c.args.text.now items start run (drop i items) (omega arith) c.loop-item.invariant.rest (bound_gap items i (get_or items i (Byte 0)) (omega arith) refl other) finds
           c.loop-item.invariant.none k (omega arith);
     }
 

@@ -1,7 +1,7 @@
 -- Fewer bytes stand before each earlier place.
-use Rattle.std.proofs.Common.{◌+◌, take, get_or, sym, ap, arith}
+use Rattle.std.proofs.Common.{◌+◌, ◌∷◌, [], take, sym, ap, arith}
 use Rattle.std.proofs.lemmas.List.{take_all}
-use Rattle.trac_rules.specs.declared.item.Item.TheVariants.{Byte}
+use Rattle.trac_rules.specs.declared.item.Item.{Item}
 use Rattle.trac_forms.proofs.Passing.{count, count-split, count_byte, count_grows, count_next, reached_behind}
 use Rattle.trac_forms.proofs.reading.reach.Goals as goal
 
@@ -17,14 +17,16 @@ pub loop-item-preserved : goal.loop-item-preserved
 loop-item-preserved c =
     let items = c.args.items.now in
     let i = c.loop-item.item-index in
-    let next = count_next items i (Byte 0) (omega arith) in
-    let one = count_byte (get_or items i (Byte 0)) (sym c.if-is_gap.ensures) in
+    let item = c.item-item.result in
+    let next = count_next items i item (omega arith) in
+    let here = ap (λ (x : Item). count (x ∷ [])) c.item-item.is in
+    let one = count_byte item (sym c.if-is_gap.ensures) in
     let same = ap (λ k. count (take (k + 1) items)) c.loop-item.invariant.passed in
     record {
       passed = omega arith;
       place = omega arith;
-      here = omega (arith, next, one, same, c.loop-item.invariant.counted);
-      counted = omega (arith, next, one, c.loop-item.invariant.counted);
+      here = omega (arith, next, here, one, same, c.loop-item.invariant.counted);
+      counted = omega (arith, next, here, one, c.loop-item.invariant.counted);
       before = λ k l. omega (arith, count_grows items k i (omega arith), c.loop-item.invariant.counted);
       most = omega arith;
     }

@@ -1,6 +1,6 @@
 -- Fewer bytes stand after each later place.
-use Rattle.std.proofs.Common.{◌≡◌, ◌+◌, ◌-◌, length, drop, get_or, sym, ap, arith}
-use Rattle.trac_rules.specs.declared.item.Item.TheVariants.{Byte}
+use Rattle.std.proofs.Common.{◌≡◌, ◌+◌, ◌-◌, ◌∷◌, [], length, drop, sym, ap, arith}
+use Rattle.trac_rules.specs.declared.item.Item.{Item}
 use Rattle.trac_forms.proofs.Passing.{count, count-split, count_byte, count_falls, count_rest, reached_before}
 use Rattle.trac_forms.proofs.reading.reach_back.Goals as goal
 
@@ -16,8 +16,10 @@ pub loop-passed-preserved : goal.loop-passed-preserved
 loop-passed-preserved c =
     let items = c.args.items.now in
     let place = length items - c.loop-passed.passed - 1 in
-    let rest = count_rest items place (Byte 0) (omega arith) in
-    let one = count_byte (get_or items place (Byte 0)) (sym c.if-is_gap.ensures) in
+    let item = c.index-items-place.result in
+    let rest = count_rest items place item (omega arith) in
+    let here = ap (λ (x : Item). count (x ∷ [])) c.index-items-place.is in
+    let one = count_byte item (sym c.if-is_gap.ensures) in
     let next : place + 1 ≡ length items - c.loop-passed.passed = omega arith in
     let same = ap (λ k. count (drop k items)) next in
     let other : length items - (c.loop-passed.passed + 1) ≡ place = omega arith in
@@ -25,8 +27,8 @@ loop-passed-preserved c =
     record {
       place = omega arith;
       within = omega arith;
-      here = omega (arith, rest, one, same, c.loop-passed.invariant.counted);
-      counted = omega (arith, rest, one, same, counted, c.loop-passed.invariant.counted);
+      here = omega (arith, rest, here, one, same, c.loop-passed.invariant.counted);
+      counted = omega (arith, rest, here, one, same, counted, c.loop-passed.invariant.counted);
       behind = λ k l m. omega (arith, count_falls items (length items - c.loop-passed.passed) k (omega arith), c.loop-passed.invariant.counted);
       most = omega arith;
     }
