@@ -9,7 +9,7 @@ use Rattle.trac_rules.specs.Filling.{all_filled, filled}
 use Rattle.trac_rules.specs.Fronts.{IsFrontOf}
 use Rattle.trac_rules.specs.Pieces.{byte_of, bytes_in, is_gap}
 use Rattle.trac_rules.specs.Weights.{gap_count}
-use Rattle.trac_forms.proofs.Segments.{gaps_more}
+use Rattle.trac_forms.proofs.Segments.{gap_count-append, gaps_more}
 
 -- a byte is no gap
 no_gap : (item : Item) → is_gap item ≡ false → gap_count (item ∷ []) ≡ 0
@@ -21,8 +21,19 @@ pub byte_passed : (items : List Item) (n m : ℕ) (item : Item) → m ≡ n + 1 
 byte_passed items n m item e l before is h =
     omega (arith, ap (λ k. gap_count (take k items)) e, gaps_more items n item l, before, ap (λ (x : Item). gap_count (x ∷ [])) is, no_gap item h)
 
-pub bytes_in-append : (xs ys : List Item) → bytes_in (xs ++ ys) ≡ bytes_in xs ++ bytes_in ys
-bytes_in-append xs ys = flat_map-append byte_of xs ys
+-- a run in two parts
+module _ (run front left : List Item) (seam : run ≡ front ++ left) where
+  pub front_plain : gap_count run ≡ 0 → gap_count front ≡ 0
+  front_plain none = omega (arith, ap gap_count seam, gap_count-append front left, none)
+
+  pub rest_plain : gap_count run ≡ 0 → gap_count left ≡ 0
+  rest_plain none = omega (arith, ap gap_count seam, gap_count-append front left, none)
+
+  -- the bytes of the first part are put
+  pub front_put : (old new : List ℕ) → new ≡ old ++ bytes_in front → new ++ bytes_in left ≡ old ++ bytes_in run
+  front_put old new put =
+      ap (λ (xs : List ℕ). xs ++ bytes_in left) put ∙ append_assoc old (bytes_in front) (bytes_in left)
+      ∙ ap (λ (xs : List ℕ). old ++ xs) (sym (ap bytes_in seam ∙ flat_map-append byte_of front left))
 
 -- neither of two
 pub neither : (a b : Bool) → (a || b) ≡ false → (a ≡ false) × (b ≡ false)

@@ -14,7 +14,7 @@ use Rattle.trac_rules.specs.Bytes.{last_place}
 use Rattle.trac_rules.specs.Form.{Form}
 use Rattle.trac_rules.specs.Pieces.{Piece, at_most_all, byte_of, bytes_in, count_read, is_gap, last_bytes, next_bytes, place_before, place_behind, place_of_text, read_back, read_on, segment_items, segment_read, until_read, where_any}
 use Rattle.trac_rules.proofs.Balanced.{first_place_some}
-use Rattle.trac_forms.specs.declared.reading.Piece.{Piece as Measured}
+use Rattle.trac_forms.specs.declared.piece.Piece.{Piece as Measured}
 use Rattle.trac_forms.specs.Taken.{IsThere, items_from, taken}
 
 -- ---- a measured piece

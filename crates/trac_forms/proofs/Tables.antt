@@ -1,18 +1,18 @@
 -- Entries of a table, and the forms and names that they stand for.
-use Rattle.std.proofs.Common.{◌≡◌, ℕ, ◌+◌, ◌-◌, Bool, true, false, cond, ◌||◌, List, [], ◌∷◌, ◌++◌, length, map, position, refl, sym, ap, subst, ◌∙◌, arith, ⊎_elim, is_some, filter, IsSome}
-use Rattle.std.specs.Prelude.{Option, None, Some}
+use Rattle.std.proofs.Common.{◌≡◌, ℕ, zero, suc, ◌+◌, ◌-◌, ◌<◌, get_or, Bool, true, false, cond, ◌||◌, List, [], ◌∷◌, ◌++◌, length, map, position, refl, sym, ap, subst, ◌∙◌, arith, ⊎_elim, is_some, filter, IsSome}
+use Rattle.std.specs.Prelude.{Option, None, Some, option_map, slice_get}
 use Rattle.std.specs.Cmp.Lexicographic.{slice_cmp, nat_list_cmp_total, nat_list_eq_equiv}
 use Rattle.std.specs.FinMap as finite
 use Rattle.std.specs.FinSet as set
 use Rattle.std.specs.List.{list_any, IsDistinct, AllByRecursion}
 use Rattle.std.specs.List.Sorted.{IsPermutation}
 use Rattle.std.specs.Map.Calls.{RetainsPairs}
-use Rattle.std.specs.Map.{keys_of, lookup, set_value}
+use Rattle.std.specs.Map.{keys_of, lookup, set_value, values_of}
 use Rattle.std.specs.Option.{option_flatten}
 use Rattle.std.specs.Ordering.{nat_cmp, eq_by_cmp}
 use Rattle.std.specs.Str.{bytes_eq}
 use Rattle.std.proofs.lemmas.Bool.{cases_Bool, cond-true, cond-false}
-use Rattle.std.proofs.lemmas.List.Sorted.{IsPermutation-map, IsPermutation-sym}
+use Rattle.std.proofs.lemmas.List.Sorted.{IsPermutation-map, IsPermutation-refl, IsPermutation-sym}
 use Rattle.std.proofs.lemmas.Map.{lookup-set_value, keys-set_value}
 use Rattle.std.proofs.lemmas.Map.Entries.{lookup-filter-values, option_filter}
 use Rattle.std.proofs.lemmas.Map.Keys.{IsDistinct-head, IsDistinct-tail}
@@ -25,9 +25,9 @@ use Rattle.trac_rules.specs.Form.{Form}
 use Rattle.trac_rules.proofs.NamedForms.{only_equal_tie, ties_itself}
 use Rattle.trac_rules.specs.Listing.{names_of}
 use Rattle.trac_rules.specs.State.{Forms}
-use Rattle.trac_forms.specs.Stored.{KnowsAll, Names, Stored, swept}
-use Rattle.trac_forms.specs.Table.{Kept, named, with_entry, forms_of, known_of, stored}
-use Rattle.trac_forms.proofs.Parted.{written_first}
+use Rattle.trac_forms.specs.Stored.{KnowsAll, Names, Stored, changed_at, changing, swept}
+use Rattle.trac_forms.specs.Table.{IsParted, Kept, named, with_entry, forms_of, known_of, stored}
+use Rattle.trac_forms.proofs.Parted.{parted_kept, written_first}
 use Rattle.std.proofs.lemmas.List.{length-map}
 
 -- entries of a table of forms
@@ -152,18 +152,44 @@ forms_written es name w some =
 pub known_written : (es : Entries) (name : List ℕ) (w : Option Form) → known_of (set_value (bytes_eq name) es w) ≡ known_of es
 known_written es name w = ap (λ (ks : List (List ℕ)). let s : Names = set.from_list ks in s) (keys-set_value (bytes_eq name) es w)
 
--- a name without an entry has no form to be taken
-pub forms_not_taken : (es : Entries) (name : List ℕ) → lookup (bytes_eq name) es ≡ None → finite.remove (forms_of es) name ≡ forms_of es
-forms_not_taken es name none =
-    finite.same_map nat_list_cmp_total only_equal_tie (finite.remove (forms_of es) name) (forms_of es) (λ q.
-    get-with_entry name q None (forms_of es)
+-- a name without a form has none to be taken
+nothing_taken : (forms : Forms) (name : List ℕ) → finite.get forms name ≡ None → finite.remove forms name ≡ forms
+nothing_taken forms name none =
+    finite.same_map nat_list_cmp_total only_equal_tie (finite.remove forms name) forms (λ q.
+    get-with_entry name q None forms
     ∙ ⊎_elim
     (λ (t : bytes_eq q name ≡ true).
     let same : q ≡ name = (bytes_eq-Decides q name).0 t in
-    cond-true (bytes_eq q name) None (finite.get (forms_of es) q) t
-    ∙ sym (ap (finite.get (forms_of es)) same ∙ get-forms_of es name ∙ ap option_flatten none))
-    (λ (t : bytes_eq q name ≡ false). cond-false (bytes_eq q name) None (finite.get (forms_of es) q) t)
+    cond-true (bytes_eq q name) None (finite.get forms q) t ∙ sym (ap (finite.get forms) same ∙ none))
+    (λ (t : bytes_eq q name ≡ false). cond-false (bytes_eq q name) None (finite.get forms q) t)
     (cases_Bool (bytes_eq q name)))
+
+-- the same of one without an entry
+pub forms_not_taken : (es : Entries) (name : List ℕ) → lookup (bytes_eq name) es ≡ None → finite.remove (forms_of es) name ≡ forms_of es
+forms_not_taken es name none = nothing_taken (forms_of es) name (get-forms_of es name ∙ ap option_flatten none)
+
+-- a form changed in its entry is changed under its name
+with_changed : (name : List ℕ) (change : Form → Form) (forms : Forms) → with_entry name (option_map change (finite.get forms name)) forms ≡ changed_at name change forms
+with_changed name change forms = found (finite.get forms name) refl
+  where
+    found : (form : Option Form) → finite.get forms name ≡ form → with_entry name (option_map change form) forms ≡ changing name change form forms
+    found None none = nothing_taken forms name none
+    found (Some form) e = refl
+
+-- a change of an entry's form, if it has one, leaves the entries with forms first
+pub kept_parted : {K : Type 0} (es : List (K × Option Form)) (live : ℕ) → IsParted es live → (i : ℕ) (change : Form → Form) (new : List (K × Option Form)) → i < length es →
+    new ≡ set_value_at es i (option_map change (option_flatten (slice_get (values_of es) i))) → IsParted new live
+kept_parted es live parted i change new within written_there =
+    subst (λ entries. IsParted entries live) (sym written_there) (parted_kept es live parted i (option_map change (option_flatten (slice_get (values_of es) i))) within (full_still (values_of es) i))
+  where
+    as_full : (found : Option Form) → is_some (option_map change found) ≡ is_some found
+    as_full None = refl
+    as_full (Some form) = refl
+
+    full_still : (vs : List (Option Form)) (k : ℕ) → is_some (option_map change (option_flatten (slice_get vs k))) ≡ is_some (get_or vs k None)
+    full_still [] k = refl
+    full_still (v ∷ vs) zero = as_full v
+    full_still (v ∷ vs) (suc k) = full_still vs k
 
 -- a new name without a form leaves the forms
 flatten-new : (es : Entries) (name q : List ℕ) → option_flatten (lookup (bytes_eq q) (es ++ (name, None) ∷ [])) ≡ option_flatten (lookup (bytes_eq q) es)
@@ -336,6 +362,20 @@ module _ {K : Type 0} (name : K → List ℕ) (es : List (K × Option Form)) (bs
       sym is
       ∙ ap (λ (f : Forms). let t : Stored = record { forms = f; blocks = bs.blocks; spare = bs.spare; known = known_of (named name es) } in t) (sym gone)
       ∙ ap (λ (t : Stored). let u : Stored = record t { forms = finite.remove t.forms q } in u) is
+
+  -- where a name has no form, none is changed
+  pub none_changed : (q : List ℕ) (change : Form → Form) → finite.get s.forms q ≡ None → s ≡ record s { forms = changed_at q change s.forms }
+  none_changed q change none =
+      ap (λ (found : Option Form). let t : Stored = record s { forms = changing q change found s.forms } in t) (sym none)
+
+  -- a form is changed in its entry
+  pub changed_in_place : (q : List ℕ) (i : ℕ) (change : Form → Form) (found : Option Form) (new : List (K × Option Form)) →
+      position (λ k. bytes_eq q (name k)) (keys_of es) ≡ Some i → IsDistinct (λ x y. bytes_eq (name x) (name y)) (keys_of es) →
+      finite.get s.forms q ≡ found → new ≡ set_value_at es i (option_map change found) → stored (named name new) bs ≡ record s { forms = changed_at q change s.forms }
+  changed_in_place q i change found new at apart is written_there =
+      written_at q i (option_map change found) new at apart (subst (IsPermutation (set_value_at es i (option_map change found))) (sym written_there) (IsPermutation-refl (set_value_at es i (option_map change found))))
+      ∙ ap (λ (o : Option Form). let t : Stored = record s { forms = with_entry q (option_map change o) s.forms } in t) (sym is)
+      ∙ ap (λ (forms : Forms). let t : Stored = record s { forms = forms } in t) (with_changed q change s.forms)
 
   -- a new name, which has no form
   pub made_known : (k : K) (q : List ℕ) (new : List (K × Option Form)) → name k ≡ q → new ≡ es ++ (k, None) ∷ [] → stored (named name new) bs ≡ record s { known = set.insert s.known q }

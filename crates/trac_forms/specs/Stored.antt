@@ -1,5 +1,5 @@
 -- What a store holds.
-use Rattle.std.specs.Prelude.{ℕ, List, [], bytes_eq, is_some, map, refl, IsTrue}
+use Rattle.std.specs.Prelude.{ℕ, List, [], bytes_eq, is_some, map, refl, IsTrue, Option, None, Some, unwrap_or}
 use Rattle.std.specs.Cmp.Lexicographic.{slice_cmp}
 use Rattle.std.specs.Coded.{Coded, code_by, coded×, coded_list, coded_ℕ}
 use Rattle.std.specs.FinMap as finite
@@ -7,7 +7,10 @@ use Rattle.std.specs.List.{IsDistinct}
 use Rattle.std.specs.FinSet as set
 use Rattle.std.specs.Ordering.{nat_cmp}
 use Rattle.trac_rules.specs.Codes.{block_code, form_code, forms_code, text_code}
+use Rattle.trac_rules.specs.Cuts.{joined}
+use Rattle.trac_rules.specs.Form.{Form, all_items, pointed_at}
 use Rattle.trac_rules.specs.Listing.{names_of}
+use Rattle.trac_rules.specs.declared.item.CutGap.{CutGap}
 use Rattle.trac_rules.specs.State.{Block, Forms, Held, Storage}
 
 -- a set of names
@@ -54,6 +57,19 @@ storage_in s = record { forms = s.forms; blocks = s.blocks }
 -- the same forms and blocks, and of the names those of the forms alone
 abbrev pub swept : Stored → Stored
 swept s = record s { known = set.from_list (names_of s.forms) }
+
+-- a form with the gaps of a cut filled again, and its pointer at a place
+abbrev pub unsegmented : List (List ℕ) → List CutGap → ℕ → Form → Form
+unsegmented texts cut place form = pointed_at place (unwrap_or (joined texts cut (all_items form)) [])
+
+-- what a change makes of the form that is found under a name, if there is one, put in its place
+abbrev pub changing : List ℕ → (Form → Form) → Option Form → Forms → Forms
+changing name change None forms = forms
+changing name change (Some form) forms = finite.insert forms name (change form)
+
+-- the forms, that of a name changed, if there is one
+abbrev pub changed_at : List ℕ → (Form → Form) → Forms → Forms
+changed_at name change forms = changing name change (finite.get forms name) forms
 
 -- the name of each form is known
 abbrev pub KnowsAll : Names → Forms → Type 0

@@ -3,7 +3,7 @@ use Rattle.std.specs.Prelude.{◌≤◌, min, List, length, take, drop}
 use Rattle.trac_rules.specs.declared.item.Item.{Item}
 use Rattle.trac_rules.specs.Form.{Form, all_items}
 use Rattle.trac_rules.specs.Pieces.{Piece, bytes_in}
-use Rattle.trac_forms.specs.declared.reading.Piece.{Piece as Measured}
+use Rattle.trac_forms.specs.declared.piece.Piece.{Piece as Measured}
 
 -- the items that the bytes of a piece stand among: those from the lesser of the form's and the piece's pointer on
 abbrev pub items_from : Measured → Form → List Item

@@ -1,7 +1,8 @@
 //! Blocks: forms that were put aside together, with their names.
-ghost use Rattle.std.specs.Prelude.{◌≡◌, ◌+◌, ◌-◌, ◌<◌, ◌≤◌, ◌++◌, ◌∷◌, [], false, IfOk, IsOkUnless, MatchOption};
+ghost use Rattle.std.specs.Prelude.{◌≡◌, ◌-◌, ◌==◌, ◌<◌, ◌≤◌, ◌++◌, ◌∷◌, [], false, length, slice_get, IfOk, IsOkUnless, MatchOption, Some};
 ghost use Rattle.std.specs.List.{list_any};
 ghost use Rattle.std.specs.Str.{bytes_eq};
+ghost use Rattle.trac_forms.specs.Stored.{AreApart};
 
 use crate::error::FormError;
 use crate::form::Form;
@@ -39,6 +40,30 @@ impl<A: Allocator + Copy> Block<A> {
         Ok(Block {
             entries: Vec::with_capacity(alloc, n)?,
         })
+    }
+
+    /// How many forms the block holds. It takes no memory (this project's profile).
+    pub fn len(&self) -> usize
+        ensures len { result ≡ length self.now.held }
+        ensures distinct { AreApart self.now.held }
+    {
+        self.entries.len()
+    }
+
+    /// Whether the block holds no form. It takes no memory (this project's profile).
+    pub fn is_empty(&self) -> bool
+        ensures { result ≡ (length self.now.held == 0) }
+    {
+        self.len() == 0
+    }
+
+    /// The form of this number, from 0 on, in the block's order, and its name; `None` past the last. It takes no memory
+    /// (this project's profile).
+    pub fn get(&self, i: usize) -> Option<(&[u8], &Form<A>)>
+        ensures { MatchOption result (length self.now.held ≤ i) (λ entry. slice_get self.now.held i ≡ Some (entry.0.now, entry.1.now)) }
+    {
+        let (name, form) = self.entries.get(i)?;
+        Some((name.as_slice(), form))
     }
 
     /// Puts a form under a name after all others. A place has to be spare, which it takes, and no form of the block may

@@ -9,12 +9,12 @@ ghost use Rattle.trac_rules.specs.Weights.{gap_count};
 ghost use Rattle.trac_rules.specs.declared.item.Item.TheVariants.{Gap};
 ghost use Rattle.trac_forms.specs.Layout.{IsKept, divided};
 
+use crate::byte_runs::put_text;
 use crate::cutting::push_item;
 use crate::error::FormError;
 use crate::filling::text;
 use crate::form::{Form, Items};
 use crate::packed::PackedItem;
-use crate::runs::put_text;
 use crate::texts::Texts;
 use std::alloc::{Allocator, Global};
 use std::marker::Model;

@@ -3,10 +3,10 @@ ghost use Rattle.std.specs.Prelude.{◌≡◌, ◌++◌, ◌≤◌, length, OnOk
 ghost use Rattle.trac_rules.specs.Fronts.{IsFrontOf};
 ghost use Rattle.trac_rules.specs.Filling.{called, filled, text_numbered};
 
+use crate::byte_runs::{run_into, run_len};
 use crate::error::FormError;
 use crate::form::Form;
 use crate::packed::PackedItem;
-use crate::runs::{run_into, run_len};
 use crate::texts::Texts;
 use std::alloc::Allocator;
 use trac_rules::item::Item;

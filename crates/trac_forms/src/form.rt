@@ -6,9 +6,9 @@ ghost use Rattle.trac_rules.specs.Form.{IsWide, all_items, as_items, at_start, d
 ghost use Rattle.trac_forms.specs.Layout.{IsKept, IsSound, divided};
 ghost use Rattle.trac_forms.specs.Outcomes.{MayRefuseForm};
 
+use crate::byte_runs::put_text;
 use crate::error::FormError;
 use crate::packed::PackedItem;
-use crate::runs::put_text;
 use std::alloc::{Allocator, Global};
 use std::marker::Model;
 use trac_gap::{GapBuf, TwoEnds};

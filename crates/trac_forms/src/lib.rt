@@ -3,17 +3,14 @@
 #![tactic(auto)]
 
 pub mod block;
-mod blocks;
+mod byte_runs;
 pub mod cut;
 mod cutting;
 pub mod error;
 mod filling;
 pub mod form;
-mod listing;
-mod looking;
 mod packed;
-pub mod reading;
-mod runs;
+pub mod piece;
 mod showing;
 pub mod store;
 pub mod texts;
@@ -22,7 +19,7 @@ pub use block::Block;
 pub use cut::Cut;
 pub use error::FormError;
 pub use form::Form;
-pub use reading::Piece;
+pub use piece::Piece;
 pub use store::Store;
 pub use texts::Texts;
 pub use trac_rules::item::{CutGap, Item};

@@ -1,18 +1,25 @@
 //! The forms by their names, and the blocks.
-ghost use Rattle.std.specs.Prelude.{◌≡◌, ◌<◌, ◌++◌, ◌∷◌, [], filter, is_some, map, nat_lt, slice_get, true, IfOk, IfSome, IsOk, IsOkUnless, IsTrue, None, OnErr, OnOk, Some};
+ghost use Rattle.std.specs.Prelude.{◌≡◌, ◌-◌, ◌^◌, ◌<◌, ◌≤◌, ◌++◌, ◌∷◌, [], filter, is_some, length, map, nat_lt, option_map, slice_get, slice_set, take, true, vec_capacity, vec_len, IfOk, IfSome, IsOk, IsOkUnless, IsTrue, MatchOption, None, OnErr, OnOk, Some};
 ghost use Rattle.std.specs.FinMap as finite;
 ghost use Rattle.std.specs.FinSet as set;
 ghost use Rattle.std.specs.List.Sorted.{IsPermutation};
-ghost use Rattle.std.specs.Option.{option_copied};
+ghost use Rattle.std.specs.Option.{option_copied, option_flatten};
 ghost use Rattle.std.specs.Str.{bytes_eq};
 ghost use Rattle.indexmap.specs.IndexMap.{get_by, index_map_len, set_value_at, values, IsUnique};
+ghost use Rattle.trac_rules.specs.Blocks.{block_at};
+ghost use Rattle.trac_rules.specs.Cuts.{cut_of, joined};
+ghost use Rattle.trac_rules.specs.Form.{all_items, pointed_at};
+ghost use Rattle.trac_rules.specs.Listing.{names_of};
+ghost use Rattle.trac_rules.specs.Segmenting.{segmented};
 ghost use Rattle.trac_forms.specs.Layout.{IsSound};
-ghost use Rattle.trac_forms.specs.Stored.{KnowsAll, nothing_stored, swept};
-ghost use Rattle.trac_forms.specs.Table.{IsParted};
+ghost use Rattle.trac_forms.specs.Stored.{KnowsAll, changed_at, nothing_stored, swept, unsegmented};
+ghost use Rattle.trac_forms.specs.Table.{IsParted, full_keys, named};
 
 use crate::block::Block;
+use crate::cut::Cut;
 use crate::error::FormError;
 use crate::form::Form;
+use crate::texts::Texts;
 use indexmap::IndexMap;
 use std::alloc::{Allocator, Global};
 use std::hash::{BuildHasher, BuildHasherDefault, FoldHasher, Hash};
@@ -101,6 +108,17 @@ impl<A: Allocator + Copy> Store<A> {
         Some(form)
     }
 
+    /// The names of the forms, rising by their bytes (this project's profile). Names without a form are not among them.
+    /// Refused with `Memory` where the allocator refuses.
+    pub fn names(&self) -> Result<Vec<&[u8], A>, FormError>
+        ensures names { IfOk result (λ names. map (λ name. name.now) names.items ≡ names_of self.now.forms) }
+        ensures err { IsOkUnless result FormError.Memory }
+    {
+        let mut names = full_names(&self.table)?;
+        names.sort_unstable();
+        Ok(names)
+    }
+
     /// Makes a place for a form of this name, so that `put` needs no memory (this project's profile). The forms stay as they
     /// are.
     /// Refused with `Memory` where the allocator refuses, and then nothing has changed.
@@ -144,6 +162,41 @@ impl<A: Allocator + Copy> Store<A> {
         }
     }
 
+    /// Sets the pointer of the form of this name, if there is one: before the item at this place, or at the end where the form
+    /// has none there. Returns where it stood. It takes no memory (this project's profile).
+    pub fn set_pointer(&mut self, name: &[u8], place: usize) -> Option<usize>
+        ensures old { result ≡ option_map (λ form. length form.before) (finite.get self.old.forms name.now) }
+        ensures set { self.new ≡ record self.old { forms = changed_at name.now (λ form. pointed_at place (all_items form)) self.old.forms } }
+    {
+        let i = self.table.get_index_of(name)?;
+        point_at(&mut self.table, i, place)
+    }
+
+    /// Cuts texts out of the form of this name, if there is one, and returns where its pointer stood, which goes to the start:
+    /// what `segment` does to a form. `cut` has to be what `cut_for` returns for that form and these texts. It takes no memory
+    /// (this project's profile).
+    pub fn segment<T: Texts>(&mut self, name: &[u8], cut: &Cut<A>, texts: &T) -> Option<usize>
+        requires { IfSome (finite.get self.old.forms name.now) (λ form. cut.now ≡ cut_of (T.texts texts.now) form) }
+        ensures old { result ≡ option_map (λ form. length form.before) (finite.get self.old.forms name.now) }
+        ensures cut { self.new ≡ record self.old { forms = changed_at name.now (λ form. segmented (T.texts texts.now) form) self.old.forms } }
+    {
+        let i = self.table.get_index_of(name)?;
+        segment_at(&mut self.table, i, cut, texts)
+    }
+
+    /// Undoes `segment` in the form of this name, if there is one: puts the texts in place of the gaps of a cut again, and sets
+    /// the pointer before the item at `pointer`, or at the end where the form then has none there. At each place of the cut a
+    /// gap of its ordinal has to stand, as wide as the text of that number. It takes no memory (this project's profile).
+    pub fn unsegment<T: Texts>(&mut self, name: &[u8], cut: Cut<A>, texts: &T, pointer: usize)
+        requires { IfSome (finite.get self.old.forms name.now) (λ form. IsTrue (is_some (joined (T.texts texts.now) cut (all_items form)))) }
+        ensures { self.new ≡ record self.old { forms = changed_at name.now (λ form. unsegmented (T.texts texts.now) cut pointer form) self.old.forms } }
+    {
+        let Some(i) = self.table.get_index_of(name) else {
+            return;
+        };
+        unsegment_at(&mut self.table, i, cut, texts, pointer);
+    }
+
     /// Takes all forms away. The names stay known. It takes no memory (this project's profile).
     pub fn clear(&mut self)
         ensures { self.new ≡ record self.old { forms = finite.empty } }
@@ -157,6 +210,77 @@ impl<A: Allocator + Copy> Store<A> {
         ensures { self.new ≡ swept self.old }
     {
         drop_empty(&mut self.table, self.live);
+    }
+}
+
+// The blocks, by their numbers.
+impl<A: Allocator + Copy> Store<A> {
+    /// How many blocks there are, erased ones counted. It takes no memory (this project's profile).
+    pub fn block_count(&self) -> usize
+        ensures count { result ≡ length self.now.blocks }
+        ensures within { length self.now.blocks < 2 ^ 63 }
+    {
+        self.blocks.len()
+    }
+
+    /// The block of this number, from 0 on; `None` where it is erased, and past the last. It takes no memory
+    /// (this project's profile).
+    pub fn block(&self, i: usize) -> Option<&Block<A>>
+        ensures { MatchOption result (block_at i self.now.blocks ≡ None) (λ block. block_at i self.now.blocks ≡ Some block.now.held) }
+    {
+        self.blocks.get(i)?.as_ref()
+    }
+
+    /// Makes places for at least `n` more blocks, so that `push_block` needs no memory. Forms, blocks and names stay as they
+    /// are. Refused with `Memory` where the allocator refuses, and then nothing has changed (this project's profile).
+    pub fn reserve_blocks(&mut self, n: usize) -> Result<(), FormError>
+        ensures room { OnOk result (n ≤ self.new.spare) }
+        ensures no_less { self.old.spare ≤ self.new.spare }
+        ensures stays { self.new ≡ record self.old { spare = self.new.spare } }
+        ensures err { IsOkUnless result FormError.Memory }
+    {
+        self.blocks.reserve(n)?;
+        Ok(())
+    }
+
+    /// Puts a block at the end of the blocks: its number is how many there were before. A place has to be spare, which it
+    /// takes. It takes no memory (this project's profile).
+    pub fn push_block(&mut self, block: Block<A>)
+        requires { 0 < self.old.spare }
+        ensures { self.new ≡ record self.old { blocks = self.old.blocks ++ Some block.held ∷ []; spare = self.old.spare - 1 } }
+    {
+        self.blocks.push_reserved(Some(block));
+    }
+
+    /// Takes the last block off the list, and returns it; `None` where it is an erased one, or where there are no blocks. It
+    /// takes no memory, and no spare place (this project's profile).
+    pub fn pop_block(&mut self) -> Option<Block<A>>
+        ensures last { option_map (λ b. b.held) result ≡ block_at (length self.old.blocks - 1) self.old.blocks }
+        ensures others { self.new ≡ record self.old { blocks = take (length self.old.blocks - 1) self.old.blocks; spare = self.new.spare } }
+        ensures no_less { self.old.spare ≤ self.new.spare }
+    {
+        self.blocks.pop()?
+    }
+
+    /// Takes the block of this number away and returns it; its place stays, as that of an erased block. `None` where it is
+    /// erased already, and past the last, and then nothing has changed. It takes no memory (this project's profile).
+    pub fn take_block(&mut self, i: usize) -> Option<Block<A>>
+        ensures taken { option_map (λ b. b.held) result ≡ block_at i self.old.blocks }
+        ensures erased { self.new ≡ record self.old { blocks = slice_set self.old.blocks i None } }
+    {
+        if i >= self.blocks.len() {
+            return None;
+        }
+        self.blocks[i].take()
+    }
+
+    /// Puts a block in the place of an erased one, under whose number it stands then. It takes no memory
+    /// (this project's profile).
+    pub fn set_block(&mut self, i: usize, block: Block<A>)
+        requires { slice_get self.old.blocks i ≡ Some None }
+        ensures { self.new ≡ record self.old { blocks = slice_set self.old.blocks i (Some block.held) } }
+    {
+        self.blocks[i] = Some(block);
     }
 }
 
@@ -221,6 +345,55 @@ fn take_at<K: Eq + Hash, V, S: BuildHasher, A: Allocator>(
     taken
 }
 
+// Sets the pointer of the form of an entry, if it has one, and returns where it stood.
+fn point_at<A: Allocator + Copy>(table: &mut Table<A>, i: usize, place: usize) -> Option<usize>
+    requires { i < index_map_len table.old }
+    ensures old { result ≡ option_map (λ form. length form.before) (option_flatten (slice_get (values table.old) i)) }
+    ensures set { table.new.entries ≡ set_value_at table.old.entries i (option_map (λ form. pointed_at place (all_items form)) (option_flatten (slice_get (values table.old) i))) }
+{
+    let form = table[i].as_mut()?;
+    let place = place.min(form.len());
+    Some(form.set_pointer(place))
+}
+
+// Cuts texts out of the form of an entry, if it has one, and returns where its pointer stood.
+fn segment_at<T: Texts, A: Allocator + Copy>(
+    table: &mut Table<A>,
+    i: usize,
+    cut: &Cut<A>,
+    texts: &T,
+) -> Option<usize>
+    requires within { i < index_map_len table.old }
+    requires cut { IfSome (option_flatten (slice_get (values table.old) i)) (λ form. cut.now ≡ cut_of (T.texts texts.now) form) }
+    ensures old { result ≡ option_map (λ form. length form.before) (option_flatten (slice_get (values table.old) i)) }
+    ensures cut { table.new.entries ≡ set_value_at table.old.entries i (option_map (λ form. segmented (T.texts texts.now) form) (option_flatten (slice_get (values table.old) i))) }
+{
+    let form = table[i].as_mut()?;
+    let pointer = form.pointer();
+    form.segment(cut, texts);
+    Some(pointer)
+}
+
+// Puts texts in place of the gaps of a cut in the form of an entry, if it has one, and sets its pointer.
+fn unsegment_at<T: Texts, A: Allocator + Copy>(
+    table: &mut Table<A>,
+    i: usize,
+    cut: Cut<A>,
+    texts: &T,
+    pointer: usize,
+)
+    requires within { i < index_map_len table.old }
+    requires there { IfSome (option_flatten (slice_get (values table.old) i)) (λ form. IsTrue (is_some (joined (T.texts texts.now) cut (all_items form)))) }
+    ensures { table.new.entries ≡ set_value_at table.old.entries i (option_map (λ form. unsegmented (T.texts texts.now) cut pointer form) (option_flatten (slice_get (values table.old) i))) }
+{
+    let Some(form) = table[i].as_mut() else {
+        return;
+    };
+    form.unsegment(cut, texts);
+    let place = pointer.min(form.len());
+    form.set_pointer(place);
+}
+
 // Takes the values of all entries away.
 fn take_values<K: Eq + Hash + Drop, V: Drop, S: BuildHasher, A: Allocator>(
     table: &mut IndexMap<K, Option<V>, S, A>,
@@ -253,4 +426,20 @@ fn drop_empty<K: Eq + Hash + Drop, V: Drop, S: BuildHasher, A: Allocator>(
     // `len` is called for its clause that no key stands twice.
     let _len = table.len();
     table.truncate(live);
+}
+
+// The names of the entries that have a form, in the order of the table.
+fn full_names<A: Allocator + Copy>(table: &Table<A>) -> Result<Vec<&[u8], A>, FormError>
+    ensures names { IfOk result (λ names. map (λ name. name.now) names.items ≡ full_keys (named (λ k. k.items) table.now.entries)) }
+    ensures err { IsOkUnless result FormError.Memory }
+    ensures unique { IsUnique (λ x y. bytes_eq x.items y.items) table.now }
+{
+    let mut names = Vec::new(*table.allocator());
+    for (name, form) in table.iter() {
+        if form.is_none() {
+            continue;
+        }
+        names.push(name.as_slice())?;
+    }
+    Ok(names)
 }

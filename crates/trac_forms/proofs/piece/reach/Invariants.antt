@@ -1,0 +1,14 @@
+-- The bytes so far, and the place after the last of them: fewer stand before each earlier place.
+use Rattle.std.proofs.Common.{◌≡◌, ℕ, ◌<◌, ◌≤◌, length, take}
+use Rattle.trac_rules.specs.Pieces.{bytes_in}
+use Rattle.trac_forms.proofs.piece.reach.Given as goal
+
+abbrev pub invariant-loop-item : goal.invariant-loop-item
+invariant-loop-item l = record {
+  passed : l.passed ≡ l.item-index;
+  place : l.reached.items ≤ l.item-index;
+  here : l.reached.bytes ≡ length (bytes_in (take l.reached.items l.items));
+  counted : l.reached.bytes ≡ length (bytes_in (take l.item-index l.items));
+  before : (k : ℕ) → k < l.reached.items → length (bytes_in (take k l.items)) < l.reached.bytes;
+  most : l.reached.bytes ≤ l.n;
+}

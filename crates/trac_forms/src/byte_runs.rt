@@ -1,0 +1,147 @@
+//! Runs of bytes among items, many at a time.
+ghost use Rattle.std.specs.Prelude.{◌≡◌, ◌+◌, ◌++◌, ◌≤◌, false, length, take, vec_capacity, vec_len};
+ghost use Rattle.trac_gap.specs.Ends.{item_count};
+ghost use Rattle.trac_rules.specs.Form.{as_items};
+ghost use Rattle.trac_rules.specs.Pieces.{bytes_in};
+ghost use Rattle.trac_rules.specs.Weights.{gap_count};
+
+use crate::form::Items;
+use crate::packed::PackedItem;
+use std::alloc::Allocator;
+use trac_gap::TwoEnds;
+
+// How many items are looked at together, so that there is no jump for each, or unpacked together at the end of a run.
+const GROUP: usize = 8;
+
+// How many bytes are packed or unpacked together where there are so many, so that there is no call for each.
+const CHUNK: usize = 64;
+
+// How many items there are up to the first gap, or all where there is none.
+pub(crate) fn run_len(items: &[PackedItem]) -> usize
+    ensures within { result ≤ length items.now }
+    ensures bytes { gap_count (take result items.now) ≡ 0 }
+{
+    let mut run = 0;
+    'groups: while GROUP <= items.len() - run {
+        if group_has_gap(items, run) {
+            break;
+        }
+        run += GROUP;
+    }
+    'items: while run < items.len() {
+        if items[run].is_gap() {
+            break;
+        }
+        run += 1;
+    }
+    run
+}
+
+// Whether there is a gap in the group that begins at this place.
+fn group_has_gap(items: &[PackedItem], at: usize) -> bool
+    requires { at + GROUP ≤ length items.now }
+    ensures { result ≡ false → gap_count (take at items.now) ≡ 0 → gap_count (take (at + GROUP) items.now) ≡ 0 }
+{
+    items[at].is_gap()
+        | items[at + 1].is_gap()
+        | items[at + 2].is_gap()
+        | items[at + 3].is_gap()
+        | items[at + 4].is_gap()
+        | items[at + 5].is_gap()
+        | items[at + 6].is_gap()
+        | items[at + 7].is_gap()
+}
+
+// Puts the bytes of a text at the end of the items on the left, where there is room for them.
+pub(crate) fn put_text<A: Allocator + Copy>(text: &[u8], items: &mut Items<A>)
+    requires { item_count items.old + length text.now ≤ items.old.capacity }
+    ensures { items.new ≡ record items.old { left = items.old.left ++ as_items text.now } }
+{
+    let mut rest = text;
+    'chunks: while CHUNK <= rest.len() {
+        let (chunk, behind) = rest.split_at(CHUNK);
+        items.put_left(&packed(chunk));
+        rest = behind;
+    }
+    put_bytes(rest, items);
+}
+
+// The same byte by byte.
+fn put_bytes<A: Allocator + Copy>(bytes: &[u8], items: &mut Items<A>)
+    requires { item_count items.old + length bytes.now ≤ items.old.capacity }
+    ensures { items.new ≡ record items.old { left = items.old.left ++ as_items bytes.now } }
+{
+    for b in bytes {
+        items.push_left(PackedItem::from_byte(*b));
+    }
+}
+
+// A chunk of bytes as items.
+fn packed(bytes: &[u8]) -> [PackedItem; CHUNK]
+    requires { length bytes.now ≡ CHUNK }
+    ensures { result ≡ as_items bytes.now }
+{
+    let mut items = [PackedItem::from_byte(0); CHUNK];
+    for i in 0..CHUNK {
+        items[i] = PackedItem::from_byte(bytes[i]);
+    }
+    items
+}
+
+// Puts these items, which are all bytes, at the end of `out`, which has room for them.
+pub(crate) fn run_into<B: Allocator>(run: &[PackedItem], out: &mut Vec<u8, B>)
+    requires bytes { gap_count run.now ≡ 0 }
+    requires room { vec_len out.old + length run.now ≤ vec_capacity out.old }
+    ensures { out.new.items ≡ out.old.items ++ bytes_in run.now }
+{
+    let mut rest = run;
+    'chunks: while CHUNK <= rest.len() {
+        let (chunk, behind) = rest.split_at(CHUNK);
+        chunk_into::<CHUNK, B>(chunk, out);
+        rest = behind;
+    }
+    'groups: while GROUP <= rest.len() {
+        let (group, behind) = rest.split_at(GROUP);
+        chunk_into::<GROUP, B>(group, out);
+        rest = behind;
+    }
+    bytes_into(rest, out);
+}
+
+// The same for so many items.
+fn chunk_into<const N: usize, B: Allocator>(chunk: &[PackedItem], out: &mut Vec<u8, B>)
+    requires len { length chunk.now ≡ N }
+    requires bytes { gap_count chunk.now ≡ 0 }
+    requires room { vec_len out.old + length chunk.now ≤ vec_capacity out.old }
+    ensures items { out.new.items ≡ out.old.items ++ bytes_in chunk.now }
+    ensures len { vec_len out.new ≡ vec_len out.old + length chunk.now }
+    ensures capacity { vec_capacity out.old ≤ vec_capacity out.new }
+{
+    let Ok(()) = out.extend_from_slice(&unpacked::<N>(chunk)) else {
+        unreachable!()
+    };
+}
+
+// The same byte by byte.
+fn bytes_into<B: Allocator>(run: &[PackedItem], out: &mut Vec<u8, B>)
+    requires bytes { gap_count run.now ≡ 0 }
+    requires room { vec_len out.old + length run.now ≤ vec_capacity out.old }
+    ensures { out.new.items ≡ out.old.items ++ bytes_in run.now }
+{
+    for item in run {
+        out.push_reserved(item.byte());
+    }
+}
+
+// So many items, which are all bytes, as these bytes.
+fn unpacked<const N: usize>(items: &[PackedItem]) -> [u8; N]
+    requires len { length items.now ≡ N }
+    requires bytes { gap_count items.now ≡ 0 }
+    ensures { result ≡ bytes_in items.now }
+{
+    let mut bytes = [0; N];
+    for i in 0..N {
+        bytes[i] = items[i].byte();
+    }
+    bytes
+}
