@@ -47,12 +47,6 @@ no_gap_at (Gap k w ∷ items) i d l none = let one : ⊥ = omega (arith, none) i
 no_gap_at (Byte b ∷ items) zero d l none = refl
 no_gap_at (Byte b ∷ items) (suc i) d l none = no_gap_at items i d (omega (arith, l)) none
 
--- the bytes so far, and the next one
-pub bytes_more : (items : List Item) (i b : ℕ) (item : Item) → i < length items → item ≡ get_or items i item → item ≡ Byte b → bytes_in (take (i + 1) items) ≡ bytes_in (take i items) ++ b ∷ []
-bytes_more items i b item l is byte =
-    ap bytes_in (take_more items i item l) ∙ flat_map-append byte_of (take i items) (get_or items i item ∷ [])
-    ∙ ap (λ (x : Item). bytes_in (take i items) ++ bytes_in (x ∷ [])) (sym is ∙ byte)
-
 -- what a run gives in a call are its bytes, whatever the texts are
 pub run_filled : (texts : List (List ℕ)) (run : List Item) → gap_count run ≡ 0 → all_filled texts run ≡ bytes_in run
 run_filled texts [] h = refl

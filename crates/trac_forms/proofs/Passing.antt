@@ -210,17 +210,6 @@ segment_whole items d before =
 
 -- ---- numbers of bytes
 
--- below zero
-pub count_below : (n : ℤ) (count : ℕ) (form : Form) → n <ℤ pos 0 → count ≡ unsigned_abs n → last_bytes count form ≡ count_read n form
-count_below (pos n) count form l e = absurd (omega (arith, ints))
-count_below (negsuc n) count form l e = ap (λ k. last_bytes k form) e
-
--- above zero
-pub count_above : (n : ℤ) (count : ℕ) (form : Form) → pos 0 <ℤ n → count ≡ unsigned_abs n → next_bytes count form ≡ count_read n form
-count_above (pos zero) count form l e = absurd (omega (arith, ints))
-count_above (pos (suc n)) count form l e = ap (λ k. next_bytes k form) e
-count_above (negsuc n) count form l e = absurd (omega (arith, ints))
-
 -- ---- two lists of items, one after the other
 
 -- the first n bytes of both
@@ -271,12 +260,6 @@ pub reached_before : (items : List Item) (n place bytes : ℕ) → place ≤ len
 reached_before items n place bytes within here behind e =
     place_before_is (at_most_all n items) place items within (sym here ∙ e) (λ k l m. let less = behind k l m in omega arith)
 
--- there are no more bytes than items
-pub count_most : (items : List Item) → count items ≤ length items
-count_most [] = omega arith
-count_most (Byte b ∷ items) = omega (arith, count_most items)
-count_most (Gap ordinal width ∷ items) = omega (arith, count_most items)
-
 -- ---- what each call reads, by what it reached
 
 -- so many items after the pointer
@@ -322,13 +305,6 @@ module _ (form : Form) (piece : Measured) (items : List Item) (same : items ≡ 
       let here : at_most_all n items ≡ at_most_all n form.before = ap (at_most_all n) same in
       something_last n form some k (taken piece form) (λ none. any (omega (arith, here))) (reached ∙ ap (λ xs. place_before (at_most_all n xs) xs) same) (taken_back form piece k within_before goes long_before)
 
--- no byte ahead, or none back
-pub reads_none_next : (n : ℕ) (form : Form) (items : List Item) (bytes : ℕ) → items ≡ form.after → 0 < n → bytes ≡ at_most_all n items → bytes ≡ 0 → None ≡ next_bytes n form
-reads_none_next n form items bytes same some e none = nothing_next n form some (let here = ap (at_most_all n) same in omega arith)
-
-pub reads_none_last : (n : ℕ) (form : Form) (items : List Item) (bytes : ℕ) → items ≡ form.before → 0 < n → bytes ≡ at_most_all n items → bytes ≡ 0 → None ≡ last_bytes n form
-reads_none_last n form items bytes same some e none = nothing_last n form some (let here = ap (at_most_all n) same in omega arith)
-
 -- up to a text
 module _ (form : Form) (piece : Measured) (items : List Item) (same : items ≡ form.after) (k : ℕ) (text : List ℕ) (within : k + length text ≤ length items) (long : piece.len ≡ count (take k items))
     (goes : piece.pointer ≡ length form.before + (k + length text)) where
@@ -345,6 +321,3 @@ module _ (form : Form) (piece : Measured) (items : List Item) (same : items ≡ 
   reads_until e =
       ap Some (taken_ahead form piece k (k + length text) (omega arith) until_within (length form.before + k + length text) (omega arith) (omega arith) until_long)
       ∙ ap (option_map (λ j. record (read_on j form) { place = length form.before + j + length text })) (e ∙ ap (place_of_text text) same)
-
-pub reads_no_text : (form : Form) (items : List Item) (text : List ℕ) → items ≡ form.after → None ≡ place_of_text text items → None ≡ until_read text form
-reads_no_text form items text same e = ap (option_map (λ j. record (read_on j form) { place = length form.before + j + length text })) (e ∙ ap (place_of_text text) same)

@@ -154,21 +154,8 @@ module _ (text : List ℕ) (items : List Item) (start : ℕ) (run : List ℕ) (t
   passed_in_last_run None bytes none behind counted passed = tt
   passed_in_last_run (Some at) bytes finds behind counted passed = passed_in_run at bytes finds behind counted passed
 
--- the end of the items, and a gap, end a run
-pub bound_end : (n : ℕ) (items : List Item) → length items ≤ n → IsBound (drop n items)
-bound_end n items l b rest e = absurd (omega (arith, length-drop n items, ap length e))
-
 pub bound_gap : (items : List Item) (i : ℕ) (gap : Item) → i < length items → gap ≡ get_or items i (Byte 0) → ((b : ℕ) → gap ≡ Byte b → ⊥) → IsBound (drop i items)
 bound_gap items i gap l is other b rest e = let next = drop_more items i (Byte 0) l in other b (let same : get_or items i (Byte 0) ≡ Byte b = cc in is ∙ same)
-
--- a byte more in the run that is read
-pub run_more : (items : List Item) (start i : ℕ) (run : List ℕ) (b : ℕ) → i < length items → get_or items i (Byte 0) ≡ Byte b → drop start items ≡ as_items run ++ drop i items →
-    drop start items ≡ as_items (run ++ b ∷ []) ++ drop (i + 1) items
-run_more items start i run b l is so_far =
-    so_far
-    ∙ ap (λ (xs : List Item). as_items run ++ xs) (drop_more items i (Byte 0) l ∙ ap (λ item. item ∷ drop (i + 1) items) is)
-    ∙ sym (append_assoc (as_items run) (Byte b ∷ []) (drop (i + 1) items))
-    ∙ ap (λ (xs : List Item). xs ++ drop (i + 1) items) (sym (map-append Byte run (b ∷ [])))
 
 -- an empty text occurs at once
 pub at_once : (text : List ℕ) (items : List Item) → text ≡ [] → Some 0 ≡ place_of_text text items
