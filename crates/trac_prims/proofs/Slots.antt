@@ -3,7 +3,6 @@ use Rattle.std.proofs.Common.{◌≡◌, ℕ, zero, suc, ◌+◌, ◌*◌, ◌%�
 use Rattle.std.specs.Prelude.{Option, None, Some, bytes_eq, find, slice_get}
 use Rattle.std.proofs.lemmas.Slice.Eq.{bytes_eq-Decides}
 use Rattle.trac_rules.specs.declared.primitive.NamedPrimitive.{NamedPrimitive}
-use Rattle.trac_rules.specs.declared.primitive.Primitive.{Primitive}
 use Rattle.trac_rules.specs.declared.primitive.Primitive.TheVariants.{Unknown}
 use Rattle.trac_rules.specs.declared.primitive.TheConstants.{NAMES}
 use Rattle.trac_rules.specs.Performing.{named_primitive}
