@@ -1,48 +1,91 @@
--- Effects that differ by a piece from one that keeps all.
-use Rattle.std.proofs.Common.{◌≡◌, ℕ, ◌<◌, List, [], ◌∷◌, length, take, Bool, refl, sym, ap, ◌∙◌}
-use Rattle.std.specs.Prelude.{Ok, Err, Option, None, Some, Vec, true, nat_le, slice_get}
+-- What was done where texts were added to those that were made before.
+use Rattle.std.proofs.Common.{◌≡◌, ℕ, ◌<◌, List, [], ◌∷◌, ◌++◌, length, take, Bool, true, refl, sym, ap, subst, ◌∙◌}
+use Rattle.std.specs.Prelude.{Result, Ok, Err, IfOk, MatchResult, nat_le, slice_get}
 use Rattle.std.proofs.lemmas.Bool.{and_left, lt-leb}
+use Rattle.std.proofs.lemmas.List.{append-nil}
 use Rattle.trac_rules.specs.declared.limit.TheConstants.{OUTPUT_LIMIT, TEXT_LIMIT}
+use Rattle.trac_rules.specs.declared.refusal.Refusal.{Refusal}
 use Rattle.trac_rules.specs.declared.refusal.Refusal.TheVariants.{TooLong}
-use Rattle.trac_rules.specs.Effect.{Effect, forces, gives, leaves, prints, reads}
-use Rattle.trac_rules.specs.Performing.{meta_set}
-use Rattle.trac_rules.specs.Reading.{byte_read}
-use Rattle.trac_rules.specs.State.{Storage}
+use Rattle.trac_rules.specs.declared.primitive.Primitive.{Primitive}
+use Rattle.trac_rules.specs.Effect.{Effect, gives, leaves, prints, reads}
 use Rattle.trac_rules.specs.Outcomes.{limited}
+use Rattle.trac_rules.specs.Performing.{meta_set}
+use Rattle.trac_rules.specs.Reading.{byte_read, rest_read}
+use Rattle.trac_rules.specs.State.{Storage}
+use Rattle.trac_rules.specs.Undone.{Nothing, undone_by}
 use Rattle.trac_rules.proofs.Outcomes.{limited_beyond}
-use Rattle.trac_prims.specs.declared.made.Made as code
-use Rattle.trac_prims.specs.Effects.{IsMade, effect_on, pieces_fit}
+use Rattle.trac_prims.specs.declared.change.Change.{Change}
+use Rattle.trac_prims.specs.declared.change.Change.TheVariants.{Keep}
+use Rattle.trac_prims.specs.declared.effect.Deed.{Deed}
+use Rattle.trac_prims.specs.declared.effect.Made.{Made}
+use Rattle.trac_prims.specs.Changes.{IsChangeOf}
+use Rattle.trac_prims.specs.Effects.{IsChanged, IsDone, changed, changing, done_on, pieces_fit}
 
-module _ {A : Type 0} (kept : code.Made A) (storage : Storage) (keeps : effect_on storage kept ≡ leaves storage) (piece : Vec ℕ A) (text : List ℕ) (is : piece.items ≡ text) where
-  -- a value
-  pub given : IsMade storage (Ok (gives text storage)) (Ok (record kept { value = piece }))
-  given = ap (λ (v : List ℕ). Ok (gives v storage)) (sym is) ∙ ap (λ (e : Effect). Ok (record e { value = piece.items })) (sym keeps)
+module _ {A : Type 0} (arguments : List (List ℕ)) (storage : Storage) (old new : Made A) where
+  -- the texts are longer by those of an effect, and all else is as it says
+  pub as_said : (e : Effect) (change : Change A) (d : Deed A) → new.value.items ≡ old.value.items ++ e.value → new.print.items ≡ old.print.items ++ e.printed →
+      changed arguments change storage ≡ e.storage → d ≡ record { forced = e.forced; read = e.read; meta = e.meta; trace = e.trace; change = change } →
+      IsDone arguments storage (Ok e) old new (Ok d)
+  as_said e change d value printed left is =
+      let v = sym value in
+      let p = sym printed in
+      let s = sym left in
+      ap Ok ((λ i. record e { value = v i; printed = p i; storage = s i }) ∙ ap (λ (deed : Deed A). done_on arguments storage new deed) (sym is))
 
-  -- a forced value
-  pub forced : IsMade storage (Ok (forces text storage)) (Ok (record kept { value = piece; forced = true }))
-  forced = ap (λ (v : List ℕ). Ok (forces v storage)) (sym is) ∙ ap (λ (e : Effect). Ok (record e { value = piece.items; forced = true })) (sym keeps)
+  -- a value, and no more
+  pub given : (text : List ℕ) (d : Deed A) → new.value.items ≡ old.value.items ++ text → new.print.items ≡ old.print.items → d ≡ changing Keep →
+      IsDone arguments storage (Ok (gives text storage)) old new (Ok d)
+  given text d value same is = as_said (gives text storage) Keep d value (same ∙ sym (append-nil old.print.items)) refl is
 
-  -- a printed text
-  pub printed : IsMade storage (Ok (prints text storage)) (Ok (record kept { print = piece }))
-  printed = ap (λ (v : List ℕ). Ok (prints v storage)) (sym is) ∙ ap (λ (e : Effect). Ok (record e { printed = piece.items })) (sym keeps)
+  -- a printed text, and no more
+  pub printed : (text : List ℕ) (d : Deed A) → new.value.items ≡ old.value.items → new.print.items ≡ old.print.items ++ text → d ≡ changing Keep →
+      IsDone arguments storage (Ok (prints text storage)) old new (Ok d)
+  printed text d same print is = as_said (prints text storage) Keep d (same ∙ sym (append-nil old.value.items)) print refl is
 
-  -- a value that is read
-  pub read : (n : ℕ) → IsMade storage (Ok (reads text n storage)) (Ok (record kept { value = piece; read = n }))
-  read n = ap (λ (v : List ℕ). Ok (reads v n storage)) (sym is) ∙ ap (λ (e : Effect). Ok (record e { value = piece.items; read = n })) (sym keeps)
+module _ {A : Type 0} (arguments : List (List ℕ)) (storage : Storage) (made : Made A) where
+  -- nothing is made
+  pub left_so : (e : Effect) (change : Change A) (d : Deed A) → e.value ≡ [] → e.printed ≡ [] → changed arguments change storage ≡ e.storage →
+      d ≡ record { forced = e.forced; read = e.read; meta = e.meta; trace = e.trace; change = change } → IsDone arguments storage (Ok e) made made (Ok d)
+  left_so e change d none silent left is =
+      as_said arguments storage made made e change d (sym (append-nil made.value.items) ∙ ap (λ text. made.value.items ++ text) (sym none))
+      (sym (append-nil made.print.items) ∙ ap (λ text. made.print.items ++ text) (sym silent)) left is
+
+  -- a change of the forms, and no more
+  pub changed_so : (outcome : Result Effect Refusal) (change : Result (Change A) Refusal) (result : Result (Deed A) Refusal) →
+      MatchResult change (λ c. result ≡ Ok (changing c)) (λ refusal. result ≡ Err refusal) → IsChanged arguments storage outcome change → IsDone arguments storage outcome made made result
+  changed_so outcome (Ok change) result is said =
+      subst (IsDone arguments storage outcome made made) (sym is)
+      (subst (λ o. IsDone arguments storage o made made (Ok (changing change))) (sym said)
+      (left_so (leaves (changed arguments change storage)) change (changing change) refl refl refl refl))
+  changed_so outcome (Err refusal) result is said = subst (IsDone arguments storage outcome made made) (sym is) said
+
+-- what holds of a change holds of the deed that it is
+pub of_change : {A : Type 0} (P : Change A → Type 0) (change : Result (Change A) Refusal) (result : Result (Deed A) Refusal) →
+    MatchResult change (λ c. result ≡ Ok (changing c)) (λ refusal. result ≡ Err refusal) → IfOk change P → IfOk result (λ d. P d.change)
+of_change P (Ok change) result is holds = subst (λ r. IfOk r (λ d. P d.change)) (sym is) holds
+of_change P (Err refusal) result is holds = subst (λ r. IfOk r (λ d. P d.change)) (sym is) tt
+
+-- nothing is destroyed where the forms stay
+pub keeps_so : {A : Type 0} (primitive : Primitive) (arguments : List (List ℕ)) (storage : Storage) (result : Result (Deed A) Refusal) → undone_by primitive arguments storage ≡ Nothing →
+    IfOk result (λ d. d.change ≡ Keep) → IfOk result (λ d. IsChangeOf primitive arguments storage d.change)
+keeps_so primitive arguments storage (Ok d) nothing kept =
+    subst (λ (change : Change _). IsChangeOf primitive arguments storage change) (sym kept) (record { undone_is = sym nothing; names_are = tt })
+keeps_so primitive arguments storage (Err refusal) nothing kept = tt
 
 -- the first byte of what is left to read
-pub byte_given : {A : Type 0} (kept : code.Made A) (storage : Storage) → effect_on storage kept ≡ leaves storage → (piece : Vec ℕ A) (text : List ℕ) (ended : Bool) →
-    (length text ≡ 0 → ⊥) → piece.items ≡ take 1 text → IsMade storage (byte_read text ended storage) (Ok (record kept { value = piece; read = 1 }))
-byte_given kept storage keeps piece [] ended some is = absurd (some refl)
-byte_given kept storage keeps piece (b ∷ rest) ended some is = read kept storage keeps piece (b ∷ []) is 1
+pub byte_given : (text : List ℕ) (ended : Bool) (storage : Storage) → (length text ≡ 0 → ⊥) → byte_read text ended storage ≡ Ok (reads (take 1 text) 1 storage)
+byte_given [] ended storage some = absurd (some refl)
+byte_given (b ∷ rest) ended storage some = refl
+
+-- all that is left to read
+pub rest_given : (text : List ℕ) (storage : Storage) → (length text ≡ 0 → ⊥) → rest_read text true storage ≡ Ok (reads text (length text) storage)
+rest_given [] storage some = absurd (some refl)
+rest_given (b ∷ rest) storage some = refl
 
 -- the first byte of a text as meta character
-pub meta_given : {A : Type 0} (kept : code.Made A) (storage : Storage) → effect_on storage kept ≡ leaves storage → (meta : Option ℕ) (text : List ℕ) →
-    meta ≡ slice_get text 0 → effect_on storage (record kept { meta = meta }) ≡ meta_set text storage
-meta_given kept storage keeps meta [] is =
-    ap (λ (m : Option ℕ). effect_on storage (record kept { meta = m })) is ∙ ap (λ (e : Effect). record e { meta = None }) keeps
-meta_given kept storage keeps meta (b ∷ bytes) is =
-    ap (λ (m : Option ℕ). effect_on storage (record kept { meta = m })) is ∙ ap (λ (e : Effect). record e { meta = Some b }) keeps
+pub meta_given : (text : List ℕ) (storage : Storage) → meta_set text storage ≡ record (leaves storage) { meta = slice_get text 0 }
+meta_given [] storage = refl
+meta_given (b ∷ bytes) storage = refl
 
 -- ---- pieces that are too long
 

@@ -16,6 +16,7 @@ pub mod Changes
 pub mod Given
 pub mod Fitting
 pub mod ReadCounts
+pub mod Slots
 pub mod MetaSets
 pub mod Joining
 pub mod Planned

@@ -1,5 +1,5 @@
 -- The outcome of a call, from what its primitive made and from the lengths of the pieces.
-use Rattle.std.proofs.Common.{◌≡◌, ℕ, ◌+◌, ◌++◌, List, length, refl, sym, ap, ◌∙◌, subst, arith, Bool, true, false, ⊎_elim}
+use Rattle.std.proofs.Common.{◌≡◌, ℕ, ◌+◌, ◌++◌, List, [], length, refl, sym, ap, ◌∙◌, subst, arith, Bool, true, false, ⊎_elim}
 use Rattle.std.specs.Prelude.{Result, Ok, Err, nat_le}
 use Rattle.std.specs.Option.{unwrap_or}
 use Rattle.std.proofs.lemmas.Bool.{and_from, cases_Bool, false_from_ne_true, le-leb, true≢false}
@@ -18,9 +18,10 @@ use Rattle.trac_rules.specs.Scanning.{Call, Calls, scan}
 use Rattle.trac_rules.specs.State.{Environment, State, storage_of}
 use Rattle.trac_rules.specs.Stepping.{carried_out, step}
 use Rattle.trac_rules.proofs.Outcomes.{limited_beyond, limited_Err, limited_within, limited-seen_as}
-use Rattle.trac_prims.specs.declared.effect.Effect as code
+use Rattle.trac_prims.specs.declared.effect.Deed.{Deed}
+use Rattle.trac_prims.specs.declared.effect.Made.{Made}
 use Rattle.trac_prims.specs.declared.effect.Now.{Now}
-use Rattle.trac_prims.specs.Effects.{MayFail, Planned, pieces_fit, planned_from, planned_on}
+use Rattle.trac_prims.specs.Effects.{MayFail, Planned, added_to, done_on, pieces_fit, planned_from}
 use Rattle.trac_prims.specs.Plans.{HasPlace, IsGiven, after_planned, fits_after}
 use Rattle.trac_prims.proofs.Fitting.{FitsAfter, fits_by, fits_then}
 
@@ -68,11 +69,20 @@ lacks_seen : {T U : Type 0} (view : T → U) (outcome : Result T Refusal) → Ma
 lacks_seen view (Ok x) h = tt
 lacks_seen view (Err refusal) h = h
 
-refuses_seen : {T U : Type 0} (view : T → U) (outcome : Result T Refusal) (refusal : Refusal) → MayRefuse outcome refusal → MayRefuse (seen_as view outcome) refusal
+pub refuses_seen : {T U : Type 0} (view : T → U) (outcome : Result T Refusal) (refusal : Refusal) → MayRefuse outcome refusal → MayRefuse (seen_as view outcome) refusal
 refuses_seen view said Memory h = lacks_seen view said h
 refuses_seen view said refusal h = ap (seen_as view) h
 
 -- ---- the call that is planned
+
+-- texts that were made before are the line of the trace alone
+behind_line : {A : Type 0} (texts : Made A) (line : List ℕ) → texts.value.items ≡ [] → texts.print.items ≡ line → (outcome : Result Effect Refusal) →
+    seen_as (printed_behind line) outcome ≡ seen_as (added_to texts) outcome
+behind_line texts line none is (Ok e) =
+    let v = sym none in
+    let p = sym is in
+    ap Ok (λ i. record e { value = v i ++ e.value; printed = p i ++ e.printed })
+behind_line texts line none is (Err refusal) = refl
 
 module _ (environment : Environment) (call : Call) (kind : Kind) (arguments : List (List ℕ)) (stored : Stored) (now : Now) (given : IsGiven call kind arguments stored now)
     (primitive : Primitive) (named : primitive ≡ primitive_of (argument 0 arguments)) where
@@ -91,56 +101,51 @@ module _ (environment : Environment) (call : Call) (kind : Kind) (arguments : Li
       ∙ ap (λ (p : Primitive). seen_as (printed_behind line) (effect_of p environment arguments call.state)) (sym named)
 
   -- what is to be planned
-  abbrev wanted : Result Planned Refusal
-  wanted = seen_as (planned_from now) (limited (fits_after call) (performed environment call))
+  abbrev wanted : Result Effect Refusal
+  wanted = limited (fits_after call) (performed environment call)
 
-  -- no effect was made
+  -- nothing was done
   pub unplanned : (refusal : Refusal) → MayFail outcome refusal → MayRefuse wanted refusal
-  unplanned refusal h =
-      refuses_seen (planned_from now) (limited (fits_after call) (performed environment call)) refusal
-      (subst (λ o. MayRefuse (limited (fits_after call) o) refusal) (sym performed_is) (not_made call line outcome refusal h))
+  unplanned refusal h = subst (λ o. MayRefuse (limited (fits_after call) o) refusal) (sym performed_is) (not_made call line outcome refusal h)
 
-  -- an effect was made, but memory for the line of the trace was refused
-  pub lacks : (first : Effect) → outcome ≡ Ok first → MayLackMemory wanted
-  lacks first is =
-      lacks_seen (planned_from now) (limited (fits_after call) (performed environment call))
-      (subst (λ o. MayLackMemory (limited (fits_after call) o)) (sym (performed_is ∙ ap (seen_as (printed_behind line)) is))
-      (lacks_limited (fits_after call) (printed_behind line first)))
+  -- the primitive was performed, its texts behind the line of the trace
+  module _ {A : Type 0} (texts made : Made A) (deed : Deed A) (is : seen_as (added_to texts) outcome ≡ Ok (done_on arguments (storage_of call.state) made deed)) where
+    -- but memory for the line was refused
+    pub lacks : MayLackMemory wanted
+    lacks = subst (λ o. MayLackMemory (limited (fits_after call) o)) (sym performed_is) (either outcome is)
+      where
+        either : (o : Result Effect Refusal) → seen_as (added_to texts) o ≡ Ok (done_on arguments (storage_of call.state) made deed) →
+            MayLackMemory (limited (fits_after call) (seen_as (printed_behind line) o))
+        either (Ok e) h = lacks_limited (fits_after call) (printed_behind line e)
+        either (Err refusal) h = absurd (cc)
 
-  -- an effect was made, the line of the trace put before it, and the plan completed
-  module _ {A : Type 0} (made : code.Effect A) (first : Effect) (is : outcome ≡ Ok first)
-      (completed : planned_on arguments (storage_of call.state) made ≡ planned_from now (printed_behind line first)) where
-    performs : performed environment call ≡ Ok (printed_behind line first)
-    performs = performed_is ∙ ap (seen_as (printed_behind line)) is
+    module _ (none : texts.value.items ≡ []) (lined : texts.print.items ≡ line) where
+      abbrev effect : Effect
+      effect = done_on arguments (storage_of call.state) made deed
 
-    value_is : length made.value.items ≡ length first.value
-    value_is = ap (λ (p : Planned). length p.value) completed
+      performs : performed environment call ≡ Ok effect
+      performs = performed_is ∙ behind_line texts line none lined outcome ∙ is
 
-    print_is : length made.print.items ≡ length (line ++ first.printed)
-    print_is = ap (λ (p : Planned). length p.printed) completed
+      place_then : FitsAfter call effect → HasPlace now made.value.items made.print.items
+      place_then fits = record {
+        text = omega (arith, fits.text, given.state_is.text_is);
+        output = omega (arith, fits.output, given.state_is.output_is);
+      }
 
-    place_then : FitsAfter call (printed_behind line first) → HasPlace now made
-    place_then fits = record {
-      text = omega (arith, fits.text, given.state_is.text_is, value_is);
-      output = omega (arith, fits.output, given.state_is.output_is, print_is);
-    }
+      pub beyond : (HasPlace now made.value.items made.print.items → ⊥) → wanted ≡ Err TooLong
+      beyond no_place =
+          ap (limited (fits_after call)) performs
+          ∙ limited_beyond (fits_after call) effect (false_from_ne_true (fits_after call effect) (λ fits. no_place (place_then (fits_then call effect fits))))
 
-    pub beyond : (HasPlace now made → ⊥) → wanted ≡ Err TooLong
-    beyond none =
-        ap (λ o. seen_as (planned_from now) (limited (fits_after call) o)) performs
-        ∙ ap (seen_as (planned_from now)) (limited_beyond (fits_after call) (printed_behind line first)
-        (false_from_ne_true (fits_after call (printed_behind line first)) (λ fits. none (place_then (fits_then call (printed_behind line first) fits)))))
-
-    pub within : HasPlace now made → wanted ≡ Ok (planned_on arguments (storage_of call.state) made)
-    within place =
-        ap (λ o. seen_as (planned_from now) (limited (fits_after call) o)) performs
-        ∙ ap (seen_as (planned_from now)) (limited_within (fits_after call) (printed_behind line first)
-        (fits_by call (printed_behind line first) (record {
-          text = omega (arith, place.text, given.state_is.text_is, value_is);
-          marked = given.state_is.marks_fit;
-          output = omega (arith, place.output, given.state_is.output_is, print_is);
-        })))
-        ∙ ap Ok (sym completed)
+      pub within : HasPlace now made.value.items made.print.items → wanted ≡ Ok effect
+      within place =
+          ap (limited (fits_after call)) performs
+          ∙ limited_within (fits_after call) effect
+          (fits_by call effect (record {
+            text = omega (arith, place.text, given.state_is.text_is);
+            marked = given.state_is.marks_fit;
+            output = omega (arith, place.output, given.state_is.output_is);
+          }))
 
 -- ---- the step that performs the call
 

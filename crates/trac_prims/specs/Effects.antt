@@ -1,22 +1,22 @@
 -- What is planned, as the definitions see it.
-use Rattle.std.specs.Prelude.{◌≡◌, ◌+◌, ◌&&◌, ℕ, List, length, map, drop, nat_le, Bool, Option, None, Some, Vec, Result, Ok, Err}
+use Rattle.std.specs.Prelude.{◌≡◌, ◌+◌, ◌++◌, ◌&&◌, ℕ, List, length, map, drop, nat_le, Bool, false, Option, None, Some, Vec, Result, Ok, Err}
 use Rattle.std.specs.FinMap as finite
 use Rattle.std.specs.Option.{unwrap_or}
 use Rattle.trac_rules.specs.declared.limit.TheConstants.{OUTPUT_LIMIT, TEXT_LIMIT}
 use Rattle.trac_rules.specs.declared.refusal.Refusal.{Refusal}
 use Rattle.trac_rules.specs.Blocks.{erased, put_aside, with_all}
-use Rattle.trac_rules.specs.Effect.{Effect}
+use Rattle.trac_rules.specs.Effect.{Effect, leaves}
 use Rattle.trac_rules.specs.Form.{Form}
 use Rattle.trac_rules.specs.Handling.{keeping, pointing, without}
-use Rattle.trac_rules.specs.Outcomes.{MayLackMemory, OrMemory, limited}
+use Rattle.trac_rules.specs.Outcomes.{MayLackMemory, OrMemory, limited, seen_as}
 use Rattle.trac_rules.specs.Segmenting.{segmented}
 use Rattle.trac_rules.specs.State.{Held, Storage}
 use Rattle.trac_prims.specs.declared.change.Change as code
 use Rattle.trac_prims.specs.declared.change.Change.TheVariants.{Keep, Put, Cut, Remove, Clear, Point, MoveIn, Bring, Erase}
 use Rattle.trac_prims.specs.declared.effect.Effect as planned
+use Rattle.trac_prims.specs.declared.effect.Deed as deed
+use Rattle.trac_prims.specs.declared.effect.Made as made
 use Rattle.trac_prims.specs.declared.effect.Now.{Now}
-use Rattle.trac_prims.specs.declared.made.Done as done
-use Rattle.trac_prims.specs.declared.made.Made as made
 
 -- texts of the code as lists of bytes
 abbrev pub texts_of : {A : Type 0} → List (Vec ℕ A) → List (List ℕ)
@@ -52,21 +52,25 @@ changed arguments (MoveIn held name address) storage = with_form name.items addr
 changed arguments (Bring number forms) storage = keeping (with_all (named_forms forms.items) storage.forms) storage
 changed arguments (Erase number name) storage = erased number name.items storage
 
--- what a primitive made, as an effect that leaves this storage
-abbrev pub effect_on : {A : Type 0} → Storage → made.Made A → Effect
-effect_on storage e = record {
-  value = e.value.items;
-  forced = e.forced;
-  printed = e.print.items;
-  read = e.read;
-  meta = e.meta;
-  trace = e.trace;
-  storage = storage;
+-- a change, and nothing else
+abbrev pub changing : {A : Type 0} → code.Change A → deed.Deed A
+changing change = record { forced = false; read = 0; meta = None; trace = None; change = change }
+
+-- what a call of these arguments does where these texts were made, as an effect on a storage
+abbrev pub done_on : {A : Type 0} → List (List ℕ) → Storage → made.Made A → deed.Deed A → Effect
+done_on arguments storage texts d = record {
+  value = texts.value.items;
+  forced = d.forced;
+  printed = texts.print.items;
+  read = d.read;
+  meta = d.meta;
+  trace = d.trace;
+  storage = changed arguments d.change storage;
 }
 
--- what a primitive with these arguments made and changes, as an effect on a storage
-abbrev pub done_on : {A : Type 0} → List (List ℕ) → Storage → done.Done A → Effect
-done_on arguments storage d = effect_on (changed arguments d.change storage) d.made
+-- an effect with the texts that were made before it
+abbrev pub added_to : {A : Type 0} → made.Made A → Effect → Effect
+added_to texts e = record e { value = texts.value.items ++ e.value; printed = texts.print.items ++ e.printed }
 
 -- ---- what is planned
 
@@ -115,12 +119,12 @@ pieces_fit e = nat_le (length e.value) TEXT_LIMIT && nat_le (length e.printed) O
 abbrev pub MayFail : Result Effect Refusal → Refusal → Type 0
 MayFail outcome refusal = OrMemory (MayLackMemory outcome) (λ said. limited pieces_fit outcome ≡ Err said) refusal
 
--- what is made where this is the outcome of the definitions
-abbrev pub IsMade : {A : Type 0} → Storage → Result Effect Refusal → Result (made.Made A) Refusal → Type 0
-IsMade storage outcome (Ok e) = outcome ≡ Ok (effect_on storage e)
-IsMade storage outcome (Err refusal) = MayFail outcome refusal
+-- what is changed with these arguments where this is the outcome of the definitions
+abbrev pub IsChanged : {A : Type 0} → List (List ℕ) → Storage → Result Effect Refusal → Result (code.Change A) Refusal → Type 0
+IsChanged arguments storage outcome (Ok change) = outcome ≡ Ok (leaves (changed arguments change storage))
+IsChanged arguments storage outcome (Err refusal) = MayFail outcome refusal
 
--- what is made and changed with these arguments where this is the outcome of the definitions
-abbrev pub IsDone : {A : Type 0} → List (List ℕ) → Storage → Result Effect Refusal → Result (done.Done A) Refusal → Type 0
-IsDone arguments storage outcome (Ok d) = outcome ≡ Ok (done_on arguments storage d)
-IsDone arguments storage outcome (Err refusal) = MayFail outcome refusal
+-- what is done with these arguments where this is the outcome of the definitions: its texts are added to those that were made before
+abbrev pub IsDone : {A : Type 0} → List (List ℕ) → Storage → Result Effect Refusal → made.Made A → made.Made A → Result (deed.Deed A) Refusal → Type 0
+IsDone arguments storage outcome old new (Ok d) = seen_as (added_to old) outcome ≡ Ok (done_on arguments storage new d)
+IsDone arguments storage outcome old new (Err refusal) = MayFail outcome refusal

@@ -8,7 +8,6 @@ use Rattle.trac_rules.specs.Limits.{marks, text_bytes, texts_fit}
 use Rattle.trac_rules.specs.Performing.{after_call, placed}
 use Rattle.trac_rules.specs.Scanning.{Call}
 use Rattle.trac_rules.specs.State.{State, storage_of}
-use Rattle.trac_prims.specs.declared.effect.Effect as effect
 use Rattle.trac_prims.specs.declared.effect.Now.{Now}
 use Rattle.trac_prims.specs.Effects.{Planned}
 
@@ -43,7 +42,7 @@ after_planned call p = placed call.kind p.forced p.value (record call.state {
   output = call.state.output ++ p.printed;
 })
 
--- there is place within the limits for what an effect adds
-pub record HasPlace {A : Type 0} (now : Now) (e : effect.Effect A) : Type 0 where
-  pub text : now.text + length e.value.items ≤ TEXT_LIMIT
-  pub output : now.output + length e.print.items ≤ OUTPUT_LIMIT
+-- there is place within the limits for a value and a printed text
+pub record HasPlace (now : Now) (value printed : List ℕ) : Type 0 where
+  pub text : now.text + length value ≤ TEXT_LIMIT
+  pub output : now.output + length printed ≤ OUTPUT_LIMIT

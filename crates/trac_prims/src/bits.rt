@@ -1,53 +1,47 @@
 //! Bit strings: operations on the octal strings of arguments.
-ghost use Rattle.std.specs.Prelude.{◌≡◌, Ok};
+ghost use Rattle.std.specs.Prelude.{◌≡◌, IfOk, IsOkUnless};
 ghost use Rattle.trac_rules.specs.Computing.{computed};
+ghost use Rattle.trac_rules.specs.Effect.{argument, gives};
+ghost use Rattle.trac_rules.specs.Octal.{IsOctal, octal_tail};
 ghost use Rattle.trac_rules.specs.State.{Storage};
 ghost use Rattle.trac_rules.specs.declared.primitive.Computation.TheVariants.{Complement, Meet, Rotate, Shift, Union};
-ghost use Rattle.trac_prims.specs.Effects.{IsMade};
 ghost use Rattle.trac_rules.specs.declared.width.Width.{Width};
 
 use crate::args::Args;
-use crate::decimals::number_at;
-use crate::made::Made;
+use crate::computing::number_at;
 use std::alloc::Allocator;
 use trac_num::{complement, meet, octal_tail, rotate, shift, union};
 use trac_rules::refusal::Refusal;
 use trac_rules::width::Width;
 
 // `bu`: the bitwise or of two octal strings.
-pub(crate) fn union_of<A: Allocator + Copy>(alloc: A, args: &Args<'_>) -> Result<Made<A>, Refusal>
-    ensures { (width : Width) (storage : Storage) → IsMade storage (Ok (computed Union width args.now storage)) result }
+pub(crate) fn union_of<A: Allocator + Copy>(
+    alloc: A,
+    args: &Args<'_>,
+) -> Result<Vec<u8, A>, Refusal>
+    ensures made { IfOk result (λ text. (width : Width) (storage : Storage) → computed Union width args.now storage ≡ gives text.items storage) }
+    ensures err { IsOkUnless result Refusal.Memory }
 {
-    let value = union(alloc, octal_tail(args.get(1)), octal_tail(args.get(2)))?;
-    Ok(Made {
-        value,
-        ..Made::keeping(alloc)
-    })
+    Ok(union(alloc, octal_at(args, 1), octal_at(args, 2))?)
 }
 
 // `bi`: the bitwise and of two octal strings.
-pub(crate) fn meet_of<A: Allocator + Copy>(alloc: A, args: &Args<'_>) -> Result<Made<A>, Refusal>
-    ensures { (width : Width) (storage : Storage) → IsMade storage (Ok (computed Meet width args.now storage)) result }
+pub(crate) fn meet_of<A: Allocator + Copy>(alloc: A, args: &Args<'_>) -> Result<Vec<u8, A>, Refusal>
+    ensures made { IfOk result (λ text. (width : Width) (storage : Storage) → computed Meet width args.now storage ≡ gives text.items storage) }
+    ensures err { IsOkUnless result Refusal.Memory }
 {
-    let value = meet(alloc, octal_tail(args.get(1)), octal_tail(args.get(2)))?;
-    Ok(Made {
-        value,
-        ..Made::keeping(alloc)
-    })
+    Ok(meet(alloc, octal_at(args, 1), octal_at(args, 2))?)
 }
 
 // `bc`: an octal string with each bit turned over.
 pub(crate) fn complement_of<A: Allocator + Copy>(
     alloc: A,
     args: &Args<'_>,
-) -> Result<Made<A>, Refusal>
-    ensures { (width : Width) (storage : Storage) → IsMade storage (Ok (computed Complement width args.now storage)) result }
+) -> Result<Vec<u8, A>, Refusal>
+    ensures made { IfOk result (λ text. (width : Width) (storage : Storage) → computed Complement width args.now storage ≡ gives text.items storage) }
+    ensures err { IsOkUnless result Refusal.Memory }
 {
-    let value = complement(alloc, octal_tail(args.get(1)))?;
-    Ok(Made {
-        value,
-        ..Made::keeping(alloc)
-    })
+    Ok(complement(alloc, octal_at(args, 1))?)
 }
 
 // `bs`: an octal string with its bits moved; empty where the number does not fit (this project's profile).
@@ -55,17 +49,14 @@ pub(crate) fn shift_of<A: Allocator + Copy>(
     alloc: A,
     args: &Args<'_>,
     width: Width,
-) -> Result<Made<A>, Refusal>
-    ensures { (storage : Storage) → IsMade storage (Ok (computed Shift width args.now storage)) result }
+) -> Result<Vec<u8, A>, Refusal>
+    ensures made { IfOk result (λ text. (storage : Storage) → computed Shift width args.now storage ≡ gives text.items storage) }
+    ensures err { IsOkUnless result Refusal.Memory }
 {
-    let value = match number_at(args, 1, width) {
-        Some(by) => shift(alloc, by, octal_tail(args.get(2)))?,
-        None => Vec::new(alloc),
-    };
-    Ok(Made {
-        value,
-        ..Made::keeping(alloc)
-    })
+    match number_at(args, 1, width) {
+        Some(by) => Ok(shift(alloc, by, octal_at(args, 2))?),
+        None => Ok(Vec::new(alloc)),
+    }
 }
 
 // `br`: an octal string with its bits rotated; empty where the number does not fit (this project's profile).
@@ -73,15 +64,20 @@ pub(crate) fn rotation_of<A: Allocator + Copy>(
     alloc: A,
     args: &Args<'_>,
     width: Width,
-) -> Result<Made<A>, Refusal>
-    ensures { (storage : Storage) → IsMade storage (Ok (computed Rotate width args.now storage)) result }
+) -> Result<Vec<u8, A>, Refusal>
+    ensures made { IfOk result (λ text. (storage : Storage) → computed Rotate width args.now storage ≡ gives text.items storage) }
+    ensures err { IsOkUnless result Refusal.Memory }
 {
-    let value = match number_at(args, 1, width) {
-        Some(by) => rotate(alloc, by, octal_tail(args.get(2)))?,
-        None => Vec::new(alloc),
-    };
-    Ok(Made {
-        value,
-        ..Made::keeping(alloc)
-    })
+    match number_at(args, 1, width) {
+        Some(by) => Ok(rotate(alloc, by, octal_at(args, 2))?),
+        None => Ok(Vec::new(alloc)),
+    }
+}
+
+// The octal string at the end of an argument.
+fn octal_at<'a>(args: &Args<'a>, k: usize) -> &'a [u8]
+    ensures value { result.now ≡ octal_tail (argument k args.now) }
+    ensures octal { IsOctal result.now }
+{
+    octal_tail(args.get(k))
 }

@@ -13,11 +13,10 @@ ghost use Rattle.trac_prims.specs.Blocks.{IsBlock, count_further};
 ghost use Rattle.trac_rules.specs.declared.primitive.Primitive.TheVariants.{HandleBlock};
 ghost use Rattle.trac_prims.specs.Changes.{IsChangeOf};
 ghost use Rattle.trac_rules.specs.Undone.{names_in};
-ghost use Rattle.trac_prims.specs.Effects.{IsDone, named_forms, texts_of};
+ghost use Rattle.trac_prims.specs.Effects.{IsChanged, named_forms, texts_of};
 
 use crate::args::{Args, Behind};
 use crate::change::Change;
-use crate::made::Done;
 use std::alloc::Allocator;
 use trac_forms::{Block, Form, Item, Store, Texts};
 use trac_num::{print_into, read_tail, value};
@@ -33,9 +32,9 @@ pub(crate) fn store_block<A: Allocator + Copy>(
     alloc: A,
     args: &Args<'_>,
     store: &Store<A>,
-) -> Result<Done<A>, Refusal>
-    ensures outcome { IsDone args.now (storage_in store.now) (block_handled StoreBlock args.now (storage_in store.now)) result }
-    ensures change { IfOk result (λ d. IsChangeOf (HandleBlock StoreBlock) args.now (storage_in store.now) d.change) }
+) -> Result<Change<A>, Refusal>
+    ensures outcome { IsChanged args.now (storage_in store.now) (block_handled StoreBlock args.now (storage_in store.now)) result }
+    ensures change { IfOk result (IsChangeOf (HandleBlock StoreBlock) args.now (storage_in store.now)) }
 {
     let name = args.get(1);
     let held = leaving(alloc, store, &args.behind(2))?;
@@ -48,12 +47,11 @@ pub(crate) fn store_block<A: Allocator + Copy>(
     }
     let address = address_of(alloc, number)?;
     let name = Vec::from_slice(alloc, name)?;
-    let change = Change::MoveIn {
+    Ok(Change::MoveIn {
         held,
         name,
         address,
-    };
-    Ok(Done::changing(alloc, change))
+    })
 }
 
 // `fb`: copies of a block's forms are put among the forms.
@@ -61,19 +59,19 @@ pub(crate) fn fetch_block<A: Allocator + Copy>(
     alloc: A,
     args: &Args<'_>,
     store: &Store<A>,
-) -> Result<Done<A>, Refusal>
-    ensures outcome { IsDone args.now (storage_in store.now) (block_handled FetchBlock args.now (storage_in store.now)) result }
-    ensures change { IfOk result (λ d. IsChangeOf (HandleBlock FetchBlock) args.now (storage_in store.now) d.change) }
+) -> Result<Change<A>, Refusal>
+    ensures outcome { IsChanged args.now (storage_in store.now) (block_handled FetchBlock args.now (storage_in store.now)) result }
+    ensures change { IfOk result (IsChangeOf (HandleBlock FetchBlock) args.now (storage_in store.now)) }
 {
     let found = named_block(alloc, args, store)?;
     let Some((number, block)) = found else {
-        return Ok(Done::changing(alloc, Change::Keep));
+        return Ok(Change::Keep);
     };
     if !may_come_back(store, block) {
         return Err(Refusal::TooLong);
     }
     let forms = copies_of(alloc, block)?;
-    Ok(Done::changing(alloc, Change::Bring { number, forms }))
+    Ok(Change::Bring { number, forms })
 }
 
 // `eb`: a block is erased, and the form that names it deleted.
@@ -81,16 +79,16 @@ pub(crate) fn erase_block<A: Allocator + Copy>(
     alloc: A,
     args: &Args<'_>,
     store: &Store<A>,
-) -> Result<Done<A>, Refusal>
-    ensures outcome { IsDone args.now (storage_in store.now) (block_handled EraseBlock args.now (storage_in store.now)) result }
-    ensures change { IfOk result (λ d. IsChangeOf (HandleBlock EraseBlock) args.now (storage_in store.now) d.change) }
+) -> Result<Change<A>, Refusal>
+    ensures outcome { IsChanged args.now (storage_in store.now) (block_handled EraseBlock args.now (storage_in store.now)) result }
+    ensures change { IfOk result (IsChangeOf (HandleBlock EraseBlock) args.now (storage_in store.now)) }
 {
     let found = named_block(alloc, args, store)?;
     let Some((number, _block)) = found else {
-        return Ok(Done::changing(alloc, Change::Keep));
+        return Ok(Change::Keep);
     };
     let name = Vec::from_slice(alloc, args.get(1))?;
-    Ok(Done::changing(alloc, Change::Erase { number, name }))
+    Ok(Change::Erase { number, name })
 }
 
 // ---- forms that leave

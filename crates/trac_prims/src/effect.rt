@@ -1,10 +1,9 @@
 //! What a call will do, and what it has to know for that.
-ghost use Rattle.std.specs.Prelude.{◌≡◌, ◌+◌, ◌<◌, ◌^◌, List, ℕ};
+ghost use Rattle.std.specs.Prelude.{◌≡◌, ◌+◌, ◌<◌, ◌^◌, [], List, ℕ};
 ghost use Rattle.trac_rules.specs.State.{Storage};
-ghost use Rattle.trac_prims.specs.Effects.{changed, effect_on, planned_from, planned_on};
+ghost use Rattle.trac_prims.specs.Effects.{changing, done_on, planned_from, planned_on};
 
 use crate::change::Change;
-use crate::made::Made;
 use std::alloc::{Allocator, Global};
 use trac_rules::width::Width;
 
@@ -27,6 +26,30 @@ pub struct Effect<A: Allocator + Copy = Global> {
     pub change: Change<A>,
 }
 
+/// The texts that a call makes. They are buffers that may serve one call after another.
+#[derive(Drop)]
+pub struct Made<A: Allocator + Copy = Global> {
+    /// The value.
+    pub value: Vec<u8, A>,
+    /// What is printed, the line of the trace first.
+    pub print: Vec<u8, A>,
+}
+
+/// What a call will do beside the texts that it makes.
+#[derive(Drop)]
+pub struct Deed<A: Allocator + Copy = Global> {
+    /// Whether the value is scanned, though the function may be neutral.
+    pub forced: bool,
+    /// How many bytes of the tape are read.
+    pub read: usize,
+    /// The byte that ends a text of the input from then on, where it is set.
+    pub meta: Option<u8>,
+    /// Whether each call is printed from then on, where that is set.
+    pub trace: Option<bool>,
+    /// What becomes of the forms.
+    pub change: Change<A>,
+}
+
 /// What a call has to know of the machine.
 #[derive(Clone, Copy, Debug)]
 pub struct Now {
@@ -44,23 +67,50 @@ pub struct Now {
     pub width: Width,
 }
 
-// What a call will do, from what its primitive made and changes, and from what is so now.
-pub(crate) fn completed<A: Allocator + Copy>(
-    now: Now,
-    made: Made<A>,
-    change: Change<A>,
-) -> Effect<A>
-    requires { now.position + made.read < 2 ^ 64 }
-    ensures effect { (arguments : List (List ℕ)) (storage : Storage) → planned_on arguments storage result ≡ planned_from now (effect_on (changed arguments change storage) made) }
-    ensures change { result.change ≡ change }
-{
-    Effect {
-        value: made.value,
-        forced: made.forced,
-        print: made.print,
-        position: now.position + made.read,
-        meta: made.meta.unwrap_or(now.meta),
-        trace: made.trace.unwrap_or(now.trace),
-        change,
+impl<A: Allocator + Copy> Made<A> {
+    /// Empty texts, which take no memory yet.
+    pub fn new(alloc: A) -> Self
+        ensures value { result.value.items ≡ [] }
+        ensures print { result.print.items ≡ [] }
+    {
+        Made {
+            value: Vec::new(alloc),
+            print: Vec::new(alloc),
+        }
+    }
+}
+
+impl<A: Allocator + Copy> Deed<A> {
+    // This change of the forms, and nothing else.
+    pub(crate) fn changing(change: Change<A>) -> Self
+        ensures { result ≡ changing change }
+    {
+        Deed {
+            forced: false,
+            read: 0,
+            meta: None,
+            trace: None,
+            change,
+        }
+    }
+
+    // What a call will do, from the texts that it made, and from what is so now.
+    pub(crate) fn complete(self, made: Made<A>, now: Now) -> Effect<A>
+        requires { now.position + self.read < 2 ^ 64 }
+        ensures effect { (arguments : List (List ℕ)) (storage : Storage) → planned_on arguments storage result ≡ planned_from now (done_on arguments storage made self) }
+        ensures value { result.value ≡ made.value }
+        ensures print { result.print ≡ made.print }
+        ensures position { result.position ≡ now.position + self.read }
+        ensures change { result.change ≡ self.change }
+    {
+        Effect {
+            value: made.value,
+            forced: self.forced,
+            print: made.print,
+            position: now.position + self.read,
+            meta: self.meta.unwrap_or(now.meta),
+            trace: self.trace.unwrap_or(now.trace),
+            change: self.change,
+        }
     }
 }

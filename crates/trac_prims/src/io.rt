@@ -1,13 +1,15 @@
 //! Input and output.
-ghost use Rattle.std.specs.Prelude.{◌≡◌, ◌==◌, ◌+◌, ◌<◌, ◌≤◌, length, drop, is_some, position, IfOk, IfSome, Ok};
-ghost use Rattle.trac_rules.specs.Effect.{Effect, argument, prints, sets_trace};
-ghost use Rattle.trac_rules.specs.Performing.{effect_of, meta_set, primitive_of};
+ghost use Rattle.std.specs.Prelude.{◌≡◌, ◌==◌, ◌+◌, ◌<◌, ◌≤◌, List, ℕ, length, drop, is_some, position, IfOk, IfSome, Ok};
+ghost use Rattle.trac_rules.specs.Effect.{Effect, argument, prints, reads};
+ghost use Rattle.trac_rules.specs.Performing.{effect_of, primitive_of};
 ghost use Rattle.trac_rules.specs.Reading.{byte_read, string_read};
 ghost use Rattle.trac_rules.specs.State.{Environment, State, Storage};
-ghost use Rattle.trac_prims.specs.Effects.{IsMade, effect_on};
+ghost use Rattle.trac_prims.specs.declared.change.Change.TheVariants.{Keep};
+ghost use Rattle.trac_prims.specs.Effects.{IsDone};
 
 use crate::args::Args;
-use crate::made::Made;
+use crate::change::Change;
+use crate::effect::{Deed, Made};
 use crate::tape::Tape;
 use memchr::memchr;
 use std::alloc::Allocator;
@@ -15,37 +17,31 @@ use trac_rules::refusal::Refusal;
 
 // `ps`: prints the argument after its name.
 pub(crate) fn print_string<A: Allocator + Copy>(
-    alloc: A,
     args: &Args<'_>,
-) -> Result<Made<A>, Refusal>
-    ensures { (storage : Storage) → IsMade storage (Ok (prints (argument 1 args.now) storage)) result }
+    made: &mut Made<A>,
+) -> Result<Deed<A>, Refusal>
+    ensures outcome { (storage : Storage) → IsDone args.now storage (Ok (prints (argument 1 args.now) storage)) made.old made.new result }
+    ensures change { IfOk result (λ d. d.change ≡ Keep) }
 {
-    let print = Vec::from_slice(alloc, args.get(1))?;
-    Ok(Made {
-        print,
-        ..Made::keeping(alloc)
-    })
+    made.print.extend_from_slice(args.get(1))?;
+    Ok(Deed::changing(Change::Keep))
 }
 
 // `rs`: the input from this place on, up to the first meta character, or all of it at its end.
 pub(crate) fn read_string<A: Allocator + Copy>(
-    alloc: A,
     tape: Tape<'_>,
     place: usize,
     meta: u8,
-) -> Result<Made<A>, Refusal>
+    made: &mut Made<A>,
+) -> Result<Deed<A>, Refusal>
     requires { place ≤ length tape.bytes.now }
-    ensures outcome { (storage : Storage) → IsMade storage (string_read (drop place tape.entry.bytes.now) tape.entry.ended meta storage) result }
-    ensures within { IfOk result (λ e. place + e.read ≤ length tape.entry.bytes.now) }
+    ensures outcome { (arguments : List (List ℕ)) (storage : Storage) → IsDone arguments storage (string_read (drop place tape.entry.bytes.now) tape.entry.ended meta storage) made.old made.new result }
+    ensures within { IfOk result (λ d. place + d.read ≤ length tape.entry.bytes.now) }
+    ensures change { IfOk result (λ d. d.change ≡ Keep) }
 {
     let unread = tape.bytes.split_at(place).1;
     if let Some(k) = first_of(meta, unread) {
-        let value = Vec::from_slice(alloc, unread.split_at(k).0)?;
-        return Ok(Made {
-            value,
-            read: k + 1,
-            ..Made::keeping(alloc)
-        });
+        return take(unread.split_at(k).0, k + 1, made);
     }
     if !tape.ended {
         return Err(Refusal::NeedInput);
@@ -53,23 +49,19 @@ pub(crate) fn read_string<A: Allocator + Copy>(
     if unread.is_empty() {
         return Err(Refusal::Ended);
     }
-    let value = Vec::from_slice(alloc, unread)?;
-    Ok(Made {
-        value,
-        read: unread.len(),
-        ..Made::keeping(alloc)
-    })
+    take(unread, unread.len(), made)
 }
 
 // `rc`: the next byte of the input, whichever it is.
 pub(crate) fn read_byte<A: Allocator + Copy>(
-    alloc: A,
     tape: Tape<'_>,
     place: usize,
-) -> Result<Made<A>, Refusal>
+    made: &mut Made<A>,
+) -> Result<Deed<A>, Refusal>
     requires { place ≤ length tape.bytes.now }
-    ensures outcome { (storage : Storage) → IsMade storage (byte_read (drop place tape.entry.bytes.now) tape.entry.ended storage) result }
-    ensures within { IfOk result (λ e. place + e.read ≤ length tape.entry.bytes.now) }
+    ensures outcome { (arguments : List (List ℕ)) (storage : Storage) → IsDone arguments storage (byte_read (drop place tape.entry.bytes.now) tape.entry.ended storage) made.old made.new result }
+    ensures within { IfOk result (λ d. place + d.read ≤ length tape.entry.bytes.now) }
+    ensures change { IfOk result (λ d. d.change ≡ Keep) }
 {
     let unread = tape.bytes.split_at(place).1;
     if unread.is_empty() {
@@ -79,22 +71,24 @@ pub(crate) fn read_byte<A: Allocator + Copy>(
             Refusal::NeedInput
         });
     }
-    let value = Vec::from_slice(alloc, unread.split_at(1).0)?;
-    Ok(Made {
-        value,
-        read: 1,
-        ..Made::keeping(alloc)
-    })
+    take(unread.split_at(1).0, 1, made)
 }
 
-// `cm`: the first byte of the argument after its name becomes the meta character.
-pub(crate) fn set_meta<A: Allocator + Copy>(alloc: A, args: &Args<'_>) -> Made<A>
-    ensures { (storage : Storage) → effect_on storage result ≡ meta_set (argument 1 args.now) storage }
+// Gives a text as the value, for which so many bytes of the input are read.
+fn take<A: Allocator + Copy>(
+    text: &[u8],
+    read: usize,
+    made: &mut Made<A>,
+) -> Result<Deed<A>, Refusal>
+    ensures outcome { (arguments : List (List ℕ)) (storage : Storage) → IsDone arguments storage (Ok (reads text.now read storage)) made.old made.new result }
+    ensures read { IfOk result (λ d. d.read ≡ read) }
+    ensures change { IfOk result (λ d. d.change ≡ Keep) }
 {
-    Made {
-        meta: args.get(1).first().copied(),
-        ..Made::keeping(alloc)
-    }
+    made.value.extend_from_slice(text)?;
+    Ok(Deed {
+        read,
+        ..Deed::changing(Change::Keep)
+    })
 }
 
 /// Whether a call of these arguments sets the meta character, as the rule of T-64 for `cm` has it: its name is one of the
@@ -104,16 +98,6 @@ pub fn sets_meta(args: &Args<'_>) -> bool
     ensures { (environment : Environment) (s : State) (e : Effect) → effect_of (primitive_of (argument 0 args.now)) environment args.now s ≡ Ok e → is_some e.meta ≡ result }
 {
     args.get(0).eq_ignore_ascii_case(b"cm") && !args.get(1).is_empty()
-}
-
-// `tn` and `tf`: from now on each call is printed, or none is.
-pub(crate) fn set_trace<A: Allocator + Copy>(alloc: A, trace: bool) -> Made<A>
-    ensures { (storage : Storage) → effect_on storage result ≡ sets_trace trace storage }
-{
-    Made {
-        trace: Some(trace),
-        ..Made::keeping(alloc)
-    }
 }
 
 // The first place of a byte.

@@ -1,10 +1,21 @@
 //! The names of the primitives.
-ghost use Rattle.std.specs.Prelude.{◌≡◌, find};
+ghost use Rattle.std.specs.Prelude.{◌≡◌, ◌+◌, ◌*◌, ◌%◌, ◌<◌, find};
 ghost use Rattle.std.specs.Str.{bytes_eq};
 ghost use Rattle.trac_rules.specs.Performing.{named_primitive, primitive_of};
 ghost use Rattle.trac_rules.specs.declared.primitive.TheConstants.{NAMES};
 
-use trac_rules::primitive::{NAMES, NamedPrimitive, Primitive};
+use trac_rules::primitive::{NAMES, Primitive};
+
+/// How many slots the names are spread over, so that no two of them share one.
+const SLOT_COUNT: usize = 82;
+
+/// At the slot of each name its place in the table of names. At the other slots stands a place past the end of the table.
+const PLACES: [u8; SLOT_COUNT] = [
+    33, 33, 12, 33, 33, 15, 8, 33, 33, 1, 33, 14, 32, 33, 33, 33, 11, 33, 29, 33, 17, 16, 30, 13,
+    33, 33, 33, 7, 33, 33, 3, 0, 33, 33, 33, 25, 33, 33, 33, 21, 33, 10, 31, 33, 23, 4, 26, 33, 33,
+    33, 22, 24, 33, 33, 33, 33, 6, 33, 9, 33, 33, 33, 27, 20, 5, 33, 19, 33, 33, 33, 28, 33, 33,
+    33, 33, 2, 33, 33, 33, 33, 33, 18,
+];
 
 // What a name stands for, each letter in either case: all names are of two letters.
 pub(crate) fn primitive_named(name: &[u8]) -> Primitive
@@ -16,22 +27,25 @@ pub(crate) fn primitive_named(name: &[u8]) -> Primitive
     named_by(&[first.to_ascii_lowercase(), second.to_ascii_lowercase()])
 }
 
-// What two letters in lower case stand for by the table of names.
+// What two letters in lower case stand for by the table of names: only the entry at their slot can be theirs.
 fn named_by(letters: &[u8; 2]) -> Primitive
     ensures { result ≡ named_primitive (find (λ entry. bytes_eq letters.now entry.letters) NAMES) }
 {
-    match entry_of(&NAMES, letters) {
-        Some(entry) => entry.primitive,
-        None => Primitive::Unknown,
+    let slot = slot_of(letters[0], letters[1]);
+    let Some(entry) = NAMES.get(usize::from(PLACES[slot])) else {
+        return Primitive::Unknown;
+    };
+    if entry.letters == *letters {
+        entry.primitive
+    } else {
+        Primitive::Unknown
     }
 }
 
-// The first entry of these letters, if there is one.
-fn entry_of(table: &[NamedPrimitive], letters: &[u8; 2]) -> Option<NamedPrimitive>
-    ensures { result ≡ find (λ entry. bytes_eq letters.now entry.letters) table.now }
+// The slot of two letters.
+fn slot_of(first: u8, second: u8) -> usize
+    ensures slot { result ≡ (first * 30 + second) % SLOT_COUNT }
+    ensures within { result < SLOT_COUNT }
 {
-    table
-        .iter()
-        .find(|entry| entry.letters == *letters)
-        .copied()
+    (usize::from(first) * 30 + usize::from(second)) % SLOT_COUNT
 }

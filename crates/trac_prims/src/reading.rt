@@ -14,8 +14,8 @@ ghost use Rattle.trac_prims.specs.Effects.{IsDone};
 
 use crate::args::Args;
 use crate::change::Change;
-use crate::decimals::number_at;
-use crate::made::{Done, Made};
+use crate::computing::number_at;
+use crate::effect::{Deed, Made};
 use std::alloc::Allocator;
 use trac_forms::{Form, Piece, Store};
 use trac_rules::primitive::FormReading;
@@ -30,17 +30,18 @@ pub(crate) fn read<A: Allocator + Copy>(
     args: &Args<'_>,
     store: &Store<A>,
     width: Width,
-) -> Result<Done<A>, Refusal>
-    ensures outcome { IsDone args.now (storage_in store.now) (handled (Read reading) width args.now (storage_in store.now)) result }
+    made: &mut Made<A>,
+) -> Result<Deed<A>, Refusal>
+    ensures outcome { IsDone args.now (storage_in store.now) (handled (Read reading) width args.now (storage_in store.now)) made.old made.new result }
     ensures change { IfOk result (λ d. IsChangeOf (Handle (Read reading)) args.now (storage_in store.now) d.change) }
 {
     let name = args.get(1);
     let Some(form) = store.get(name) else {
-        return Ok(Done::changing(alloc, Change::Keep));
+        return Ok(Deed::changing(Change::Keep));
     };
     match piece_of(reading, args, form, width)? {
-        Some(piece) => give(alloc, name, form, &piece),
-        None => force(alloc, name, form, args.get(default_place(reading))),
+        Some(piece) => give_piece(alloc, name, form, &piece, made),
+        None => force(alloc, name, form, args.get(default_place(reading)), made),
     }
 }
 
@@ -74,29 +75,23 @@ fn default_place(reading: FormReading) -> usize
 }
 
 // Gives a piece of the form of this name. Its value is made first: the pointer moves when the call is carried out.
-fn give<A: Allocator + Copy>(
+fn give_piece<A: Allocator + Copy>(
     alloc: A,
     name: &[u8],
     form: &Form<A>,
     piece: &Piece,
-) -> Result<Done<A>, Refusal>
+    made: &mut Made<A>,
+) -> Result<Deed<A>, Refusal>
     requires { IsThere form.now piece.now }
     ensures outcome { (other : List ℕ) (arguments : List (List ℕ)) (storage : Storage) → finite.get storage.forms name.now ≡ Some form.now →
-        IsDone arguments storage (Ok (gives_piece (Some (taken piece.now form.now)) other name.now form.now storage)) result }
+        IsDone arguments storage (Ok (gives_piece (Some (taken piece.now form.now)) other name.now form.now storage)) made.old made.new result }
     ensures change { (reading : FormReading) (arguments : List (List ℕ)) (storage : Storage) → name.now ≡ argument 1 arguments →
         IfOk result (λ d. IsChangeOf (Handle (Read reading)) arguments storage d.change) }
 {
-    let mut value = Vec::with_capacity(alloc, piece.len)?;
-    form.piece_into(piece, &mut value)?;
+    made.value.reserve(piece.len)?;
+    form.piece_into(piece, &mut made.value)?;
     let name = Vec::from_slice(alloc, name)?;
-    let made = Made {
-        value,
-        ..Made::keeping(alloc)
-    };
-    Ok(Done {
-        made,
-        change: Change::Point(name, piece.pointer),
-    })
+    Ok(Deed::changing(Change::Point(name, piece.pointer)))
 }
 
 // Gives a text, forced; the pointer of the form of this name stays.
@@ -105,21 +100,18 @@ fn force<A: Allocator + Copy>(
     name: &[u8],
     form: &Form<A>,
     text: &[u8],
-) -> Result<Done<A>, Refusal>
+    made: &mut Made<A>,
+) -> Result<Deed<A>, Refusal>
     ensures outcome { (arguments : List (List ℕ)) (storage : Storage) → finite.get storage.forms name.now ≡ Some form.now →
-        IsDone arguments storage (Ok (forces text.now storage)) result }
+        IsDone arguments storage (Ok (forces text.now storage)) made.old made.new result }
     ensures change { (reading : FormReading) (arguments : List (List ℕ)) (storage : Storage) → name.now ≡ argument 1 arguments →
         IfOk result (λ d. IsChangeOf (Handle (Read reading)) arguments storage d.change) }
 {
-    let value = Vec::from_slice(alloc, text)?;
+    made.value.extend_from_slice(text)?;
     let name = Vec::from_slice(alloc, name)?;
-    let made = Made {
-        value,
+    let change = Change::Point(name, form.pointer());
+    Ok(Deed {
         forced: true,
-        ..Made::keeping(alloc)
-    };
-    Ok(Done {
-        made,
-        change: Change::Point(name, form.pointer()),
+        ..Deed::changing(change)
     })
 }

@@ -1,4 +1,4 @@
-use Rattle.std.proofs.Common.{◌≡◌, ℕ, List, Ok, ap, arith, drop, length, subst, sym, true, ◌<◌, ◌≤◌, ◌∙◌}
+use Rattle.std.proofs.Common.{◌≡◌, ℕ, List, ap, arith, drop, length, sym, true, ◌<◌, ◌≤◌, ◌∙◌}
 use Rattle.std.specs.Prelude.{Vec, decimal}
 use Rattle.std.proofs.lemmas.List.{length-map}
 use Rattle.trac_forms.specs.Stored.{storage_in}
@@ -8,9 +8,6 @@ use Rattle.trac_rules.specs.Effect.{argument}
 use Rattle.trac_rules.specs.Form.{defined}
 use Rattle.trac_rules.specs.Handling.{without}
 use Rattle.trac_rules.specs.Limits.{may_be_put}
-use Rattle.trac_rules.specs.declared.primitive.BlockAction.TheVariants.{StoreBlock}
-use Rattle.trac_rules.specs.declared.primitive.Primitive.TheVariants.{HandleBlock}
-use Rattle.trac_prims.specs.Changes.{IsChangeOf}
 use Rattle.trac_rules.specs.Undone.{names_in}
 use Rattle.trac_prims.specs.Effects.{texts_of}
 use Rattle.trac_prims.proofs.BlockPlans.{stored_so}
@@ -40,12 +37,10 @@ returns-clause-outcome g c =
     ∙ sym (c.if-not-may_stand.ensures names (length blocks) (omega (arith, more)) slice) in
     stored_so name names storage (texts_of c.in_ok-held.held.items) c.in_ok-name.name.items c.in_ok-address.address held (c.in_ok-name.ensures.items ∙ c.get-name.ensures)
     (c.in_ok-address.ensures.made ∙ ap (λ (n : ℕ). defined (decimal n)) c.block_count-number.ensures.count) few more may
-    ∙ ap Ok (sym (c.changing.ensures.effect c.args.args.now storage))
 
 pub returns-clause-change : goal.returns-clause-change
 returns-clause-change g c =
     let storage = storage_in c.args.store.now in
     let held : texts_of c.in_ok-held.held.items ≡ names_in (moved_out (drop 2 c.args.args.now) storage.forms) =
     c.in_ok-held.ensures.made ∙ ap (λ (ns : List (List ℕ)). names_in (moved_out ns storage.forms)) c.behind.ensures in
-    subst (IsChangeOf (HandleBlock StoreBlock) c.args.args.now storage) (sym c.changing.ensures.change)
-    (moves_in c.args.args.now storage c.in_ok-held.held c.in_ok-name.name c.in_ok-address.address (c.in_ok-name.ensures.items ∙ c.get-name.ensures) held)
+    moves_in c.args.args.now storage c.in_ok-held.held c.in_ok-name.name c.in_ok-address.address (c.in_ok-name.ensures.items ∙ c.get-name.ensures) held

@@ -1,17 +1,18 @@
-use Rattle.std.proofs.Common.{◌≡◌, ℕ, ◌<◌, ◌++◌, List, length, drop, Ok, Some, sym, ap, subst, ◌∙◌, arith}
+use Rattle.std.proofs.Common.{◌≡◌, ℕ, ◌<◌, ◌++◌, List, length, drop, Ok, Some, None, refl, sym, ap, subst, ◌∙◌, arith}
 use Rattle.std.specs.FinMap as finite
 use Rattle.trac_rules.specs.declared.limit.TheConstants.{TEXT_LIMIT}
-use Rattle.trac_rules.specs.Effect.{gives}
+use Rattle.trac_rules.specs.Effect.{gives, leaves}
 use Rattle.trac_rules.specs.Filling.{called}
 use Rattle.trac_rules.specs.Handling.{named_form, on_form}
 use Rattle.trac_rules.specs.Outcomes.{limited}
 use Rattle.trac_forms.specs.Stored.{storage_in}
-use Rattle.trac_prims.specs.Effects.{pieces_fit}
-use Rattle.trac_prims.proofs.Kept.{given, value_beyond}
+use Rattle.trac_prims.specs.Effects.{IsDone, pieces_fit}
+use Rattle.trac_prims.specs.declared.change.Change.TheVariants.{Keep}
+use Rattle.trac_prims.proofs.Kept.{given, left_so, value_beyond}
 use Rattle.trac_prims.proofs.forms.call.Goals as goal
 
-pub returns-in_default-call_len : goal.returns-in_default-call_len
-returns-in_default-call_len g c = λ width.
+pub returns-in_default-call_len-clause-outcome : goal.returns-in_default-call_len-clause-outcome
+returns-in_default-call_len-clause-outcome g c = λ width.
     let storage = storage_in c.args.store.now in
     let held : named_form c.args.args.now storage ≡ Some c.in-Some.form.now = ap (finite.get storage.forms) (sym c.get.ensures) ∙ sym c.in-Some.ensures.value in
     let long : TEXT_LIMIT < length (called (drop 2 c.args.args.now) c.in-Some.form.now) =
@@ -19,13 +20,24 @@ returns-in_default-call_len g c = λ width.
     ap (λ h. limited pieces_fit (on_form h (λ form. Ok (gives (called (drop 2 c.args.args.now) form) storage)) storage)) held
     ∙ value_beyond (called (drop 2 c.args.args.now) c.in-Some.form.now) storage long
 
-pub returns : goal.returns
-returns g c = λ width.
+pub returns-in_default-clause-outcome : goal.returns-in_default-clause-outcome
+returns-in_default-clause-outcome g c = λ width.
+    let storage = storage_in c.args.store.now in
+    let missing : named_form c.args.args.now storage ≡ None = ap (finite.get storage.forms) (sym c.get.ensures) ∙ sym c.in_default.ensures.value in
+    subst (λ o. IsDone c.args.args.now storage o c.args.made.now c.args.made.now (Ok c.changing.result))
+    (sym (ap (λ h. on_form h (λ form. Ok (gives (called (drop 2 c.args.args.now) form) storage)) storage) missing))
+    (left_so c.args.args.now storage c.args.made.now (leaves storage) Keep c.changing.result refl refl refl c.changing.ensures)
+
+pub returns-clause-outcome : goal.returns-clause-outcome
+returns-clause-outcome g c = λ width.
     let storage = storage_in c.args.store.now in
     let held : named_form c.args.args.now storage ≡ Some c.in-Some.form.now = ap (finite.get storage.forms) (sym c.get.ensures) ∙ sym c.in-Some.ensures.value in
-    let same : c.call_into.new.out.items ≡ called (drop 2 c.args.args.now) c.in-Some.form.now =
+    let text = called (drop 2 c.args.args.now) c.in-Some.form.now in
+    let added : c.call_into.new.out.items ≡ c.args.made.now.value.items ++ text =
     c.in_ok-call_into.ensures.ok
-    ∙ ap (λ (before : List ℕ). before ++ called c.behind-texts.result c.in-Some.form.now) c.in_ok-value.ensures.items
-    ∙ ap (λ (texts : List (List ℕ)). called texts c.in-Some.form.now) c.behind-texts.ensures in
-    ap (λ h. on_form h (λ form. Ok (gives (called (drop 2 c.args.args.now) form) storage)) storage) held
-    ∙ given c.keeping-2.result storage (c.keeping-2.ensures.effect storage) c.call_into.new.out (called (drop 2 c.args.args.now) c.in-Some.form.now) same
+    ∙ ap (λ (before : List ℕ). before ++ called c.behind-texts.result c.in-Some.form.now) c.in_ok-reserve.ensures.items
+    ∙ ap (λ (texts : List (List ℕ)). c.args.made.now.value.items ++ called texts c.in-Some.form.now) c.behind-texts.ensures in
+    let new = record c.args.made.now { value = c.call_into.new.out } in
+    subst (λ o. IsDone c.args.args.now storage o c.args.made.now new (Ok c.changing-2.result))
+    (sym (ap (λ h. on_form h (λ form. Ok (gives (called (drop 2 c.args.args.now) form) storage)) storage) held))
+    (given c.args.args.now storage c.args.made.now new text c.changing-2.result added refl c.changing-2.ensures)

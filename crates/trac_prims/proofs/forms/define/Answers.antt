@@ -6,7 +6,7 @@ use Rattle.trac_rules.specs.Effect.{argument}
 use Rattle.trac_rules.specs.Form.{Form, defined}
 use Rattle.trac_rules.specs.Handling.{putting}
 use Rattle.trac_forms.specs.Stored.{storage_in}
-use Rattle.trac_prims.specs.Effects.{IsDone, MayFail}
+use Rattle.trac_prims.specs.Effects.{IsChanged, MayFail}
 use Rattle.trac_prims.proofs.Held.{not_made}
 use Rattle.trac_prims.proofs.Putting.{sound_defined}
 use Rattle.trac_prims.proofs.forms.define.Goals as goal
@@ -27,5 +27,5 @@ pub returns-clause-outcome : goal.returns-clause-outcome
 returns-clause-outcome g c = λ width.
     let storage = storage_in c.args.store.now in
     let form : c.in_ok-form.form ≡ defined (argument 2 c.args.args.now) = c.in_ok-form.ensures.made ∙ ap defined c.get.ensures in
-    subst (λ (name : List ℕ). IsDone c.args.args.now storage (putting name (defined (argument 2 c.args.args.now)) storage) c.put.result) c.get-2.ensures
-    (subst (λ (f : Form). IsDone c.args.args.now storage (putting c.get-2.result.now f storage) c.put.result) form (c.put.ensures.outcome c.args.args.now))
+    subst (λ (name : List ℕ). IsChanged c.args.args.now storage (putting name (defined (argument 2 c.args.args.now)) storage) c.put.result) c.get-2.ensures
+    (subst (λ (f : Form). IsChanged c.args.args.now storage (putting c.get-2.result.now f storage) c.put.result) form (c.put.ensures.outcome c.args.args.now))

@@ -1,15 +1,12 @@
-use Rattle.std.proofs.Common.{◌≡◌, ℕ, List, Ok, Some, drop, sym, ap, subst, ◌∙◌}
+use Rattle.std.proofs.Common.{◌≡◌, ℕ, List, Ok, Some, drop, sym, ap, ◌∙◌}
 use Rattle.std.specs.FinMap as finite
 use Rattle.trac_forms.specs.Stored.{storage_in}
-use Rattle.trac_rules.specs.declared.primitive.FormAction.TheVariants.{Segment}
-use Rattle.trac_rules.specs.declared.primitive.Primitive.TheVariants.{Handle}
 use Rattle.trac_rules.specs.Cuts.{cut_of}
 use Rattle.trac_rules.specs.Effect.{argument, leaves}
 use Rattle.trac_rules.specs.Handling.{named_form}
 use Rattle.trac_rules.specs.Limits.{may_be_put}
 use Rattle.trac_rules.specs.Segmenting.{segmented}
 use Rattle.trac_prims.specs.Effects.{cut_in}
-use Rattle.trac_prims.specs.Changes.{IsChangeOf}
 use Rattle.trac_prims.proofs.Changes.{cuts}
 use Rattle.trac_prims.proofs.Held.{is_segmented, not_segmented}
 use Rattle.trac_prims.proofs.Putting.{sound_segmented}
@@ -36,13 +33,11 @@ returns-clause-outcome g c = λ width.
     is_segmented (argument 1 c.args.args.now) texts (named_form c.args.args.now storage) form storage held
     (ap (λ (name : List ℕ). may_be_put name (segmented texts form) storage.forms) (sym c.get-name.ensures) ∙ sym may)
     ∙ ap (λ (name : List ℕ). Ok (leaves (cut_in name texts (finite.get storage.forms name) storage))) named
-    ∙ ap Ok (sym (c.changing-2.ensures.effect c.args.args.now storage))
 
 pub returns-clause-change : goal.returns-clause-change
 returns-clause-change g c =
     let arguments = c.args.args.now in
     let storage = storage_in c.args.store.now in
     let held : named_form arguments storage ≡ Some c.in-Some.form.now = ap (finite.get storage.forms) (sym c.get-name.ensures) ∙ sym c.in-Some.ensures.value in
-    subst (IsChangeOf (Handle Segment) arguments storage) (sym c.changing-2.ensures.change)
-    (cuts arguments storage c.in_ok-name.name (c.in_ok-name.ensures.items ∙ c.get-name.ensures) c.in-Some.form.now c.in_ok-cut.cut held
-    (c.in_ok-cut.ensures.cut ∙ ap (λ (texts : List (List ℕ)). cut_of texts c.in-Some.form.now) c.behind.ensures))
+    cuts arguments storage c.in_ok-name.name (c.in_ok-name.ensures.items ∙ c.get-name.ensures) c.in-Some.form.now c.in_ok-cut.cut held
+    (c.in_ok-cut.ensures.cut ∙ ap (λ (texts : List (List ℕ)). cut_of texts c.in-Some.form.now) c.behind.ensures)

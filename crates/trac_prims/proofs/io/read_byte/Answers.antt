@@ -1,12 +1,17 @@
-use Rattle.std.proofs.Common.{ℕ, List, Ok, length, sym, subst, ◌∙◌}
+use Rattle.std.proofs.Common.{ℕ, List, Ok, length, sym, ap, subst, ◌∙◌}
+use Rattle.std.specs.Prelude.{Result}
 use Rattle.std.proofs.lemmas.Bool.{eqb-false}
+use Rattle.trac_rules.specs.declared.refusal.Refusal.{Refusal}
+use Rattle.trac_rules.specs.Effect.{Effect, reads}
 use Rattle.trac_rules.specs.Reading.{byte_read}
-use Rattle.trac_prims.specs.Effects.{IsMade}
+use Rattle.trac_prims.specs.Effects.{IsDone}
 use Rattle.trac_prims.proofs.Kept.{byte_given}
 use Rattle.trac_prims.proofs.io.read_byte.Goals as goal
 
 pub returns-clause-outcome : goal.returns-clause-outcome
-returns-clause-outcome g c = λ storage.
-    subst (λ (text : List ℕ). IsMade storage (byte_read text c.args.tape.ended storage) (Ok (record c.keeping.result { value = c.in_ok-value.value; read = 1 }))) c.split_at.ensures.back
-    (byte_given c.keeping.result storage (c.keeping.ensures.effect storage) c.in_ok-value.value c.split_at.result.1.now c.args.tape.ended
-    (eqb-false (length c.split_at.result.1.now) 0 (sym c.is_empty.ensures ∙ c.if-is_empty.false)) (c.in_ok-value.ensures.items ∙ c.split_at-2.ensures.front))
+returns-clause-outcome g c = λ arguments storage.
+    let unread = c.split_at.result.1.now in
+    let said = byte_given unread c.args.tape.ended storage (eqb-false (length unread) 0 (sym c.is_empty.ensures ∙ c.if-is_empty.false)) in
+    subst (λ (text : List ℕ). IsDone arguments storage (byte_read text c.args.tape.ended storage) c.args.made.now c.take.new.made c.take.result) c.split_at.ensures.back
+    (subst (λ (o : Result Effect Refusal). IsDone arguments storage o c.args.made.now c.take.new.made c.take.result)
+    (ap (λ (text : List ℕ). Ok (reads text 1 storage)) c.split_at-2.ensures.front ∙ sym said) (c.take.ensures.outcome arguments storage))

@@ -1,48 +1,89 @@
-use Rattle.std.proofs.Common.{Ok, refl, sym, ap}
+use Rattle.std.proofs.Common.{ℕ, List, refl, sym, subst}
+use Rattle.std.specs.Prelude.{Result, Ok, Err, IfOk}
+use Rattle.std.specs.FinMap as finite
 use Rattle.trac_forms.specs.Stored.{storage_in}
 use Rattle.trac_rules.specs.declared.primitive.FormAction.TheVariants as action
 use Rattle.trac_rules.specs.declared.primitive.Primitive.TheVariants.{Handle}
-use Rattle.trac_rules.specs.Handling.{handled}
+use Rattle.trac_rules.specs.Effect.{leaves}
+use Rattle.trac_rules.specs.Handling.{handled, keeping}
+use Rattle.trac_rules.specs.declared.refusal.Refusal.{Refusal}
+use Rattle.trac_rules.specs.State.{Storage}
+use Rattle.trac_prims.specs.declared.change.Change.{Change}
+use Rattle.trac_prims.specs.declared.change.Change.TheVariants.{Clear}
+use Rattle.trac_prims.specs.declared.effect.Deed.{Deed}
+use Rattle.trac_prims.specs.Changes.{IsChangeOf}
+use Rattle.trac_prims.proofs.Kept.{changed_so, keeps_so, left_so, of_change}
 use Rattle.trac_prims.proofs.planning.handle.Goals as goal
 
-pub returns-in-Define : goal.returns-in-Define
-returns-in-Define g c = rw c.in-Define.is (record { outcome = c.define.ensures.outcome c.args.width; change = c.define.ensures.change })
+-- what holds over each storage holds over one
+each : {A : Type 0} (arguments : List (List ℕ)) (change : Result (Change A) Refusal) (storage : Storage) → IfOk change (λ c. (storage : Storage) → IsChangeOf (Handle action.Delete) arguments storage c) →
+    IfOk change (IsChangeOf (Handle action.Delete) arguments storage)
+each arguments (Ok c) storage h = h storage
+each arguments (Err refusal) storage h = tt
 
-pub returns-in-Segment : goal.returns-in-Segment
-returns-in-Segment g c = rw c.in-Segment.is (record { outcome = c.segment.ensures.outcome c.args.width; change = c.segment.ensures.change })
+pub returns-in-Define-clause-outcome : goal.returns-in-Define-clause-outcome
+returns-in-Define-clause-outcome g c =
+    let storage = storage_in c.args.store.now in
+    rw c.in-Define.is (changed_so c.args.args.now storage c.args.made.now (handled action.Define c.args.width c.args.args.now storage) c.define.result c.deed_of.result c.deed_of.ensures (c.define.ensures.outcome c.args.width))
 
-pub returns-in-Restore : goal.returns-in-Restore
-returns-in-Restore g c = rw c.in-Restore.is (record { outcome = c.restore.ensures.outcome c.args.width; change = c.restore.ensures.change })
+pub returns-in-Define-clause-change : goal.returns-in-Define-clause-change
+returns-in-Define-clause-change g c =
+    rw c.in-Define.is (of_change (IsChangeOf (Handle action.Define) c.args.args.now (storage_in c.args.store.now)) c.define.result c.deed_of.result c.deed_of.ensures c.define.ensures.change)
+
+pub returns-in-Segment-clause-outcome : goal.returns-in-Segment-clause-outcome
+returns-in-Segment-clause-outcome g c =
+    let storage = storage_in c.args.store.now in
+    rw c.in-Segment.is (changed_so c.args.args.now storage c.args.made.now (handled action.Segment c.args.width c.args.args.now storage) c.segment.result c.deed_of-in-Segment.result c.deed_of-in-Segment.ensures (c.segment.ensures.outcome c.args.width))
+
+pub returns-in-Segment-clause-change : goal.returns-in-Segment-clause-change
+returns-in-Segment-clause-change g c =
+    rw c.in-Segment.is (of_change (IsChangeOf (Handle action.Segment) c.args.args.now (storage_in c.args.store.now)) c.segment.result c.deed_of-in-Segment.result c.deed_of-in-Segment.ensures c.segment.ensures.change)
+
+pub returns-in-Restore-clause-outcome : goal.returns-in-Restore-clause-outcome
+returns-in-Restore-clause-outcome g c =
+    let storage = storage_in c.args.store.now in
+    rw c.in-Restore.is (changed_so c.args.args.now storage c.args.made.now (handled action.Restore c.args.width c.args.args.now storage) c.restore.result c.deed_of-in-Restore.result c.deed_of-in-Restore.ensures (c.restore.ensures.outcome c.args.width))
+
+pub returns-in-Restore-clause-change : goal.returns-in-Restore-clause-change
+returns-in-Restore-clause-change g c =
+    rw c.in-Restore.is (of_change (IsChangeOf (Handle action.Restore) c.args.args.now (storage_in c.args.store.now)) c.restore.result c.deed_of-in-Restore.result c.deed_of-in-Restore.ensures c.restore.ensures.change)
+
+pub returns-in-Delete-clause-outcome : goal.returns-in-Delete-clause-outcome
+returns-in-Delete-clause-outcome g c =
+    let storage = storage_in c.args.store.now in
+    rw c.in-Delete.is (changed_so c.args.args.now storage c.args.made.now (handled action.Delete c.args.width c.args.args.now storage) c.delete.result c.deed_of-in-Delete.result c.deed_of-in-Delete.ensures (c.delete.ensures.outcome c.args.width (storage_in c.args.store.now)))
+
+pub returns-in-Delete-clause-change : goal.returns-in-Delete-clause-change
+returns-in-Delete-clause-change g c =
+    rw c.in-Delete.is (of_change (IsChangeOf (Handle action.Delete) c.args.args.now (storage_in c.args.store.now)) c.delete.result c.deed_of-in-Delete.result c.deed_of-in-Delete.ensures
+    (each c.args.args.now c.delete.result (storage_in c.args.store.now) c.delete.ensures.change))
+
+pub returns-in-DeleteAll-clause-outcome : goal.returns-in-DeleteAll-clause-outcome
+returns-in-DeleteAll-clause-outcome g c =
+    let storage = storage_in c.args.store.now in
+    rw c.in-DeleteAll.is (left_so c.args.args.now storage c.args.made.now (leaves (keeping finite.empty storage)) Clear c.changing.result refl refl refl c.changing.ensures)
+
+pub returns-in-DeleteAll-clause-change : goal.returns-in-DeleteAll-clause-change
+returns-in-DeleteAll-clause-change g c =
+    rw c.in-DeleteAll.is (subst (λ (d : Deed _). IsChangeOf (Handle action.DeleteAll) c.args.args.now (storage_in c.args.store.now) d.change) (sym c.changing.ensures) (record { undone_is = refl; names_are = tt }))
 
 pub returns-in-Read : goal.returns-in-Read
 returns-in-Read g c = rw c.in-Read.is c.read.ensures
 
-pub returns-in-DeleteAll-clause-outcome : goal.returns-in-DeleteAll-clause-outcome
-returns-in-DeleteAll-clause-outcome g c = rw c.in-DeleteAll.is (ap Ok (sym (c.delete_all.ensures.effect c.args.args.now (storage_in c.args.store.now))))
-
-pub returns-in-DeleteAll-clause-change : goal.returns-in-DeleteAll-clause-change
-returns-in-DeleteAll-clause-change g c = rw c.in-DeleteAll.is (c.delete_all.ensures.change c.args.args.now (storage_in c.args.store.now))
-
-pub returns-in-Delete-clause-outcome : goal.returns-in-Delete-clause-outcome
-returns-in-Delete-clause-outcome g c = rw c.in-Delete.is (c.delete.ensures.outcome c.args.width (storage_in c.args.store.now))
-
 pub returns-in-Call-clause-outcome : goal.returns-in-Call-clause-outcome
-returns-in-Call-clause-outcome g c =
-    rw c.in-Call.is (c.unchanged.ensures.outcome c.args.args.now (storage_in c.args.store.now) (handled action.Call c.args.width c.args.args.now (storage_in c.args.store.now)) (c.call.ensures c.args.width))
+returns-in-Call-clause-outcome g c = rw c.in-Call.is (c.call.ensures.outcome c.args.width)
 
 pub returns-in-Call-clause-change : goal.returns-in-Call-clause-change
-returns-in-Call-clause-change g c = rw c.in-Call.is (c.unchanged.ensures.change (Handle action.Call) c.args.args.now (storage_in c.args.store.now) refl)
+returns-in-Call-clause-change g c = rw c.in-Call.is (keeps_so (Handle action.Call) c.args.args.now (storage_in c.args.store.now) c.call.result refl c.call.ensures.change)
 
 pub returns-in-ListNames-clause-outcome : goal.returns-in-ListNames-clause-outcome
-returns-in-ListNames-clause-outcome g c =
-    rw c.in-ListNames.is (c.unchanged-in-ListNames.ensures.outcome c.args.args.now (storage_in c.args.store.now) (handled action.ListNames c.args.width c.args.args.now (storage_in c.args.store.now)) (c.list_names.ensures c.args.width))
+returns-in-ListNames-clause-outcome g c = rw c.in-ListNames.is (c.list_names.ensures.outcome c.args.width)
 
 pub returns-in-ListNames-clause-change : goal.returns-in-ListNames-clause-change
-returns-in-ListNames-clause-change g c = rw c.in-ListNames.is (c.unchanged-in-ListNames.ensures.change (Handle action.ListNames) c.args.args.now (storage_in c.args.store.now) refl)
+returns-in-ListNames-clause-change g c = rw c.in-ListNames.is (keeps_so (Handle action.ListNames) c.args.args.now (storage_in c.args.store.now) c.list_names.result refl c.list_names.ensures.change)
 
 pub returns-in-PrintForm-clause-outcome : goal.returns-in-PrintForm-clause-outcome
-returns-in-PrintForm-clause-outcome g c =
-    rw c.in-PrintForm.is (c.unchanged-in-PrintForm.ensures.outcome c.args.args.now (storage_in c.args.store.now) (handled action.PrintForm c.args.width c.args.args.now (storage_in c.args.store.now)) (c.print_form.ensures c.args.width))
+returns-in-PrintForm-clause-outcome g c = rw c.in-PrintForm.is (c.print_form.ensures.outcome c.args.width)
 
 pub returns-in-PrintForm-clause-change : goal.returns-in-PrintForm-clause-change
-returns-in-PrintForm-clause-change g c = rw c.in-PrintForm.is (c.unchanged-in-PrintForm.ensures.change (Handle action.PrintForm) c.args.args.now (storage_in c.args.store.now) refl)
+returns-in-PrintForm-clause-change g c = rw c.in-PrintForm.is (keeps_so (Handle action.PrintForm) c.args.args.now (storage_in c.args.store.now) c.print_form.result refl c.print_form.ensures.change)

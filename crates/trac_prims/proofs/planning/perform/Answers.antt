@@ -1,107 +1,105 @@
-use Rattle.std.proofs.Common.{◌≡◌, ℕ, length, drop, refl, sym, ap, subst, arith}
-use Rattle.std.specs.Prelude.{false, Ok, []}
-use Rattle.trac_rules.specs.declared.primitive.Primitive.TheVariants.{Compute, Handle, HandleBlock, PrintString, ReadByte, ReadString, SetMeta, SetTrace}
+use Rattle.std.proofs.Common.{ℕ, List, length, drop, refl, sym, ap, subst, arith, ◌∙◌}
+use Rattle.std.specs.Prelude.{false, Ok, None, Some, [], slice_get}
+use Rattle.trac_rules.specs.declared.primitive.Primitive.TheVariants.{Compute, Handle, HandleBlock, PrintString, ReadByte, ReadString}
 use Rattle.trac_rules.specs.Blocks.{block_handled}
 use Rattle.trac_rules.specs.Computing.{computed}
-use Rattle.trac_rules.specs.Effect.{Effect, argument, prints, sets_trace}
+use Rattle.trac_rules.specs.Effect.{Effect, argument, leaves, prints, sets_trace}
 use Rattle.trac_rules.specs.Handling.{handled}
-use Rattle.trac_rules.specs.Performing.{meta_set}
 use Rattle.trac_rules.specs.Reading.{byte_read, string_read}
 use Rattle.trac_rules.specs.State.{initial, storage_of}
 use Rattle.trac_rules.proofs.Steps.{effect_within}
 use Rattle.trac_forms.specs.Stored.{storage_in}
-use Rattle.trac_prims.specs.Effects.{IsMade}
-use Rattle.trac_prims.proofs.ReadCounts.{done_unread, reads_nothing}
+use Rattle.trac_prims.specs.declared.change.Change.TheVariants.{Keep}
+use Rattle.trac_prims.specs.declared.effect.Deed.{Deed}
+use Rattle.trac_prims.specs.Changes.{IsChangeOf}
+use Rattle.trac_prims.specs.Effects.{IsDone}
+use Rattle.trac_prims.proofs.Kept.{changed_so, keeps_so, left_so, meta_given, of_change}
+use Rattle.trac_prims.proofs.ReadCounts.{done_unread}
 use Rattle.trac_prims.proofs.planning.perform.Goals as goal
 
 pub returns-in-PrintString-clause-outcome : goal.returns-in-PrintString-clause-outcome
-returns-in-PrintString-clause-outcome g c = λ s known. rw c.in-PrintString.is (c.unchanged.ensures.outcome c.args.args.now (storage_of s) (Ok (prints (argument 1 c.args.args.now) (storage_of s))) (c.print_string.ensures (storage_of s)))
+returns-in-PrintString-clause-outcome g c = λ s known. rw c.in-PrintString.is (c.print_string.ensures.outcome (storage_of s))
 
 pub returns-in-PrintString-clause-within : goal.returns-in-PrintString-clause-within
 returns-in-PrintString-clause-within g c =
-    c.unchanged.ensures.within c.args.now.position (length c.args.tape.bytes.now)
-    (reads_nothing c.args.now.position (length c.args.tape.bytes.now) (storage_of initial) (Ok (prints (argument 1 c.args.args.now) (storage_of initial))) (c.print_string.result) (c.print_string.ensures (storage_of initial)) (omega arith) c.requires.position)
+    done_unread c.args.args.now c.args.now.position (length c.args.tape.bytes.now) (storage_of initial) (Ok (prints (argument 1 c.args.args.now) (storage_of initial)))
+    c.args.made.now c.print_string.new.made c.print_string.result (c.print_string.ensures.outcome (storage_of initial)) (omega arith) c.requires.position
 
 pub returns-in-PrintString-clause-change : goal.returns-in-PrintString-clause-change
-returns-in-PrintString-clause-change g c = rw c.in-PrintString.is (c.unchanged.ensures.change (PrintString) c.args.args.now (storage_in c.args.store.now) refl)
+returns-in-PrintString-clause-change g c = rw c.in-PrintString.is (keeps_so PrintString c.args.args.now (storage_in c.args.store.now) c.print_string.result refl c.print_string.ensures.change)
 
 pub returns-in-ReadString-clause-outcome : goal.returns-in-ReadString-clause-outcome
 returns-in-ReadString-clause-outcome g c = λ s known.
     rw c.in-ReadString.is
-    (c.unchanged-in-ReadString.ensures.outcome c.args.args.now (storage_of s) (string_read (drop s.position c.args.tape.bytes.now) c.args.tape.ended s.meta (storage_of s))
-    (subst (λ (meta : ℕ). IsMade (storage_of s) (string_read (drop s.position c.args.tape.bytes.now) c.args.tape.ended meta (storage_of s)) c.read_string.result) (sym known.meta_is)
-    (subst (λ (place : ℕ). IsMade (storage_of s) (string_read (drop place c.args.tape.bytes.now) c.args.tape.ended c.args.now.meta (storage_of s)) c.read_string.result) (sym known.position_is)
-    (c.read_string.ensures.outcome (storage_of s)))))
-
-pub returns-in-ReadString-clause-within : goal.returns-in-ReadString-clause-within
-returns-in-ReadString-clause-within g c =
-    c.unchanged-in-ReadString.ensures.within c.args.now.position (length c.args.tape.bytes.now)
-    (c.read_string.ensures.within)
+    (subst (λ (meta : ℕ). IsDone c.args.args.now (storage_of s) (string_read (drop s.position c.args.tape.bytes.now) c.args.tape.ended meta (storage_of s)) c.args.made.now c.read_string.new.made c.read_string.result) (sym known.meta_is)
+    (subst (λ (place : ℕ). IsDone c.args.args.now (storage_of s) (string_read (drop place c.args.tape.bytes.now) c.args.tape.ended c.args.now.meta (storage_of s)) c.args.made.now c.read_string.new.made c.read_string.result) (sym known.position_is)
+    (c.read_string.ensures.outcome c.args.args.now (storage_of s))))
 
 pub returns-in-ReadString-clause-change : goal.returns-in-ReadString-clause-change
-returns-in-ReadString-clause-change g c = rw c.in-ReadString.is (c.unchanged-in-ReadString.ensures.change (ReadString) c.args.args.now (storage_in c.args.store.now) refl)
+returns-in-ReadString-clause-change g c = rw c.in-ReadString.is (keeps_so ReadString c.args.args.now (storage_in c.args.store.now) c.read_string.result refl c.read_string.ensures.change)
 
 pub returns-in-ReadByte-clause-outcome : goal.returns-in-ReadByte-clause-outcome
 returns-in-ReadByte-clause-outcome g c = λ s known.
     rw c.in-ReadByte.is
-    (c.unchanged-in-ReadByte.ensures.outcome c.args.args.now (storage_of s) (byte_read (drop s.position c.args.tape.bytes.now) c.args.tape.ended (storage_of s))
-    (subst (λ (place : ℕ). IsMade (storage_of s) (byte_read (drop place c.args.tape.bytes.now) c.args.tape.ended (storage_of s)) c.read_byte.result) (sym known.position_is)
-    (c.read_byte.ensures.outcome (storage_of s))))
-
-pub returns-in-ReadByte-clause-within : goal.returns-in-ReadByte-clause-within
-returns-in-ReadByte-clause-within g c =
-    c.unchanged-in-ReadByte.ensures.within c.args.now.position (length c.args.tape.bytes.now)
-    (c.read_byte.ensures.within)
+    (subst (λ (place : ℕ). IsDone c.args.args.now (storage_of s) (byte_read (drop place c.args.tape.bytes.now) c.args.tape.ended (storage_of s)) c.args.made.now c.read_byte.new.made c.read_byte.result) (sym known.position_is)
+    (c.read_byte.ensures.outcome c.args.args.now (storage_of s)))
 
 pub returns-in-ReadByte-clause-change : goal.returns-in-ReadByte-clause-change
-returns-in-ReadByte-clause-change g c = rw c.in-ReadByte.is (c.unchanged-in-ReadByte.ensures.change (ReadByte) c.args.args.now (storage_in c.args.store.now) refl)
+returns-in-ReadByte-clause-change g c = rw c.in-ReadByte.is (keeps_so ReadByte c.args.args.now (storage_in c.args.store.now) c.read_byte.result refl c.read_byte.ensures.change)
 
 pub returns-in-SetMeta-clause-outcome : goal.returns-in-SetMeta-clause-outcome
-returns-in-SetMeta-clause-outcome g c = λ s known. rw c.in-SetMeta.is (c.unchanged-in-SetMeta.ensures.outcome c.args.args.now (storage_of s) (Ok (meta_set (argument 1 c.args.args.now) (storage_of s))) (ap Ok (sym (c.set_meta.ensures (storage_of s)))))
-
-pub returns-in-SetMeta-clause-within : goal.returns-in-SetMeta-clause-within
-returns-in-SetMeta-clause-within g c =
-    c.unchanged-in-SetMeta.ensures.within c.args.now.position (length c.args.tape.bytes.now)
-    (reads_nothing c.args.now.position (length c.args.tape.bytes.now) (storage_of initial) (Ok (meta_set (argument 1 c.args.args.now) (storage_of initial))) (Ok c.set_meta.result) (ap Ok (sym (c.set_meta.ensures (storage_of initial)))) (effect_within SetMeta (record { tape = record { bytes = []; ended = false }; width = c.args.now.width }) c.args.args.now initial) c.requires.position)
-
-pub returns-in-SetMeta-clause-change : goal.returns-in-SetMeta-clause-change
-returns-in-SetMeta-clause-change g c = rw c.in-SetMeta.is (c.unchanged-in-SetMeta.ensures.change (SetMeta) c.args.args.now (storage_in c.args.store.now) refl)
+returns-in-SetMeta-clause-outcome g c = λ s known.
+    let text = argument 1 c.args.args.now in
+    let first = c.copied.ensures ∙ c.first.ensures.value ∙ ap (λ (t : List ℕ). slice_get t 0) c.get.ensures in
+    rw c.in-SetMeta.is
+    (subst (λ (e : Effect). IsDone c.args.args.now (storage_of s) (Ok e) c.args.made.now c.args.made.now (Ok (record c.changing.result { meta = c.copied.result }))) (sym (meta_given text (storage_of s)))
+    (left_so c.args.args.now (storage_of s) c.args.made.now (record (leaves (storage_of s)) { meta = slice_get text 0 }) Keep (record c.changing.result { meta = c.copied.result }) refl refl refl
+    (ap (λ (d : Deed _). record d { meta = c.copied.result }) c.changing.ensures ∙ ap (λ meta. record { forced = false; read = 0; meta = meta; trace = None; change = Keep }) first)))
 
 pub returns-in-SetTrace-clause-outcome : goal.returns-in-SetTrace-clause-outcome
-returns-in-SetTrace-clause-outcome g c = λ s known. rw c.in-SetTrace.is (c.unchanged-in-SetTrace.ensures.outcome c.args.args.now (storage_of s) (Ok (sets_trace c.in-SetTrace.trace (storage_of s))) (ap Ok (sym (c.set_trace.ensures (storage_of s)))))
-
-pub returns-in-SetTrace-clause-within : goal.returns-in-SetTrace-clause-within
-returns-in-SetTrace-clause-within g c =
-    c.unchanged-in-SetTrace.ensures.within c.args.now.position (length c.args.tape.bytes.now)
-    (reads_nothing c.args.now.position (length c.args.tape.bytes.now) (storage_of initial) (Ok (sets_trace c.in-SetTrace.trace (storage_of initial))) (Ok c.set_trace.result) (ap Ok (sym (c.set_trace.ensures (storage_of initial)))) (omega arith) c.requires.position)
-
-pub returns-in-SetTrace-clause-change : goal.returns-in-SetTrace-clause-change
-returns-in-SetTrace-clause-change g c = rw c.in-SetTrace.is (c.unchanged-in-SetTrace.ensures.change (SetTrace c.in-SetTrace.trace) c.args.args.now (storage_in c.args.store.now) refl)
+returns-in-SetTrace-clause-outcome g c = λ s known.
+    rw c.in-SetTrace.is
+    (left_so c.args.args.now (storage_of s) c.args.made.now (sets_trace c.in-SetTrace.trace (storage_of s)) Keep (record c.changing-in-SetTrace.result { trace = Some c.in-SetTrace.trace }) refl refl refl
+    (ap (λ (d : Deed _). record d { trace = Some c.in-SetTrace.trace }) c.changing-in-SetTrace.ensures))
 
 pub returns-in-Compute-clause-outcome : goal.returns-in-Compute-clause-outcome
-returns-in-Compute-clause-outcome g c = λ s known. rw c.in-Compute.is (c.unchanged-in-Compute.ensures.outcome c.args.args.now (storage_of s) (Ok (computed c.in-Compute.computation c.args.now.width c.args.args.now (storage_of s))) (c.compute.ensures (storage_of s)))
+returns-in-Compute-clause-outcome g c = λ s known. rw c.in-Compute.is (c.compute.ensures.outcome (storage_of s))
 
 pub returns-in-Compute-clause-within : goal.returns-in-Compute-clause-within
 returns-in-Compute-clause-within g c =
-    c.unchanged-in-Compute.ensures.within c.args.now.position (length c.args.tape.bytes.now)
-    (reads_nothing c.args.now.position (length c.args.tape.bytes.now) (storage_of initial) (Ok (computed c.in-Compute.computation c.args.now.width c.args.args.now (storage_of initial))) (c.compute.result) (c.compute.ensures (storage_of initial)) (effect_within (Compute c.in-Compute.computation) (record { tape = record { bytes = []; ended = false }; width = c.args.now.width }) c.args.args.now initial) c.requires.position)
+    done_unread c.args.args.now c.args.now.position (length c.args.tape.bytes.now) (storage_of initial) (Ok (computed c.in-Compute.computation c.args.now.width c.args.args.now (storage_of initial)))
+    c.args.made.now c.compute.new.made c.compute.result (c.compute.ensures.outcome (storage_of initial))
+    (effect_within (Compute c.in-Compute.computation) (record { tape = record { bytes = []; ended = false }; width = c.args.now.width }) c.args.args.now initial) c.requires.position
 
 pub returns-in-Compute-clause-change : goal.returns-in-Compute-clause-change
-returns-in-Compute-clause-change g c = rw c.in-Compute.is (c.unchanged-in-Compute.ensures.change (Compute c.in-Compute.computation) c.args.args.now (storage_in c.args.store.now) refl)
+returns-in-Compute-clause-change g c =
+    rw c.in-Compute.is (keeps_so (Compute c.in-Compute.computation) c.args.args.now (storage_in c.args.store.now) c.compute.result refl c.compute.ensures.change)
 
 pub returns-in-Handle-clause-within : goal.returns-in-Handle-clause-within
 returns-in-Handle-clause-within g c =
     let storage = storage_in c.args.store.now in
-    done_unread c.args.args.now c.args.now.position (length c.args.tape.bytes.now) storage (handled c.in-Handle.action c.args.now.width c.args.args.now storage) c.handle.result c.handle.ensures.outcome
+    done_unread c.args.args.now c.args.now.position (length c.args.tape.bytes.now) storage (handled c.in-Handle.action c.args.now.width c.args.args.now storage)
+    c.args.made.now c.handle.new.made c.handle.result c.handle.ensures.outcome
     (effect_within (Handle c.in-Handle.action) (record { tape = record { bytes = []; ended = false }; width = c.args.now.width }) c.args.args.now (record initial { forms = storage.forms; blocks = storage.blocks })) c.requires.position
+
+pub returns-in-HandleBlock-clause-outcome : goal.returns-in-HandleBlock-clause-outcome
+returns-in-HandleBlock-clause-outcome g c = λ s known.
+    let storage = storage_in c.args.store.now in
+    rw (c.in-HandleBlock.is, known.storage_is)
+    (changed_so c.args.args.now storage c.args.made.now (block_handled c.in-HandleBlock.action c.args.args.now storage) c.handle_block.result c.deed_of.result c.deed_of.ensures c.handle_block.ensures.outcome)
 
 pub returns-in-HandleBlock-clause-within : goal.returns-in-HandleBlock-clause-within
 returns-in-HandleBlock-clause-within g c =
     let storage = storage_in c.args.store.now in
-    done_unread c.args.args.now c.args.now.position (length c.args.tape.bytes.now) storage (block_handled c.in-HandleBlock.action c.args.args.now storage) c.handle_block.result c.handle_block.ensures.outcome
+    let outcome = block_handled c.in-HandleBlock.action c.args.args.now storage in
+    done_unread c.args.args.now c.args.now.position (length c.args.tape.bytes.now) storage outcome c.args.made.now c.args.made.now c.deed_of.result
+    (changed_so c.args.args.now storage c.args.made.now outcome c.handle_block.result c.deed_of.result c.deed_of.ensures c.handle_block.ensures.outcome)
     (effect_within (HandleBlock c.in-HandleBlock.action) (record { tape = record { bytes = []; ended = false }; width = c.args.now.width }) c.args.args.now (record initial { forms = storage.forms; blocks = storage.blocks })) c.requires.position
 
-pub returns-in-Unknown-clause-within : goal.returns-in-Unknown-clause-within
-returns-in-Unknown-clause-within g c =
-    let none : c.changing.result.made.read ≡ 0 = ap (λ (e : Effect). e.read) (c.changing.ensures.effect [] (storage_of initial)) in
-    omega (arith, c.requires.position)
+pub returns-in-HandleBlock-clause-change : goal.returns-in-HandleBlock-clause-change
+returns-in-HandleBlock-clause-change g c =
+    rw c.in-HandleBlock.is (of_change (IsChangeOf (HandleBlock c.in-HandleBlock.action) c.args.args.now (storage_in c.args.store.now)) c.handle_block.result c.deed_of.result c.deed_of.ensures c.handle_block.ensures.change)
+
+pub returns-in-Unknown-clause-outcome : goal.returns-in-Unknown-clause-outcome
+returns-in-Unknown-clause-outcome g c = λ s known.
+    rw c.in-Unknown.is (left_so c.args.args.now (storage_of s) c.args.made.now (leaves (storage_of s)) Keep c.changing-in-Unknown.result refl refl refl c.changing-in-Unknown.ensures)

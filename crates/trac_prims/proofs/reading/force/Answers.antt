@@ -1,13 +1,26 @@
 -- The text is the value, and it is forced.
-use Rattle.std.proofs.Common.{◌∙◌}
+use Rattle.std.proofs.Common.{sym, ap, subst, true, ◌∙◌}
+use Rattle.std.proofs.lemmas.List.{append-nil}
+use Rattle.trac_rules.specs.declared.primitive.FormAction.TheVariants.{Read}
+use Rattle.trac_rules.specs.declared.primitive.Primitive.TheVariants.{Handle}
+use Rattle.trac_rules.specs.Effect.{forces}
+use Rattle.trac_prims.specs.declared.change.Change.TheVariants.{Point}
+use Rattle.trac_prims.specs.declared.effect.Deed.{Deed}
+use Rattle.trac_prims.specs.Changes.{IsChangeOf}
 use Rattle.trac_prims.proofs.Changes.{reads}
-use Rattle.trac_prims.proofs.Given.{forced_unmoved}
+use Rattle.trac_prims.proofs.Given.{unmoved_so}
+use Rattle.trac_prims.proofs.Kept.{as_said}
 use Rattle.trac_prims.proofs.reading.force.Goals as goal
 
 pub returns-clause-outcome : goal.returns-clause-outcome
 returns-clause-outcome g c = λ arguments storage there.
-    forced_unmoved c.keeping.result arguments storage c.keeping.ensures.effect c.in_ok-value.value c.in_ok-name.name c.args.text.now c.args.form.now c.args.name.now c.pointer.result
-    c.in_ok-value.ensures.items c.in_ok-name.ensures.items there c.pointer.ensures
+    let old = c.args.made.now in
+    as_said arguments storage old (record old { value = c.extend_from_slice.new.self }) (forces c.args.text.now storage) (Point c.in_ok-name.name c.pointer.result) (record c.changing.result { forced = true })
+    c.in_ok-extend_from_slice.ensures.items (sym (append-nil old.print.items))
+    (unmoved_so arguments storage c.in_ok-name.name c.args.name.now c.in_ok-name.ensures.items c.args.form.now there c.pointer.result c.pointer.ensures)
+    (ap (λ (d : Deed _). record d { forced = true }) c.changing.ensures)
 
 pub returns-clause-change : goal.returns-clause-change
-returns-clause-change g c = λ reading arguments storage named. reads arguments storage c.in_ok-name.name (c.in_ok-name.ensures.items ∙ named) reading c.pointer.result
+returns-clause-change g c = λ reading arguments storage named.
+    subst (λ (d : Deed _). IsChangeOf (Handle (Read reading)) arguments storage d.change) (sym c.changing.ensures)
+    (reads arguments storage c.in_ok-name.name (c.in_ok-name.ensures.items ∙ named) reading c.pointer.result)

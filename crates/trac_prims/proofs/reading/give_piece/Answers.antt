@@ -1,0 +1,28 @@
+use Rattle.std.proofs.Common.{List, ℕ, ◌++◌, sym, ap, subst, ◌∙◌}
+use Rattle.std.proofs.lemmas.List.{append-nil}
+use Rattle.trac_forms.specs.Taken.{taken}
+use Rattle.trac_rules.specs.declared.primitive.FormAction.TheVariants.{Read}
+use Rattle.trac_rules.specs.declared.primitive.Primitive.TheVariants.{Handle}
+use Rattle.trac_rules.specs.Effect.{gives}
+use Rattle.trac_rules.specs.Handling.{pointing}
+use Rattle.trac_prims.specs.declared.change.Change.TheVariants.{Point}
+use Rattle.trac_prims.specs.declared.effect.Deed.{Deed}
+use Rattle.trac_prims.specs.Changes.{IsChangeOf}
+use Rattle.trac_prims.proofs.Changes.{reads}
+use Rattle.trac_prims.proofs.Given.{pointed_so}
+use Rattle.trac_prims.proofs.Kept.{as_said}
+use Rattle.trac_prims.proofs.reading.give_piece.Goals as goal
+
+pub returns-clause-outcome : goal.returns-clause-outcome
+returns-clause-outcome g c = λ other arguments storage there.
+    let old = c.args.made.now in
+    let piece = taken c.args.piece.now c.args.form.now in
+    let added = c.in_ok-piece_into.ensures.ok ∙ ap (λ (before : List ℕ). before ++ piece.value) c.in_ok-reserve.ensures.items in
+    as_said arguments storage old (record old { value = c.piece_into.new.out }) (gives piece.value (pointing c.args.name.now piece.place c.args.form.now storage)) (Point c.in_ok-name.name piece.place) c.changing.result
+    added (sym (append-nil old.print.items))
+    (pointed_so arguments storage c.in_ok-name.name c.args.name.now c.in_ok-name.ensures.items c.args.form.now there piece.place) c.changing.ensures
+
+pub returns-clause-change : goal.returns-clause-change
+returns-clause-change g c = λ reading arguments storage named.
+    subst (λ (d : Deed _). IsChangeOf (Handle (Read reading)) arguments storage d.change) (sym c.changing.ensures)
+    (reads arguments storage c.in_ok-name.name (c.in_ok-name.ensures.items ∙ named) reading c.args.piece.now.pointer)

@@ -1,0 +1,125 @@
+//! Calls whose value is made of their arguments alone: decisions, numbers and bit strings.
+ghost use Rattle.std.specs.Prelude.{◌≡◌, List, ℕ, Ok, IfOk};
+ghost use Rattle.trac_rules.specs.Computing.{chosen, computed, number_argument, result_of};
+ghost use Rattle.trac_rules.specs.Effect.{argument, gives};
+ghost use Rattle.trac_rules.specs.Number.{is_greater, numeral_of, on_both};
+ghost use Rattle.trac_rules.specs.State.{Storage};
+ghost use Rattle.trac_rules.specs.declared.primitive.Computation.TheVariants.{Calculate};
+ghost use Rattle.trac_prims.specs.declared.change.Change.TheVariants.{Keep};
+ghost use Rattle.trac_prims.specs.Effects.{IsDone};
+
+use crate::args::Args;
+use crate::bits::{complement_of, meet_of, rotation_of, shift_of, union_of};
+use crate::change::Change;
+use crate::effect::{Deed, Made};
+use std::alloc::Allocator;
+use trac_num::{add, div, greater, mul, print_into, read_tail, sub, value};
+use trac_rules::primitive::{Computation, Operation};
+use trac_rules::refusal::Refusal;
+use trac_rules::width::Width;
+
+// What a primitive does that looks at its arguments alone.
+pub(crate) fn compute<A: Allocator + Copy>(
+    alloc: A,
+    computation: Computation,
+    args: &Args<'_>,
+    width: Width,
+    made: &mut Made<A>,
+) -> Result<Deed<A>, Refusal>
+    ensures outcome { (storage : Storage) → IsDone args.now storage (Ok (computed computation width args.now storage)) made.old made.new result }
+    ensures change { IfOk result (λ d. d.change ≡ Keep) }
+{
+    match computation {
+        Computation::Equal => give(choose(args.get(1) == args.get(2), args), made),
+        Computation::Greater => give(choose(has_greater(args), args), made),
+        Computation::Calculate(operation) => calculate(operation, args, width, made),
+        Computation::Union => give(union_of(alloc, args)?.as_slice(), made),
+        Computation::Meet => give(meet_of(alloc, args)?.as_slice(), made),
+        Computation::Complement => give(complement_of(alloc, args)?.as_slice(), made),
+        Computation::Shift => give(shift_of(alloc, args, width)?.as_slice(), made),
+        Computation::Rotate => give(rotation_of(alloc, args, width)?.as_slice(), made),
+    }
+}
+
+// Gives a text as the value.
+fn give<A: Allocator + Copy>(text: &[u8], made: &mut Made<A>) -> Result<Deed<A>, Refusal>
+    ensures outcome { (arguments : List (List ℕ)) (storage : Storage) → IsDone arguments storage (Ok (gives text.now storage)) made.old made.new result }
+    ensures change { IfOk result (λ d. d.change ≡ Keep) }
+{
+    made.value.extend_from_slice(text)?;
+    Ok(Deed::changing(Change::Keep))
+}
+
+// The number of an argument, its prefix dropped; none where it does not fit the width.
+pub(crate) fn number_at(args: &Args<'_>, k: usize, width: Width) -> Option<i128>
+    ensures { result ≡ number_argument width k args.now }
+{
+    value(read_tail(args.get(k)).numeral, width)
+}
+
+// ---- decisions
+
+// The argument that a decision gives.
+fn choose<'a>(first: bool, args: &Args<'a>) -> &'a [u8]
+    ensures { result.now ≡ chosen first args.now }
+{
+    if first { args.get(3) } else { args.get(4) }
+}
+
+// Whether the number of the first argument after the name is greater than that of the second, however long they are.
+fn has_greater(args: &Args<'_>) -> bool
+    ensures { result ≡ is_greater (numeral_of (argument 1 args.now)) (numeral_of (argument 2 args.now)) }
+{
+    greater(
+        read_tail(args.get(1)).numeral,
+        read_tail(args.get(2)).numeral,
+    )
+}
+
+// ---- numbers
+
+// `ad`, `su`, `ml` and `dv`: the prefix of the first number, and then the result; where there is no result the default
+// argument, which is forced.
+fn calculate<A: Allocator + Copy>(
+    operation: Operation,
+    args: &Args<'_>,
+    width: Width,
+    made: &mut Made<A>,
+) -> Result<Deed<A>, Refusal>
+    ensures outcome { (storage : Storage) → IsDone args.now storage (Ok (computed (Calculate operation) width args.now storage)) made.old made.new result }
+    ensures change { IfOk result (λ d. d.change ≡ Keep) }
+{
+    let Some(n) = result_on(operation, args, width) else {
+        made.value.extend_from_slice(args.get(3))?;
+        return Ok(Deed {
+            forced: true,
+            ..Deed::changing(Change::Keep)
+        });
+    };
+    made.value.extend_from_slice(read_tail(args.get(1)).prefix)?;
+    print_into(n, &mut made.value)?;
+    Ok(Deed::changing(Change::Keep))
+}
+
+// The result of an operation on the numbers of the two arguments after the name, if it fits.
+fn result_on(operation: Operation, args: &Args<'_>, width: Width) -> Option<i128>
+    ensures { result ≡ on_both (result_of operation width) (number_argument width 1 args.now) (number_argument width 2 args.now) }
+{
+    operate(
+        operation,
+        number_at(args, 1, width)?,
+        number_at(args, 2, width)?,
+        width,
+    )
+}
+
+fn operate(operation: Operation, a: i128, b: i128, width: Width) -> Option<i128>
+    ensures { result ≡ result_of operation width a b }
+{
+    match operation {
+        Operation::Add => add(a, b, width),
+        Operation::Subtract => sub(a, b, width),
+        Operation::Multiply => mul(a, b, width),
+        Operation::Divide => div(a, b, width),
+    }
+}
