@@ -1,5 +1,5 @@
 -- The block whose number a text is in decimal.
-use Rattle.std.proofs.Common.{◌≡◌, ℕ, ◌+◌, ◌<◌, ◌^◌, Bool, true, false, List, [], ◌∷◌, ◌++◌, get_or, length, take, refl, sym, ap, subst, ◌∙◌, arith, ⊎_elim, w64, ◌≤ℤ◌, ◌<ℤ◌}
+use Rattle.std.proofs.Common.{◌≡◌, ℕ, ◌+◌, ◌<◌, ◌^◌, Bool, true, false, List, [], ◌∷◌, ◌++◌, get_or, length, take, refl, sym, ap, subst, ◌∙◌, arith, ⊎_elim, w64}
 use Rattle.std.specs.Prelude.{Option, None, Some, ℤ, pos, negsuc, bytes_eq, decimal, is_some, nat_le, option_to_list, slice_get, unsigned_abs}
 use Rattle.std.specs.Int.{FitsUnsigned}
 use Rattle.std.proofs.lemmas.Int.{ints}

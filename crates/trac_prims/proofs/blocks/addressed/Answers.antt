@@ -1,6 +1,6 @@
 use Rattle.std.proofs.Common.{◌≡◌, List, ℕ, ◌++◌, ap, subst, sym, ◌∙◌, pos, w64, to_z, of_z}
 use Rattle.std.specs.Int.{FitsUnsigned, w128}
-use Rattle.std.specs.Prelude.{Some, ℤ, bytes_eq, decimal, unsigned_abs}
+use Rattle.std.specs.Prelude.{Some, bytes_eq, decimal, unsigned_abs}
 use Rattle.std.proofs.lemmas.Int.{to_z-of_z}
 use Rattle.std.proofs.lemmas.Slice.Eq.{bytes_eq-Decides}
 use Rattle.trac_rules.specs.Number.{number_of, number_text}
