@@ -13,12 +13,10 @@ use Rattle.std.proofs.lemmas.Bool.{cases_Bool, cond-true, cond-false}
 use Rattle.std.proofs.lemmas.List.{append_assoc, append-nil, length-map, take_all}
 use Rattle.std.proofs.lemmas.Option.{slice_get-get_or, slice_get-map}
 use Rattle.trac_rules.specs.Form.{Form}
-use Rattle.trac_rules.specs.declared.kind.Kind.{Kind}
 use Rattle.trac_rules.specs.Listing.{names_of}
-use Rattle.trac_rules.specs.State.{Block, Forms, Frame}
-use Rattle.trac_prims.specs.Frames.{IsFrame}
+use Rattle.trac_rules.specs.State.{Block, Forms}
 use Rattle.trac_forms.specs.Stored.{Gathered}
-use Rattle.trac_debug.specs.Texts.{arguments_line, block_lines, frame_line, lines_of_block}
+use Rattle.trac_debug.specs.Texts.{block_lines, lines_of_block}
 use Rattle.trac_rules.proofs.NamedForms.{one_name, ties_itself}
 
 -- ---- one more of a list
@@ -133,19 +131,6 @@ blocks_more blocks i block old now after l is so_far adds =
     let count : 0 + i ≡ i = omega arith in
     let here : slice_get blocks i ≡ Some block = slice_get-get_or blocks i None l ∙ ap Some is in
     shown_more block_lines (enumerate_from 0 blocks) i (i, block) old now after (numbered 0 blocks i block here ∙ ap (λ n. Some (n, block)) count) so_far adds
-
--- ---- begun functions
-
--- one function more
-pub frames_more : (frames : List Frame) (i : ℕ) (kind : Kind) (arguments : List (List ℕ)) (old now after : List ℕ) → IsFrame (slice_get frames i) kind arguments →
-    now ≡ old ++ flat_map frame_line (take i frames) → after ≡ now ++ arguments_line kind arguments → after ≡ old ++ flat_map frame_line (take (i + 1) frames)
-frames_more frames i kind arguments old now after is so_far adds = go (slice_get frames i) refl is
-  where
-    go : (found : Option Frame) → slice_get frames i ≡ found → IsFrame found kind arguments → after ≡ old ++ flat_map frame_line (take (i + 1) frames)
-    go None there found = absurd found
-    go (Some f) there found =
-        let line : arguments_line kind arguments ≡ frame_line f = ap (λ k. arguments_line k arguments) (sym found.0) ∙ ap (arguments_line f.kind) (sym found.1) in
-        shown_more frame_line frames i f old now after there so_far (adds ∙ ap (λ t. now ++ t) line)
 
 -- ---- forms
 

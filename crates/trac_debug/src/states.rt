@@ -70,10 +70,7 @@ fn frames_into<E: TwoEnds<u8, A>, M: TwoEnds<Mark, A>, A: Allocator + Copy, B: A
 ) -> Result<(), AllocError>
     ensures { OnOk result (out.new.items ≡ out.old.items ++ flat_map frame_line (reverse machine.now.state.frames)) }
 {
-    for i in 0..machine.depth() {
-        let Some((kind, arguments)) = machine.frame(i) else {
-            unreachable!();
-        };
+    for (kind, arguments) in machine.begun_functions() {
         frame_into(kind, &arguments, out)?;
     }
     Ok(())

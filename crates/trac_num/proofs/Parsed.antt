@@ -8,7 +8,7 @@ use Rattle.std.specs.Str.{IsUtf8}
 use Rattle.std.specs.Str.Parse.{ParsesSigned, signed_digits_value}
 use Rattle.trac_num.proofs.Digits.{all_digits_from}
 use Rattle.trac_num.proofs.Numerals.{numeral_parts, ascii_numeral}
-use Rattle.trac_num.proofs.Range.{in_range, in_wide_range, held_if_fits, held_if_wide, same_narrow}
+use Rattle.trac_num.proofs.Range.{held, held_if_fits, in_range, same_narrow}
 use Rattle.trac_rules.specs.declared.width.Width.{Width}
 use Rattle.trac_rules.specs.declared.width.Width.TheVariants.{W64, W128}
 use Rattle.trac_rules.proofs.Calculated.{narrow_number}
@@ -27,19 +27,13 @@ utf8_numeral numeral form =
     (λ (t : is_numeral numeral ≡ true). IsUtf8-from_ascii numeral (ascii_numeral numeral t))
     form
 
-pub parsed_number : {E : Type 0} (numeral : List ℕ) (r : Result ℤ E) → is_numeral numeral ≡ true → ParsesSigned w64 10 numeral r → result_ok r ≡ number_of W64 numeral
+-- a numeral, read as an integer of the code that is as wide
+pub parsed_number : {E : Type 0} (width : Width) (numeral : List ℕ) (r : Result ℤ E) → is_numeral numeral ≡ true → ParsesSigned (held width) 10 numeral r → result_ok r ≡ number_of width numeral
 unfolding number_of whole_number
-parsed_number numeral (Ok x) t h = let f = in_range (signed_digits_value 10 numeral) h.0.1 in rw f (ap Some h.1)
-parsed_number numeral (Err e) t h =
+parsed_number width numeral (Ok x) t h = let f = in_range width (signed_digits_value 10 numeral) h.0.1 in rw f (ap Some h.1)
+parsed_number width numeral (Err e) t h =
     let parts = numeral_parts numeral t in
-    held_if_fits None (signed_digits_value 10 numeral) (λ f. h ((parts.0, all_digits_from _ parts.1), f))
-
-pub wide_number : {E : Type 0} (numeral : List ℕ) (r : Result ℤ E) → is_numeral numeral ≡ true → ParsesSigned w128 10 numeral r → result_ok r ≡ number_of W128 numeral
-unfolding number_of whole_number
-wide_number numeral (Ok x) t h = let f = in_wide_range (signed_digits_value 10 numeral) h.0.1 in rw f (ap Some h.1)
-wide_number numeral (Err e) t h =
-    let parts = numeral_parts numeral t in
-    held_if_wide None (signed_digits_value 10 numeral) (λ f. h ((parts.0, all_digits_from _ parts.1), f))
+    held_if_fits width None (signed_digits_value 10 numeral) (λ f. h ((parts.0, all_digits_from _ parts.1), f))
 
 -- a number of 64 bits is that of any width, as the code makes it
 of_narrow_number : (width : Width) (numeral : List ℕ) (n : ℤ) → Some n ≡ number_of W64 numeral → Some n ≡ number_of width numeral
@@ -50,12 +44,12 @@ pub number_of_narrow : {E : Type 0} (width : Width) (numeral : List ℕ) (r : Re
     Some (to_z w128 (of_z w128 (to_z w64 (of_z w64 n)))) ≡ number_of width numeral
 number_of_narrow {E} width numeral (Ok m) n t h was =
     let same : m ≡ n = cc in
-    rw (← same) (ap Some (same_narrow m (subst (λ (k : ℤ). fits W64 k ≡ true) (sym h.1) (in_range (signed_digits_value 10 numeral) h.0.1))) ∙ of_narrow_number width numeral m (parsed_number {E = E} numeral (Ok m) t h))
+    rw (← same) (ap Some (same_narrow m (subst (λ (k : ℤ). fits W64 k ≡ true) (sym h.1) (in_range W64 (signed_digits_value 10 numeral) h.0.1))) ∙ of_narrow_number width numeral m (parsed_number {E = E} W64 numeral (Ok m) t h))
 number_of_narrow {E} width numeral (Err e) n t h was = absurd (cc)
 
 -- where it is none of 64 bits
 pub no_narrow_number : {E : Type 0} (numeral : List ℕ) (r : Result ℤ E) (e : E) → is_numeral numeral ≡ true → ParsesSigned w64 10 numeral r → r ≡ Err e → None ≡ number_of W64 numeral
-no_narrow_number numeral r e t h was = ap result_ok (sym was) ∙ parsed_number numeral r t h
+no_narrow_number numeral r e t h was = ap result_ok (sym was) ∙ parsed_number W64 numeral r t h
 
 -- of a numeral with a byte
 pub numeral_not_null : (numeral : List ℕ) → IsNumeralOrNull numeral → (length numeral ≡ 0 → ⊥) → is_numeral numeral ≡ true

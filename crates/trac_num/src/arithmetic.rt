@@ -1,5 +1,6 @@
-//! Arithmetic on numbers of a width. `None` stands for a result that does not fit. What fits 64 bits is calculated in 64 bits,
-//! since products and quotients of 128 bits take much longer.
+//! Arithmetic on numbers of a width. `None` stands for a result that does not fit. Sums and differences are always calculated
+//! in 128 bits, which costs little more. Products and quotients of 128 bits take much longer: so these are calculated in 64
+//! bits where both numbers and the result fit these.
 ghost use Rattle.std.specs.Prelude.{◌≡◌, MatchOption, Some, IfSome, false, true};
 ghost use Rattle.trac_rules.specs.Number.{difference_of, fits, if_fits, product_of, quotient_of, sum_of};
 ghost use Rattle.trac_rules.specs.declared.width.Width.TheVariants.{W64};

@@ -46,7 +46,7 @@ AreArguments-reverse [] a = tt
 AreArguments-reverse (x ∷ xs) a = rw (reverse_first x xs) (AreArguments-append (reverse xs) (x ∷ []) (AreArguments-reverse xs a.1) (a.0, tt))
 
 -- the marks at a place k, the last one first
-reverse_at : (ms : List Mark) (k : ℕ) → k < length ms → reverse ms ≡ reverse (drop (k + 1) ms) ++ get_or ms k no_mark ∷ reverse (take k ms)
+pub reverse_at : (ms : List Mark) (k : ℕ) → k < length ms → reverse ms ≡ reverse (drop (k + 1) ms) ++ get_or ms k no_mark ∷ reverse (take k ms)
 reverse_at ms k l =
     ap reverse (sym (take-append-drop k ms) ∙ ap (λ rest. take k ms ++ rest) (drop_more ms k no_mark l))
     ∙ reverse-append (take k ms) (get_or ms k no_mark ∷ drop (k + 1) ms)
@@ -59,7 +59,7 @@ cuts_of_marks : (n : ℕ) (args : List Mark) (f : Mark) (before : List Mark) →
 cuts_of_marks n [] f before a = a.0
 cuts_of_marks n (m ∷ args) f before a = rw (reverse_first m args) (AreCuts-push f.place (reverse args) m n (cuts_of_marks m.place args f before a.2) a.0)
 
-marks_before : (n : ℕ) (args : List Mark) (f : Mark) (before : List Mark) → AreMarks n (args ++ f ∷ before) → AreMarks f.place before
+pub marks_before : (n : ℕ) (args : List Mark) (f : Mark) (before : List Mark) → AreMarks n (args ++ f ∷ before) → AreMarks f.place before
 marks_before n [] f before a = a.2
 marks_before n (m ∷ args) f before a = marks_before m.place args f before a.2
 

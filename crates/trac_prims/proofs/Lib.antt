@@ -2,6 +2,7 @@ pub mod Cutting
 pub mod Neutral
 pub mod Ending
 pub mod Peeling
+pub mod Walking
 pub mod Kept
 pub mod Calculated
 pub mod FirstPlaces

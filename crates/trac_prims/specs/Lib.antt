@@ -2,6 +2,7 @@
 pub mod Cuts
 pub mod Neutral
 pub mod Frames
+pub mod Begun
 pub mod Tape
 pub mod Effects
 pub mod Changes

@@ -133,7 +133,7 @@ fn start_at(from: usize, marks: &[Mark], i: usize) -> usize
 }
 
 // Where the argument of this number ends, in a text of this length.
-fn end_at(end: usize, marks: &[Mark], i: usize) -> usize
+pub(crate) fn end_at(end: usize, marks: &[Mark], i: usize) -> usize
     ensures { result ≡ end_of end marks.now i }
 {
     if i < marks.len() { marks[i].place } else { end }

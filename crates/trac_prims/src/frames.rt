@@ -5,6 +5,7 @@ ghost use Rattle.trac_prims.specs.Frames.{IsFrame, IsInnermost};
 ghost use Rattle.trac_prims.specs.Neutral.{AreMarks, cut_back, neutral_of};
 
 use crate::args::Args;
+use crate::begun::BegunFunctions;
 use crate::mark::Mark;
 use std::marker::Model;
 use trac_rules::kind::Kind;
@@ -122,6 +123,13 @@ impl<'a> NeutralText<'a> {
             rest = rest.before(&innermost);
         }
         None
+    }
+
+    /// The begun functions, one after another from the outermost on. Nothing is copied (this project's profile).
+    pub fn begun_functions(&self) -> BegunFunctions<'a>
+        ensures { result ≡ reverse (neutral_of self.now).frames }
+    {
+        BegunFunctions::new(self.text, self.marks)
     }
 }
 

@@ -2,6 +2,7 @@
 #![tactic(auto)]
 
 pub mod args;
+pub mod begun;
 mod bits;
 mod blocks;
 pub mod change;
@@ -18,6 +19,7 @@ pub mod tape;
 mod tracing;
 
 pub use args::Args;
+pub use begun::BegunFunctions;
 pub use change::Change;
 pub use effect::{Deed, Effect, Made, Now};
 pub use frames::{Innermost, NeutralText};

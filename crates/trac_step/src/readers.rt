@@ -9,7 +9,7 @@ use crate::front::front_at;
 use std::alloc::Allocator;
 use trac_forms::Store;
 use trac_gap::TwoEnds;
-use trac_prims::{Args, Kind, Mark, NeutralText};
+use trac_prims::{Args, BegunFunctions, Kind, Mark, NeutralText};
 use trac_rules::scan::Front;
 
 impl<E: TwoEnds<u8, A>, M: TwoEnds<Mark, A>, A: Allocator + Copy> Core<E, M, A> {
@@ -47,6 +47,14 @@ impl<E: TwoEnds<u8, A>, M: TwoEnds<Mark, A>, A: Allocator + Copy> Core<E, M, A> 
         ensures { MatchOption result (length self.now.state.frames ≤ i) (λ r. IsFrame (slice_get (reverse self.now.state.frames) i) r.0 r.1) }
     {
         self.neutral().frame(i)
+    }
+
+    /// The begun functions, one after another from the outermost on: a walk over all of them takes time for all marks
+    /// together, where `frame` looks for each from the innermost on (this project's profile).
+    pub fn begun_functions(&self) -> BegunFunctions<'_>
+        ensures { result ≡ reverse self.now.state.frames }
+    {
+        self.neutral().begun_functions()
     }
 
     /// The name of the function that the next step would perform; none where it would perform none. It takes no memory

@@ -1,9 +1,9 @@
-use Rattle.std.proofs.Common.{◌≡◌, ◌++◌, take}
+use Rattle.std.proofs.Common.{◌≡◌, ◌++◌}
 use Rattle.std.specs.Prelude.{reverse}
 use Rattle.std.specs.List.{flat_map}
 use Rattle.trac_debug.specs.Texts.{frame_line}
 use Rattle.trac_debug.proofs.states.frames_into.Given as goal
 
--- the functions so far are shown
-abbrev pub invariant-loop-i : goal.invariant-loop-i
-invariant-loop-i g l = l.out.items ≡ l.fn.out.items ++ flat_map frame_line (take l.i (reverse l.machine.state.frames))
+-- what is shown so far, and the functions that are left
+abbrev pub invariant-loop-kind : goal.invariant-loop-kind
+invariant-loop-kind g l = l.out.items ++ flat_map frame_line l.kind-iterator ≡ l.fn.out.items ++ flat_map frame_line (reverse l.machine.state.frames)

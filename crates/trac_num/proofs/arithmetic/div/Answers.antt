@@ -2,7 +2,7 @@
 use Rattle.std.proofs.Common.{◌∙◌}
 use Rattle.std.proofs.lemmas.Int.{to_z-of_z}
 use Rattle.trac_rules.specs.declared.primitive.Operation.TheVariants.{Divide}
-use Rattle.trac_num.proofs.Range.{narrow_made, none_made, quotient_if_wide, wide_made}
+use Rattle.trac_num.proofs.Range.{narrow_made, none_made, wide_made}
 use Rattle.trac_num.proofs.arithmetic.div.Goals as goal
 
 pub returns-in-Some : goal.returns-in-Some
@@ -15,12 +15,10 @@ pub returns-in_err-checked_div : goal.returns-in_err-checked_div
 returns-in_err-checked_div c =
     let p = c.ranges.a in
     let q = c.ranges.b in
-    c.from_residual.ensures
-    ∙ none_made Divide c.args.width c.args.a c.args.b c.checked_div.result (quotient_if_wide c.checked_div.result c.args.a c.args.b c.ranges.b (simp to_z-of_z at c.checked_div.ensures)) c.in_err-checked_div.was
+    c.from_residual.ensures ∙ none_made Divide c.args.width c.args.a c.args.b c.checked_div.result c.ranges.b (simp to_z-of_z at c.checked_div.ensures) c.in_err-checked_div.was
 
 pub returns : goal.returns
 returns c =
     let p = c.ranges.a in
     let q = c.ranges.b in
-    c.within.ensures
-    ∙ wide_made Divide c.args.width c.args.a c.args.b c.in_ok-checked_div.field-0 c.checked_div.result (quotient_if_wide c.checked_div.result c.args.a c.args.b c.ranges.b (simp to_z-of_z at c.checked_div.ensures)) c.in_ok-checked_div.was
+    c.within.ensures ∙ wide_made Divide c.args.width c.args.a c.args.b c.in_ok-checked_div.field-0 c.checked_div.result c.ranges.b (simp to_z-of_z at c.checked_div.ensures) c.in_ok-checked_div.was

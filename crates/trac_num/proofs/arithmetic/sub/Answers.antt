@@ -1,23 +1,18 @@
 -- std's result is there where 128 bits can hold it, and the width judges it.
-use Rattle.std.proofs.Common.{◌-ℤ◌, ◌∙◌}
+use Rattle.std.proofs.Common.{◌∙◌}
 use Rattle.std.proofs.lemmas.Int.{to_z-of_z}
-use Rattle.trac_rules.specs.Number.{difference_of}
 use Rattle.trac_rules.specs.declared.primitive.Operation.TheVariants.{Subtract}
-use Rattle.trac_num.proofs.Range.{held_if_wide, none_made, wide_made}
+use Rattle.trac_num.proofs.Range.{none_made, wide_made}
 use Rattle.trac_num.proofs.arithmetic.sub.Goals as goal
 
 pub returns-in_err-checked_sub : goal.returns-in_err-checked_sub
-unfolding difference_of
 returns-in_err-checked_sub c =
     let p = c.ranges.a in
     let q = c.ranges.b in
-    c.from_residual.ensures
-    ∙ none_made Subtract c.args.width c.args.a c.args.b c.checked_sub.result (held_if_wide c.checked_sub.result (c.args.a -ℤ c.args.b) (simp to_z-of_z at c.checked_sub.ensures)) c.in_err-checked_sub.was
+    c.from_residual.ensures ∙ none_made Subtract c.args.width c.args.a c.args.b c.checked_sub.result c.ranges.b (simp to_z-of_z at c.checked_sub.ensures) c.in_err-checked_sub.was
 
 pub returns : goal.returns
-unfolding difference_of
 returns c =
     let p = c.ranges.a in
     let q = c.ranges.b in
-    c.within.ensures
-    ∙ wide_made Subtract c.args.width c.args.a c.args.b c.in_ok-checked_sub.field-0 c.checked_sub.result (held_if_wide c.checked_sub.result (c.args.a -ℤ c.args.b) (simp to_z-of_z at c.checked_sub.ensures)) c.in_ok-checked_sub.was
+    c.within.ensures ∙ wide_made Subtract c.args.width c.args.a c.args.b c.in_ok-checked_sub.field-0 c.checked_sub.result c.ranges.b (simp to_z-of_z at c.checked_sub.ensures) c.in_ok-checked_sub.was

@@ -2,7 +2,8 @@
 use Rattle.std.proofs.Common.{◌≡◌, ◌∙◌, sym, length, true}
 use Rattle.std.proofs.lemmas.Bool.{eqb-true, eqb-false}
 use Rattle.trac_rules.specs.Number.{is_numeral}
-use Rattle.trac_num.proofs.Parsed.{no_narrow_number, null_number, number_of_narrow, numeral_not_null, utf8_numeral, wide_number}
+use Rattle.trac_rules.specs.declared.width.Width.TheVariants.{W128}
+use Rattle.trac_num.proofs.Parsed.{no_narrow_number, null_number, number_of_narrow, numeral_not_null, parsed_number, utf8_numeral}
 use Rattle.trac_num.proofs.numeral.value.Goals as goal
 
 pub returns-then-is_empty : goal.returns-then-is_empty
@@ -27,4 +28,4 @@ pub returns-in-W128 : goal.returns-in-W128
 returns-in-W128 c =
     let some : is_numeral c.args.numeral.now ≡ true = numeral_not_null c.args.numeral.now c.requires (eqb-false (length c.args.numeral.now) 0 (sym c.is_empty.ensures ∙ c.if-is_empty.false)) in
     let same = (c.in-Ok.ensures).cases.0 in
-    rw c.in-W128.is (c.ok.ensures.value ∙ wide_number c.args.numeral.now c.parse-in-W128.result some (rw same at c.parse-in-W128.ensures.value.0))
+    rw c.in-W128.is (c.ok.ensures.value ∙ parsed_number W128 c.args.numeral.now c.parse-in-W128.result some (rw same at c.parse-in-W128.ensures.value.0))
