@@ -35,3 +35,5 @@ pub mod Losses
 pub mod CallRows
 pub mod MovedOn
 pub mod Released
+pub mod TakenAgain
+pub mod AlikeForms

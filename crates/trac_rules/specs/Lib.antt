@@ -28,6 +28,8 @@ pub mod Records
 pub mod Weights
 pub mod PlainRuns
 pub mod Session
+pub mod Goals
+pub mod Trails
 pub mod Running
 pub mod GoingOn
 -- Words in which the worked rows are said.

@@ -8,3 +8,5 @@ pub mod Performed
 pub mod Windowed
 pub mod Told
 pub mod Heavy
+pub mod Returned
+pub mod Looked

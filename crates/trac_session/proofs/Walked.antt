@@ -1,18 +1,17 @@
 -- Walks, step by step.
-use Rattle.std.proofs.Common.{◌≡◌, ℕ, zero, suc, ◌+◌, ◌<◌, ◌≤◌, ◌&&◌, Bool, Bor, List, true, false, refl, sym, ap, subst, ◌∙◌, arith, inl, inr, ⊎_elim}
+use Rattle.std.proofs.Common.{◌≡◌, ℕ, zero, suc, ◌+◌, ◌<◌, ◌≤◌, ◌&&◌, true, false, refl, sym, ap, subst, ◌∙◌, arith, inl, inr, ⊎_elim}
 use Rattle.std.proofs.lemmas.Bool.{cases_lt}
-use Rattle.std.specs.Prelude.{Option, None, Some, nat_lt, option_and_then, option_copied}
+use Rattle.std.specs.Prelude.{Option, None, Some, nat_lt, option_and_then}
 use Rattle.trac_rules.specs.declared.refusal.Refusal.{Refusal}
 use Rattle.trac_rules.specs.declared.refusal.Refusal.TheVariants.{Memory, TooLong, NeedInput, Ended, JournalFull, AtStart, Closed, NotMet}
 use Rattle.trac_rules.specs.declared.reply.Reply.{Reply}
 use Rattle.trac_rules.specs.declared.reply.Reply.TheVariants.{Done, Refused}
-use Rattle.trac_rules.specs.State.{State}
 use Rattle.trac_rules.specs.Session.{PlainSession, Command, Step, Back, Goal, done, refused, answer, accepted_by, Answers, no_goal, repeated, IsWalk}
 use Rattle.trac_rules.proofs.Replies.{Step_refused, Back_refused}
 use Rattle.trac_session.specs.declared.walking.Direction.{Direction}
 use Rattle.trac_session.specs.declared.walking.Direction.TheVariants as towards
 use Rattle.trac_session.specs.Directions.{command_towards}
-use Rattle.trac_session.specs.Goals.{IsSearch, goal_of, is_call_of, outcome}
+use Rattle.trac_session.specs.Goals.{IsSearch, outcome}
 
 -- ---- one step
 
@@ -153,7 +152,3 @@ searched_walk command goal n old new done steps ended why walk same is = (
   subst (λ k. IsWalk command goal n old k ended new) (sym same) walk,
   is ∙ ap (λ k. outcome (nat_lt 0 k && goal new.last) ended) (sym same),
 )
-
--- the goal of a walk to a name, as it is tested
-pub met_at : (name : Option (Bor (List ℕ))) (wanted : Bor (List ℕ)) (s : State) (met : Bool) → name ≡ Some wanted → met ≡ is_call_of wanted.now s → met ≡ goal_of (option_copied name) s
-met_at name wanted s met is test = test ∙ ap (λ n. goal_of (option_copied n) s) (sym is)

@@ -1,10 +1,12 @@
--- Walks to the call of a name.
-use Rattle.std.specs.Prelude.{◌≡◌, ℕ, nat_lt, ◌&&◌, List, Bool, true, false, Option, None, Some}
+-- Walks to a goal.
+use Rattle.std.specs.Prelude.{◌≡◌, ℕ, nat_lt, ◌&&◌, List, map, Bool, true, false, Option, None, Some}
 use Rattle.std.specs.Str.{bytes_eq}
 use Rattle.trac_rules.specs.declared.refusal.Refusal.{Refusal}
 use Rattle.trac_rules.specs.declared.refusal.Refusal.TheVariants.{NotMet}
-use Rattle.trac_rules.specs.Session.{PlainSession, Command, Goal, IsWalk, no_goal}
+use Rattle.trac_rules.specs.Session.{PlainSession, Command, Goal, IsWalk}
 use Rattle.trac_rules.specs.Stepping.{call_at}
+use Rattle.trac_rules.specs.Goals.{has_other_form, is_call_with, is_end_of, is_own_call, is_shallower, is_unprinted, leaves_at_most}
+use Rattle.trac_session.specs.declared.goal.Goal as code
 
 -- whether a name is that of the call, byte for byte; where there is no call there is no name
 abbrev pub is_named : List ℕ → Option (List ℕ) → Bool
@@ -26,7 +28,12 @@ abbrev pub IsSearch : Command → Goal → ℕ → PlainSession → ℕ → Opti
 IsSearch command goal n old steps why new =
     (ended : Option Refusal) × IsWalk command goal n old steps ended new × (why ≡ outcome (nat_lt 0 steps && goal new.last) ended)
 
--- the goal of a walk: to come to a call of a name, where there is one
-abbrev pub goal_of : Option (List ℕ) → Goal
-goal_of None = no_goal
-goal_of (Some name) = is_call_of name
+-- the goals that the code names
+abbrev pub goal_of : {A : Type 0} → code.Goal A → Goal
+goal_of (code.TheVariants.Call wanted) = is_call_with (map (λ text. text.now) wanted.now)
+goal_of code.TheVariants.OwnCall = is_own_call
+goal_of (code.TheVariants.End depth) = is_end_of depth
+goal_of (code.TheVariants.Shallower count) = is_shallower count
+goal_of (code.TheVariants.Rest most) = leaves_at_most most
+goal_of (code.TheVariants.OtherForm name form) = has_other_form name.now form.now
+goal_of (code.TheVariants.Unprinted count) = is_unprinted count

@@ -6,6 +6,7 @@ pub mod Counted
 pub mod Weighed
 pub mod Passed
 pub mod Goals
+pub mod Returns
 pub mod Directions
 pub mod Within
 -- How proofs store these values.

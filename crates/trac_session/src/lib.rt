@@ -2,6 +2,7 @@
 #![tactic(auto)]
 
 mod commands;
+pub mod goal;
 mod journal;
 mod keeping;
 mod passing;
@@ -10,7 +11,9 @@ mod walk;
 mod walking;
 
 pub use commands::{Command, Replies, Reply};
+pub use goal::Goal;
 pub use session::Session;
+pub use trac_forms::Form;
 pub use trac_rules::refusal::Refusal;
 pub use trac_step::{Machine, Store, Width};
-pub use walk::Walk;
+pub use walk::{Return, Walk};

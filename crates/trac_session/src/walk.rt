@@ -7,7 +7,19 @@ use trac_rules::refusal::Refusal;
 pub struct Walk {
     /// How many steps were taken.
     pub done: u64,
-    /// Why it went no further: the refusal that ended it, or `NotMet` where it looked for a name and did not meet it. None
-    /// where all the steps that were asked for were taken, or the name was met.
+    /// Why it went no further: the refusal that ended it, or `NotMet` where it looked for a goal, as a name, and did not meet it.
+    /// None where all the steps that were asked for were taken, or the goal was met.
     pub why: Option<Refusal>,
+}
+
+/// How a search back ended that goes forward again where it meets nothing.
+#[derive(Clone, Copy, Debug, PartialEq, Eq)]
+pub enum Return {
+    /// The goal was met after so many steps back, where the session now stands.
+    Met(u64),
+    /// No earlier state meets the goal, and the session shows the states that it had.
+    NotMet,
+    /// No earlier state meets the goal. On the way forward again a step was refused for this, which is `Memory`: the session
+    /// stands so many steps before the state that it had.
+    Stopped { left: u64, why: Refusal },
 }

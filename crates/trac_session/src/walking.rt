@@ -1,13 +1,15 @@
 //! Walks over several steps.
-ghost use Rattle.std.specs.Prelude.{◌≡◌, ◌≤◌, ◌&&◌, Some, length, max, nat_lt, option_copied};
+ghost use Rattle.std.specs.Prelude.{◌≡◌, ◌≤◌, ◌&&◌, Some, length, max, nat_lt};
 ghost use Rattle.trac_rules.specs.Session.{Step, Back, Answers, IsWalk, no_goal, repeated};
 ghost use Rattle.trac_session.specs.Directions.{command_towards};
 ghost use Rattle.trac_session.specs.Goals.{IsSearch, goal_of, is_call_of, outcome};
 ghost use Rattle.trac_session.specs.Replies.{reply_of};
+ghost use Rattle.trac_session.specs.Returns.{IsReturn};
 ghost use Rattle.trac_session.specs.Within.{IsWalkWithin};
 
+use crate::goal::{Goal, is_met};
 use crate::session::Session;
-use crate::walk::Walk;
+use crate::walk::{Return, Walk};
 use std::alloc::Allocator;
 use trac_rules::refusal::Refusal;
 
@@ -29,29 +31,16 @@ impl<A: Allocator + Copy> Session<A> {
         }
     }
 
-    // Whether the next step would perform a function of this name.
-    fn is_at(&self, name: &[u8]) -> bool
-        ensures { result ≡ is_call_of name.now self.now.last }
+    // Whether the session shows a state that meets the goal.
+    fn has_met(&self, goal: &Goal<'_, A>) -> bool
+        ensures { result ≡ goal_of goal.now self.now.last }
     {
-        match self.machine().at_call() {
-            Some(called) => called == name,
-            None => false,
-        }
-    }
-
-    // Whether a walk has come to a call of the name that it looks for, where there is one.
-    fn has_met(&self, name: Option<&[u8]>) -> bool
-        ensures { result ≡ goal_of (option_copied name.entry) self.now.last }
-    {
-        match name {
-            Some(name) => self.is_at(name),
-            None => false,
-        }
+        is_met(self.machine(), goal)
     }
 
     // Goes this way by up to `n` steps, until one is refused, which the walk returns, or the goal is met.
-    fn walk(&mut self, direction: Direction, name: Option<&[u8]>, n: u64) -> Walk
-        ensures { IsWalk (command_towards direction) (goal_of (option_copied name.entry)) n self.old result.done result.why self.new }
+    fn walk(&mut self, direction: Direction, goal: &Goal<'_, A>, n: u64) -> Walk
+        ensures { IsWalk (command_towards direction) (goal_of goal.now) n self.old result.done result.why self.new }
     {
         for done in 0..n {
             if let Err(refusal) = self.go(direction) {
@@ -60,7 +49,7 @@ impl<A: Allocator + Copy> Session<A> {
                     why: Some(refusal),
                 };
             }
-            if self.has_met(name) {
+            if self.has_met(goal) {
                 return Walk {
                     done: done + 1,
                     why: None,
@@ -100,12 +89,12 @@ impl<A: Allocator + Copy> Session<A> {
         Walk { done, why: None }
     }
 
-    // The same walk, which answers `NotMet` where no refusal ended it and its goal is not met.
-    fn searched(&self, name: &[u8], walk: Walk) -> Walk
+    // The same walk, which returns `NotMet` where no refusal ended it and its goal is not met.
+    fn searched(&self, goal: &Goal<'_, A>, walk: Walk) -> Walk
         ensures done { result.done ≡ walk.done }
-        ensures why { result.why ≡ outcome (nat_lt 0 walk.done && is_call_of name.now self.now.last) walk.why }
+        ensures why { result.why ≡ outcome (nat_lt 0 walk.done && goal_of goal.now self.now.last) walk.why }
     {
-        if walk.why.is_some() || walk.done > 0 && self.is_at(name) {
+        if walk.why.is_some() || walk.done > 0 && self.has_met(goal) {
             return walk;
         }
         Walk {
@@ -160,6 +149,46 @@ impl<A: Allocator + Copy> Session<A> {
         self.go_far(Direction::Backward, n)
     }
 
+    /// Goes forward by up to `n` steps, until the state meets the goal. That it did so already, before any step, does not
+    /// count. A refused step ends the walk as in `forward`; where `n` steps were taken and the goal is not met, the walk returns
+    /// `NotMet`, also where `n` is 0 (this project's profile).
+    pub fn forward_to(&mut self, goal: Goal<'_, A>, n: u64) -> Walk
+        ensures { IsSearch Step (goal_of goal.entry) n self.old result.done result.why self.new }
+    {
+        let walk = self.walk(Direction::Forward, &goal, n);
+        self.searched(&goal, walk)
+    }
+
+    /// Goes back over steps, until the state meets the goal. That it did so already, before any step back, does not count; the
+    /// first state is tested too. Where all steps are gone back over and the goal is not met, the walk returns `NotMet`, and
+    /// where there is no step to go back over, `AtStart`. It takes no memory (this project's profile).
+    pub fn back_to(&mut self, goal: Goal<'_, A>) -> Walk
+        ensures { IsSearch Back (goal_of goal.entry) (max 1 (length self.old.earlier)) self.old result.done result.why self.new }
+    {
+        let walk = self.walk(Direction::Backward, &goal, self.steps_back());
+        self.searched(&goal, walk)
+    }
+
+    /// Goes back as `back_to` does, and where no earlier state meets the goal goes forward again, by as many steps: these give
+    /// the same states, so the session shows those that it had. Only where memory is refused on the way there it stands between
+    /// (this project's profile).
+    pub fn return_to(&mut self, goal: Goal<'_, A>) -> Return
+        ensures { IsReturn (goal_of goal.entry) self.old result self.new }
+    {
+        let back = self.back_to(goal);
+        if back.why.is_none() {
+            return Return::Met(back.done);
+        }
+        let again = self.forward(back.done);
+        match again.why {
+            None => Return::NotMet,
+            Some(why) => Return::Stopped {
+                left: back.done - again.done,
+                why,
+            },
+        }
+    }
+
     /// Goes forward by up to `n` steps, until the next step would perform a function of this name, which is compared
     /// byte for byte. That it would do so already, before any step, does not count. A refused step ends the walk as
     /// in `forward`; where `n` steps were taken and the name was not met, the walk returns `NotMet`, also where `n`
@@ -167,8 +196,7 @@ impl<A: Allocator + Copy> Session<A> {
     pub fn until(&mut self, name: &[u8], n: u64) -> Walk
         ensures { IsSearch Step (is_call_of name.now) n self.old result.done result.why self.new }
     {
-        let walk = self.walk(Direction::Forward, Some(name), n);
-        self.searched(name, walk)
+        self.forward_to(Goal::Call(&[name]), n)
     }
 
     /// Goes back over steps, until the next step would perform a function of this name, which is compared byte for byte.
@@ -178,7 +206,6 @@ impl<A: Allocator + Copy> Session<A> {
     pub fn back_until(&mut self, name: &[u8]) -> Walk
         ensures { IsSearch Back (is_call_of name.now) (max 1 (length self.old.earlier)) self.old result.done result.why self.new }
     {
-        let walk = self.walk(Direction::Backward, Some(name), self.steps_back());
-        self.searched(name, walk)
+        self.back_to(Goal::Call(&[name]))
     }
 }

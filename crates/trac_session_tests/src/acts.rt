@@ -10,8 +10,19 @@ use trac_machine_tests::shown::texts_shown;
 use trac_rules::limit::JOURNAL_LIMIT;
 use trac_rules::refusal::Refusal;
 use trac_rules::width::Width;
-use trac_session::Session;
+use trac_session::{Form, Goal, Return, Session, Walk};
 use trac_step::{Core, Mark};
+
+/// What a search looks for, in a table: a goal may hold a form, and so cannot stand in one.
+#[derive(Clone, Copy)]
+pub(crate) enum Sought {
+    Call(&'static [&'static [u8]]),
+    OwnCall,
+    End(usize),
+    Shallower(usize),
+    Rest(usize),
+    Unprinted(usize),
+}
 
 /// One act on a session with what it answers, or one part of what it shows then.
 pub(crate) enum Act {
@@ -38,6 +49,16 @@ pub(crate) enum Act {
     Back(u64),
     /// Of so many steps the second number are gone back over, and then the start is there.
     BackToStart(u64, u64),
+    /// Of so many steps forward to a goal the second number are taken, and then it is met.
+    ForwardTo(Sought, u64, u64),
+    /// So many steps forward are taken, and the goal is not met.
+    ForwardPast(Sought, u64),
+    /// After so many steps back a goal is met.
+    BackTo(Sought, u64),
+    /// After so many steps back the form of this name is another one than it was.
+    BackToOther(&'static [u8], u64),
+    /// A search back that goes forward again ends so.
+    ReturnTo(Sought, Return),
     /// The base text, the begun functions, a `^`, and what is not scanned yet.
     Shows(&'static [u8]),
     /// What is not scanned yet.
@@ -94,6 +115,24 @@ fn goes_back(session: &mut Session, n: u64, done: u64, why: Option<Refusal>) -> 
     walk.done == done && walk.why == why
 }
 
+// Whether a walk took so many steps, and ended for this reason.
+fn is_walk(walk: Walk, done: u64, why: Option<Refusal>) -> bool {
+    walk.done == done && walk.why == why
+}
+
+// The form of a name, copied, if there is one.
+fn copied(rt: &impl Abort, session: &Session, name: &[u8]) -> Option<Form> {
+    let form = session.machine().store().get(name)?;
+    Some(form.copy().expect(rt, "there was no memory"))
+}
+
+// Whether after so many steps back the form of this name is another one than now.
+fn goes_back_to_other(rt: &impl Abort, session: &mut Session, name: &[u8], done: u64) -> bool {
+    let form = copied(rt, session, name);
+    let walk = session.back_to(Goal::OtherForm(name, &form));
+    is_walk(walk, done, None)
+}
+
 // Whether so many steps are taken, each with a commit after it. Before a commit there is one record more than it keeps at most.
 fn goes_in_window(session: &mut Session, n: u64, keep: usize) -> bool {
     for _ in 0..n {
@@ -104,6 +143,36 @@ fn goes_in_window(session: &mut Session, n: u64, keep: usize) -> bool {
         session.commit(keep);
     }
     session.len() <= keep
+}
+
+fn goal_of(sought: Sought) -> Goal<'static> {
+    match sought {
+        Sought::Call(wanted) => Goal::Call(wanted),
+        Sought::OwnCall => Goal::OwnCall,
+        Sought::End(depth) => Goal::End(depth),
+        Sought::Shallower(count) => Goal::Shallower(count),
+        Sought::Rest(most) => Goal::Rest(most),
+        Sought::Unprinted(count) => Goal::Unprinted(count),
+    }
+}
+
+// Carries out one search, and says whether it is answered so.
+fn search(session: &mut Session, act: &Act) -> bool {
+    match *act {
+        Act::ForwardTo(sought, n, done) => {
+            is_walk(session.forward_to(goal_of(sought), n), done, None)
+        }
+        Act::ForwardPast(sought, n) => {
+            is_walk(
+                session.forward_to(goal_of(sought), n),
+                n,
+                Some(Refusal::NotMet),
+            )
+        }
+        Act::BackTo(sought, done) => is_walk(session.back_to(goal_of(sought)), done, None),
+        Act::ReturnTo(sought, end) => session.return_to(goal_of(sought)) == end,
+        _ => true,
+    }
 }
 
 // Carries out one act that may change the session, and says whether it is answered so.
@@ -126,7 +195,8 @@ fn carry_out(rt: &impl Abort, alloc: Global, session: &mut Session, act: &Act) -
         Act::ForwardUntil(why) => forward_to_end(session) == Err(why),
         Act::Back(n) => goes_back(session, n, n, None),
         Act::BackToStart(n, done) => goes_back(session, n, done, Some(Refusal::AtStart)),
-        _ => true,
+        Act::BackToOther(name, done) => goes_back_to_other(rt, session, name, done),
+        _ => search(session, act),
     }
 }
 

@@ -10,6 +10,8 @@ mod acts;
 #[cfg(test)]
 mod commands;
 #[cfg(test)]
+mod searches;
+#[cfg(test)]
 mod sessions;
 #[cfg(test)]
 mod walks;

@@ -7,6 +7,7 @@ pub mod Changes
 pub mod Moving
 pub mod Outcomes
 pub mod Calls
+pub mod NextCalls
 pub mod CallsPlanned
 pub mod Finishing
 pub mod Beginnings

@@ -1,6 +1,7 @@
 //! The machine: a state of the language that takes one step at a time, and goes back over it.
 #![tactic(auto)]
 
+mod ahead;
 mod blocking;
 mod calling;
 mod calls_back;

@@ -1,9 +1,10 @@
-use Rattle.trac_rules.specs.Session.{Step}
-use Rattle.trac_session.specs.Goals.{is_call_of}
-use Rattle.trac_session.proofs.Walked.{searched_walk}
+use Rattle.std.proofs.Common.{subst}
+use Rattle.trac_rules.specs.Session.{Goal, Step}
+use Rattle.trac_session.specs.Goals.{IsSearch}
+use Rattle.trac_session.proofs.Looked.{one_name}
 use Rattle.trac_session.proofs.session.Session.until.Goals as goal
 
 pub returns : goal.returns
 returns g c =
-    searched_walk Step (is_call_of c.args.name.now) c.args.n c.args.self.now c.walk-walk.new.self c.walk-walk.result.done c.searched.result.done c.walk-walk.result.why c.searched.result.why
-    c.walk-walk.ensures c.searched.ensures.done c.searched.ensures.why
+    subst (λ (looked : Goal). IsSearch Step looked c.args.n c.args.self.now c.forward_to.result.done c.forward_to.result.why c.forward_to.new.self)
+    (λ i s. one_name c.args.name.now s i) c.forward_to.ensures

@@ -1,4 +1,3 @@
-use Rattle.std.specs.Prelude.{option_copied}
 use Rattle.trac_session.specs.Directions.{command_towards}
 use Rattle.trac_session.specs.Goals.{goal_of}
 use Rattle.trac_session.proofs.Walked.{GoesOn}
@@ -6,4 +5,4 @@ use Rattle.trac_session.proofs.session.Session.walk.Given as goal
 
 -- so many steps are done, and the goal is not met
 abbrev pub invariant-loop-done : goal.invariant-loop-done
-invariant-loop-done g l = GoesOn (command_towards l.direction) (goal_of (option_copied l.name)) l.fn.self l.done l.self
+invariant-loop-done g l = GoesOn (command_towards l.direction) (goal_of l.goal) l.fn.self l.done l.self

@@ -1,6 +1,6 @@
-use Rattle.std.proofs.Common.{◌≡◌, ℕ, List, Bool, refl, sym, ap, ◌∙◌, true, false, not, rules}
+use Rattle.std.proofs.Common.{◌≡◌, ℕ, List, sym, ap, ◌∙◌, true, false, not}
 use Rattle.std.specs.Prelude.{Some}
-use denote.Enum.Bare.{sameb, same_true}
+use denote.Enum.Bare.{sameb}
 use Rattle.trac_rules.specs.contracts.scan.Front.{the_type}
 use Rattle.trac_rules.specs.declared.scan.Front.{Front}
 use Rattle.trac_rules.specs.declared.scan.Front.TheVariants.{Closing}
@@ -8,16 +8,9 @@ use Rattle.trac_rules.specs.Scanning.{front_of}
 use Rattle.trac_rules.specs.Effect.{argument}
 use Rattle.trac_prims.specs.Neutral.{Neutral, cut_back, neutral_of}
 use Rattle.trac_step.proofs.Calls.{call_at_first}
+use Rattle.trac_step.proofs.NextCalls.{closing_unless_other}
 use Rattle.trac_step.proofs.Scans.{no_call_before, no_call_outside}
 use Rattle.trac_step.proofs.engine.Core.at_call.Goals as goal
-
--- a front that is no other one is a `)`
-closing_unless_other : (front : Front) → not (sameb the_type front Closing) ≡ false → front ≡ Closing
-closing_unless_other front h = same_true the_type (search rules) front Closing (not_false (sameb the_type front Closing) h)
-  where
-    not_false : (b : Bool) → not b ≡ false → b ≡ true
-    not_false true h = refl
-    not_false false h = sym h
 
 pub returns-then-ne : goal.returns-then-ne
 returns-then-ne g c =

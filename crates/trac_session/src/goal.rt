@@ -1,0 +1,149 @@
+//! What walks look for.
+ghost use Rattle.std.specs.Prelude.{◌≡◌, bytes_eq, map, option_copied, Some};
+ghost use Rattle.std.specs.List.{starts_with};
+ghost use Rattle.trac_rules.specs.Goals.{frame_at, is_begun_with, is_call_with, is_form_as, is_idle_printing, is_idle_reading, is_own_call, is_same_form, is_same_item};
+ghost use Rattle.trac_rules.specs.declared.item.Item.{Item};
+ghost use Rattle.trac_session.specs.Goals.{goal_of};
+
+use std::alloc::{Allocator, Global};
+use trac_forms::{Form, Item};
+use trac_step::{Args, Kind, Machine};
+
+/// What a walk looks for. Whether a state meets it is a definition (`trac_rules/specs/Goals.antt`), in this project's profile.
+#[derive(Clone, Copy)]
+pub enum Goal<'a, A: Allocator + Copy = Global> {
+    /// The next step performs a call whose first arguments are these, its name first, each compared byte for byte. Where none
+    /// are given, any call.
+    Call(&'a [&'a [u8]]),
+    /// The next step performs a call, but not the `ps` or the `rs` of the idle program `#(ps,#(rs))`. A program's own `rs`
+    /// that stands last in a text, with nothing gathered before it, cannot be told from that one, and is passed over too.
+    OwnCall,
+    /// The next step performs the begun function of this number, the outermost being number 1: it stands at its end. Where a
+    /// text ends before its functions do, the idle program is loaded, and a later function that is begun so deep meets the goal.
+    End(usize),
+    /// Fewer functions than so many are begun. On the way back from inside the function of this number this is met first before
+    /// it was begun.
+    Shallower(usize),
+    /// At most so many bytes are left to scan.
+    Rest(usize),
+    /// The next step performs a call, and the form of this name is another one than this: there is one on one side alone, or
+    /// the items or the place of the pointer differ. On the way back, with a copy of the form as it is now (`Form::copy`), this is
+    /// the call that changed it last.
+    OtherForm(&'a [u8], &'a Option<Form<A>>),
+    /// At most so many bytes of the output are not released yet. On the way back from where byte number `n` of it, from 0 on, is
+    /// printed, this is met first at the call that prints it.
+    Unprinted(usize),
+}
+
+// Whether a machine shows a state that meets the goal.
+pub(crate) fn is_met<A: Allocator + Copy>(machine: &Machine<A>, goal: &Goal<'_, A>) -> bool
+    ensures { result ≡ goal_of goal.now machine.now.state }
+{
+    match goal {
+        Goal::Call(wanted) => is_before_call(machine, wanted),
+        Goal::OwnCall => is_before_own_call(machine),
+        Goal::End(depth) => machine.next_call().is_some() && machine.depth() == *depth,
+        Goal::Shallower(count) => machine.depth() < *count,
+        Goal::Rest(most) => machine.active().len() <= *most,
+        Goal::OtherForm(name, form) => {
+            machine.next_call().is_some() && !are_alike(machine.store().get(name), form)
+        }
+        Goal::Unprinted(count) => machine.output().len() <= *count,
+    }
+}
+
+// Whether arguments begin with these.
+fn begin_with(arguments: &Args<'_>, wanted: &[&[u8]]) -> bool
+    ensures { result ≡ starts_with bytes_eq arguments.now (map (λ text. text.now) wanted.now) }
+{
+    if arguments.count() < wanted.len() {
+        return false;
+    }
+    for i in 0..wanted.len() {
+        if arguments.get(i) != wanted[i] {
+            return false;
+        }
+    }
+    true
+}
+
+// Whether the next step performs a call whose first arguments are these.
+fn is_before_call<A: Allocator + Copy>(machine: &Machine<A>, wanted: &[&[u8]]) -> bool
+    ensures { result ≡ is_call_with (map (λ text. text.now) wanted.now) machine.now.state }
+{
+    match machine.next_call() {
+        Some((_, arguments)) => begin_with(&arguments, wanted),
+        None => false,
+    }
+}
+
+// Whether the begun function of this number is active, and its arguments begin with these.
+fn has_begun<A: Allocator + Copy>(machine: &Machine<A>, number: usize, wanted: &[&[u8]]) -> bool
+    ensures { result ≡ is_begun_with (map (λ text. text.now) wanted.now) (frame_at number machine.now.state) }
+{
+    match machine.frame(number) {
+        Some((kind, arguments)) => matches!(kind, Kind::Active) && begin_with(&arguments, wanted),
+        None => false,
+    }
+}
+
+// Whether the next step performs the `rs` of the idle program.
+fn reads_idly<A: Allocator + Copy>(machine: &Machine<A>) -> bool
+    ensures { result ≡ is_idle_reading machine.now.state }
+{
+    machine.active() == b"))".as_slice()
+        && machine.depth() == 2
+        && has_begun(machine, 0, &[b"ps", b""])
+        && has_begun(machine, 1, &[b"rs"])
+}
+
+// Whether the next step performs the `ps` of the idle program.
+fn prints_idly<A: Allocator + Copy>(machine: &Machine<A>) -> bool
+    ensures { result ≡ is_idle_printing machine.now.state }
+{
+    machine.active() == b")".as_slice() && machine.depth() == 1 && has_begun(machine, 0, &[b"ps"])
+}
+
+// Whether the next step performs a call that is not the idle program's.
+fn is_before_own_call<A: Allocator + Copy>(machine: &Machine<A>) -> bool
+    ensures { result ≡ is_own_call machine.now.state }
+{
+    machine.next_call().is_some() && !(reads_idly(machine) || prints_idly(machine))
+}
+
+// Whether there is a form on neither side, or the same one on both.
+fn are_alike<A: Allocator + Copy>(form: Option<&Form<A>>, other: &Option<Form<A>>) -> bool
+    ensures { result ≡ is_form_as (option_copied form.entry) other.now }
+{
+    match (form, other) {
+        (None, None) => true,
+        (Some(form), Some(other)) => has_same_items(form, other),
+        _ => false,
+    }
+}
+
+// Whether two forms have the same items and the same pointer.
+fn has_same_items<A: Allocator + Copy>(form: &Form<A>, other: &Form<A>) -> bool
+    ensures { result ≡ is_same_form form.now other.now }
+{
+    let len = form.len();
+    if form.pointer() != other.pointer() || len != other.len() {
+        return false;
+    }
+    for i in 0..len {
+        if !is_same_place(form.item(i), other.item(i)) {
+            return false;
+        }
+    }
+    true
+}
+
+// Whether there is an item at each of two places, and they are the same.
+fn is_same_place(item: Option<Item>, other: Option<Item>) -> bool
+    ensures { (a b : Item) → item ≡ Some a → other ≡ Some b → result ≡ is_same_item a b }
+{
+    match (item, other) {
+        (Some(item), Some(other)) => item == other,
+        _ => false,
+    }
+}
