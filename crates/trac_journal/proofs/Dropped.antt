@@ -1,0 +1,462 @@
+-- What the oldest record has in the lists, dropped.
+use Rattle.std.proofs.Common.{◌≡◌, ℕ, zero, suc, ◌+◌, ◌-◌, ◌<◌, ◌≤◌, ◌^◌, List, [], ◌∷◌, ◌++◌, length, map, take, drop, All, refl, sym, ap, subst, ◌∙◌, arith}
+use Rattle.std.specs.Prelude.{min, replicate, reverse}
+use Rattle.std.proofs.lemmas.List.{append-nil, append_assoc, drop-append-le, drop-drop, drop_all, drop_at, drop_min, length-append, length-drop, length-replicate, length-take, map-append, replicate-append-replicate, reverse-append, take-append-drop, take-take, take_all, take_at, take_min}
+use Rattle.std.proofs.lemmas.List.Elements.{All-drop, All-head, All-same, All-take}
+use Rattle.trac_rules.specs.Records.{Record, Called, Idle, Moved, all_before_last}
+use Rattle.trac_rules.specs.State.{Frame}
+use Rattle.trac_rules.specs.Undone.{Undone, Nothing, Point}
+use Rattle.trac_rules.specs.Weights.{meta_weight, undone_weight, weight}
+use Rattle.trac_journal.specs.Dropped.{EndsWithCall, IsGone, IsGoneCall, IsOldest, joined, without_oldest}
+use Rattle.trac_journal.specs.Journaled.{unpacked, AreCounted, AreListed, IsLight}
+use Rattle.trac_journal.specs.Listed.{Listed, call_of, first_undone, idle_of, newest_in, nothing_listed, older_in, without_call, HasCall, Holds, IsBrief}
+use Rattle.trac_journal.specs.Told.{printed_by, read_by, sum_by}
+use Rattle.trac_journal.specs.declared.entry.Call.{Call}
+use Rattle.trac_journal.specs.declared.entry.Entry.{Entry}
+use Rattle.trac_journal.specs.declared.entry.Kept.{Kept}
+use Rattle.trac_journal.specs.declared.entry.Kept.TheVariants as kept
+use Rattle.trac_journal.specs.declared.lists.Gone.{Gone}
+use Rattle.trac_journal.proofs.Calls.{call_weighs, newest_call, undone_stays}
+use Rattle.trac_journal.proofs.Counted.{moved_sum, sum_by-append}
+use Rattle.trac_journal.proofs.Ends.{length-alone, same_before_last}
+use Rattle.trac_journal.proofs.Oldest.{OldestApart, oldest_apart, oldest_last}
+
+-- ---- the first of a list of the code is the last of those that are seen
+
+pub first_of : {X Y : Type 0} → (f : X → Y) (items left : List X) (x : X) (seen newer : List Y) (y : Y) → items ≡ x ∷ left → map f (reverse items) ≡ seen → seen ≡ newer ++ y ∷ [] →
+    (newer ≡ map f (reverse left)) × (y ≡ f x)
+first_of {X} f items left x seen newer y first view last =
+    let there : map f (reverse items) ≡ map f (reverse left) ++ f x ∷ [] =
+    ap (λ (xs : List X). map f (reverse xs)) first ∙ ap (map f) (reverse-append (x ∷ []) left) ∙ map-append f (reverse left) (x ∷ []) in
+    same_before_last newer (map f (reverse left)) y (f x) (sym last ∙ sym view ∙ there)
+
+pub first_call : (items left : List Call) (x call : Call) (seen newer : List Call) → items ≡ x ∷ left → reverse items ≡ seen → seen ≡ newer ++ call ∷ [] →
+    (newer ≡ reverse left) × (call ≡ x)
+first_call items left x call seen newer first view last =
+    let there : reverse items ≡ reverse left ++ x ∷ [] = ap reverse first ∙ reverse-append (x ∷ []) left in
+    same_before_last newer (reverse left) call x (sym last ∙ sym view ∙ there)
+
+-- ---- the oldest call
+
+emptied_stays : (calls : List Call) (l : Listed) → (without_call calls l).emptied ≡ l.emptied
+emptied_stays [] l = refl
+emptied_stays (c ∷ calls) l = refl
+
+-- it is the last of the calls, and all that stands before it is others'
+pub record OldestCall (own others all : Listed) : Type 0 where
+  pub call : Call
+  pub ends : EndsWithCall call others.calls all
+  pub weighs : (undone : Undone) → call.bytes + call.commas + meta_weight call.meta + undone_weight undone ≡ weight (call_of own.calls undone own.bytes own.commas)
+  pub read : (undone : Undone) → call.read ≡ read_by (call_of own.calls undone own.bytes own.commas)
+  pub printed : (undone : Undone) → call.printed ≡ printed_by (call_of own.calls undone own.bytes own.commas)
+  pub left : without_oldest call others.calls all ≡ record others { undone = others.undone ++ own.undone; emptied = others.emptied ++ own.emptied }
+
+oldest_call : (own others all alone : Listed) → HasCall own.calls own.bytes own.commas → without_call own.calls own ≡ alone → alone.calls ≡ [] → alone.bytes ≡ [] → alone.commas ≡ [] →
+    all ≡ joined own others → OldestCall own others all
+oldest_call own others all alone has is no_calls no_bytes no_commas together = by_calls own.calls refl has is
+  where
+    by_calls : (calls : List Call) → own.calls ≡ calls → HasCall calls own.bytes own.commas → without_call calls own ≡ alone → OldestCall own others all
+    by_calls [] first has is = absurd has
+    by_calls (c ∷ calls) first has is =
+        let one : own.calls ≡ c ∷ [] = first ∙ ap (λ (cs : List Call). c ∷ cs) (ap (λ (l : Listed). l.calls) is ∙ no_calls) in
+        let bytes : length own.bytes ≡ c.bytes = length-alone c.bytes own.bytes has.0 (ap (λ (l : Listed). l.bytes) is ∙ no_bytes) in
+        let commas : length own.commas ≡ c.commas = length-alone c.commas own.commas has.1 (ap (λ (l : Listed). l.commas) is ∙ no_commas) in
+        let text_is : all.bytes ≡ own.bytes ++ others.bytes = ap (λ (l : Listed). l.bytes) together in
+        let lengths_are : all.commas ≡ own.commas ++ others.commas = ap (λ (l : Listed). l.commas) together in
+        record {
+          call = c;
+          ends = record {
+            last = ap (λ (l : Listed). l.calls) together ∙ ap (λ (cs : List Call). others.calls ++ cs) one;
+            bytes = omega (arith, bytes, ap (λ (xs : List ℕ). length xs) text_is, length-append own.bytes others.bytes);
+            commas = omega (arith, commas, ap (λ (xs : List ℕ). length xs) lengths_are, length-append own.commas others.commas);
+          };
+          weighs = call_weighs own.calls calls c own.bytes own.commas first (newest_call own.calls calls c own.bytes own.commas first (subst (λ (cs : List Call). HasCall cs own.bytes own.commas) (sym first) has));
+          read = λ undone. sym (ap (λ (cs : List Call). read_by (call_of cs undone own.bytes own.commas)) first);
+          printed = λ undone. sym (ap (λ (cs : List Call). printed_by (call_of cs undone own.bytes own.commas)) first);
+          left = λ i. record {
+            calls = others.calls;
+            bytes = (ap (drop c.bytes) text_is ∙ drop_at own.bytes others.bytes c.bytes bytes) i;
+            commas = (ap (drop c.commas) lengths_are ∙ drop_at own.commas others.commas c.commas commas) i;
+            undone = ap (λ (l : Listed). l.undone) together i;
+            emptied = ap (λ (l : Listed). l.emptied) together i;
+          };
+        }
+
+-- of an entry that holds what the call destroyed of forms and blocks
+pub whole_call : (own others all : Listed) → HasCall own.calls own.bytes own.commas → without_call own.calls own ≡ nothing_listed → all ≡ joined own others →
+    (oldest : OldestCall own others all) × (without_oldest oldest.call others.calls all ≡ others)
+whole_call own others all has alone together =
+    let oldest = oldest_call own others all nothing_listed has alone refl refl refl together in
+    let undone : own.undone ≡ [] = sym (undone_stays own.calls own) ∙ ap (λ (l : Listed). l.undone) alone in
+    let emptied : own.emptied ≡ [] = sym (emptied_stays own.calls own) ∙ ap (λ (l : Listed). l.emptied) alone in (
+      oldest,
+      oldest.left ∙ (λ i. record others {
+        undone = (ap (λ (us : List Undone). others.undone ++ us) undone ∙ append-nil others.undone) i;
+        emptied = (ap (λ (es : List (List ℕ × List Frame)). others.emptied ++ es) emptied ∙ append-nil others.emptied) i;
+      }),
+    )
+
+-- and of one that does not
+pub record ChangedCall (own others all : Listed) : Type 0 where
+  pub oldest : OldestCall own others all
+  pub undone : Undone
+  pub last : all.undone ≡ others.undone ++ undone ∷ []
+  pub is_first : first_undone own.undone ≡ undone
+  pub left : record (without_oldest oldest.call others.calls all) { undone = others.undone } ≡ others
+
+pub changed_call : (own others all : Listed) → IsOldest kept.Changed own others all → ChangedCall own others all
+changed_call own others all is =
+    let alone : without_call own.calls own ≡ record nothing_listed { undone = own.undone } =
+    λ i. record (is.alone i) { undone = undone_stays own.calls own i } in
+    let oldest = oldest_call own others all (record nothing_listed { undone = own.undone }) is.is_there.0 alone refl refl refl is.together in
+    let emptied : own.emptied ≡ [] = sym (emptied_stays own.calls own) ∙ ap (λ (l : Listed). l.emptied) is.alone in
+    by_undone own.undone refl is.is_there.1 (ap (λ (l : Listed). l.undone) is.alone) oldest emptied
+  where
+    by_undone : (us : List Undone) → own.undone ≡ us → 1 ≤ length us → drop 1 us ≡ [] → OldestCall own others all → own.emptied ≡ [] → ChangedCall own others all
+    by_undone [] same some none oldest emptied = absurd (omega (arith, some))
+    by_undone (u ∷ us) same some none oldest emptied = record {
+      oldest = oldest;
+      undone = u;
+      last = ap (λ (l : Listed). l.undone) is.together ∙ ap (λ (vs : List Undone). others.undone ++ vs) (same ∙ ap (λ (vs : List Undone). u ∷ vs) none);
+      is_first = ap first_undone same;
+      left = (λ i. record (oldest.left i) { undone = others.undone }) ∙ (λ i. record others { emptied = (ap (λ (es : List (List ℕ × List Frame)). others.emptied ++ es) emptied ∙ append-nil others.emptied) i });
+    }
+
+-- what an idle step emptied
+pub record OldestIdle (own others all : Listed) : Type 0 where
+  pub texts : List ℕ × List Frame
+  pub last : all.emptied ≡ others.emptied ++ texts ∷ []
+  pub is_first : idle_of own.emptied ≡ Idle texts.0 texts.1
+  pub left : record all { emptied = others.emptied } ≡ others
+
+pub oldest_idle : (own others all : Listed) → IsOldest kept.Idle own others all → OldestIdle own others all
+oldest_idle own others all is = by_emptied own.emptied refl is.is_there (ap (λ (l : Listed). l.emptied) is.alone)
+  where
+    left_is : record all { emptied = others.emptied } ≡ others
+    left_is =
+        λ i. record {
+          calls = (ap (λ (l : Listed). l.calls) is.together ∙ ap (λ (l : Listed). others.calls ++ l.calls) is.alone ∙ append-nil others.calls) i;
+          bytes = (ap (λ (l : Listed). l.bytes) is.together ∙ ap (λ (l : Listed). l.bytes ++ others.bytes) is.alone) i;
+          commas = (ap (λ (l : Listed). l.commas) is.together ∙ ap (λ (l : Listed). l.commas ++ others.commas) is.alone) i;
+          undone = (ap (λ (l : Listed). l.undone) is.together ∙ ap (λ (l : Listed). others.undone ++ l.undone) is.alone ∙ append-nil others.undone) i;
+          emptied = others.emptied;
+        }
+
+    by_emptied : (es : List (List ℕ × List Frame)) → own.emptied ≡ es → 1 ≤ length es → drop 1 es ≡ [] → OldestIdle own others all
+    by_emptied [] same some none = absurd (omega (arith, some))
+    by_emptied (texts ∷ es) same some none = record {
+      texts = texts;
+      last = ap (λ (l : Listed). l.emptied) is.together ∙ ap (λ (vs : List (List ℕ × List Frame)). others.emptied ++ vs) (same ∙ ap (λ (vs : List (List ℕ × List Frame)). texts ∷ vs) none);
+      is_first = ap idle_of same;
+      left = left_is;
+    }
+
+-- a record that has nothing in the lists
+pub brief_left : (own others all : Listed) → own ≡ nothing_listed → all ≡ joined own others → all ≡ others
+brief_left own others all none together =
+    together
+    ∙ (λ i. record {
+      calls = (ap (λ (l : Listed). others.calls ++ l.calls) none ∙ append-nil others.calls) i;
+      bytes = ap (λ (l : Listed). l.bytes ++ others.bytes) none i;
+      commas = ap (λ (l : Listed). l.commas ++ others.commas) none i;
+      undone = (ap (λ (l : Listed). others.undone ++ l.undone) none ∙ append-nil others.undone) i;
+      emptied = (ap (λ (l : Listed). others.emptied ++ l.emptied) none ∙ append-nil others.emptied) i;
+    })
+
+-- ---- what is known of a record that is dropped
+
+-- an entry held all of it
+pub brief_gone : (k : Kept) (gone : Gone) (own others all : Listed) → IsBrief k → gone.weight ≡ weight (newest_in k nothing_listed) → gone.read ≡ 0 → gone.printed ≡ 0 →
+    IsOldest k own others all → IsGone gone (newest_in k own) × (all ≡ others)
+brief_gone kept.Comma gone own others all brief weighs reads prints is =
+    (record { weighs = weighs; reads = reads; prints = prints }, brief_left own others all is.alone is.together)
+brief_gone kept.Begun gone own others all brief weighs reads prints is =
+    (record { weighs = weighs; reads = reads; prints = prints }, brief_left own others all is.alone is.together)
+brief_gone (kept.Quoted closed inner) gone own others all brief weighs reads prints is =
+    (record { weighs = weighs; reads = reads; prints = prints }, brief_left own others all is.alone is.together)
+brief_gone (kept.Deleted b) gone own others all brief weighs reads prints is =
+    (record { weighs = weighs; reads = reads; prints = prints }, brief_left own others all is.alone is.together)
+brief_gone kept.Call gone own others all brief weighs reads prints is = absurd brief
+brief_gone (kept.Pointed place) gone own others all brief weighs reads prints is = absurd brief
+brief_gone kept.Changed gone own others all brief weighs reads prints is = absurd brief
+brief_gone kept.Idle gone own others all brief weighs reads prints is = absurd brief
+
+-- what dropping the oldest call leaves
+abbrev pub DropsCall : Gone → Listed → Listed → Type 0
+DropsCall gone all new = (call : Call) (newer : List Call) → EndsWithCall call newer all → IsGoneCall gone call × (new ≡ without_oldest call newer all)
+
+-- of an entry that holds what the call destroyed of forms and blocks
+pub call_gone : (k : Kept) (u : Undone) (gone : Gone) (own others all new : Listed) → (whole : (oldest : OldestCall own others all) × (without_oldest oldest.call others.calls all ≡ others)) →
+    undone_weight u ≡ 0 → newest_in k own ≡ call_of own.calls u own.bytes own.commas → DropsCall gone all new → IsGone gone (newest_in k own) × (new ≡ others)
+call_gone k u gone own others all new whole light is drops =
+    let d = drops whole.0.call others.calls whole.0.ends in (
+      record {
+        weighs = omega (arith, d.0.weighs, light, whole.0.weighs u, ap weight is);
+        reads = d.0.reads ∙ whole.0.read u ∙ ap read_by (sym is);
+        prints = d.0.prints ∙ whole.0.printed u ∙ ap printed_by (sym is);
+      },
+      d.1 ∙ whole.1,
+    )
+
+pub plain_call : (k : Kept) (own others all : Listed) → k ≡ kept.Call → IsOldest k own others all →
+    (oldest : OldestCall own others all) × (without_oldest oldest.call others.calls all ≡ others)
+plain_call k own others all kind oldest =
+    let is = subst (λ (x : Kept). IsOldest x own others all) kind oldest in
+    whole_call own others all is.is_there is.alone is.together
+
+pub plain_gone : (k : Kept) (gone : Gone) (own others all new : Listed) → k ≡ kept.Call → IsOldest k own others all → DropsCall gone all new →
+    IsGone gone (newest_in k own) × (new ≡ others)
+plain_gone k gone own others all new kind oldest drops =
+    call_gone k Nothing gone own others all new (plain_call k own others all kind oldest) refl (ap (λ (x : Kept). newest_in x own) kind) drops
+
+pub pointed_call : (k : Kept) {place : ℕ} (own others all : Listed) → k ≡ kept.Pointed place → IsOldest k own others all →
+    (oldest : OldestCall own others all) × (without_oldest oldest.call others.calls all ≡ others)
+pointed_call k own others all kind oldest =
+    let is = subst (λ (x : Kept). IsOldest x own others all) kind oldest in
+    whole_call own others all is.is_there is.alone is.together
+
+pub pointed_gone : (k : Kept) {place : ℕ} (gone : Gone) (own others all new : Listed) → k ≡ kept.Pointed place → IsOldest k own others all → DropsCall gone all new →
+    IsGone gone (newest_in k own) × (new ≡ others)
+pointed_gone k {place} gone own others all new kind oldest drops =
+    call_gone k (Point place) gone own others all new (pointed_call k own others all kind oldest) refl (ap (λ (x : Kept). newest_in x own) kind) drops
+
+-- and of one that does not
+pub changed_gone : (k : Kept) (gone part : Gone) (weighed : ℕ) (own others all middle new : Listed) → k ≡ kept.Changed → IsOldest k own others all → DropsCall part all middle →
+    ((first : Undone) (newer : List Undone) → middle.undone ≡ newer ++ first ∷ [] → (weighed ≡ undone_weight first) × (new ≡ record middle { undone = newer })) →
+    gone.weight ≡ part.weight + weighed → gone.read ≡ part.read → gone.printed ≡ part.printed → IsGone gone (newest_in k own) × (new ≡ others)
+changed_gone k gone part weighed own others all middle new kind is drops drops_undone weighs reads prints =
+    let whole = changed_call own others all (subst (λ (x : Kept). IsOldest x own others all) kind is) in
+    let d = drops whole.oldest.call others.calls whole.oldest.ends in
+    let u = drops_undone whole.undone others.undone (ap (λ (l : Listed). l.undone) d.1 ∙ whole.last) in
+    let newest : newest_in k own ≡ call_of own.calls (first_undone own.undone) own.bytes own.commas = ap (λ (x : Kept). newest_in x own) kind in (
+      record {
+        weighs = omega (arith, weighs, d.0.weighs, u.0, ap undone_weight whole.is_first, whole.oldest.weighs (first_undone own.undone), ap weight newest);
+        reads = reads ∙ d.0.reads ∙ whole.oldest.read (first_undone own.undone) ∙ ap read_by (sym newest);
+        prints = prints ∙ d.0.prints ∙ whole.oldest.printed (first_undone own.undone) ∙ ap printed_by (sym newest);
+      },
+      u.1 ∙ (λ i. record (d.1 i) { undone = others.undone }) ∙ whole.left,
+    )
+
+-- both parts are within what fits
+pub changed_fits : (k : Kept) (own others all : Listed) → k ≡ kept.Changed → (is : IsOldest k own others all) → weight (newest_in k own) < 2 ^ 64 →
+    (whole : ChangedCall own others all) × (whole.oldest.call.bytes + whole.oldest.call.commas + meta_weight whole.oldest.call.meta + undone_weight whole.undone < 2 ^ 64)
+changed_fits k own others all kind is fits =
+    let whole = changed_call own others all (subst (λ (x : Kept). IsOldest x own others all) kind is) in
+    let newest : newest_in k own ≡ call_of own.calls (first_undone own.undone) own.bytes own.commas = ap (λ (x : Kept). newest_in x own) kind in
+    (whole, omega (arith, fits, ap weight newest, ap undone_weight whole.is_first, whole.oldest.weighs (first_undone own.undone)))
+
+-- of an idle step
+pub idle_gone : (k : Kept) (gone : Gone) (own others all new : Listed) → k ≡ kept.Idle → IsOldest k own others all →
+    ((texts : List ℕ × List Frame) (newer : List (List ℕ × List Frame)) → all.emptied ≡ newer ++ texts ∷ [] → (gone.weight ≡ weight (Idle texts.0 texts.1)) × (new ≡ record all { emptied = newer })) →
+    gone.read ≡ 0 → gone.printed ≡ 0 → IsGone gone (newest_in k own) × (new ≡ others)
+idle_gone k gone own others all new kind is drops reads prints =
+    let whole = oldest_idle own others all (subst (λ (x : Kept). IsOldest x own others all) kind is) in
+    let d = drops whole.texts others.emptied whole.last in
+    let newest : newest_in k own ≡ Idle whole.texts.0 whole.texts.1 = ap (λ (x : Kept). newest_in x own) kind ∙ whole.is_first in (
+      record {
+        weighs = d.0 ∙ ap weight (sym newest);
+        reads = reads ∙ ap read_by (sym newest);
+        prints = prints ∙ ap printed_by (sym newest);
+      },
+      d.1 ∙ whole.left,
+    )
+
+pub idle_fits : (k : Kept) (own others all : Listed) → k ≡ kept.Idle → (is : IsOldest k own others all) → weight (newest_in k own) < 2 ^ 64 →
+    (whole : OldestIdle own others all) × (weight (Idle whole.texts.0 whole.texts.1) < 2 ^ 64)
+idle_fits k own others all kind is fits =
+    let whole = oldest_idle own others all (subst (λ (x : Kept). IsOldest x own others all) kind is) in
+    (whole, subst (λ (r : Record). weight r < 2 ^ 64) (ap (λ (x : Kept). newest_in x own) kind ∙ whole.is_first) fits)
+
+-- ---- the journal without some of the oldest records
+
+-- records are these, and then some that are dropped, so many, which weigh so much
+pub record AreLeft (old new gone : List Record) (count weighed n own : ℕ) : Type 0 where
+  pub kept : new ≡ take (length new) old
+  pub rest : drop (length new) old ≡ gone
+  pub many : length old ≡ length new + n
+  pub few : n ≤ count
+  pub within : own ≤ weighed
+  pub counted : AreCounted new (count - n) (weighed - own)
+
+are_left : (old new gone : List Record) (count weighed n own : ℕ) → old ≡ new ++ gone → n ≡ length gone → own ≡ sum_by weight gone → AreCounted old count weighed →
+    AreLeft old new gone count weighed n own
+are_left old new gone count weighed n own cut at is counted =
+    let parts = ap (sum_by weight) cut in
+    let many : length old ≡ length new + n = omega (arith, at, ap (λ (rs : List Record). length rs) cut, length-append new gone) in
+    let kept : new ≡ take (length new) old = sym (ap (take (length new)) cut ∙ take_at new gone (length new) refl) in
+    let within : own ≤ weighed = omega (arith, is, counted.together, parts, sum_by-append weight new gone) in
+    record {
+      kept = kept;
+      rest = ap (drop (length new)) cut ∙ drop_at new gone (length new) refl;
+      many = many;
+      few = omega (arith, many, counted.all);
+      within = within;
+      counted = record {
+        all = omega (arith, many, counted.all);
+        together = omega (arith, is, within, counted.together, parts, sum_by-append weight new gone);
+        light = All-same IsLight new (take (length new) old) kept (All-take IsLight (length new) old counted.light);
+      };
+    }
+
+-- without an entry some moved bytes are left out
+pub last_left : (moved n count weighed : ℕ) (entries now : List Entry) (l : Listed) → entries ≡ [] → now ≡ [] → n ≤ length (unpacked moved (reverse entries) l) →
+    AreCounted (unpacked moved (reverse entries) l) count weighed →
+    (n ≤ moved) × AreLeft (unpacked moved (reverse entries) l) (unpacked (moved - n) (reverse now) l) (replicate n Moved) count weighed n 0
+last_left moved n count weighed entries now l none still few counted =
+    let old : unpacked moved (reverse entries) l ≡ replicate moved Moved = ap (λ (es : List Entry). unpacked moved (reverse es) l) none in
+    let new : unpacked (moved - n) (reverse now) l ≡ replicate (moved - n) Moved = ap (λ (es : List Entry). unpacked (moved - n) (reverse es) l) still in
+    let within : n ≤ moved = omega (arith, few, ap (λ (rs : List Record). length rs) old, length-replicate moved Moved) in
+    let whole : moved ≡ (moved - n) + n = omega (arith, within) in
+    let cut : unpacked moved (reverse entries) l ≡ unpacked (moved - n) (reverse now) l ++ replicate n Moved =
+    old ∙ ap (λ k. replicate k Moved) whole ∙ sym (replicate-append-replicate (moved - n) n Moved) ∙ ap (λ (rs : List Record). rs ++ replicate n Moved) (sym new) in (
+      within,
+      are_left (unpacked moved (reverse entries) l) (unpacked (moved - n) (reverse now) l) (replicate n Moved) count weighed n 0 cut
+          (sym (length-replicate n Moved)) (sym (moved_sum weight n refl)) counted,
+    )
+
+reverse_first : (entries left : List Entry) (e : Entry) → entries ≡ e ∷ left → reverse entries ≡ reverse left ++ e ∷ []
+reverse_first entries left e first = ap reverse first ∙ reverse-append (e ∷ []) left
+
+-- the oldest entry apart
+pub first_apart : (entries left : List Entry) (e : Entry) (l : Listed) → entries ≡ e ∷ left → AreListed (reverse entries) l → OldestApart (reverse left) e l
+first_apart entries left e l first listed =
+    oldest_apart (reverse left) e l (subst (λ (es : List Entry). AreListed es l) (reverse_first entries left e first) listed)
+
+pub first_last : (moved : ℕ) (entries left : List Entry) (e : Entry) (own others l : Listed) → entries ≡ e ∷ left → AreListed (reverse left) others → l ≡ joined own others →
+    unpacked moved (reverse entries) l ≡ unpacked moved (reverse left) others ++ newest_in e.kept own ∷ replicate e.moved Moved
+first_last moved entries left e own others l first listed together =
+    (λ i. unpacked moved (reverse_first entries left e first i) (together i)) ∙ oldest_last moved (reverse left) e own others listed
+
+-- what an entry keeps says which of the lists have its own
+same_listed : (entries : List Entry) (e other : Entry) (l : Listed) → other.kept ≡ e.kept → AreListed (entries ++ e ∷ []) l → AreListed (entries ++ other ∷ []) l
+same_listed [] e other l same listed = subst (λ (k : Kept). Holds k l × (older_in k l ≡ nothing_listed)) (sym same) listed
+same_listed (first ∷ entries) e other l same listed = (listed.0, same_listed entries e other (older_in first.kept l) same listed.1)
+
+pub moved_listed : (entries now left : List Entry) (e other : Entry) (l : Listed) → entries ≡ e ∷ left → now ≡ other ∷ left → other.kept ≡ e.kept → AreListed (reverse entries) l →
+    AreListed (reverse now) l
+moved_listed entries now left e other l first fewer same listed =
+    subst (λ (es : List Entry). AreListed es l) (sym (reverse_first now left other fewer))
+    (same_listed (reverse left) e other l same (subst (λ (es : List Entry). AreListed es l) (reverse_first entries left e first) listed))
+
+-- some of the bytes that were moved before the oldest entry's step
+pub moved_left : (moved n count weighed : ℕ) (entries now left : List Entry) (e other : Entry) (l : Listed) → entries ≡ e ∷ left → now ≡ other ∷ left → other.kept ≡ e.kept →
+    e.moved ≡ other.moved + n → AreListed (reverse entries) l → AreCounted (unpacked moved (reverse entries) l) count weighed →
+    AreLeft (unpacked moved (reverse entries) l) (unpacked moved (reverse now) l) (replicate n Moved) count weighed n 0
+moved_left moved n count weighed entries now left e other l first fewer same parts listed counted =
+    let apart = first_apart entries left e l first listed in
+    let newer : List Record = unpacked moved (reverse left) apart.others in
+    let old = first_last moved entries left e apart.own apart.others l first apart.listed apart.oldest.together in
+    let new = first_last moved now left other apart.own apart.others l fewer apart.listed apart.oldest.together in
+    let run : replicate e.moved Moved ≡ replicate other.moved Moved ++ replicate n Moved =
+    ap (λ k. replicate k Moved) parts ∙ sym (replicate-append-replicate other.moved n Moved) in
+    let cut : unpacked moved (reverse entries) l ≡ unpacked moved (reverse now) l ++ replicate n Moved =
+    old
+    ∙ (λ i. newer ++ newest_in (sym same i) apart.own ∷ run i)
+    ∙ sym (append_assoc newer (newest_in other.kept apart.own ∷ replicate other.moved Moved) (replicate n Moved))
+    ∙ ap (λ (rs : List Record). rs ++ replicate n Moved) (sym new) in
+    are_left (unpacked moved (reverse entries) l) (unpacked moved (reverse now) l) (replicate n Moved) count weighed n 0 cut
+    (sym (length-replicate n Moved)) (sym (moved_sum weight n refl)) counted
+
+-- all of these, and the record of the oldest entry
+pub entry_left : (moved n count weighed own : ℕ) (entries now : List Entry) (e : Entry) (l new : Listed) → entries ≡ e ∷ now → (apart : OldestApart (reverse now) e l) →
+    new ≡ apart.others → own ≡ weight (newest_in e.kept apart.own) → n ≡ e.moved + 1 → AreCounted (unpacked moved (reverse entries) l) count weighed →
+    AreListed (reverse now) new
+    × AreLeft (unpacked moved (reverse entries) l) (unpacked moved (reverse now) new) (newest_in e.kept apart.own ∷ replicate e.moved Moved) count weighed n own
+entry_left moved n count weighed own entries now e l new first apart others is at counted =
+    let gone : List Record = newest_in e.kept apart.own ∷ replicate e.moved Moved in
+    let cut : unpacked moved (reverse entries) l ≡ unpacked moved (reverse now) new ++ gone =
+    first_last moved entries now e apart.own apart.others l first apart.listed apart.oldest.together
+    ∙ ap (λ (x : Listed). unpacked moved (reverse now) x ++ gone) (sym others) in (
+      subst (AreListed (reverse now)) (sym others) apart.listed,
+      are_left (unpacked moved (reverse entries) l) (unpacked moved (reverse now) new) gone count weighed n own cut
+          (omega (arith, at, length-replicate e.moved Moved)) (omega (arith, is, moved_sum weight e.moved refl)) counted,
+    )
+
+-- the record of the oldest entry is a light one
+pub oldest_light : (moved count weighed : ℕ) (entries left : List Entry) (e : Entry) (l : Listed) → entries ≡ e ∷ left → (apart : OldestApart (reverse left) e l) →
+    AreCounted (unpacked moved (reverse entries) l) count weighed → weight (newest_in e.kept apart.own) ≤ 2 ^ 42
+oldest_light moved count weighed entries left e l first apart counted =
+    let all : List Record = unpacked moved (reverse entries) l in
+    let newer : List Record = unpacked moved (reverse left) apart.others in
+    let r : Record = newest_in e.kept apart.own in
+    let run : List Record = replicate e.moved Moved in
+    let cut : all ≡ newer ++ r ∷ run = first_last moved entries left e apart.own apart.others l first apart.listed apart.oldest.together in
+    let last : r ∷ run ≡ drop (length newer) all = sym (ap (drop (length newer)) cut ∙ drop_at newer (r ∷ run) (length newer) refl) in
+    All-head IsLight r run (All-same IsLight (r ∷ run) (drop (length newer) all) last (All-drop IsLight (length newer) all counted.light))
+
+-- where what is dropped weighs nothing
+pub same_weight : (old new gone : List Record) (count weighed n : ℕ) → AreLeft old new gone count weighed n 0 → AreCounted new (count - n) weighed
+same_weight old new gone count weighed n left =
+    let same : weighed - 0 ≡ weighed = omega arith in
+    subst (λ w. AreCounted new (count - n) w) same left.counted
+
+-- ---- what is dropped one after another
+
+-- fewer of the records that are left are the first of all
+pub fewer_left : (all now next : List Record) → now ≡ take (length now) all → next ≡ take (length next) now → next ≡ take (length next) all
+fewer_left all now next is fewer =
+    let few : length next ≤ length now = omega (arith, ap (λ (rs : List Record). length rs) fewer, length-take (length next) now) in
+    fewer ∙ ap (take (length next)) is ∙ take-take (length next) (length now) all few
+
+-- of what is counted of those that are dropped so far, and those that are dropped next
+pub sum_left : (count : Record → ℕ) (all now next : List Record) → now ≡ take (length now) all → length next ≤ length now →
+    sum_by count (drop (length next) all) ≡ sum_by count (drop (length next) now) + sum_by count (drop (length now) all)
+sum_left count all now next is few =
+    let whole : length now ≡ length next + (length now - length next) = omega (arith, few) in
+    let parts : drop (length next) all ≡ drop (length next) now ++ drop (length now) all =
+    ap (drop (length next)) (sym (take-append-drop (length now) all) ∙ ap (λ (rs : List Record). rs ++ drop (length now) all) (sym is))
+    ∙ drop-append-le (length next) now (drop (length now) all) few in
+    ap (sum_by count) parts ∙ sum_by-append count (drop (length next) now) (drop (length now) all)
+
+-- of fewer there is no more
+pub sum_fewer : (count : Record → ℕ) (all : List Record) (n k : ℕ) → n ≤ k → sum_by count (drop k all) ≤ sum_by count (drop n all)
+sum_fewer count all n k few =
+    let whole : n + (k - n) ≡ k = omega (arith, few) in
+    let later : drop k all ≡ drop (k - n) (drop n all) = ap (λ j. drop j all) (sym whole) ∙ sym (drop-drop (k - n) n all) in
+    omega (
+      arith,
+      ap (sum_by count) later,
+      ap (sum_by count) (take-append-drop (k - n) (drop n all)),
+      sum_by-append count (take (k - n) (drop n all)) (drop (k - n) (drop n all)),
+    )
+
+-- ---- all that are dropped
+
+-- what is kept of all records, and what is counted of those that are dropped so far
+pub record AreKept (count : Record → ℕ) (all now : List Record) (n dropped : ℕ) : Type 0 where
+  pub kept : now ≡ take (length now) all
+  pub enough : min n (length all) ≤ length now
+  pub counted : dropped ≡ sum_by count (drop (length now) all)
+
+-- at first all are kept
+pub all_kept : (count : Record → ℕ) (all : List Record) (n : ℕ) → AreKept count all all n 0
+all_kept count all n = record {
+  kept = sym (take_all (length all) all (omega arith));
+  enough = omega arith;
+  counted = sym (ap (sum_by count) (drop_all (length all) all (omega arith)));
+}
+
+-- then fewer
+pub fewer_kept : (count : Record → ℕ) (all now next : List Record) (n dropped more : ℕ) → next ≡ take (length next) now → length next < length now → n ≤ length next →
+    more ≡ sum_by count (drop (length next) now) → AreKept count all now n dropped → AreKept count all next n (dropped + more)
+fewer_kept count all now next n dropped more fewer less enough is so = record {
+  kept = fewer_left all now next so.kept fewer;
+  enough = omega (arith, enough);
+  counted = omega (arith, is, so.counted, sum_left count all now next so.kept (omega (arith, less)));
+}
+
+-- what is counted fits where it does of all that are dropped in the end
+pub kept_fits : (count : Record → ℕ) (all now next : List Record) (n dropped more : ℕ) → next ≡ take (length next) now → length next < length now → n ≤ length next →
+    more ≡ sum_by count (drop (length next) now) → AreKept count all now n dropped → dropped + more ≤ sum_by count (drop n all)
+kept_fits count all now next n dropped more fewer less enough is so =
+    omega (arith, (fewer_kept count all now next n dropped more fewer less enough is so).counted, sum_fewer count all n (length next) enough)
+
+-- and at last n are kept, or all
+pub last_kept : (count : Record → ℕ) (all now : List Record) (n dropped : ℕ) → length now ≤ n → AreKept count all now n dropped →
+    (now ≡ take n all) × (dropped ≡ sum_by count (drop n all))
+last_kept count all now n dropped few so =
+    let within : length now ≤ length all = omega (arith, ap (λ (rs : List Record). length rs) so.kept, length-take (length now) all) in
+    let many : length now ≡ min n (length all) = omega (arith, few, within, so.enough) in (
+      so.kept ∙ ap (λ k. take k all) many ∙ take_min n all,
+      so.counted ∙ ap (λ k. sum_by count (drop k all)) many ∙ ap (sum_by count) (drop_min n all),
+    )

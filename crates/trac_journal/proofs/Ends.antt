@@ -1,0 +1,81 @@
+-- Lists from their ends.
+use Rattle.std.proofs.Common.{◌≡◌, ℕ, zero, suc, ◌+◌, ◌-◌, ◌<◌, ◌≤◌, List, [], ◌∷◌, ◌++◌, length, take, drop, get_or, add-one, drop-cons, refl, sym, ap, ◌∙◌, arith}
+use Rattle.std.specs.Prelude.{reverse}
+use Rattle.std.proofs.lemmas.List.{append-nil, drop-drop, drop_at, length-append, length-drop, length-take-le, nil_from_length, reverse-append, reverse-reverse, take-append-drop, take_at}
+use Rattle.trac_rules.specs.Records.{all_before_last, last_of}
+
+-- ---- what stands at the end
+
+pub reverse_push : {X : Type 0} (xs : List X) (x : X) → reverse (xs ++ x ∷ []) ≡ x ∷ reverse xs
+reverse_push xs x = reverse-append xs (x ∷ [])
+
+last_apart : {X : Type 0} (xs : List X) (x : X) (n : ℕ) → length xs ≡ n + 1 → x ≡ get_or xs n x → xs ≡ take n xs ++ x ∷ []
+last_apart [] x n many is = absurd (omega (arith, many))
+last_apart (y ∷ xs) x zero many is =
+    let none : xs ≡ [] = nil_from_length xs (omega (arith, many)) in
+    λ i. sym is i ∷ none i
+last_apart {X} (y ∷ xs) x (suc n) many is = ap (λ (rest : List X). y ∷ rest) (last_apart xs x n (omega (arith, many)) is)
+
+-- the last of a list stands first in reverse
+pub last_first : {X : Type 0} (xs : List X) (x : X) (n : ℕ) → length xs ≡ n + 1 → x ≡ get_or xs n x → reverse xs ≡ x ∷ reverse (take n xs)
+last_first xs x n many is = ap reverse (last_apart xs x n many is) ∙ reverse_push (take n xs) x
+
+-- ---- the last n of a list, and those before them
+
+pub length-last : (n : ℕ) (xs : List ℕ) → n ≤ length xs → length (last_of n xs) ≡ n
+length-last n xs few = omega (arith, few, length-drop (length xs - n) xs)
+
+pub last-append : (xs ys : List ℕ) (n : ℕ) → n ≡ length ys → last_of n (xs ++ ys) ≡ ys
+last-append xs ys n is = drop_at xs ys (length (xs ++ ys) - n) (omega (arith, is, length-append xs ys))
+
+pub before-append : (xs ys : List ℕ) (n : ℕ) → n ≡ length ys → all_before_last n (xs ++ ys) ≡ xs
+before-append xs ys n is = take_at xs ys (length (xs ++ ys) - n) (omega (arith, is, length-append xs ys))
+
+take_past : (xs ys : List ℕ) (k : ℕ) → take (length xs + k) (xs ++ ys) ≡ xs ++ take k ys
+take_past [] ys k = let e : 0 + k ≡ k = omega arith in ap (λ j. take j ys) e
+take_past (x ∷ xs) ys k =
+    let e : suc (length xs) + k ≡ suc (length xs + k) = omega arith in
+    ap (λ j. take j (x ∷ xs ++ ys)) e ∙ ap (λ (rest : List ℕ). x ∷ rest) (take_past xs ys k)
+
+-- with others in front
+pub last-behind : (xs ys : List ℕ) (n : ℕ) → n ≤ length ys → last_of n (xs ++ ys) ≡ last_of n ys
+last-behind xs ys n few =
+    let e : length (xs ++ ys) - n ≡ length xs + (length ys - n) = omega (arith, few, length-append xs ys) in
+    ap (λ j. drop j (xs ++ ys)) e
+    ∙ sym (drop-drop (length ys - n) (length xs) (xs ++ ys))
+    ∙ ap (drop (length ys - n)) (drop_at xs ys (length xs) refl)
+
+pub before-behind : (xs ys : List ℕ) (n : ℕ) → n ≤ length ys → all_before_last n (xs ++ ys) ≡ xs ++ all_before_last n ys
+before-behind xs ys n few =
+    let e : length (xs ++ ys) - n ≡ length xs + (length ys - n) = omega (arith, few, length-append xs ys) in
+    ap (λ j. take j (xs ++ ys)) e ∙ take_past xs ys (length ys - n)
+
+-- both make the list
+pub ends_joined : (n : ℕ) (xs : List ℕ) → all_before_last n xs ++ last_of n xs ≡ xs
+ends_joined n xs = take-append-drop (length xs - n) xs
+
+-- the last n of the last n
+pub last-last : (n : ℕ) (xs : List ℕ) → n ≤ length xs → last_of n (last_of n xs) ≡ last_of n xs
+last-last n xs few =
+    let none : length (last_of n xs) - n ≡ 0 = omega (arith, length-last n xs few) in
+    ap (λ k. drop k (last_of n xs)) none
+
+pub before-last : (n : ℕ) (xs : List ℕ) → n ≤ length xs → all_before_last n (last_of n xs) ≡ []
+before-last n xs few =
+    let none : length (last_of n xs) - n ≡ 0 = omega (arith, length-last n xs few) in
+    ap (λ k. take k (last_of n xs)) none
+
+-- where nothing stands before the last n there are n
+pub length-alone : (n : ℕ) (xs : List ℕ) → n ≤ length xs → all_before_last n xs ≡ [] → length xs ≡ n
+length-alone n xs few none = omega (arith, few, ap (λ (ys : List ℕ). length ys) none, length-take-le (length xs - n) xs (omega arith))
+
+-- lists that are the same with one more at the end of each are the same, and so are these two
+pub same_before_last : {X : Type 0} (xs ys : List X) (x y : X) → xs ++ x ∷ [] ≡ ys ++ y ∷ [] → (xs ≡ ys) × (x ≡ y)
+same_before_last xs ys x y e =
+    let back : x ∷ reverse xs ≡ y ∷ reverse ys = sym (reverse_push xs x) ∙ ap reverse e ∙ reverse_push ys y in
+    let fronts : reverse xs ≡ reverse ys = cc in
+    (sym (reverse-reverse xs) ∙ ap reverse fronts ∙ reverse-reverse ys, cc)
+
+-- what stands at a place, and what stands after it
+pub next_of : {X : Type 0} → (xs : List X) (i : ℕ) (x : X) → i < length xs → x ≡ get_or xs i x → drop i xs ≡ x ∷ drop (i + 1) xs
+next_of {X} xs i x within is = rw add-one (drop-cons xs i x within ∙ ap (λ (first : X). first ∷ drop (suc i) xs) (sym is))

@@ -1,0 +1,8 @@
+pub mod Ends
+pub mod Texts
+pub mod Weighed
+pub mod Calls
+pub mod Counted
+pub mod Oldest
+pub mod Dropped
+pub mod Printed

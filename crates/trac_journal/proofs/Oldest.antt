@@ -1,0 +1,240 @@
+-- The oldest record of a journal, and the others.
+use Rattle.std.proofs.Common.{◌≡◌, ℕ, ◌+◌, ◌-◌, ◌<◌, ◌≤◌, List, [], ◌∷◌, ◌++◌, length, take, drop, refl, sym, ap, subst, ◌∙◌, arith}
+use Rattle.std.specs.Prelude.{replicate, sum}
+use Rattle.std.proofs.lemmas.List.{append-nil, append_assoc, length-append, length-take-le, take-append-drop}
+use Rattle.trac_rules.specs.Records.{Record, Called, Idle, Moved, all_before_last, last_of}
+use Rattle.trac_rules.specs.State.{Frame}
+use Rattle.trac_rules.specs.Undone.{Undone, Nothing, Point}
+use Rattle.trac_journal.specs.Dropped.{joined, IsOldest}
+use Rattle.trac_journal.specs.Journaled.{unpacked, AreListed}
+use Rattle.trac_journal.specs.Listed.{Listed, call_of, called_in, first_undone, idle_of, newest_in, nothing_listed, older_in, without_call, HasCall, Holds}
+use Rattle.trac_journal.specs.Pieces.{all_texts, cut_at}
+use Rattle.trac_journal.specs.Told.{record_with}
+use Rattle.trac_journal.specs.declared.entry.Call.{Call}
+use Rattle.trac_journal.specs.declared.entry.Entry.{Entry}
+use Rattle.trac_journal.specs.declared.entry.Kept.{Kept}
+use Rattle.trac_journal.specs.declared.entry.Kept.TheVariants as kept
+use Rattle.trac_journal.proofs.Calls.{undone_stays}
+use Rattle.trac_journal.proofs.Ends.{before-behind, before-last, ends_joined, last-behind, last-last, length-last}
+
+-- ---- lists with older ones behind them
+
+joined_nothing : (l : Listed) → joined l nothing_listed ≡ l
+joined_nothing l =
+    λ i. record { calls = l.calls; bytes = append-nil l.bytes i; commas = append-nil l.commas i; undone = l.undone; emptied = l.emptied }
+
+joined_assoc : (a b c : Listed) → joined (joined a b) c ≡ joined a (joined b c)
+joined_assoc a b c =
+    λ i. record {
+      calls = sym (append_assoc c.calls b.calls a.calls) i;
+      bytes = append_assoc a.bytes b.bytes c.bytes i;
+      commas = append_assoc a.commas b.commas c.commas i;
+      undone = sym (append_assoc c.undone b.undone a.undone) i;
+      emptied = sym (append_assoc c.emptied b.emptied a.emptied) i;
+    }
+
+-- with others behind it the newest call is the same
+record CallBehind (calls : List Call) (older l : Listed) : Type 0 where
+  has : HasCall (calls ++ older.calls) (older.bytes ++ l.bytes) (older.commas ++ l.commas)
+  same : (undone : Undone) → call_of (calls ++ older.calls) undone (older.bytes ++ l.bytes) (older.commas ++ l.commas) ≡ call_of calls undone l.bytes l.commas
+  rest : without_call (calls ++ older.calls) (joined older l) ≡ joined older (without_call calls l)
+
+call_behind : (calls : List Call) (older l : Listed) → HasCall calls l.bytes l.commas → CallBehind calls older l
+call_behind [] older l has = absurd has
+call_behind (c ∷ calls) older l has =
+    let text = last-behind older.bytes l.bytes c.bytes has.0 in
+    let lengths = last-behind older.commas l.commas c.commas has.1 in
+    record {
+      has = (
+        omega (arith, has.0, length-append older.bytes l.bytes),
+        omega (arith, has.1, length-append older.commas l.commas),
+        subst (λ (ms : List ℕ). sum ms ≤ c.bytes) (sym lengths) has.2,
+      );
+      same = λ undone. (λ i. Called (record_with (called_in c) (all_texts (cut_at (lengths i) (text i))) undone));
+      rest = λ i. record {
+        calls = calls ++ older.calls;
+        bytes = before-behind older.bytes l.bytes c.bytes has.0 i;
+        commas = before-behind older.commas l.commas c.commas has.1 i;
+        undone = l.undone ++ older.undone;
+        emptied = l.emptied ++ older.emptied;
+      };
+    }
+
+first_behind : (undone older : List Undone) → 1 ≤ length undone → (first_undone (undone ++ older) ≡ first_undone undone) × (drop 1 (undone ++ older) ≡ drop 1 undone ++ older)
+first_behind [] older some = absurd (omega (arith, some))
+first_behind (u ∷ undone) older some = (refl, refl)
+
+idle_behind : (emptied older : List (List ℕ × List Frame)) → 1 ≤ length emptied → (idle_of (emptied ++ older) ≡ idle_of emptied) × (drop 1 (emptied ++ older) ≡ drop 1 emptied ++ older)
+idle_behind [] older some = absurd (omega (arith, some))
+idle_behind (texts ∷ emptied) older some = (refl, refl)
+
+-- so is the newest record of any kind
+record Behind (k : Kept) (older l : Listed) : Type 0 where
+  has : Holds k (joined older l)
+  same : newest_in k (joined older l) ≡ newest_in k l
+  rest : older_in k (joined older l) ≡ joined older (older_in k l)
+
+behind : (k : Kept) (older l : Listed) → Holds k l → Behind k older l
+behind kept.Comma older l has = record { has = tt; same = refl; rest = refl }
+behind kept.Begun older l has = record { has = tt; same = refl; rest = refl }
+behind (kept.Quoted closed inner) older l has = record { has = tt; same = refl; rest = refl }
+behind (kept.Deleted b) older l has = record { has = tt; same = refl; rest = refl }
+behind kept.Call older l has =
+    let call = call_behind l.calls older l has in
+    record { has = call.has; same = call.same Nothing; rest = call.rest }
+behind (kept.Pointed place) older l has =
+    let call = call_behind l.calls older l has in
+    record { has = call.has; same = call.same (Point place); rest = call.rest }
+behind kept.Changed older l has =
+    let call = call_behind l.calls older l has.0 in
+    let first = first_behind l.undone older.undone has.1 in
+    record {
+      has = (call.has, omega (arith, has.1, length-append l.undone older.undone));
+      same = call.same (first_undone (l.undone ++ older.undone)) ∙ ap (λ (u : Undone). call_of l.calls u l.bytes l.commas) first.0;
+      rest = λ i. record (call.rest i) { undone = first.1 i };
+    }
+behind kept.Idle older l has =
+    let first = idle_behind l.emptied older.emptied has in
+    record {
+      has = omega (arith, has, length-append l.emptied older.emptied);
+      same = first.0;
+      rest = λ i. record (joined older l) { emptied = first.1 i };
+    }
+
+-- ---- the newest record's own
+
+-- those of a call, with what it destroyed of forms and blocks
+record CallApart (calls : List Call) (l : Listed) (undone : List Undone) : Type 0 where
+  own : Listed
+  has : HasCall own.calls own.bytes own.commas
+  destroyed : own.undone ≡ undone
+  alone : without_call own.calls own ≡ record nothing_listed { undone = undone }
+  together : (others : List Undone) → undone ++ others ≡ l.undone → l ≡ joined (record (without_call calls l) { undone = others }) own
+
+call_apart : (calls : List Call) (l : Listed) (undone : List Undone) → l.calls ≡ calls → HasCall calls l.bytes l.commas → CallApart calls l undone
+call_apart [] l undone first has = absurd has
+call_apart (c ∷ calls) l undone first has = record {
+  own = record { calls = c ∷ []; bytes = last_of c.bytes l.bytes; commas = last_of c.commas l.commas; undone = undone; emptied = [] };
+  has = (
+    omega (arith, length-last c.bytes l.bytes has.0),
+    omega (arith, length-last c.commas l.commas has.1),
+    subst (λ (ms : List ℕ). sum ms ≤ c.bytes) (sym (last-last c.commas l.commas has.1)) has.2,
+  );
+  destroyed = refl;
+  alone = λ i. record { calls = []; bytes = before-last c.bytes l.bytes has.0 i; commas = before-last c.commas l.commas has.1 i; undone = undone; emptied = [] };
+  together = λ others both. (λ i. record {
+    calls = first i;
+    bytes = sym (ends_joined c.bytes l.bytes) i;
+    commas = sym (ends_joined c.commas l.commas) i;
+    undone = sym both i;
+    emptied = l.emptied;
+  });
+}
+
+-- those of any record
+record Apart (k : Kept) (l : Listed) : Type 0 where
+  own : Listed
+  has : Holds k own
+  alone : older_in k own ≡ nothing_listed
+  together : l ≡ joined (older_in k l) own
+
+none_apart : (l : Listed) → l ≡ joined l nothing_listed
+none_apart l = sym (joined_nothing l)
+
+apart : (k : Kept) (l : Listed) → Holds k l → Apart k l
+apart kept.Comma l has = record { own = nothing_listed; has = tt; alone = refl; together = none_apart l }
+apart kept.Begun l has = record { own = nothing_listed; has = tt; alone = refl; together = none_apart l }
+apart (kept.Quoted closed inner) l has = record { own = nothing_listed; has = tt; alone = refl; together = none_apart l }
+apart (kept.Deleted b) l has = record { own = nothing_listed; has = tt; alone = refl; together = none_apart l }
+apart kept.Call l has =
+    let call = call_apart l.calls l [] refl has in
+    record {
+      own = call.own;
+      has = call.has;
+      alone = call.alone;
+      together = call.together l.undone refl ∙ (λ i. joined (record (without_call l.calls l) { undone = sym (undone_stays l.calls l) i }) call.own);
+    }
+apart (kept.Pointed place) l has =
+    let call = call_apart l.calls l [] refl has in
+    record {
+      own = call.own;
+      has = call.has;
+      alone = call.alone;
+      together = call.together l.undone refl ∙ (λ i. joined (record (without_call l.calls l) { undone = sym (undone_stays l.calls l) i }) call.own);
+    }
+apart kept.Changed l has =
+    let call = call_apart l.calls l (take 1 l.undone) refl has.0 in
+    let one : length (take 1 l.undone) ≡ 1 = length-take-le 1 l.undone has.1 in
+    record {
+      own = call.own;
+      has = (call.has, omega (arith, one, ap (λ (us : List Undone). length us) call.destroyed));
+      alone = (λ i. record (call.alone i) { undone = drop 1 (call.destroyed i) }) ∙ (λ i. record nothing_listed { undone = none_left l.undone i });
+      together = call.together (drop 1 l.undone) (take-append-drop 1 l.undone);
+    }
+  where
+    none_left : (us : List Undone) → drop 1 (take 1 us) ≡ []
+    none_left [] = refl
+    none_left (u ∷ us) = refl
+apart kept.Idle l has =
+    record {
+      own = record nothing_listed { emptied = take 1 l.emptied };
+      has = omega (arith, length-take-le 1 l.emptied has);
+      alone = λ i. record nothing_listed { emptied = none_left l.emptied i };
+      together = λ i. record {
+        calls = l.calls;
+        bytes = sym (append-nil l.bytes) i;
+        commas = sym (append-nil l.commas) i;
+        undone = l.undone;
+        emptied = sym (take-append-drop 1 l.emptied) i;
+      };
+    }
+  where
+    none_left : (emptied : List (List ℕ × List Frame)) → drop 1 (take 1 emptied) ≡ []
+    none_left [] = refl
+    none_left (texts ∷ emptied) = refl
+
+-- ---- the oldest record's own
+
+-- the oldest entry's own in the lists, and those of the entries after it
+pub record OldestApart (entries : List Entry) (e : Entry) (l : Listed) : Type 0 where
+  pub own : Listed
+  pub others : Listed
+  pub oldest : IsOldest e.kept own others l
+  pub listed : AreListed entries others
+
+pub oldest_apart : (entries : List Entry) (e : Entry) (l : Listed) → AreListed (entries ++ e ∷ []) l → OldestApart entries e l
+oldest_apart [] e l listed = record {
+  own = l;
+  others = nothing_listed;
+  oldest = record { is_there = listed.0; alone = listed.1; together = none_apart l };
+  listed = refl;
+}
+oldest_apart (newest ∷ entries) e l listed =
+    let first = apart newest.kept l listed.0 in
+    let rest = oldest_apart entries e (older_in newest.kept l) listed.1 in
+    let again = behind newest.kept rest.others first.own first.has in
+    let back : older_in newest.kept (joined rest.others first.own) ≡ rest.others =
+    again.rest ∙ ap (λ (x : Listed). joined rest.others x) first.alone ∙ joined_nothing rest.others in
+    record {
+      own = rest.own;
+      others = joined rest.others first.own;
+      oldest = record {
+        is_there = rest.oldest.is_there;
+        alone = rest.oldest.alone;
+        together = first.together ∙ ap (λ (x : Listed). joined x first.own) rest.oldest.together ∙ joined_assoc rest.own rest.others first.own;
+      };
+      listed = (again.has, subst (AreListed entries) (sym back) rest.listed);
+    }
+
+-- the oldest records are that of the oldest entry, and those of the bytes that were moved before its step
+pub oldest_last : (moved : ℕ) (entries : List Entry) (e : Entry) (own others : Listed) → AreListed entries others →
+    unpacked moved (entries ++ e ∷ []) (joined own others) ≡ unpacked moved entries others ++ newest_in e.kept own ∷ replicate e.moved Moved
+oldest_last moved [] e own others none =
+    let alone : joined own others ≡ own = ap (λ (x : Listed). joined own x) none ∙ joined_nothing own in
+    ap (λ (x : Listed). replicate moved Moved ++ newest_in e.kept x ∷ replicate e.moved Moved) alone
+oldest_last moved (newest ∷ entries) e own others listed =
+    let again = behind newest.kept own others listed.0 in
+    let tail : List Record = newest_in e.kept own ∷ replicate e.moved Moved in
+    (λ i. replicate moved Moved ++ again.same i ∷ unpacked newest.moved (entries ++ e ∷ []) (again.rest i))
+    ∙ ap (λ (rs : List Record). replicate moved Moved ++ newest_in newest.kept others ∷ rs) (oldest_last newest.moved entries e own (older_in newest.kept others) listed.1)
+    ∙ sym (append_assoc (replicate moved Moved) (newest_in newest.kept others ∷ unpacked newest.moved entries (older_in newest.kept others)) tail)

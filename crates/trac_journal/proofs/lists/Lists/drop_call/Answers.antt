@@ -1,0 +1,42 @@
+-- The first call of the list is the last of those that are seen.
+use Rattle.std.proofs.Common.{◌≡◌, ℕ, ◌+◌, List, ◌∷◌, drop, length, sym, ap, ◌∙◌, arith}
+use Rattle.trac_gap.specs.Window.{Window}
+use Rattle.trac_rules.specs.Weights.{meta_weight}
+use Rattle.trac_journal.specs.Journaled.{Lists}
+use Rattle.trac_journal.specs.Listed.{Listed}
+use Rattle.trac_journal.specs.declared.entry.Call.{Call}
+use Rattle.trac_journal.proofs.Dropped.{first_call}
+use Rattle.trac_journal.proofs.lists.Lists.drop_call.Goals as goal
+
+pub drop_front-requires : goal.drop_front-requires
+drop_front-requires g c =
+    let l : Listed = c.args.self.now.listed in
+    let ends = c.requires.1.1 in
+    let first = first_call c.self.inside.calls.items c.pop_front.new.self.items c.in-Some.call c.requires.0 l.calls c.requires.1.0 c.in-Some.ensures.items (ap (λ (v : Lists). v.listed.calls) c.self.view_is) ends.last in
+    omega (arith, ends.bytes, ap (λ (call : Call). call.bytes) first.1, ap (λ (v : Lists). length v.listed.bytes) c.self.view_is)
+
+pub drop_front-requires-2 : goal.drop_front-requires-2
+drop_front-requires-2 g c =
+    let l : Listed = c.args.self.now.listed in
+    let ends = c.requires.1.1 in
+    let first = first_call c.self.inside.calls.items c.pop_front.new.self.items c.in-Some.call c.requires.0 l.calls c.requires.1.0 c.in-Some.ensures.items (ap (λ (v : Lists). v.listed.calls) c.self.view_is) ends.last in
+    omega (arith, ends.commas, ap (λ (call : Call). call.commas) first.1, ap (λ (v : Lists). length v.listed.commas) c.self.view_is)
+
+pub returns : goal.returns
+returns g c =
+    λ call newer ends.
+    let l : Listed = c.args.self.now.listed in
+    let first = first_call c.self.inside.calls.items c.pop_front.new.self.items c.in-Some.call call l.calls newer c.in-Some.ensures.items (ap (λ (v : Lists). v.listed.calls) c.self.view_is) ends.last in (
+      record {
+        weighs = c.weigh_texts.ensures ∙ ap (λ (x : Call). x.bytes + x.commas + meta_weight x.meta) (sym first.1);
+        reads = ap (λ (x : Call). x.read) (sym first.1);
+        prints = ap (λ (x : Call). x.printed) (sym first.1);
+      },
+      λ i. record {
+        calls = sym first.0 i;
+        bytes = (ap (λ (w : Window ℕ). w.items) c.drop_front.ensures ∙ (λ j. drop (sym first.1 j).bytes (c.self.view_is j).listed.bytes)) i;
+        commas = (ap (λ (w : Window ℕ). w.items) c.drop_front-2.ensures ∙ (λ j. drop (sym first.1 j).commas (c.self.view_is j).listed.commas)) i;
+        undone = (c.self.view_is i).listed.undone;
+        emptied = (c.self.view_is i).listed.emptied;
+      },
+    )

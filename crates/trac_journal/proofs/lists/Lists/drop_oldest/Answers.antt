@@ -1,0 +1,86 @@
+-- By what the oldest entry keeps.
+use Rattle.std.proofs.Common.{◌≡◌, ◌+◌, ap, refl, subst, sym, ◌∙◌, arith}
+use Rattle.trac_rules.specs.Weights.{weight}
+use Rattle.trac_journal.specs.Listed.{Listed, newest_in, nothing_listed, IsBrief}
+use Rattle.trac_journal.specs.declared.entry.Kept.{Kept}
+use Rattle.trac_journal.proofs.Dropped.{brief_gone, changed_fits, changed_gone, idle_fits, idle_gone, plain_call, plain_gone, pointed_call, pointed_gone}
+use Rattle.trac_journal.proofs.lists.Lists.drop_oldest.Goals as goal
+
+pub returns-in-Comma : goal.returns-in-Comma
+returns-in-Comma g c =
+    λ own others is.
+    brief_gone c.args.kept c.weighing.result own others c.args.self.now.listed (subst IsBrief (sym c.in-Comma.is) tt)
+    (c.weighing.ensures.weight ∙ ap (λ (k : Kept). weight (newest_in k nothing_listed)) (sym c.in-Comma.is)) c.weighing.ensures.read c.weighing.ensures.printed is
+
+pub returns-in-Begun : goal.returns-in-Begun
+returns-in-Begun g c =
+    λ own others is.
+    brief_gone c.args.kept c.weighing-in-Begun.result own others c.args.self.now.listed (subst IsBrief (sym c.in-Begun.is) tt)
+    (c.weighing-in-Begun.ensures.weight ∙ ap (λ (k : Kept). weight (newest_in k nothing_listed)) (sym c.in-Begun.is)) c.weighing-in-Begun.ensures.read c.weighing-in-Begun.ensures.printed is
+
+pub returns-in-Quoted : goal.returns-in-Quoted
+returns-in-Quoted g c =
+    λ own others is.
+    brief_gone c.args.kept c.weighing-in-Quoted.result own others c.args.self.now.listed (subst IsBrief (sym c.in-Quoted.is) tt)
+    (c.weighing-in-Quoted.ensures.weight ∙ ap (λ (k : Kept). weight (newest_in k nothing_listed)) (sym c.in-Quoted.is)) c.weighing-in-Quoted.ensures.read c.weighing-in-Quoted.ensures.printed is
+
+pub returns-in-Deleted : goal.returns-in-Deleted
+returns-in-Deleted g c =
+    λ own others is.
+    brief_gone c.args.kept c.weighing-in-Deleted.result own others c.args.self.now.listed (subst IsBrief (sym c.in-Deleted.is) tt)
+    (c.weighing-in-Deleted.ensures.weight ∙ ap (λ (k : Kept). weight (newest_in k nothing_listed)) (sym c.in-Deleted.is)) c.weighing-in-Deleted.ensures.read c.weighing-in-Deleted.ensures.printed is
+
+pub drop_call-requires : goal.drop_call-requires
+drop_call-requires g c =
+    let whole = plain_call c.args.kept c.requires.0 c.requires.1.0 c.args.self.now.listed c.in-Call.is c.requires.1.1.0 in
+    (whole.0.call, (c.requires.1.0.calls, whole.0.ends))
+
+pub returns-in-Call : goal.returns-in-Call
+returns-in-Call g c =
+    λ own others oldest.
+    plain_gone c.args.kept c.drop_call.result own others c.args.self.now.listed c.drop_call.new.self.listed c.in-Call.is oldest c.drop_call.ensures
+
+pub drop_call-requires-in-Pointed : goal.drop_call-requires-in-Pointed
+drop_call-requires-in-Pointed g c =
+    let whole = pointed_call c.args.kept c.requires.0 c.requires.1.0 c.args.self.now.listed c.in-Pointed.is c.requires.1.1.0 in
+    (whole.0.call, (c.requires.1.0.calls, whole.0.ends))
+
+pub returns-in-Pointed : goal.returns-in-Pointed
+returns-in-Pointed g c =
+    λ own others oldest.
+    pointed_gone c.args.kept c.drop_call-in-Pointed.result own others c.args.self.now.listed c.drop_call-in-Pointed.new.self.listed c.in-Pointed.is oldest c.drop_call-in-Pointed.ensures
+
+pub drop_call-call-requires : goal.drop_call-call-requires
+drop_call-call-requires g c =
+    let fits = changed_fits c.args.kept c.requires.0 c.requires.1.0 c.args.self.now.listed c.in-Changed.is c.requires.1.1.0 c.requires.1.1.1 in
+    (fits.0.oldest.call, (c.requires.1.0.calls, fits.0.oldest.ends))
+
+pub drop_undone-undone-requires : goal.drop_undone-undone-requires
+drop_undone-undone-requires g c =
+    let fits = changed_fits c.args.kept c.requires.0 c.requires.1.0 c.args.self.now.listed c.in-Changed.is c.requires.1.1.0 c.requires.1.1.1 in
+    let d = c.drop_call-call.ensures fits.0.oldest.call c.requires.1.0.calls fits.0.oldest.ends in
+    (fits.0.undone, (c.requires.1.0.undone, (ap (λ (l : Listed). l.undone) d.1 ∙ fits.0.last, omega (arith, fits.1))))
+
+pub overflow_add-weight : goal.overflow_add-weight
+overflow_add-weight g c =
+    let fits = changed_fits c.args.kept c.requires.0 c.requires.1.0 c.args.self.now.listed c.in-Changed.is c.requires.1.1.0 c.requires.1.1.1 in
+    let d = c.drop_call-call.ensures fits.0.oldest.call c.requires.1.0.calls fits.0.oldest.ends in
+    let u = c.drop_undone-undone.ensures fits.0.undone c.requires.1.0.undone (ap (λ (l : Listed). l.undone) d.1 ∙ fits.0.last) in
+    omega (arith, fits.1, d.0.weighs, u.0)
+
+pub returns-in-Changed : goal.returns-in-Changed
+returns-in-Changed g c =
+    λ own others oldest.
+    changed_gone c.args.kept (record { weight = c.drop_call-call.result.weight + c.drop_undone-undone.result; read = c.drop_call-call.result.read; printed = c.drop_call-call.result.printed }) c.drop_call-call.result c.drop_undone-undone.result own others c.args.self.now.listed c.drop_call-call.new.self.listed c.drop_undone-undone.new.self.listed
+    c.in-Changed.is oldest c.drop_call-call.ensures c.drop_undone-undone.ensures refl refl refl
+
+pub drop_emptied-requires : goal.drop_emptied-requires
+drop_emptied-requires g c =
+    let fits = idle_fits c.args.kept c.requires.0 c.requires.1.0 c.args.self.now.listed c.in-Idle.is c.requires.1.1.0 c.requires.1.1.1 in
+    (fits.0.texts, (c.requires.1.0.emptied, (fits.0.last, fits.1)))
+
+pub returns-in-Idle : goal.returns-in-Idle
+returns-in-Idle g c =
+    λ own others oldest.
+    idle_gone c.args.kept c.weighing-in-Idle.result own others c.args.self.now.listed c.drop_emptied.new.self.listed c.in-Idle.is oldest
+    (λ texts newer last. let d = c.drop_emptied.ensures texts newer last in (c.weighing-in-Idle.ensures.weight ∙ d.0, d.1)) c.weighing-in-Idle.ensures.read c.weighing-in-Idle.ensures.printed

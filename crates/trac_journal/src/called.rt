@@ -1,0 +1,41 @@
+//! What a record says beside texts, forms and blocks.
+use trac_rules::kind::Kind;
+
+/// What the record of a call says beside its arguments, and what was destroyed of forms and blocks.
+#[derive(Clone, Copy)]
+pub struct Called {
+    /// The kind of the function.
+    pub kind: Kind,
+    /// How many bytes its value has.
+    pub value: usize,
+    /// Whether the value went before the active text, to be scanned, and not to the current text.
+    pub scanned: bool,
+    /// How many bytes were printed.
+    pub printed: usize,
+    /// How many bytes of the tape were read.
+    pub read: usize,
+    /// The meta character before, where the call set one.
+    pub meta: Option<u8>,
+    /// Whether each call was printed before.
+    pub trace: bool,
+}
+
+/// The record of a step that performs no function and does not empty the texts: small, copied freely, and it owns no memory.
+#[derive(Clone, Copy)]
+pub enum Short {
+    /// A byte went to the current text.
+    Moved,
+    /// An argument was finished, and an empty one begun.
+    Comma,
+    /// A function was begun.
+    Begun,
+    /// A protected text went to the current text.
+    Quoted {
+        /// How many bytes it has.
+        inner: usize,
+        /// Whether a match of its `(` was deleted.
+        closed: bool,
+    },
+    /// This byte was deleted.
+    Deleted(u8),
+}

@@ -1,0 +1,306 @@
+//! The journal: a record for each step, packed.
+ghost use Rattle.std.specs.Prelude.{◌≡◌, ◌==◌, ◌+◌, ◌-◌, ◌<◌, ◌≤◌, ◌^◌, ◌++◌, List, ◌∷◌, [], length, replicate, IsOkUnless, MatchOption, OnErr, OnOk};
+ghost use Rattle.std.specs.List.{concat};
+ghost use Rattle.trac_rules.specs.declared.limit.TheConstants.{JOURNAL_LIMIT};
+ghost use Rattle.trac_rules.specs.Records.{Called as CallOf, Idle, Moved, Record};
+ghost use Rattle.trac_rules.specs.Weights.{meta_weight, undone_weight, weight};
+ghost use Rattle.trac_journal.specs.Journaled.{HasPlaceForCall, HasPlaceForIdle, IsLight};
+ghost use Rattle.trac_journal.specs.Listed.{newest_in, nothing_listed, AreSmall, IsBrief};
+ghost use Rattle.trac_journal.specs.Pieces.{frames_in};
+ghost use Rattle.trac_journal.specs.Told.{record_with, said_by, sum_by, FitsEntry, IsLost, IsTold};
+ghost use Rattle.trac_journal.specs.Undone.{undone_in};
+
+use crate::called::{Called, Short};
+use crate::emptied::Emptied;
+use crate::entry::{Entry, Kept};
+use crate::lists::Lists;
+use crate::told::{Lost, Newest};
+use crate::undone::Undone;
+use std::alloc::{Allocator, Global};
+use std::collections::VecDeque;
+use std::marker::Model;
+use trac_forms::Texts;
+use trac_rules::refusal::Refusal;
+
+/// What the steps of a machine destroyed, a record for each: seen as the list of the rules' records, the newest first, and
+/// beside it how much room there is for more.
+///
+/// A step first reserves, then changes the machine, and then pushes its record, which cannot be refused. On the way back the
+/// newest record is lent, and taken out after its texts are put back. Bytes that were moved one after another are kept as their
+/// number, and their records take no memory. Only calls that reserve can be refused, with `Memory`, and then the records stay. A
+/// journal holds at most 1,048,576 records.
+#[derive(Drop)]
+pub struct Journal<A: Allocator + Copy = Global> {
+    // an entry for each record that is not of a moved byte
+    pub(crate) entries: VecDeque<Entry, A>,
+    // what these records destroyed, but for what an entry holds
+    pub(crate) lists: Lists<A>,
+    // how many bytes were moved since the last entry, a step each
+    pub(crate) moved: usize,
+    // how many records there are in all
+    pub(crate) len: usize,
+    // what they weigh together
+    pub(crate) weight: u64,
+}
+
+impl<A: Allocator + Copy> Model for Journal<A> {
+    ghost use Rattle.std.specs.Prelude.{◌-◌, reverse};
+    ghost use Rattle.std.specs.VecDeque.{deque_capacity, deque_len};
+    ghost use Rattle.trac_journal.specs.Codes.{journaled_code};
+    ghost use Rattle.trac_journal.specs.Journaled.{unpacked, AreCounted, AreListed, Journaled};
+
+    ghost Value = { Journaled };
+
+    ghost coded = { journaled_code };
+
+    ghost view = { λ j. record {
+      records = unpacked j.moved (reverse j.entries.items) j.lists.listed;
+      places = deque_capacity j.entries - deque_len j.entries;
+      room = j.lists.room;
+    } };
+
+    ghost invariant = { λ j. AreListed (reverse j.entries.items) j.lists.listed × AreCounted (unpacked j.moved (reverse j.entries.items) j.lists.listed) j.len j.weight };
+}
+
+impl<A: Allocator + Copy> Journal<A> {
+    /// A journal without a record. It takes no memory; `alloc` is kept for later.
+    pub fn new(alloc: A) -> Self
+        ensures { result.records ≡ [] }
+    {
+        Journal {
+            entries: VecDeque::new(alloc),
+            lists: Lists::new(alloc),
+            moved: 0,
+            len: 0,
+            weight: 0,
+        }
+    }
+
+    /// How many records there are.
+    pub fn len(&self) -> usize
+        ensures { result ≡ length self.now.records }
+    {
+        self.len
+    }
+
+    /// Whether there is no record.
+    pub fn is_empty(&self) -> bool
+        ensures { result ≡ (length self.now.records == 0) }
+    {
+        self.len() == 0
+    }
+
+    /// What the records weigh together. It takes the same time however many there are.
+    pub fn weight(&self) -> u64
+        ensures { result ≡ sum_by weight self.now.records }
+    {
+        self.weight
+    }
+
+    /// Makes room for one short record.
+    /// Refused with `Memory` where there is none yet and the allocator refuses it; the records stay.
+    pub fn reserve_short(&mut self) -> Result<(), Refusal>
+        ensures ok { OnOk result (1 ≤ self.new.places) }
+        ensures same { self.new.records ≡ self.old.records }
+        ensures err { IsOkUnless result Refusal.Memory }
+        ensures full { OnErr result (self.old.places ≡ 0) }
+    {
+        self.entries.reserve(1)?;
+        Ok(())
+    }
+
+    /// Makes room for the record of one call whose arguments have so many bytes, and so many commas between them.
+    /// Refused with `Memory` where the allocator refuses; the records stay.
+    pub fn reserve_call(&mut self, bytes: usize, commas: usize) -> Result<(), Refusal>
+        ensures ok { OnOk result (HasPlaceForCall bytes commas self.new) }
+        ensures same { self.new.records ≡ self.old.records }
+        ensures err { IsOkUnless result Refusal.Memory }
+    {
+        self.entries.reserve(1)?;
+        self.lists.reserve_call(bytes, commas)
+    }
+
+    /// Makes room for the record of one step that empties all texts.
+    /// Refused with `Memory` where the allocator refuses; the records stay.
+    pub fn reserve_idle(&mut self) -> Result<(), Refusal>
+        ensures ok { OnOk result (HasPlaceForIdle self.new) }
+        ensures same { self.new.records ≡ self.old.records }
+        ensures err { IsOkUnless result Refusal.Memory }
+    {
+        self.entries.reserve(1)?;
+        self.lists.reserve_idle()
+    }
+
+    /// Keeps so many records more, the newest, each of a moved byte. They need no room.
+    pub fn push_moved(&mut self, n: usize)
+        requires { length self.old.records + n ≤ JOURNAL_LIMIT }
+        ensures { self.new ≡ record self.old { records = replicate n Moved ++ self.old.records } }
+    {
+        self.moved += n;
+        self.len += n;
+    }
+
+    /// Keeps one short record more, the newest. There has to be room for it, and a protected text to be shorter than 2^32
+    /// bytes, as every text of a machine is.
+    pub fn push_short(&mut self, newest: Short)
+        requires not_full { length self.old.records < JOURNAL_LIMIT }
+        requires place { 1 ≤ self.old.places }
+        requires fits { FitsEntry newest }
+        ensures { self.new.records ≡ said_by newest ∷ self.old.records }
+    {
+        match newest {
+            Short::Moved => self.push_moved(1),
+            Short::Comma => self.push_brief(Kept::Comma),
+            Short::Begun => self.push_brief(Kept::Begun),
+            Short::Quoted { inner, closed } => self.push_brief(Kept::Quoted {
+                closed,
+                inner: inner as u32,
+            }),
+            Short::Deleted(byte) => self.push_brief(Kept::Deleted(byte)),
+        }
+    }
+
+    // Keeps one record more that an entry holds.
+    fn push_brief(&mut self, kept: Kept)
+        requires not_full { length self.old.records < JOURNAL_LIMIT }
+        requires place { 1 ≤ self.old.places }
+        requires brief { IsBrief kept }
+        ensures { self.new.records ≡ newest_in kept nothing_listed ∷ self.old.records }
+    {
+        self.entries.push_back_reserved(Entry {
+            moved: self.moved as u32,
+            kept,
+        });
+        self.moved = 0;
+        self.len += 1;
+        self.weight += weigh_brief(kept);
+    }
+
+    /// Keeps the record of one call more, the newest: what it says beside its arguments, these, at least one, of which `joined`
+    /// has the bytes, one after another, and what it destroyed of forms and blocks. There has to be room for it, each number to
+    /// be below 2^32, and the record to weigh no more than 2^42, as that of every step from a proper state does.
+    pub fn push_call<T: Texts>(
+        &mut self,
+        called: Called,
+        arguments: &T,
+        joined: &[u8],
+        undone: Undone<A>,
+    )
+        requires not_full { length self.old.records < JOURNAL_LIMIT }
+        requires some { 1 ≤ length (T.texts arguments.now) }
+        requires joined { joined.now ≡ concat (T.texts arguments.now) }
+        requires small { AreSmall called (length joined.now) (length (T.texts arguments.now)) }
+        requires light { IsLight (CallOf (record_with called (T.texts arguments.now) (undone_in undone))) }
+        requires room { HasPlaceForCall (length joined.now) (length (T.texts arguments.now) - 1) self.old }
+        ensures { self.new.records ≡ CallOf (record_with called (T.texts arguments.now) (undone_in undone)) ∷ self.old.records }
+    {
+        let weight = weigh_call(joined.len() + (arguments.count() - 1), called.meta, &undone);
+        let kept = self.lists.push_call(called, arguments, joined, undone);
+        self.entries.push_back_reserved(Entry {
+            moved: self.moved as u32,
+            kept,
+        });
+        self.moved = 0;
+        self.len += 1;
+        self.weight += weight;
+    }
+
+    /// Keeps the record of one step more that emptied all texts, the newest. There has to be room for it, and it may not weigh
+    /// more than 2^42, as that of no step from a proper state does.
+    pub fn push_idle(&mut self, emptied: Emptied<A>)
+        requires not_full { length self.old.records < JOURNAL_LIMIT }
+        requires light { IsLight (Idle emptied.base.items (frames_in emptied.frames.items)) }
+        requires room { HasPlaceForIdle self.old }
+        ensures { self.new.records ≡ Idle emptied.base.items (frames_in emptied.frames.items) ∷ self.old.records }
+    {
+        let weight = emptied.weight() as u64;
+        self.lists.push_idle(emptied);
+        self.entries.push_back_reserved(Entry {
+            moved: self.moved as u32,
+            kept: Kept::Idle,
+        });
+        self.moved = 0;
+        self.len += 1;
+        self.weight += weight;
+    }
+
+    /// The newest record, lent as far as it can be; none where there is none.
+    pub fn newest(&self) -> Option<Newest<'_>>
+        ensures { MatchOption result (self.now.records ≡ []) (λ n. (r : Record) × ((older : List Record) × ((self.now.records ≡ r ∷ older) × IsTold n r))) }
+    {
+        if self.moved > 0 {
+            return Some(Newest::Short(Short::Moved));
+        }
+        match self.entries.back() {
+            Some(entry) => Some(self.lists.newest(entry.kept)),
+            None => None,
+        }
+    }
+
+    /// Takes out the newest record, and hands out what its step destroyed of forms and blocks, or emptied; none where there is
+    /// no record.
+    pub fn pop(&mut self) -> Option<Lost<A>>
+        ensures { MatchOption result ((self.old.records ≡ []) × (self.new.records ≡ [])) (λ lost. (r : Record) × ((self.old.records ≡ r ∷ self.new.records) × IsLost lost r)) }
+    {
+        if self.moved > 0 {
+            self.moved -= 1;
+            self.len -= 1;
+            return Some(Lost::Nothing);
+        }
+        let Some(entry) = self.entries.pop_back() else {
+            return None;
+        };
+        let weight = self.lists.weigh_newest(entry.kept);
+        let lost = self.lists.pop(entry.kept);
+        self.moved = entry.moved as usize;
+        self.len -= 1;
+        self.weight -= weight;
+        Some(lost)
+    }
+
+    /// Takes out the records of the bytes that were moved last, up to `most` of them, and returns how many these are.
+    pub fn pop_moved(&mut self, most: usize) -> usize
+        ensures taken { self.old.records ≡ replicate result Moved ++ self.new.records }
+        ensures most { result ≤ most }
+    {
+        let count = self.moved.min(most);
+        self.moved -= count;
+        self.len -= count;
+        count
+    }
+
+    /// Forgets all records, and keeps the room for them.
+    pub fn clear(&mut self)
+        ensures { self.new.records ≡ [] }
+    {
+        self.entries.clear();
+        self.lists.clear();
+        self.moved = 0;
+        self.len = 0;
+        self.weight = 0;
+    }
+}
+
+// What an entry weighs that holds all of its record: one for a deleted byte.
+fn weigh_brief(kept: Kept) -> u64
+    requires { IsBrief kept }
+    ensures { result ≡ weight (newest_in kept nothing_listed) }
+{
+    match kept {
+        Kept::Deleted(_byte) => 1,
+        _ => 0,
+    }
+}
+
+// What the record of a call weighs whose arguments have so many bytes and commas together, which set the meta character where
+// there is one here, and which destroyed this of forms and blocks.
+fn weigh_call<A: Allocator + Copy>(len: usize, meta: Option<u8>, undone: &Undone<A>) -> u64
+    requires { len + meta_weight meta + undone_weight (undone_in undone.now) < 2 ^ 64 }
+    ensures { result ≡ len + meta_weight meta + undone_weight (undone_in undone.now) }
+{
+    let kept = len + undone.weight();
+    match meta {
+        Some(_byte) => kept as u64 + 1,
+        None => kept as u64,
+    }
+}

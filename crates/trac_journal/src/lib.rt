@@ -1,0 +1,29 @@
+//! The journal: what the steps of a machine destroyed, a record for each, packed one after another, and the parts of which
+//! records are made. Nothing here knows a machine. All of it is this project's profile: T-64 says nothing of ways back.
+#![tactic(auto)]
+
+pub mod called;
+pub mod dropping;
+pub mod emptied;
+pub mod entry;
+pub mod journal;
+pub mod lists;
+pub mod pieces;
+pub mod told;
+pub mod undone;
+mod weighing;
+
+pub use called::{Called, Short};
+pub use dropping::Passed;
+pub use emptied::{Emptied, Functions};
+#[doc(hidden)]
+pub use entry::{Call, Entry, Kept};
+pub use journal::Journal;
+#[doc(hidden)]
+pub use lists::Lists;
+pub use pieces::{Pieces, PiecesRef};
+pub use told::{Lost, Newest};
+pub use trac_rules::kind::Kind;
+pub use trac_rules::refusal::Refusal;
+pub use undone::Undone;
+pub use weighing::weigh_functions;
