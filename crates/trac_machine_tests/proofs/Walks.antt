@@ -11,9 +11,11 @@ use Rattle.trac_rules.specs.Form.{Form}
 use Rattle.trac_rules.specs.Limits.{marks, text_bytes, texts_fit}
 use Rattle.trac_rules.specs.Matching.{match_of}
 use Rattle.trac_rules.specs.Performing.{performed}
+use Rattle.trac_rules.specs.Records.{Record, state_before}
 use Rattle.trac_rules.specs.Scanning.{scan}
 use Rattle.trac_rules.specs.State.{Environment, Forms, State, initial}
 use Rattle.trac_rules.specs.Stepping.{step}
+use Rattle.trac_step.specs.Kept.{CanGoBack, HasGoneBack, IsKept}
 use Rattle.trac_step.specs.Layout.{Shown}
 use Rattle.trac_step.specs.Room.{HasRoom, IsNoLess}
 use Rattle.trac_step.proofs.Rooms.{HasRoom-kept}
@@ -23,6 +25,21 @@ use Rattle.trac_step.proofs.Rooms.{HasRoom-kept}
 -- what is known to be the state before can be gone back to, where there was room for it
 pub goes_back : (o : Option State) (s : State) (old new : Shown) → o ≡ Some s → IsNoLess old new → HasRoom old s → IsSomeAnd o (λ u. HasRoom new u)
 goes_back o s old new is more room = subst (λ x. IsSomeAnd x (λ u. HasRoom new u)) (sym is) (HasRoom-kept old new s more room)
+
+-- a kept step that is gone back over on a machine that shows the state after it, with no less room
+module _ (e : Environment) (m n k : Shown) (old new after : List Record) (kept : IsKept e m.state n.state old new) (state_is : k.state ≡ n.state) (records_are : after ≡ new) where
+  leads : state_before kept.newest k.state ≡ Some m.state
+  leads = ap (λ (s : State). state_before kept.newest s) state_is ∙ kept.leads_back
+
+  pub kept_goes_back : HasRoom n m.state → IsNoLess n k → CanGoBack k after
+  kept_goes_back room more = subst (CanGoBack k) (sym (records_are ∙ kept.added)) (goes_back (state_before kept.newest k.state) m.state n k leads more room)
+
+  pub gone_to_kept : (s : State) (last : List Record) → HasGoneBack k.state s after last → (s ≡ m.state) × (last ≡ old)
+  gone_to_kept s last gone =
+      let both : gone.newest ∷ last ≡ kept.newest ∷ old = sym gone.taken ∙ records_are ∙ kept.added in
+      let same : gone.newest ≡ kept.newest = cc in
+      let one : Some s ≡ Some m.state = sym gone.leads_back ∙ ap (λ (r : Record). state_before r k.state) same ∙ leads in
+      (cc, cc)
 
 -- where at least one step leads to what a machine shows, it has room for the state before it
 pub room_before : (e : Environment) (n : ℕ) (s : State) (m : Shown) → 0 < n → LeadsTo e n s m → HasRoom m s
@@ -74,15 +91,15 @@ of_next P s (Ok t) p = p
 of_next P s (Err refusal) p = tt
 
 -- so many steps lead to what a machine shows, where they end in that and all states before are within its rooms, and have no form
-leads : (e : Environment) (n : ℕ) (s final : State) (text mark_count output : ℕ) (m : Shown) → IsLoaded final text mark_count output m → final ≡ end_of e n s →
+leads_so : (e : Environment) (n : ℕ) (s final : State) (text mark_count output : ℕ) (m : Shown) → IsLoaded final text mark_count output m → final ≡ end_of e n s →
     are_within text mark_count output (states_on e n s) ≡ true → map (λ (t : State). t.forms) (states_on e n s) ≡ replicate n finite.empty → LeadsTo e n s m
-leads e zero s final text mark_count output m loaded ends within none = loaded.state ∙ ends
-leads e (suc n) s final text mark_count output m loaded ends within none =
+leads_so e zero s final text mark_count output m loaded ends within none = loaded.state ∙ ends
+leads_so e (suc n) s final text mark_count output m loaded ends within none =
     let both = and_parts (is_within text mark_count output s) (are_within text mark_count output (states_on e n (next s (step e s)))) within in
     let first : s.forms ≡ finite.empty = (let h = none in cc) in
     let others : map (λ (t : State). t.forms) (states_on e n (next s (step e s))) ≡ replicate n finite.empty = (let h = none in cc) in (
       has_room m s final text mark_count output loaded both.0 first,
-      of_next (λ (t : State). LeadsTo e n t m) s (step e s) (leads e n (next s (step e s)) final text mark_count output m loaded ends both.1 others),
+      of_next (λ (t : State). LeadsTo e n t m) s (step e s) (leads_so e n (next s (step e s)) final text mark_count output m loaded ends both.1 others),
     )
 
 -- ---- the walks of the tests
@@ -90,4 +107,4 @@ leads e (suc n) s final text mark_count output m loaded ends within none =
 -- `AB` is read and printed
 pub eleven_lead : (m : Shown) → IsLoaded (begun_with [] (codes "AB") 3) 11 3 2 m → LeadsTo (over_whole (codes "AB'")) 11 initial m
 unfolding match_of scan texts_fit performed step
-eleven_lead m loaded = leads (over_whole (codes "AB'")) 11 initial (begun_with [] (codes "AB") 3) 11 3 2 m loaded refl refl refl
+eleven_lead m loaded = leads_so (over_whole (codes "AB'")) 11 initial (begun_with [] (codes "AB") 3) 11 3 2 m loaded refl refl refl

@@ -7,13 +7,13 @@
 #[cfg(test)]
 mod elsewhere;
 #[cfg(test)]
+mod journaled;
+#[cfg(test)]
 mod loading;
 #[cfg(test)]
 mod machines;
 #[cfg(test)]
 mod releasing;
-#[cfg(test)]
-mod short_steps;
 pub mod shown;
 #[cfg(test)]
 mod walking;

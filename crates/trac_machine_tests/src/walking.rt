@@ -13,7 +13,7 @@ use trac_rules::width::Width;
 use trac_step::{Core, Kind, Mark, Pieces, Record, Tape};
 
 /// A begun function that a record keeps: its kind, the bytes of its arguments, and how many of these each `,` ended.
-type Kept = (Kind, &'static [u8], &'static [usize]);
+type Kept = (Kind, &'static [u8], &'static [u32]);
 
 /// Whole inputs, the number of the step that empties all texts, the base text that its record
 /// keeps, and the begun functions.
@@ -244,7 +244,8 @@ fn there_and_back_without_memory(rt: HostRuntime) {
 
 // Whether a begun function is kept so.
 fn is_kept<A: Allocator + Copy>(kind: Kind, arguments: &Pieces<A>, wanted: &Kept) -> bool {
-    kind == wanted.0 && arguments.text() == wanted.1 && arguments.commas() == wanted.2
+    let lent = arguments.lend();
+    kind == wanted.0 && lent.text() == wanted.1 && lent.commas() == wanted.2
 }
 
 // Whether these begun functions are kept, the innermost first.

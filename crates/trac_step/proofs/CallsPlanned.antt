@@ -23,9 +23,9 @@ use Rattle.trac_prims.specs.Effects.{Planned, planned_from, planned_on}
 use Rattle.trac_prims.specs.Frames.{IsInnermost}
 use Rattle.trac_prims.specs.Neutral.{MarkedText, Neutral, cut_back, neutral_of}
 use Rattle.trac_prims.specs.Plans.{IsGiven, fits_after}
-use Rattle.trac_step.specs.declared.undoing.Called.{Called}
+use Rattle.trac_journal.specs.declared.called.Called.{Called}
 use Rattle.trac_step.specs.Calling.{arguments_in}
-use Rattle.trac_step.specs.Returning.{record_with}
+use Rattle.trac_journal.specs.Told.{record_with}
 use Rattle.trac_step.proofs.Calls.{call_of, scan_call, wanted}
 
 -- the arguments of the innermost function are those of the call

@@ -13,19 +13,19 @@ use Rattle.trac_rules.specs.Proper.{IsProper}
 use Rattle.trac_rules.specs.Records.{CallRecord, Rest, Texts, all_before_last, begun_again, end_taken_in, last_of, moved_back, moved_back_in, put_before, put_together, rest_before, rest_of, restored_call, texts_before, texts_in, value_taken}
 use Rattle.trac_rules.specs.Records as rules
 use Rattle.trac_rules.specs.State.{Frame, State, Storage, storage_of}
-use Rattle.trac_rules.specs.Undone.{storage_before}
+use Rattle.trac_rules.specs.Undone.{Undone, storage_before}
 use Rattle.trac_rules.proofs.Restored.{frame_of-last}
 use Rattle.trac_forms.specs.Stored.{Stored, storage_in}
 use Rattle.trac_prims.specs.declared.mark.Mark.{Mark}
 use Rattle.trac_prims.specs.Frames.{IsInnermost}
 use Rattle.trac_prims.specs.Neutral.{AreMarks, MarkedText, Neutral, cut_back, neutral, neutral_of}
-use Rattle.trac_step.specs.declared.undoing.Called.{Called}
-use Rattle.trac_step.specs.declared.undone.Undone.{Undone}
+use Rattle.trac_journal.specs.declared.called.Called.{Called}
 use Rattle.trac_step.specs.Layout.{Parts, IsSound, Shown, parts_of, shown_by, state_of}
-use Rattle.trac_step.specs.Pieces.{Arguments, all_texts, frame_in, function_marks}
-use Rattle.trac_step.specs.Returning.{HasValue, KnowsBefore, before_call, call_record, without_value}
+use Rattle.trac_journal.specs.Pieces.{Arguments, all_texts, frame_in}
+use Rattle.trac_step.specs.Marks.{function_marks}
+use Rattle.trac_step.specs.Returning.{HasValue, KnowsBefore, before_call, without_value}
 use Rattle.trac_step.specs.Room.{HasRoom}
-use Rattle.trac_step.specs.Undone.{undone_in}
+use Rattle.trac_journal.specs.Told.{record_with}
 use Rattle.trac_step.specs.Undoing.{CanShow}
 use Rattle.trac_step.proofs.Limited.{sound_if_proper}
 use Rattle.trac_step.proofs.NeutralAgain.{Shows, mark_size, shows_function, text_size}
@@ -33,7 +33,7 @@ use Rattle.trac_step.proofs.ScanningBack.{is_moved_back, moved_parts}
 
 -- ---- options
 
-then_is : {X : Type 0} (b : Bool) (x y : X) → then_some b x ≡ Some y → (b ≡ true) × (x ≡ y)
+pub then_is : {X : Type 0} (b : Bool) (x y : X) → then_some b x ≡ Some y → (b ≡ true) × (x ≡ y)
 then_is true x y h = (refl, let same : x ≡ y = cc in same)
 then_is false x y h = absurd (let none : None ≡ Some y = h in cc)
 
@@ -185,17 +185,17 @@ record IsRestBack (called : Called) (p : Parts) (rest : Rest) : Type 0 where
   printed : called.printed ≤ length p.output
   same : record { meta = unwrap_or called.meta p.meta; trace = called.trace; position = p.position - called.read; output = take (length p.output - called.printed) p.output } ≡ rest
 
-rest_back : {A : Type 0} (called : Called) (a : Arguments) (change : Undone A) (p : Parts) (rest : Rest) →
-    rest_before (call_record called a change) (rest_of (state_of p)) ≡ Some rest → IsRestBack called p rest
-rest_back called a change p rest h =
+rest_back : (called : Called) (a : Arguments) (undone : Undone) (p : Parts) (rest : Rest) →
+    rest_before (record_with called (all_texts a) undone) (rest_of (state_of p)) ≡ Some rest → IsRestBack called p rest
+rest_back called a undone p rest h =
     let is = then_is (nat_le called.read p.position && nat_le called.printed (length p.output)) _ rest h in
     let both = and_parts (nat_le called.read p.position) (nat_le called.printed (length p.output)) is.0 in
     record { read = leb-true called.read p.position both.0; printed = leb-true called.printed (length p.output) both.1; same = is.1 }
 
-module _ {A : Type 0} {width : Width} (called : Called) (a : Arguments) (change : Undone A) (p : Parts) (m : Shown) (sound : IsSound p) (view : shown_by width p ≡ m)
-    (h : CanShow m (restored_call (call_record called a change) m.state)) where
+module _ {width : Width} (called : Called) (a : Arguments) (undone : Undone) (p : Parts) (m : Shown) (sound : IsSound p) (view : shown_by width p ≡ m)
+    (h : CanShow m (restored_call (record_with called (all_texts a) undone) m.state)) where
   abbrev call : CallRecord
-  call = call_record called a change
+  call = record_with called (all_texts a) undone
 
   there : CanShowParts call (shown_by width p) (state_of p)
   there = can_show_parts call (shown_by width p) (state_of p) (subst (λ (n : Shown). CanShow n (restored_call call n.state)) (sym view) h)
@@ -204,7 +204,7 @@ module _ {A : Type 0} {width : Width} (called : Called) (a : Arguments) (change 
   texts = texts_back called a p there.texts sound.ordered there.texts_are
 
   rest : IsRestBack called p there.rest
-  rest = rest_back called a change p there.rest there.rest_is
+  rest = rest_back called a undone p there.rest there.rest_is
 
   shows : Shows (parts_before called a p p.storage 0).text (parts_before called a p p.storage 0).marks
       (record { base = texts.without.base; frames = frame_in (called.kind, a) ∷ texts.without.frames })
@@ -266,15 +266,15 @@ module _ {A : Type 0} {width : Width} (called : Called) (a : Arguments) (change 
       let same : inner.frame ≡ frame_in (called.kind, a) = cc in
       sym inner.arguments_are ∙ ap (λ (f : Frame). f.arguments ++ f.gathered ∷ []) same
 
-  pub knows : (arguments : List (List ℕ)) → arguments ≡ all_texts a → KnowsBefore p.known (storage_before arguments (undone_in change) p.storage)
+  pub knows : (arguments : List (List ℕ)) → arguments ≡ all_texts a → KnowsBefore p.known (storage_before arguments (undone) p.storage)
   knows arguments same =
-      let one : KnowsBefore p.known (storage_before (all_texts a) (undone_in change) p.storage) = subst (λ (o : Option Storage). KnowsBefore p.known o) (sym there.storage_is) there.room.names in
-      subst (λ (texts : List (List ℕ)). KnowsBefore p.known (storage_before texts (undone_in change) p.storage)) (sym same) one
+      let one : KnowsBefore p.known (storage_before (all_texts a) (undone) p.storage) = subst (λ (o : Option Storage). KnowsBefore p.known o) (sym there.storage_is) there.room.names in
+      subst (λ (texts : List (List ℕ)). KnowsBefore p.known (storage_before texts (undone) p.storage)) (sym same) one
 
-  module _ (arguments : List (List ℕ)) (same : arguments ≡ all_texts a) (storage : Storage) (spare : ℕ) (is : storage_before arguments (undone_in change) p.storage ≡ Some storage) where
+  module _ (arguments : List (List ℕ)) (same : arguments ≡ all_texts a) (storage : Storage) (spare : ℕ) (is : storage_before arguments (undone) p.storage ≡ Some storage) where
     same_storage : there.storage ≡ storage
     same_storage =
-        let both : Some there.storage ≡ Some storage = sym there.storage_is ∙ ap (λ (texts : List (List ℕ)). storage_before texts (undone_in change) p.storage) (sym same) ∙ is in
+        let both : Some there.storage ≡ Some storage = sym there.storage_is ∙ ap (λ (texts : List (List ℕ)). storage_before texts (undone) p.storage) (sym same) ∙ is in
         let one : there.storage ≡ storage = cc in
         one
 

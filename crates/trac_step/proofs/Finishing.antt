@@ -21,7 +21,7 @@ module _ (p : Parts) (s : State) (m : MarkedText) (state_is : state_of p ≡ s) 
       (ap (λ (t : State). t.frames) (sym state_is) ∙ ap (λ (x : MarkedText). (neutral_of x).frames) (sym read) ∙ none) begins
 
   module _ (number place : ℕ) (kind : Kind) (given : List (List ℕ)) (front : front_of s.active ≡ Closing) (inner : IsInnermost m number place kind given) where
-    given_here : given ≡ arguments_in (scan s)
+    pub given_here : given ≡ arguments_in (scan s)
     given_here =
         arguments_found s m number place kind given front
         (ap neutral_of read ∙ ap (λ (t : State). let n : Neutral = record { base = t.base; frames = t.frames } in n) state_is) inner

@@ -1,43 +1,15 @@
 -- Begun functions: their arguments cut from the text that holds them, and taken out of the neutral text one after another.
-use Rattle.std.proofs.Common.{◌≡◌, ℕ, zero, suc, ◌+◌, ◌<◌, ◌≤◌, List, [], ◌∷◌, ◌++◌, length, map, take, drop, get_or, reverse, refl, sym, ap, ◌∙◌, arith}
-use Rattle.std.proofs.lemmas.List.{append-nil, append_assoc, map-append, reverse-reverse, length-append, length-drop, length-take-le, take-append-drop, take_at, drop_at, drop_more}
+use Rattle.std.proofs.Common.{◌≡◌, ℕ, ◌+◌, ◌<◌, ◌≤◌, List, [], ◌∷◌, ◌++◌, length, map, drop, get_or, reverse, sym, ap, ◌∙◌, arith}
+use Rattle.std.proofs.lemmas.List.{append_assoc, map-append, reverse-reverse, length-append, drop_more}
 use Rattle.std.proofs.lemmas.List.Sums.{sum_by-cons}
 use Rattle.std.specs.List.{concat, sum}
 use Rattle.trac_rules.specs.declared.kind.Kind.{Kind}
+use Rattle.trac_rules.specs.Limits.{total_length}
 use Rattle.trac_rules.specs.State.{Frame}
 use Rattle.trac_prims.specs.Frames.{all_arguments}
-use Rattle.trac_step.specs.Pieces.{Arguments, all_texts, cut_at, frame_in, frames_in}
+use Rattle.trac_journal.specs.Pieces.{Arguments, all_texts, frame_in, frames_in}
+use Rattle.trac_step.proofs.NeutralAgain.{function_bytes}
 use Rattle.trac_step.proofs.Rules.{reverse_push}
-
--- texts that are joined, and cut by the lengths of all but the last, are the same ones
-pub cut-joined : (texts : List (List ℕ)) (n : ℕ) → n + 1 ≡ length texts → all_texts (cut_at (map length (take n texts)) (concat texts)) ≡ texts
-cut-joined [] n h = absurd (omega arith)
-cut-joined (text ∷ []) zero h = ap (λ (only : List ℕ). only ∷ []) (append-nil text)
-cut-joined (text ∷ next ∷ texts) zero h = absurd (omega arith)
-cut-joined (text ∷ texts) (suc n) h =
-    let behind : drop (length text) (text ++ concat texts) ≡ concat texts = drop_at text (concat texts) (length text) refl in
-    let rest : all_texts (cut_at (map length (take n texts)) (drop (length text) (text ++ concat texts))) ≡ texts =
-    ap (λ (joined : List ℕ). all_texts (cut_at (map length (take n texts)) joined)) behind ∙ cut-joined texts n (omega arith) in
-    λ i. take_at text (concat texts) (length text) refl i ∷ rest i
-
--- the lengths are within the text
-pub lengths_within : (texts : List (List ℕ)) (n : ℕ) → sum (map length (take n texts)) ≤ length (concat texts)
-lengths_within texts zero = omega arith
-lengths_within [] (suc n) = omega arith
-lengths_within (text ∷ texts) (suc n) =
-    omega (arith, sum_by-cons (λ (k : ℕ). k) (length text) (map length (take n texts)), lengths_within texts n, length-append text (concat texts))
-
--- what is cut joins to the text again
-pub joined-cut : (lengths text : List ℕ) → concat (all_texts (cut_at lengths text)) ≡ text
-joined-cut [] text = append-nil text
-joined-cut (n ∷ lengths) text = ap (λ (rest : List ℕ). take n text ++ rest) (joined-cut lengths (drop n text)) ∙ take-append-drop n text
-
--- all texts but the last have these lengths
-pub lengths-cut : (lengths text : List ℕ) → sum lengths ≤ length text → map length (cut_at lengths text).finished ≡ lengths
-lengths-cut [] text h = refl
-lengths-cut (n ∷ lengths) text h =
-    let within : n + sum lengths ≤ length text = omega (arith, sum_by-cons (λ (k : ℕ). k) n lengths) in
-    λ i. length-take-le n text (omega arith) i ∷ lengths-cut lengths (drop n text) (omega (arith, length-drop n text)) i
 
 -- ---- functions taken out one after another
 
@@ -64,6 +36,13 @@ one_more taken more left rest all f kind a more_is first is so_far =
     ∙ ap (λ (g : Frame). frames_in taken ++ g ∷ rest) (sym is)
     ∙ ap (λ (fs : List Frame). frames_in taken ++ fs) (sym first)
     ∙ so_far
+
+-- all arguments of a frame: there is one, and their bytes are those of the frame
+pub sizes_of : (f : Frame) (texts : List (List ℕ)) → all_arguments f ≡ texts → (1 ≤ length texts) × (length (concat texts) ≡ total_length f.arguments + length f.gathered)
+sizes_of f texts is = (
+  omega (arith, length-append f.arguments (f.gathered ∷ []), ap (λ (ts : List (List ℕ)). length ts) is),
+  sym (ap (λ (ts : List (List ℕ)). length (concat ts)) is) ∙ function_bytes f.arguments f.gathered,
+)
 
 -- ---- the marks of a function that is put back
 

@@ -18,9 +18,11 @@ pub mod MovedForms
 pub mod Replacing
 pub mod Clearing
 pub mod Recorded
+pub mod Fitting
 pub mod ScanningBack
 pub mod StorageBack
 pub mod CallsUndone
+pub mod GoneBack
 pub mod Weighed
 pub mod Functions
 pub mod NeutralAgain

@@ -19,7 +19,8 @@ use Rattle.trac_prims.specs.Neutral.{AreMarks, Neutral, marked, neutral}
 use Rattle.trac_prims.proofs.Neutral.{AreMarks-longer, longer, neutral-append, neutral_bytes, bytes-neutral, marks-neutral}
 use Rattle.trac_step.specs.Calling.{mark_at}
 use Rattle.trac_step.specs.Layout.{IsSound, Parts, Shown, parts_of, shown_by, state_of}
-use Rattle.trac_step.specs.Pieces.{Arguments, all_texts, comma_marks, frame_in, frames_in, function_marks}
+use Rattle.trac_journal.specs.Pieces.{Arguments, all_texts, frame_in, frames_in}
+use Rattle.trac_step.specs.Marks.{comma_marks, function_marks}
 use Rattle.trac_step.specs.Room.{HasRoom}
 use Rattle.trac_step.proofs.Limited.{sound_if_proper}
 use Rattle.trac_step.proofs.Rules.{marks-parts, neutral-push, reverse_push, text_bytes-parts}

@@ -31,6 +31,16 @@ pub recorded_as : {R : Type 0} (r : Result R Refusal) (read : R → Record) (kep
 recorded_as (Ok x) read kept wanted is same = is ∙ ap Some (sym same)
 recorded_as (Err e) read kept wanted is same = tt
 
+-- what holds of every refusal
+pub if_err_always : {R : Type 0} (r : Result R Refusal) (Q : Refusal → Type 0) → ((e : Refusal) → Q e) → IfErr r Q
+if_err_always (Ok x) Q h = tt
+if_err_always (Err e) Q h = h e
+
+-- what is refused over every tape is refused over this one
+pub refused_over : {R : Type 0} (r : Result R Refusal) (environment : Environment) (s : State) → IfErr r (λ e. (others : Environment) → MayRefuse (step others s) e) → IfErr r (λ e. MayRefuse (step environment s) e)
+refused_over (Ok x) environment s h = tt
+refused_over (Err e) environment s h = h environment
+
 -- which it may where a step leads on
 pub taken_lacks : (outcome : Result State Refusal) (t : State) → outcome ≡ Ok t → MayLackMemory outcome
 taken_lacks outcome t is = subst MayLackMemory (sym is) tt

@@ -61,12 +61,12 @@ parts_of_state (Some texts) (Some storage) None s is = absurd (cc)
 parts_of_state (Some texts) None rest s is = absurd (cc)
 parts_of_state None storage rest s is = absurd (cc)
 
-abbrev AreBack : CallRecord → State → State → Type 0
+abbrev pub AreBack : CallRecord → State → State → Type 0
 AreBack c s t =
     (texts_before c (texts_in t) ≡ Some (texts_in s)) × (storage_before c.arguments c.undone (storage_of t) ≡ Some (storage_of s)) × (rest_before c (rest_of t) ≡ Some (rest_of s))
 
 -- where a call was performed, each is got back from its record and the state after
-call_parts : (e : Environment) (s t : State) (r : Record) (c : CallRecord) → step e s ≡ Ok t → record_of e s ≡ Some r → r ≡ Called c → AreBack c s t
+pub call_parts : (e : Environment) (s t : State) (r : Record) (c : CallRecord) → step e s ≡ Ok t → record_of e s ≡ Some r → r ≡ Called c → AreBack c s t
 call_parts e s t r c taken is called =
     parts_of_state (texts_before c (texts_in t)) (storage_before c.arguments c.undone (storage_of t)) (rest_before c (rest_of t)) s
     (record_restores e s t (Called c) taken (is ∙ ap Some called))

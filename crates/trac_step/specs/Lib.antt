@@ -3,9 +3,9 @@ pub mod Layout
 pub mod Changing
 pub mod Calling
 pub mod Room
-pub mod Pieces
-pub mod Undone
+pub mod Marks
 pub mod Record
+pub mod Kept
 pub mod Loading
 pub mod Undoing
 pub mod Returning

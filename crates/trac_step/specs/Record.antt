@@ -2,12 +2,10 @@
 use Rattle.std.specs.Prelude.{Option}
 use Rattle.trac_rules.specs.Records as rules
 use Rattle.trac_rules.specs.State.{State}
-use Rattle.trac_step.specs.Pieces.{all_texts, frames_in}
-use Rattle.trac_step.specs.Undone.{undone_in}
+use Rattle.trac_journal.specs.Pieces.{all_texts, frames_in}
+use Rattle.trac_journal.specs.Undone.{undone_in}
 use Rattle.trac_step.specs.declared.record.Record.{Record}
 use Rattle.trac_step.specs.declared.record.Record.TheVariants.{Moved, Comma, Begun, Quoted, Deleted, Idle, Call}
-use Rattle.trac_step.specs.declared.record.Short.{Short}
-use Rattle.trac_step.specs.declared.record.Short.TheVariants as short
 
 -- a record of the machine, read as one of the rules
 abbrev pub recorded_by : {A : Type 0} → Record A → rules.Record
@@ -33,21 +31,3 @@ recorded_by (Call kind arguments value scanned printed read meta trace change) =
 -- the state before, from the record of a step and the state after it
 abbrev pub before : {A : Type 0} → Record A → State → Option State
 before r t = rules.state_before (recorded_by r) t
-
--- ---- short records
-
--- a short record, read as one of the rules
-abbrev pub said_by : Short → rules.Record
-said_by short.Moved = rules.Moved
-said_by short.Comma = rules.Comma
-said_by short.Begun = rules.Begun
-said_by (short.Quoted inner closed) = rules.Quoted inner closed
-said_by (short.Deleted b) = rules.Deleted b
-
--- a short record as one of any step
-abbrev pub whole_of : {A : Type 0} → Short → Record A
-whole_of short.Moved = Moved
-whole_of short.Comma = Comma
-whole_of short.Begun = Begun
-whole_of (short.Quoted inner closed) = Quoted inner closed
-whole_of (short.Deleted b) = Deleted b

@@ -3,33 +3,7 @@ use Rattle.std.specs.Prelude.{ℕ, ◌-◌, ◌≤◌, ◌++◌, List, length, t
 use Rattle.std.specs.List.{concat}
 use Rattle.trac_gap.specs.Ends.{Ends}
 use Rattle.trac_forms.specs.Stored.{KnowsAll, Names}
-use Rattle.trac_rules.specs.Records.{CallRecord}
 use Rattle.trac_rules.specs.State.{Storage}
-use Rattle.trac_rules.specs.Undone as rules
-use Rattle.trac_step.specs.declared.undoing.Called.{Called}
-use Rattle.trac_step.specs.declared.undone.Undone.{Undone}
-use Rattle.trac_step.specs.Pieces.{Arguments, all_texts}
-use Rattle.trac_step.specs.Undone.{undone_in}
-
--- ---- the record
-
--- the record of a call of these arguments, from what it destroyed of forms and blocks, and what is said beside them
-abbrev pub record_with : Called → List (List ℕ) → rules.Undone → CallRecord
-record_with called arguments undone = record {
-  kind = called.kind;
-  arguments = arguments;
-  value = called.value;
-  scanned = called.scanned;
-  printed = called.printed;
-  read = called.read;
-  meta = called.meta;
-  trace = called.trace;
-  undone = undone;
-}
-
--- the same, from what the code keeps
-abbrev pub call_record : {A : Type 0} → Called → Arguments → Undone A → CallRecord
-call_record called arguments change = record_with called (all_texts arguments) (undone_in change)
 
 -- ---- texts
 

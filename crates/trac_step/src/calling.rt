@@ -1,6 +1,8 @@
 //! The steps that perform a function.
-ghost use Rattle.std.specs.Prelude.{◌≡◌, ◌<◌, ◌≤◌, ◌+◌, ◌-◌, ◌++◌, length, take, drop, option_map, IfErr, IfOk, IsOkUnless, OnErr, OnOk, Ok, Some};
+ghost use Rattle.std.specs.Prelude.{◌≡◌, ◌<◌, ◌≤◌, ◌+◌, ◌-◌, ◌++◌, ◌^◌, ◌∷◌, length, take, drop, option_map, IfErr, IfOk, IsOkUnless, OnErr, OnOk, Ok, Some};
+ghost use Rattle.std.specs.List.{concat};
 ghost use Rattle.trac_gap.specs.Ends.{item_count};
+ghost use Rattle.trac_rules.specs.declared.limit.TheConstants.{JOURNAL_LIMIT};
 ghost use Rattle.trac_rules.specs.Outcomes.{MayAnswer, MayRefuse};
 ghost use Rattle.trac_rules.specs.Proper.{IsProper};
 ghost use Rattle.trac_rules.specs.Effect as acting;
@@ -15,22 +17,22 @@ ghost use Rattle.trac_prims.specs.Tape.{environment_of};
 ghost use Rattle.trac_prims.specs.Changes.{NamesGiven, undone_of};
 ghost use Rattle.trac_step.specs.Changing.{AreMadeFor};
 ghost use Rattle.trac_step.specs.Calling.{BeginsInnermost, HasRoomFor, arguments_in, state_after, with_value};
-ghost use Rattle.trac_step.specs.Pieces.{all_texts};
+ghost use Rattle.trac_journal.specs.Pieces.{all_texts};
+ghost use Rattle.trac_journal.specs.Journaled.{HasPlaceForCall};
+ghost use Rattle.trac_step.specs.Kept.{FitsJournal, IsAdded};
 ghost use Rattle.trac_step.specs.Record.{recorded_by};
-ghost use Rattle.trac_step.specs.Returning.{record_with};
+ghost use Rattle.trac_journal.specs.Told.{record_with};
 ghost use Rattle.trac_step.specs.Room.{IsNoLess, LacksRoomAhead};
-ghost use Rattle.trac_step.specs.Undone.{undone_in};
+ghost use Rattle.trac_journal.specs.Undone.{undone_in};
 
 use crate::changing::change_forms;
 use crate::ends;
 use crate::engine::Core;
-use crate::pieces::Pieces;
 use crate::places::{Places, make_place, places_for};
 use crate::record::Record;
-use crate::undoing::Called;
-use crate::undone::Undone;
 use std::alloc::Allocator;
 use trac_gap::TwoEnds;
+use trac_journal::{Called, Journal, Pieces, Undone};
 use trac_prims::{Args, Effect, Kind, Mark, NeutralText, Now, Refusal, Tape, plan, sets_meta};
 use trac_rules::scan::Front;
 
@@ -44,12 +46,16 @@ pub(crate) struct Beginning {
     pub(crate) kind: Kind,
 }
 
-// Where the function of a planned call begins, and what the call's record says beside its arguments, and what was
-// destroyed of forms and blocks.
+// Where the function of a planned call begins, what the call's record says beside its arguments, and what was destroyed of
+// forms and blocks, and how much room its arguments take there.
 #[derive(Clone, Copy)]
 pub(crate) struct Plan {
     pub(crate) beginning: Beginning,
     pub(crate) called: Called,
+    // how many bytes the arguments have together
+    pub(crate) bytes: usize,
+    // how many commas stand between them
+    pub(crate) commas: usize,
 }
 
 // What the record of a call says beside its arguments, and what was destroyed of forms and blocks.
@@ -114,9 +120,9 @@ fn put_value<E: TwoEnds<u8, A>, A: Allocator + Copy>(
 }
 
 impl<E: TwoEnds<u8, A>, M: TwoEnds<Mark, A>, A: Allocator + Copy> Core<E, M, A> {
-    // What the call will do that the next step performs, where its function begins, and what its record says, with a copy of
-    // its arguments; or why it is refused.
-    fn planned(&self, tape: Tape<'_>) -> Result<(Plan, Effect<A>, Pieces<A>), Refusal>
+    // What the call will do that the next step performs, where its function begins, and what its record says; or why it is
+    // refused.
+    fn planned(&self, tape: Tape<'_>) -> Result<(Plan, Effect<A>), Refusal>
         requires front { front_of self.now.state.active ≡ Front.Closing }
         requires inside { 0 < length self.now.state.frames }
         requires within { self.now.state.position ≤ length tape.bytes.now }
@@ -126,7 +132,8 @@ impl<E: TwoEnds<u8, A>, M: TwoEnds<Mark, A>, A: Allocator + Copy> Core<E, M, A> 
             ≡ Some (rules.Called (record_with r.0.called (arguments_in (scan self.now.state)) (undone_of r.1.change (storage_of self.now.state))))) }
         ensures given { IfOk result (λ r. NamesGiven (arguments_in (scan self.now.state)) (storage_of self.now.state) r.1.change) }
         ensures proper { IfOk result (λ r. IsProper (state_after r.1 (scan self.now.state))) }
-        ensures arguments { IfOk result (λ r. all_texts r.2 ≡ arguments_in (scan self.now.state)) }
+        ensures bytes { IfOk result (λ r. r.0.bytes ≡ length (concat (arguments_in (scan self.now.state)))) }
+        ensures commas { IfOk result (λ r. r.0.commas + 1 ≡ length (arguments_in (scan self.now.state))) }
     {
         let Some(function) = self.neutral().innermost() else {
             unreachable!()
@@ -153,8 +160,27 @@ impl<E: TwoEnds<u8, A>, M: TwoEnds<Mark, A>, A: Allocator + Copy> Core<E, M, A> 
             kind: function.kind,
         };
         let called = called_by(function.kind, &function.arguments, now, &effect);
-        let arguments = Pieces::of(*self.output.allocator(), &function.arguments)?;
-        Ok((Plan { beginning, called }, effect, arguments))
+        let plan = Plan {
+            beginning,
+            called,
+            bytes: function.arguments.joined().len(),
+            commas: function.arguments.comma_count(),
+        };
+        Ok((plan, effect))
+    }
+
+    // A copy of the arguments of the call that the next step performs.
+    fn copied_arguments(&self) -> Result<Pieces<A>, Refusal>
+        requires front { front_of self.now.state.active ≡ Front.Closing }
+        requires inside { 0 < length self.now.state.frames }
+        ensures same { IfOk result (λ p. all_texts p ≡ arguments_in (scan self.now.state)) }
+        ensures err { IsOkUnless result Refusal.Memory }
+    {
+        let Some(function) = self.neutral().innermost() else {
+            unreachable!()
+        };
+        let arguments = function.arguments;
+        Pieces::of(*self.output.allocator(), &arguments, arguments.joined())
     }
 
     // Makes room for what the call adds, so that finishing it needs no memory. The state stays.
@@ -273,7 +299,102 @@ impl<E: TwoEnds<u8, A>, M: TwoEnds<Mark, A>, A: Allocator + Copy> Core<E, M, A> 
         ensures lacking { LacksRoomAhead self.old }
         ensures room { IsNoLess self.old self.new }
     {
-        let (plan, effect, arguments) = self.planned(tape)?;
+        let (plan, effect) = self.planned(tape)?;
+        let arguments = self.copied_arguments()?;
         self.carry_out(plan, effect, arguments)
+    }
+
+    // Performs the call, as `finish_call` does, and keeps its record in the journal, which has room for it: its arguments are
+    // copied into the journal while they still stand in the neutral text.
+    fn finish_call_into(
+        &mut self,
+        journal: &mut Journal<A>,
+        plan: Plan,
+        effect: Effect<A>,
+        places: Places<A>,
+    )
+        requires front { front_of self.old.state.active ≡ Front.Closing }
+        requires beginning { BeginsInnermost self.old.state plan.beginning }
+        requires room { HasRoomFor effect self.old }
+        requires made { AreMadeFor effect.change self.old.state.forms places }
+        requires given { NamesGiven (arguments_in (scan self.old.state)) (storage_of self.old.state) effect.change }
+        requires proper { IsProper (state_after effect (scan self.old.state)) }
+        requires not_full { length journal.old.records < JOURNAL_LIMIT }
+        requires place { HasPlaceForCall (length (concat (arguments_in (scan self.old.state)))) (length (arguments_in (scan self.old.state)) - 1) journal.old }
+        requires fits { FitsJournal plan.called (arguments_in (scan self.old.state)) (undone_of effect.change (storage_of self.old.state)) }
+        ensures state { self.new.state ≡ state_after effect (scan self.old.state) }
+        ensures kept { journal.new.records ≡ rules.Called (record_with plan.called (arguments_in (scan self.old.state)) (undone_of effect.change (storage_of self.old.state))) ∷ journal.old.records }
+        ensures room { IsNoLess self.old self.new }
+    {
+        let text = NeutralText::new(self.text.left(), self.marks.left());
+        let Some(function) = text.innermost() else {
+            unreachable!()
+        };
+        let arguments = function.arguments;
+        let undone = change_forms(&mut self.store, &arguments, effect.change, places);
+        journal.push_call(plan.called, &arguments, arguments.joined(), undone);
+        let beginning = plan.beginning;
+        cut_function(&mut self.text, &mut self.marks, beginning);
+        put_value(
+            &mut self.text,
+            beginning.kind,
+            effect.forced,
+            effect.value.as_slice(),
+        );
+        self.output.put(effect.print.as_slice());
+        self.meta = effect.meta;
+        self.trace = effect.trace;
+        self.position = effect.position;
+    }
+
+    // Performs the call that is planned, and keeps its record. It is refused memory alone, and then the state and the records
+    // stay.
+    fn carry_out_into(
+        &mut self,
+        journal: &mut Journal<A>,
+        plan: Plan,
+        effect: Effect<A>,
+    ) -> Result<(), Refusal>
+        requires front { front_of self.old.state.active ≡ Front.Closing }
+        requires beginning { BeginsInnermost self.old.state plan.beginning }
+        requires given { NamesGiven (arguments_in (scan self.old.state)) (storage_of self.old.state) effect.change }
+        requires proper { IsProper (state_after effect (scan self.old.state)) }
+        requires bytes { plan.bytes ≡ length (concat (arguments_in (scan self.old.state))) }
+        requires commas { plan.commas + 1 ≡ length (arguments_in (scan self.old.state)) }
+        requires not_full { length journal.old.records < JOURNAL_LIMIT }
+        requires fits { FitsJournal plan.called (arguments_in (scan self.old.state)) (undone_of effect.change (storage_of self.old.state)) }
+        ensures done { OnOk result (self.new.state ≡ state_after effect (scan self.old.state)) }
+        ensures kept { OnOk result (journal.new.records ≡ rules.Called (record_with plan.called (arguments_in (scan self.old.state)) (undone_of effect.change (storage_of self.old.state))) ∷ journal.old.records) }
+        ensures unchanged { OnErr result ((self.new.state ≡ self.old.state) × (journal.new.records ≡ journal.old.records)) }
+        ensures err { IsOkUnless result Refusal.Memory }
+        ensures room { IsNoLess self.old self.new }
+    {
+        journal.reserve_call(plan.bytes, plan.commas)?;
+        let places = self.made_ready(&effect)?;
+        self.finish_call_into(journal, plan, effect, places);
+        Ok(())
+    }
+
+    // The next step, where it performs a function, and its record is kept.
+    pub(crate) fn call_step_into(
+        &mut self,
+        journal: &mut Journal<A>,
+        tape: Tape<'_>,
+    ) -> Result<(), Refusal>
+        requires front { front_of self.old.state.active ≡ Front.Closing }
+        requires inside { 0 < length self.old.state.frames }
+        requires within { self.old.state.position ≤ length tape.bytes.now }
+        requires short { length tape.bytes.now < 2 ^ 32 }
+        requires proper { IsProper self.old.state }
+        requires not_full { length journal.old.records < JOURNAL_LIMIT }
+        ensures taken { OnOk result (step (environment_of self.old.width tape.entry) self.old.state ≡ Ok self.new.state) }
+        ensures kept { OnOk result (IsAdded (record_of (environment_of self.old.width tape.entry) self.old.state) journal.old.records journal.new.records) }
+        ensures refused { IfErr result (MayRefuse (step (environment_of self.old.width tape.entry) self.old.state)) }
+        ensures unchanged { OnErr result ((self.new.state ≡ self.old.state) × (journal.new.records ≡ journal.old.records)) }
+        ensures lacking { LacksRoomAhead self.old }
+        ensures room { IsNoLess self.old self.new }
+    {
+        let (plan, effect) = self.planned(tape)?;
+        self.carry_out_into(journal, plan, effect)
     }
 }

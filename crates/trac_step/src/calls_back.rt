@@ -2,13 +2,14 @@
 ghost use Rattle.std.specs.Prelude.{◌≡◌, ◌+◌, ◌≤◌, ◌++◌, length, map};
 ghost use Rattle.std.specs.List.{concat};
 ghost use Rattle.trac_gap.specs.Ends.{item_count};
-ghost use Rattle.trac_step.specs.Pieces.{all_texts, function_marks};
+ghost use Rattle.trac_journal.specs.Pieces.{all_texts};
+ghost use Rattle.trac_step.specs.Marks.{function_marks};
 ghost use Rattle.trac_step.specs.Returning.{HasValue, before_call, without_value};
 
 use crate::idle::put_function;
-use crate::pieces::Pieces;
 use std::alloc::Allocator;
 use trac_gap::TwoEnds;
+use trac_journal::PiecesRef;
 use trac_prims::{Kind, Mark};
 use trac_rules::byte::CLOSING;
 
@@ -31,7 +32,7 @@ pub(crate) fn put_call<E: TwoEnds<u8, A>, M: TwoEnds<Mark, A>, A: Allocator + Co
     text: &mut E,
     marks: &mut M,
     kind: Kind,
-    arguments: &Pieces<A>,
+    arguments: &PiecesRef<'_>,
     scanned: bool,
     n: usize,
 )

@@ -11,14 +11,14 @@ ghost use Rattle.trac_forms.specs.Stored.{storage_in};
 ghost use Rattle.trac_prims.specs.Changes.{NamesGiven, cut_lost, undone_of};
 ghost use Rattle.trac_prims.specs.Effects.{changed, cut_in, pointed, texts_of, with_form};
 ghost use Rattle.trac_step.specs.Changing.{AreMadeFor, HasPlaceFor};
-ghost use Rattle.trac_step.specs.Undone.{undone_in};
+ghost use Rattle.trac_journal.specs.Undone.{undone_in};
 
 use crate::blocking::move_into;
 use crate::leaving::{replace_each, take_each};
 use crate::places::Places;
-use crate::undone::Undone;
 use std::alloc::Allocator;
 use trac_forms::{Block, Cut, Form, Store};
+use trac_journal::Undone;
 use trac_prims::{Args, Change};
 
 // Changes forms and blocks as a call of these arguments planned it, and returns what that destroyed; what leaves the store

@@ -1,5 +1,5 @@
 //! The idle step, and the way back over it: what the step empties is taken out of the neutral text beforehand, and put back.
-ghost use Rattle.std.specs.Prelude.{◌≡◌, ◌+◌, ◌≤◌, ◌++◌, [], length, map, Some, IfOk, IsOkUnless, IsSomeAnd, OnErr, OnOk};
+ghost use Rattle.std.specs.Prelude.{◌≡◌, ◌+◌, ◌<◌, ◌≤◌, ◌^◌, ◌++◌, [], length, map, Some, IfOk, IsOkUnless, IsSomeAnd, OnErr, OnOk};
 ghost use Rattle.std.specs.List.{concat};
 ghost use Rattle.trac_gap.specs.Ends.{item_count};
 ghost use Rattle.trac_rules.specs.Bytes.{idle_program};
@@ -7,19 +7,17 @@ ghost use Rattle.trac_rules.specs.Limits.{argument_bytes, marks as mark_count};
 ghost use Rattle.trac_rules.specs.Proper.{IsProper};
 ghost use Rattle.trac_rules.specs.Records.{Idle, restored};
 ghost use Rattle.trac_prims.specs.Neutral.{IsOrdered, neutral_of};
-ghost use Rattle.trac_step.specs.Pieces.{all_texts, frames_in, function_marks};
+ghost use Rattle.trac_journal.specs.Pieces.{all_texts, frames_in};
+ghost use Rattle.trac_step.specs.Marks.{function_marks};
 ghost use Rattle.trac_step.specs.Room.{HasRoom, IsNoLess};
 
 use crate::ends::refill;
 use crate::engine::Core;
-use crate::pieces::Pieces;
 use crate::texts::restart;
 use std::alloc::Allocator;
 use trac_gap::TwoEnds;
+use trac_journal::{Functions, Pieces, PiecesRef};
 use trac_prims::{Kind, Mark, NeutralText, Refusal};
-
-/// Begun functions with their arguments, the innermost first.
-pub(crate) type Functions<A> = Vec<(Kind, Pieces<A>), A>;
 
 impl<E: TwoEnds<u8, A>, M: TwoEnds<Mark, A>, A: Allocator + Copy> Core<E, M, A> {
     // The active text is empty: all other text goes, and the idle program is loaded. Returns what went: the text outside
@@ -47,11 +45,12 @@ impl<E: TwoEnds<u8, A>, M: TwoEnds<Mark, A>, A: Allocator + Copy> Core<E, M, A> 
     }
 }
 
-// Copies of the base text and all begun functions of a neutral text.
+// Copies of the base text and all begun functions of a neutral text, whose arguments have fewer than 2^32 bytes together.
 fn kept_of<A: Allocator + Copy>(
     alloc: A,
     text: NeutralText<'_>,
 ) -> Result<(Vec<u8, A>, Functions<A>), Refusal>
+    requires short { argument_bytes (neutral_of text).frames < 2 ^ 32 }
     ensures base { IfOk result (λ kept. kept.0.items ≡ (neutral_of text.entry).base) }
     ensures functions { IfOk result (λ kept. frames_in kept.1.items ≡ (neutral_of text.entry).frames) }
     ensures err { IsOkUnless result Refusal.Memory }
@@ -66,13 +65,14 @@ fn functions_of<A: Allocator + Copy>(
     alloc: A,
     text: NeutralText<'_>,
 ) -> Result<Functions<A>, Refusal>
+    requires short { argument_bytes (neutral_of text).frames < 2 ^ 32 }
     ensures same { IfOk result (λ functions. frames_in functions.items ≡ (neutral_of text.entry).frames) }
     ensures err { IsOkUnless result Refusal.Memory }
 {
     let mut functions = Vec::with_capacity(alloc, text.depth())?;
     let mut rest = text;
     while let Some(innermost) = rest.innermost() {
-        let arguments = Pieces::of(alloc, &innermost.arguments)?;
+        let arguments = Pieces::of(alloc, &innermost.arguments, innermost.arguments.joined())?;
         functions.push_reserved((innermost.kind, arguments));
         rest = rest.before(&innermost);
     }
@@ -97,7 +97,7 @@ fn put_functions<A: Allocator + Copy, E: TwoEnds<u8, A>, M: TwoEnds<Mark, A>>(
     refill(text, base, &[]);
     refill(marks, &[], &[]);
     while let Some((kind, arguments)) = functions.pop() {
-        put_function(text, marks, kind, &arguments);
+        put_function(text, marks, kind, &arguments.lend());
     }
 }
 
@@ -106,7 +106,7 @@ pub(crate) fn put_function<A: Allocator + Copy, E: TwoEnds<u8, A>, M: TwoEnds<Ma
     text: &mut E,
     marks: &mut M,
     kind: Kind,
-    arguments: &Pieces<A>,
+    arguments: &PiecesRef<'_>,
 )
     requires text_room { item_count (E.ends text.old) + length (concat (all_texts arguments.now)) ≤ (E.ends text.old).capacity }
     requires mark_room { item_count (M.ends marks.old) + 1 + length arguments.now.finished ≤ (M.ends marks.old).capacity }
@@ -121,7 +121,7 @@ pub(crate) fn put_function<A: Allocator + Copy, E: TwoEnds<u8, A>, M: TwoEnds<Ma
         frame: Some(kind),
     });
     for length in arguments.commas() {
-        place += *length;
+        place += *length as usize;
         marks.push_left(Mark { place, frame: None });
     }
 }

@@ -2,6 +2,7 @@
 #![tactic(auto)]
 
 mod ahead;
+mod back;
 mod blocking;
 mod calling;
 mod calls_back;
@@ -15,7 +16,6 @@ mod leaving;
 pub mod loading;
 mod matching;
 mod moves;
-pub mod pieces;
 mod places;
 mod readers;
 pub mod record;
@@ -26,14 +26,11 @@ mod storing;
 mod texts;
 mod texts_back;
 mod undoing;
-pub mod undone;
-mod weighing;
 
 pub use engine::{Core, Machine};
 pub use loading::Parts;
-pub use pieces::Pieces;
-pub use record::{Record, Short};
+pub use record::Record;
 pub use trac_forms::Store;
+pub use trac_journal::{Journal, Pieces, PiecesRef, Short, Undone};
 pub use trac_prims::{Args, Kind, Mark, Refusal, Tape};
 pub use trac_rules::width::Width;
-pub use undone::Undone;

@@ -1,20 +1,22 @@
 //! The steps that perform no function.
-ghost use Rattle.std.specs.Prelude.{◌≡◌, ◌≢◌, IfOk, IfErr, IfSome, IsOkUnless, IsTrue, None, OnErr, OnOk, Ok, Some, true};
+ghost use Rattle.std.specs.Prelude.{◌≡◌, ◌≢◌, IfOk, IfErr, IsOkUnless, OnErr, OnOk, Ok, true, ◌<◌, ◌≤◌, ◌∷◌, length};
 ghost use Rattle.trac_rules.specs.Scanning.{front_of, scan, Moves};
+ghost use Rattle.trac_rules.specs.declared.limit.TheConstants.{JOURNAL_LIMIT};
 ghost use Rattle.trac_rules.specs.Limits.{texts_fit};
 ghost use Rattle.trac_rules.specs.Outcomes.{MayRefuse};
-ghost use Rattle.trac_rules.specs.Records.{record_of, recorded, state_before};
-ghost use Rattle.trac_rules.specs.State.{Environment};
+ghost use Rattle.trac_rules.specs.Proper.{IsProper};
+ghost use Rattle.trac_rules.specs.Records.{recorded};
 ghost use Rattle.trac_rules.specs.Stepping.{step};
 ghost use Rattle.trac_step.specs.Calling.{IfMoves, IsMove, adds_mark};
-ghost use Rattle.trac_step.specs.Record.{recorded_by, said_by};
-ghost use Rattle.trac_step.specs.Room.{HasRoom, IsNoLess, LacksRoomAhead};
+ghost use Rattle.trac_step.specs.Record.{recorded_by};
+ghost use Rattle.trac_journal.specs.Told.{said_by};
+ghost use Rattle.trac_step.specs.Room.{IsNoLess, LacksRoomAhead};
 
 use crate::engine::Core;
-use crate::front::front_at;
-use crate::record::{Record, Short};
+use crate::record::Record;
 use std::alloc::Allocator;
 use trac_gap::TwoEnds;
+use trac_journal::{Emptied, Journal, Short};
 use trac_prims::{Kind, Mark, Refusal};
 use trac_rules::limit::MARK_LIMIT;
 use trac_rules::scan::Front;
@@ -98,7 +100,7 @@ impl<E: TwoEnds<u8, A>, M: TwoEnds<Mark, A>, A: Allocator + Copy> Core<E, M, A> 
             }
             _ => {
                 let short = self.move_briefly(front)?;
-                Ok(short.whole())
+                Ok(Record::of_short(short))
             }
         }
     }
@@ -119,50 +121,77 @@ impl<E: TwoEnds<u8, A>, M: TwoEnds<Mark, A>, A: Allocator + Copy> Core<E, M, A> 
         self.move_on(front)
     }
 
-    /// Takes the next step where it performs no function, does not empty all texts and needs no more room than there is, and
-    /// answers its record: it is the step that `step` takes. None where the next step is another one, or would be refused,
-    /// and then nothing is changed. It asks for no memory, and takes less time than `step`, whose record has room for all
-    /// that a call destroys (this project's profile).
-    pub fn scan_step(&mut self) -> Option<Short>
-        ensures taken { IfSome result (λ _. (environment : Environment) → step environment self.old.state ≡ Ok self.new.state) }
-        ensures recorded { IfSome result (λ r. (environment : Environment) → record_of environment self.old.state ≡ Some (said_by r)) }
-        ensures before { IfSome result (λ r. state_before (said_by r) self.new.state ≡ Some self.old.state) }
-        ensures held { HasRoom self.new self.old.state }
+    // The next step, where it performs no function, and its record is kept.
+    pub(crate) fn move_step_into(
+        &mut self,
+        journal: &mut Journal<A>,
+        front: Front,
+    ) -> Result<(), Refusal>
+        requires front { front ≡ front_of self.old.state.active }
+        requires moves { IsMove (scan self.old.state) }
+        requires proper { IsProper self.old.state }
+        requires not_full { length journal.old.records < JOURNAL_LIMIT }
+        ensures taken { OnOk result ((environment : _) → step environment self.old.state ≡ Ok self.new.state) }
+        ensures kept { OnOk result (journal.new.records ≡ recorded self.old.state ∷ journal.old.records) }
+        ensures refused { IfErr result (λ e. (environment : _) → MayRefuse (step environment self.old.state) e) }
+        ensures unchanged { OnErr result ((self.new.state ≡ self.old.state) × (journal.new.records ≡ journal.old.records)) }
+        ensures lacking { IfErr result (λ e. e ≡ Refusal.Memory → 1 ≤ journal.old.places → LacksRoomAhead self.old) }
         ensures room { IsNoLess self.old self.new }
-        ensures unchanged { result ≡ None → self.new ≡ self.old }
     {
-        self.is_in_its_room();
-        let front = front_at(self.text.right());
-        if !self.is_brief(front) {
-            return None;
-        }
         if !self.move_fits(front) {
-            return None;
+            return Err(Refusal::TooLong);
         }
-        if !self.has_mark_room(front) {
-            return None;
-        }
-        match self.move_briefly(front) {
-            Ok(short) => Some(short),
-            Err(_) => None,
-        }
-    }
-
-    // Whether there is room for the mark that the rule for this front makes, if it makes one.
-    fn has_mark_room(&self, front: Front) -> bool {
-        !makes_mark(front, self.marks.left().len()) || self.marks.room() > 0
-    }
-
-    // Whether the rule for this front asks for no call and does not empty all texts.
-    fn is_brief(&self, front: Front) -> bool
-        requires front { front ≡ front_of self.now.state.active }
-        ensures moves { IsTrue result → IsMove (scan self.now.state) }
-        ensures some { IsTrue result → front ≢ Front.Nothing }
-    {
         match front {
-            Front::Nothing => false,
-            Front::Closing => self.neutral().is_outside(),
-            _ => true,
+            Front::Nothing => self.empty_into(journal),
+            Front::Sharp | Front::Plain => {
+                self.gather_first();
+                journal.push_moved(1);
+                Ok(())
+            }
+            Front::Opening
+            | Front::Comma
+            | Front::Layout
+            | Front::Closing
+            | Front::ActiveCall
+            | Front::NeutralCall => self.move_briefly_into(journal, front),
         }
+    }
+
+    // Carries out the rule for this front, which asks for no call and does not empty all texts, and keeps what it destroys.
+    fn move_briefly_into(&mut self, journal: &mut Journal<A>, front: Front) -> Result<(), Refusal>
+        requires front { front ≡ front_of self.old.state.active }
+        requires moves { IsMove (scan self.old.state) }
+        requires fits { IfMoves (scan self.old.state) (λ t. texts_fit t ≡ true) }
+        requires some { front ≢ Front.Nothing }
+        requires proper { IsProper self.old.state }
+        requires not_full { length journal.old.records < JOURNAL_LIMIT }
+        ensures ok { OnOk result (scan self.old.state ≡ Moves self.new.state) }
+        ensures kept { OnOk result (journal.new.records ≡ recorded self.old.state ∷ journal.old.records) }
+        ensures unchanged { OnErr result ((self.new ≡ self.old) × (journal.new.records ≡ journal.old.records)) }
+        ensures lacking { OnErr result (1 ≤ journal.old.places → LacksRoomAhead self.old) }
+        ensures err { IsOkUnless result Refusal.Memory }
+        ensures room { IsNoLess self.old self.new }
+    {
+        journal.reserve_short()?;
+        let short = self.move_briefly(front)?;
+        journal.push_short(short);
+        Ok(())
+    }
+
+    // The active text is empty: all other text goes into the journal, and the idle program is loaded.
+    fn empty_into(&mut self, journal: &mut Journal<A>) -> Result<(), Refusal>
+        requires front { front_of self.old.state.active ≡ Front.Nothing }
+        requires proper { IsProper self.old.state }
+        requires not_full { length journal.old.records < JOURNAL_LIMIT }
+        ensures ok { OnOk result (scan self.old.state ≡ Moves self.new.state) }
+        ensures kept { OnOk result (journal.new.records ≡ recorded self.old.state ∷ journal.old.records) }
+        ensures unchanged { OnErr result ((self.new ≡ self.old) × (journal.new.records ≡ journal.old.records)) }
+        ensures err { IsOkUnless result Refusal.Memory }
+        ensures room { IsNoLess self.old self.new }
+    {
+        journal.reserve_idle()?;
+        let (base, frames) = self.reload()?;
+        journal.push_idle(Emptied { base, frames });
+        Ok(())
     }
 }

@@ -1,14 +1,17 @@
 //! What a step leaves for the way back, and going back.
-ghost use Rattle.std.specs.Prelude.{◌≡◌, IsSomeAnd, Some};
-ghost use Rattle.trac_step.specs.Record.{before, recorded_by, said_by, whole_of};
+ghost use Rattle.std.specs.Prelude.{◌≡◌, ◌+◌, ◌-◌, ◌<◌, ◌^◌, length, IsSomeAnd, Some};
+ghost use Rattle.trac_rules.specs.Limits.{total_length};
+ghost use Rattle.trac_rules.specs.Weights.{meta_weight, undone_weight, weight};
+ghost use Rattle.trac_journal.specs.Pieces.{all_texts};
+ghost use Rattle.trac_journal.specs.Told.{said_by};
+ghost use Rattle.trac_journal.specs.Undone.{undone_in};
+ghost use Rattle.trac_step.specs.Record.{before, recorded_by};
 ghost use Rattle.trac_step.specs.Room.{HasRoom, IsNoLess};
 
 use crate::engine::Core;
-use crate::pieces::Pieces;
-use crate::undoing::Called;
-use crate::undone::Undone;
 use std::alloc::{Allocator, Global};
 use trac_gap::TwoEnds;
+use trac_journal::{Called, Pieces, PiecesRef, Short, Undone, weigh_functions};
 use trac_prims::{Kind, Mark};
 
 /// What one step of a machine destroyed, by which any machine that shows the state after it can go back. What a
@@ -62,40 +65,64 @@ pub enum Record<A: Allocator + Copy = Global> {
     },
 }
 
-/// The record of a step that performs no function and does not empty the texts: small, copied freely, and it owns no memory
-/// (this project's profile).
-#[derive(Clone, Copy)]
-pub enum Short {
-    /// A byte went to the current text.
-    Moved,
-    /// An argument was finished, and an empty one begun.
-    Comma,
-    /// A function was begun.
-    Begun,
-    /// A protected text went to the current text.
-    Quoted {
-        /// How many bytes it has.
-        inner: usize,
-        /// Whether a match of its `(` was deleted.
-        closed: bool,
-    },
-    /// This byte was deleted.
-    Deleted(u8),
-}
-
-impl Short {
-    /// The same record among those of all steps. It takes no memory (this project's profile).
-    pub fn whole<A: Allocator + Copy>(self) -> Record<A>
-        ensures same { result ≡ whole_of self }
-        ensures said { recorded_by result ≡ said_by self }
+impl<A: Allocator + Copy> Record<A> {
+    // A short record among those of all steps.
+    pub(crate) fn of_short(short: Short) -> Self
+        ensures { recorded_by result ≡ said_by short }
     {
-        match self {
+        match short {
             Short::Moved => Record::Moved,
             Short::Comma => Record::Comma,
             Short::Begun => Record::Begun,
             Short::Quoted { inner, closed } => Record::Quoted { inner, closed },
             Short::Deleted(byte) => Record::Deleted(byte),
         }
+    }
+
+    /// What the record keeps: bytes of texts and names, items of forms and places of gaps, and one for each `,`, begun
+    /// function, name and meta character. Lengths, places and flags are not weighed. This is this project's profile. The sum
+    /// has to fit a `usize`, as it does for every record of a step. It takes no memory, and time for the begun functions and
+    /// the forms alone, whatever their length.
+    pub fn weight(&self) -> usize
+        requires { weight (recorded_by self.now) < 2 ^ 64 }
+        ensures { result ≡ weight (recorded_by self.now) }
+    {
+        match self {
+            Record::Moved | Record::Comma | Record::Begun | Record::Quoted { .. } => 0,
+            Record::Deleted(_byte) => 1,
+            Record::Idle { base, frames } => base.len() + weigh_functions(frames.as_slice()),
+            Record::Call {
+                arguments,
+                meta,
+                change,
+                ..
+            } => weigh_call(&arguments.lend(), *meta, change),
+        }
+    }
+}
+
+// The bytes of all arguments, and one for each `,` between them.
+fn weigh_arguments(arguments: &PiecesRef<'_>) -> usize
+    requires { total_length (all_texts arguments.now) + (length (all_texts arguments.now) - 1) < 2 ^ 64 }
+    ensures { result ≡ total_length (all_texts arguments.now) + (length (all_texts arguments.now) - 1) }
+{
+    arguments.text().len() + arguments.commas().len()
+}
+
+// What a call destroyed: its arguments and the commas between them, one for a meta character, and what is kept of forms and
+// blocks.
+fn weigh_call<A: Allocator + Copy>(
+    arguments: &PiecesRef<'_>,
+    meta: Option<u8>,
+    change: &Undone<A>,
+) -> usize
+    requires { total_length (all_texts arguments.now) + (length (all_texts arguments.now) - 1) + meta_weight meta + undone_weight (undone_in change.now) < 2 ^ 64 }
+    ensures { result ≡ total_length (all_texts arguments.now) + (length (all_texts arguments.now) - 1) + meta_weight meta + undone_weight (undone_in change.now) }
+{
+    let kept = weigh_arguments(arguments) + change.weight();
+    match meta {
+        Some(_byte) => kept + 1,
+        None => kept,
     }
 }
 
@@ -137,7 +164,7 @@ impl<E: TwoEnds<u8, A>, M: TwoEnds<Mark, A>, A: Allocator + Copy> Core<E, M, A> 
                     meta,
                     trace,
                 };
-                self.uncall(called, &arguments, change);
+                self.uncall(called, &arguments.lend(), change);
             }
         }
     }

@@ -7,15 +7,15 @@ ghost use Rattle.trac_rules.specs.PlainRuns.{BeginsPlain, is_plain, moved_on};
 ghost use Rattle.trac_rules.specs.Proper.{IsProper};
 ghost use Rattle.trac_rules.specs.Records.{Moved, comma_recorded};
 ghost use Rattle.trac_step.specs.Calling.{with_mark};
-ghost use Rattle.trac_step.specs.Record.{said_by};
+ghost use Rattle.trac_journal.specs.Told.{said_by};
 ghost use Rattle.trac_step.specs.Room.{HasRoom, IsNoLess};
 
 use crate::engine::Core;
 use crate::front::plain_front;
-use crate::record::Short;
 use crate::texts::{push_mark, take_first, take_protected};
 use std::alloc::Allocator;
 use trac_gap::TwoEnds;
+use trac_journal::Short;
 use trac_prims::Mark;
 use trac_rules::kind::Kind;
 use trac_rules::limit::MARK_LIMIT;

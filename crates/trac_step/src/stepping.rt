@@ -1,5 +1,6 @@
 //! One step of the machine.
-ghost use Rattle.std.specs.Prelude.{◌≡◌, ◌≤◌, length, IfOk, IfErr, OnOk, Ok, Some};
+ghost use Rattle.std.specs.Prelude.{◌≡◌, ◌<◌, ◌≤◌, ◌^◌, length, IfOk, IfErr, OnErr, OnOk, Ok, Some};
+ghost use Rattle.trac_rules.specs.declared.limit.TheConstants.{JOURNAL_LIMIT};
 ghost use Rattle.trac_rules.specs.Outcomes.{MayRefuse};
 ghost use Rattle.trac_rules.specs.Proper.{IsProper};
 ghost use Rattle.trac_rules.specs.Records.{CallRecord, Called, record_of, rest_before, rest_of, texts_before, texts_in};
@@ -8,6 +9,7 @@ ghost use Rattle.trac_rules.specs.Stepping.{step};
 ghost use Rattle.trac_rules.specs.Undone.{storage_before};
 ghost use Rattle.trac_rules.specs.Weights.{loss, weight};
 ghost use Rattle.trac_prims.specs.Tape.{environment_of};
+ghost use Rattle.trac_step.specs.Kept.{IsAdded, IsKept};
 ghost use Rattle.trac_step.specs.Record.{before, recorded_by};
 ghost use Rattle.trac_step.specs.Room.{HasRoom, IsNoLess, LacksRoomAhead};
 
@@ -16,6 +18,7 @@ use crate::front::front_at;
 use crate::record::Record;
 use std::alloc::Allocator;
 use trac_gap::TwoEnds;
+use trac_journal::Journal;
 use trac_prims::{Mark, Refusal, Tape};
 use trac_rules::scan::Front;
 
@@ -48,6 +51,47 @@ impl<E: TwoEnds<u8, A>, M: TwoEnds<Mark, A>, A: Allocator + Copy> Core<E, M, A> 
     {
         self.is_in_its_room();
         self.next_step(tape)
+    }
+
+    /// Takes the next step, as `step` does, and keeps its record in this journal, the newest of its records; or changes nothing
+    /// but rooms. Refused as `step` is, and with `Memory` also where the journal cannot grow; then the state and the records
+    /// are as they were. All memory is taken before anything changes. Where the journal has a place for one record more, a step
+    /// of scanning is refused memory only where `step` may be. The journal may not be full, and the tape has to have fewer than 2^32 bytes and at least as many as are read.
+    pub fn step_into(&mut self, journal: &mut Journal<A>, tape: Tape<'_>) -> Result<(), Refusal>
+        requires position { self.old.state.position ≤ length tape.bytes.now }
+        requires short { length tape.bytes.now < 2 ^ 32 }
+        requires not_full { length journal.old.records < JOURNAL_LIMIT }
+        ensures taken { OnOk result (step (environment_of self.old.width tape.entry) self.old.state ≡ Ok self.new.state) }
+        ensures kept { OnOk result (IsKept (environment_of self.old.width tape.entry) self.old.state self.new.state journal.old.records journal.new.records) }
+        ensures proper { OnOk result (IsProper self.new.state) }
+        ensures held { OnOk result (HasRoom self.new self.old.state) }
+        ensures refused { IfErr result (MayRefuse (step (environment_of self.old.width tape.entry) self.old.state)) }
+        ensures unchanged { OnErr result ((self.new.state ≡ self.old.state) × (journal.new.records ≡ journal.old.records)) }
+        ensures lacking { IfErr result (λ e. e ≡ Refusal.Memory → 1 ≤ journal.old.places → LacksRoomAhead self.old) }
+        ensures room { IsNoLess self.old self.new }
+    {
+        self.is_in_its_room();
+        self.next_step_into(journal, tape)
+    }
+
+    // The next step, by whether it performs a function, with its record kept.
+    fn next_step_into(&mut self, journal: &mut Journal<A>, tape: Tape<'_>) -> Result<(), Refusal>
+        requires position { self.old.state.position ≤ length tape.bytes.now }
+        requires short { length tape.bytes.now < 2 ^ 32 }
+        requires proper { IsProper self.old.state }
+        requires not_full { length journal.old.records < JOURNAL_LIMIT }
+        ensures taken { OnOk result (step (environment_of self.old.width tape.entry) self.old.state ≡ Ok self.new.state) }
+        ensures kept { OnOk result (IsAdded (record_of (environment_of self.old.width tape.entry) self.old.state) journal.old.records journal.new.records) }
+        ensures refused { IfErr result (MayRefuse (step (environment_of self.old.width tape.entry) self.old.state)) }
+        ensures unchanged { OnErr result ((self.new.state ≡ self.old.state) × (journal.new.records ≡ journal.old.records)) }
+        ensures lacking { IfErr result (λ e. e ≡ Refusal.Memory → 1 ≤ journal.old.places → LacksRoomAhead self.old) }
+        ensures room { IsNoLess self.old self.new }
+    {
+        let front = front_at(self.text.right());
+        if front == Front::Closing && !self.neutral().is_outside() {
+            return self.call_step_into(journal, tape);
+        }
+        self.move_step_into(journal, front)
     }
 
     // A machine shows a proper state, for which it has room. It does nothing: it is called for what it says.

@@ -9,13 +9,13 @@ ghost use Rattle.trac_forms.specs.Stored.{storage_in};
 ghost use Rattle.trac_prims.specs.Effects.{named_forms};
 ghost use Rattle.trac_step.specs.Changing.{KnowsNamed};
 ghost use Rattle.trac_step.specs.Returning.{KnowsBefore};
-ghost use Rattle.trac_step.specs.Undone.{undone_in};
+ghost use Rattle.trac_journal.specs.Undone.{undone_in};
 
 use crate::blocking::put_each;
 use crate::changing::point;
-use crate::undone::Undone;
 use std::alloc::Allocator;
 use trac_forms::{Block, Cut, Form, Store};
+use trac_journal::Undone;
 use trac_prims::Args;
 
 // Puts back what a call of these arguments destroyed of forms and blocks. It takes no memory, and forgets no name; the names

@@ -3,41 +3,28 @@ ghost use Rattle.std.specs.Prelude.{◌≡◌, IsSome, Some};
 ghost use Rattle.std.specs.Option.{unwrap_or};
 ghost use Rattle.trac_rules.specs.Records as rules;
 ghost use Rattle.trac_rules.specs.Records.{Begun, Comma, Deleted, Quoted, moved_back, restored};
-ghost use Rattle.trac_step.specs.Returning.{call_record};
+ghost use Rattle.trac_journal.specs.Pieces.{all_texts};
+ghost use Rattle.trac_journal.specs.Told.{record_with};
+ghost use Rattle.trac_journal.specs.Undone.{undone_in};
 ghost use Rattle.trac_step.specs.Room.{IsNoLess};
 ghost use Rattle.trac_step.specs.Undoing.{CanShow};
 
 use crate::calls_back::put_call;
 use crate::engine::Core;
-use crate::pieces::Pieces;
 use crate::storage_back::put_storage;
 use crate::texts_back::{give_protected_back, pop_beginning, pop_mark};
-use crate::undone::Undone;
 use std::alloc::Allocator;
 use trac_gap::TwoEnds;
+use trac_journal::{Called, PiecesRef, Undone};
 use trac_prims::{Kind, Mark, NeutralText};
 
-// What the record of a call says beside its arguments, and what was destroyed of forms and blocks.
-#[derive(Clone, Copy)]
-pub(crate) struct Called {
-    pub(crate) kind: Kind,
-    pub(crate) value: usize,
-    pub(crate) scanned: bool,
-    pub(crate) printed: usize,
-    pub(crate) read: usize,
-    pub(crate) meta: Option<u8>,
-    pub(crate) trace: bool,
-}
-
-impl Called {
-    // The meta character before the call, from the one after it.
-    fn meta_before(&self, after: u8) -> u8
-        ensures { result ≡ unwrap_or self.now.meta after }
-    {
-        match self.meta {
-            Some(before) => before,
-            None => after,
-        }
+// The meta character before a call, from the one after it.
+pub(crate) fn meta_before(called: Called, after: u8) -> u8
+    ensures { result ≡ unwrap_or called.meta after }
+{
+    match called.meta {
+        Some(before) => before,
+        None => after,
     }
 }
 
@@ -90,9 +77,9 @@ impl<E: TwoEnds<u8, A>, M: TwoEnds<Mark, A>, A: Allocator + Copy> Core<E, M, A> 
 
     // The call is not performed: its function is begun again, and its `)` is back before the active text; forms, blocks
     // and all else are as they were.
-    pub(crate) fn uncall(&mut self, called: Called, arguments: &Pieces<A>, change: Undone<A>)
-        requires { CanShow self.old (restored (rules.Called (call_record called arguments.now change)) self.old.state) }
-        ensures state { restored (rules.Called (call_record called arguments.now change)) self.old.state ≡ Some self.new.state }
+    pub(crate) fn uncall(&mut self, called: Called, arguments: &PiecesRef<'_>, change: Undone<A>)
+        requires { CanShow self.old (restored (rules.Called (record_with called (all_texts arguments.now) (undone_in change))) self.old.state) }
+        ensures state { restored (rules.Called (record_with called (all_texts arguments.now) (undone_in change))) self.old.state ≡ Some self.new.state }
         ensures room { IsNoLess self.old self.new }
     {
         put_call(
@@ -110,7 +97,7 @@ impl<E: TwoEnds<u8, A>, M: TwoEnds<Mark, A>, A: Allocator + Copy> Core<E, M, A> 
         put_storage(&mut self.store, &function.arguments, change);
         self.output.truncate(self.output.len() - called.printed);
         self.position -= called.read;
-        self.meta = called.meta_before(self.meta);
+        self.meta = meta_before(called, self.meta);
         self.trace = called.trace;
     }
 }

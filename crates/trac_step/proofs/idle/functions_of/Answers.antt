@@ -1,10 +1,26 @@
 -- The innermost function that was left is taken out.
-use Rattle.std.proofs.Common.{◌≡◌, ◌∷◌, length, sym, ap, ◌∙◌, arith}
+use Rattle.std.proofs.Common.{◌≡◌, ℕ, List, ◌∷◌, length, sym, ap, ◌∙◌, arith}
 use Rattle.std.proofs.lemmas.List.{length_push}
+use Rattle.trac_rules.specs.Limits.{argument_bytes}
 use Rattle.trac_prims.specs.Neutral.{MarkedText, neutral_of}
-use Rattle.trac_step.specs.Pieces.{frame_in}
-use Rattle.trac_step.proofs.Functions.{one_more, same_frame}
+use Rattle.trac_journal.specs.Pieces.{frame_in}
+use Rattle.trac_step.proofs.Functions.{one_more, same_frame, sizes_of}
 use Rattle.trac_step.proofs.idle.functions_of.Goals as goal
+
+pub of-requires-clause-some : goal.of-requires-clause-some
+of-requires-clause-some g c = let inner = c.in-Some.ensures in (sizes_of inner.frame c.in-Some.innermost.arguments inner.arguments_are).0
+
+pub of-requires-clause-short : goal.of-requires-clause-short
+of-requires-clause-short g c =
+    let inner = c.in-Some.ensures in
+    omega (
+      arith,
+      (sizes_of inner.frame c.in-Some.innermost.arguments inner.arguments_are).1,
+      ap argument_bytes inner.frames_are,
+      ap (λ (bytes : List ℕ). length bytes) c.joined.ensures,
+      c.loop-innermost.invariant.fewer,
+      c.requires,
+    )
 
 pub loop-innermost-preserved : goal.loop-innermost-preserved
 loop-innermost-preserved g c =
@@ -20,4 +36,5 @@ loop-innermost-preserved g c =
     record {
       all = one_more taken c.push_reserved.new.self.items frames rest (neutral_of c.args.text).frames inner.frame kind arguments c.push_reserved.ensures.items first same c.loop-innermost.invariant.all;
       places = omega (arith, ap length first, ap length c.push_reserved.ensures.items, length_push taken (kind, arguments), c.push_reserved.ensures.capacity, c.loop-innermost.invariant.places);
+      fewer = omega (arith, ap argument_bytes first, c.loop-innermost.invariant.fewer);
     }

@@ -2,7 +2,7 @@
 use Rattle.std.proofs.Common.{◌≡◌, ◌≤◌, ◌+◌, ◌++◌, drop, length}
 use Rattle.std.specs.List.{sum}
 use Rattle.trac_gap.specs.Ends.{item_count}
-use Rattle.trac_step.specs.Pieces.{comma_marks}
+use Rattle.trac_step.specs.Marks.{comma_marks}
 use Rattle.trac_step.proofs.idle.put_function.Given as goal
 
 abbrev pub invariant-loop-length : goal.invariant-loop-length

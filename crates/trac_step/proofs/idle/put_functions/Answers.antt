@@ -6,7 +6,7 @@ use Rattle.trac_gap.specs.Ends.{Ends}
 use Rattle.trac_rules.specs.declared.kind.Kind.{Kind}
 use Rattle.trac_rules.specs.Limits.{argument_bytes, marks}
 use Rattle.trac_prims.specs.declared.mark.Mark.{Mark}
-use Rattle.trac_step.specs.Pieces.{Arguments, all_texts, frames_in}
+use Rattle.trac_journal.specs.Pieces.{Arguments, all_texts, frames_in}
 use Rattle.trac_step.proofs.NeutralAgain.{Shows, function_fits, mark_size, shows_base, shows_function, text_size}
 use Rattle.trac_step.proofs.idle.put_functions.Goals as goal
 
@@ -31,9 +31,9 @@ next_back left fewer back all kind a popped whole =
 pub put_function-requires-clause-text_room : goal.put_function-requires-clause-text_room
 put_function-requires-clause-text_room g c =
     let held = c.loop-kind.invariant in
-    let a = c.in-Some.arguments in
+    let a = c.lend.result in
     let fits = function_fits c.pop.new.self.items held.back c.in-Some.kind a in
-    let whole = next_back c.loop-kind.functions.items c.pop.new.self.items held.back c.args.functions.items c.in-Some.kind a c.in-Some.ensures.items held.all in
+    let whole = next_back c.loop-kind.functions.items c.pop.new.self.items held.back c.args.functions.items c.in-Some.kind a (c.in-Some.ensures.items ∙ ap (λ (x : Arguments). c.pop.new.self.items ++ (c.in-Some.kind, x) ∷ []) (sym c.lend.ensures)) held.all in
     omega (
       arith,
       fits.0,
@@ -47,9 +47,9 @@ put_function-requires-clause-text_room g c =
 pub put_function-requires-clause-mark_room : goal.put_function-requires-clause-mark_room
 put_function-requires-clause-mark_room g c =
     let held = c.loop-kind.invariant in
-    let a = c.in-Some.arguments in
+    let a = c.lend.result in
     let fits = function_fits c.pop.new.self.items held.back c.in-Some.kind a in
-    let whole = next_back c.loop-kind.functions.items c.pop.new.self.items held.back c.args.functions.items c.in-Some.kind a c.in-Some.ensures.items held.all in
+    let whole = next_back c.loop-kind.functions.items c.pop.new.self.items held.back c.args.functions.items c.in-Some.kind a (c.in-Some.ensures.items ∙ ap (λ (x : Arguments). c.pop.new.self.items ++ (c.in-Some.kind, x) ∷ []) (sym c.lend.ensures)) held.all in
     omega (
       arith,
       fits.1,
@@ -64,14 +64,14 @@ pub loop-kind-preserved : goal.loop-kind-preserved
 loop-kind-preserved g c =
     let held = c.loop-kind.invariant in
     let kind = c.in-Some.kind in
-    let a = c.in-Some.arguments in
+    let a = c.lend.result in
     let text = (g.E.TwoEnds.ends c.loop-kind.text).left in
     let ms = (g.M.TwoEnds.ends c.loop-kind.marks).left in
     let base = c.args.base.now in
     let frames = frames_in ((kind, a) ∷ held.back) in
     record {
       back = (kind, a) ∷ held.back;
-      all = next_back c.loop-kind.functions.items c.pop.new.self.items held.back c.args.functions.items kind a c.in-Some.ensures.items held.all;
+      all = next_back c.loop-kind.functions.items c.pop.new.self.items held.back c.args.functions.items kind a (c.in-Some.ensures.items ∙ ap (λ (x : Arguments). c.pop.new.self.items ++ (c.in-Some.kind, x) ∷ []) (sym c.lend.ensures)) held.all;
       shows =
           subst (λ (e : Ends ℕ). Shows e.left (g.M.TwoEnds.ends c.put_function.new.marks).left (record { base = base; frames = frames })) (sym c.put_function.ensures.text)
           (subst (λ (e : Ends Mark). Shows (text ++ concat (all_texts a)) e.left (record { base = base; frames = frames })) (sym c.put_function.ensures.marks)

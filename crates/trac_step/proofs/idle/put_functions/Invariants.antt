@@ -1,7 +1,7 @@
 -- The functions that are put back stand in the text; they, after those that are left, are all.
 use Rattle.std.proofs.Common.{◌≡◌, ◌++◌, [], List, length}
 use Rattle.trac_rules.specs.declared.kind.Kind.{Kind}
-use Rattle.trac_step.specs.Pieces.{Arguments, frames_in}
+use Rattle.trac_journal.specs.Pieces.{Arguments, frames_in}
 use Rattle.trac_step.proofs.NeutralAgain.{Shows}
 use Rattle.trac_step.proofs.idle.put_functions.Given as goal
 

@@ -8,7 +8,7 @@ use Rattle.trac_rules.specs.Undone.{are_free, names_in, storage_before, swapped_
 use Rattle.trac_forms.specs.Stored.{storage_in}
 use Rattle.trac_prims.specs.Effects.{named_forms, pointed}
 use Rattle.trac_step.specs.Returning.{KnowsBefore}
-use Rattle.trac_step.specs.Undone.{undone_in}
+use Rattle.trac_journal.specs.Undone.{undone_in}
 use Rattle.trac_step.proofs.StorageBack.{knows_each, pointed_again, tested}
 use Rattle.trac_step.proofs.storage_back.put_storage.Goals as goal
 

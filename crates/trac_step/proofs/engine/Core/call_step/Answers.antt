@@ -1,4 +1,4 @@
-use Rattle.std.proofs.Common.{◌≡◌, refl, sym, subst}
+use Rattle.std.proofs.Common.{◌≡◌, refl, sym, subst, ◌∙◌}
 use Rattle.std.proofs.lemmas.Result.{err_from_is_err_and}
 use Rattle.trac_rules.specs.Outcomes.{MayRefuse}
 use Rattle.trac_rules.specs.Records.{Called}
@@ -9,7 +9,7 @@ use Rattle.trac_prims.specs.Changes.{undone_of}
 use Rattle.trac_prims.specs.Tape.{environment_of}
 use Rattle.trac_step.specs.Calling.{arguments_in, state_after}
 use Rattle.trac_step.specs.Record.{recorded_by}
-use Rattle.trac_step.specs.Returning.{record_with}
+use Rattle.trac_journal.specs.Told.{record_with}
 use Rattle.trac_step.proofs.Outcomes.{recorded_as, refused_for_memory, taken_by, taken_lacks}
 use Rattle.trac_step.proofs.Recorded.{call_lacks_nothing}
 use Rattle.trac_step.proofs.engine.Core.call_step.Goals as goal
@@ -21,6 +21,16 @@ returns-in_err-plan-clause-refused g c =
 
 pub returns-in_err-plan-clause-lacking : goal.returns-in_err-plan-clause-lacking
 returns-in_err-plan-clause-lacking g c = call_lacks_nothing c.args.self.now c.requires.front c.requires.inside
+
+pub returns-in_err-arguments-clause-refused : goal.returns-in_err-arguments-clause-refused
+returns-in_err-arguments-clause-refused g c =
+    let s = c.args.self.now.state in
+    let outcome = step (environment_of c.args.self.now.width c.args.tape) s in
+    let err = err_from_is_err_and c.from_residual-in_err-arguments.result c.from_residual-in_err-arguments.ensures.1 in
+    rw err.1 (refl, subst (MayRefuse outcome) (sym (err.2 ∙ c.in_err-arguments.ensures.err)) (taken_lacks outcome (state_after c.in_ok-plan.effect (scan s)) c.in_ok-plan.ensures.outcome))
+
+pub returns-in_err-arguments-clause-lacking : goal.returns-in_err-arguments-clause-lacking
+returns-in_err-arguments-clause-lacking g c = call_lacks_nothing c.args.self.now c.requires.front c.requires.inside
 
 pub returns-clause-taken : goal.returns-clause-taken
 returns-clause-taken g c =

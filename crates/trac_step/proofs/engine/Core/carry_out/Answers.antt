@@ -6,7 +6,7 @@ use Rattle.trac_rules.specs.State.{State, storage_of}
 use Rattle.trac_prims.specs.Changes.{NamesGiven, undone_of}
 use Rattle.trac_step.specs.Calling.{BeginsInnermost, arguments_in, state_after}
 use Rattle.trac_step.specs.Changing.{AreMadeFor}
-use Rattle.trac_step.specs.Returning.{record_with}
+use Rattle.trac_journal.specs.Told.{record_with}
 use Rattle.trac_step.proofs.Rooms.{no_less_then}
 use Rattle.trac_step.proofs.engine.Core.carry_out.Goals as goal
 

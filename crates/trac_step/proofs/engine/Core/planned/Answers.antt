@@ -1,10 +1,9 @@
 use Rattle.std.proofs.Common.{List, ℕ, ◌+◌, ◌-◌, length, sym, ap, ◌∙◌, subst, arith}
+use Rattle.std.specs.List.{concat}
 use Rattle.std.proofs.lemmas.Result.{err_from_is_err_and}
-use Rattle.trac_rules.specs.Outcomes.{MayRefuse}
 use Rattle.trac_rules.specs.Proper.{IsProper}
 use Rattle.trac_rules.specs.Scanning.{scan}
 use Rattle.trac_rules.specs.State.{State, storage_of}
-use Rattle.trac_rules.specs.Stepping.{step}
 use Rattle.trac_rules.proofs.ProperStates.{step_proper}
 use Rattle.trac_prims.specs.Tape.{environment_of}
 use Rattle.trac_step.specs.Calling.{state_after}
@@ -13,7 +12,6 @@ use Rattle.trac_step.proofs.Beginnings.{begins_innermost}
 use Rattle.trac_step.proofs.Calls.{step_planned, step_unplanned}
 use Rattle.trac_step.proofs.CallsPlanned.{arguments_found, names_given, position_planned, record_planned}
 use Rattle.trac_step.proofs.Limited.{proper_of_sound}
-use Rattle.trac_step.proofs.Outcomes.{taken_lacks}
 use Rattle.trac_step.proofs.Planned.{behind, count_within, frames_of, given_call, text_within}
 use Rattle.trac_step.proofs.engine.Core.planned.Goals as goal
 
@@ -90,33 +88,6 @@ returns-clause-outcome g c =
     let rest = behind s c.neutral.result f.number f.place f.kind f.arguments proper c.neutral.ensures c.in-Some.ensures in
     let e = environment_of c.self.inside.width c.args.tape in
     rw width_is (step_planned e s c.in-Some.ensures.frame rest c.requires.front frames f.kind f.arguments c.self.inside.store _ given c.in_ok-effect.effect (c.in_ok-effect.ensures.outcome _ given))
-
-pub returns-in_err-arguments-clause-outcome : goal.returns-in_err-arguments-clause-outcome
-returns-in_err-arguments-clause-outcome g c =
-    let s = c.args.self.now.state in
-    let p = parts_of (g.E.TwoEnds.ends c.self.inside.text) (g.M.TwoEnds.ends c.self.inside.marks) c.self.inside.store c.self.inside.meta c.self.inside.trace c.self.inside.position c.self.inside.output in
-    let state_is = ap (λ (m : Shown). m.state) c.self.view_is in
-    let width_is = ap (λ (m : Shown). m.width) (sym c.self.view_is) in
-    let proper = subst IsProper state_is (proper_of_sound p c.self.invariant) in
-    let f = c.in-Some.function in
-    let frames = frames_of s c.neutral.result f.number f.place f.kind f.arguments proper c.neutral.ensures c.in-Some.ensures in
-    let given = given_call s c.neutral.result f.number f.place f.kind f.arguments proper c.neutral.ensures c.in-Some.ensures c.self.inside.store
-    (record {
-      meta = c.self.inside.meta;
-      trace = c.self.inside.trace;
-      position = c.self.inside.position;
-      output = c.len.result;
-      text = length c.right.result.now - 1 + f.place;
-      width = c.self.inside.width;
-    })
-    (ap (λ (t : State). storage_of t) (sym state_is)) (ap (λ (t : State). t.meta) (sym state_is)) (ap (λ (t : State). t.trace) (sym state_is)) (ap (λ (t : State). t.position) (sym state_is))
-    (ap (λ (t : State). length t.output) (sym state_is) ∙ sym c.len.ensures.len)
-    (ap (λ (t : State). length t.active - 1 + f.place) (sym state_is) ∙ ap (λ (xs : List ℕ). length xs - 1 + f.place) (sym c.right.ensures.right)) in
-    let rest = behind s c.neutral.result f.number f.place f.kind f.arguments proper c.neutral.ensures c.in-Some.ensures in
-    let e = environment_of c.self.inside.width c.args.tape in
-    let taken = step_planned e s c.in-Some.ensures.frame rest c.requires.front frames f.kind f.arguments c.self.inside.store _ given c.in_ok-effect.effect (c.in_ok-effect.ensures.outcome _ given) in
-    let err = err_from_is_err_and c.from_residual-in_err-arguments.result c.from_residual-in_err-arguments.ensures.1 in
-    rw (err.1, width_is) (subst (MayRefuse (step e s)) (sym (err.2 ∙ c.in_err-arguments.ensures.err)) (taken_lacks (step e s) (state_after c.in_ok-effect.effect (scan s)) taken))
 
 pub returns-clause-beginning : goal.returns-clause-beginning
 returns-clause-beginning g c =
@@ -223,8 +194,14 @@ returns-clause-given g c =
     let e = environment_of c.self.inside.width c.args.tape in
     names_given e s c.in-Some.ensures.frame rest c.requires.front frames f.kind f.arguments c.self.inside.store _ given c.in_ok-effect.effect c.in_ok-effect.ensures.change
 
-pub returns-clause-arguments : goal.returns-clause-arguments
-returns-clause-arguments g c =
+pub returns-clause-bytes : goal.returns-clause-bytes
+returns-clause-bytes g c =
     let f = c.in-Some.function in
-    c.in_ok-arguments.ensures.same
-    ∙ arguments_found c.args.self.now.state c.neutral.result f.number f.place f.kind f.arguments c.requires.front c.neutral.ensures c.in-Some.ensures
+    ap (λ (bytes : List ℕ). length bytes) c.joined.ensures
+    ∙ ap (λ (texts : List (List ℕ)). length (concat texts)) (arguments_found c.args.self.now.state c.neutral.result f.number f.place f.kind f.arguments c.requires.front c.neutral.ensures c.in-Some.ensures)
+
+pub returns-clause-commas : goal.returns-clause-commas
+returns-clause-commas g c =
+    let f = c.in-Some.function in
+    c.comma_count.ensures
+    ∙ ap (λ (texts : List (List ℕ)). length texts) (arguments_found c.args.self.now.state c.neutral.result f.number f.place f.kind f.arguments c.requires.front c.neutral.ensures c.in-Some.ensures)

@@ -2,11 +2,12 @@ use Rattle.std.proofs.Common.{◌≡◌, Some, ap, sym, subst, ◌∙◌}
 use Rattle.std.specs.Prelude.{IsSomeAnd}
 use Rattle.trac_rules.specs.Records.{Record, Moved, Comma, Begun, Quoted, Deleted, Idle, Called, restored, state_before}
 use Rattle.trac_rules.specs.State.{State}
-use Rattle.trac_step.specs.declared.undoing.Called as code
+use Rattle.trac_journal.specs.declared.called.Called as code
 use Rattle.trac_step.specs.Layout.{Shown}
-use Rattle.trac_step.specs.Pieces.{frames_in}
+use Rattle.trac_journal.specs.Pieces.{Arguments, all_texts, frames_in}
 use Rattle.trac_step.specs.Record.{recorded_by}
-use Rattle.trac_step.specs.Returning.{call_record}
+use Rattle.trac_journal.specs.Told.{record_with}
+use Rattle.trac_journal.specs.Undone.{undone_in}
 use Rattle.trac_step.specs.Room.{HasRoom}
 use Rattle.trac_step.specs.Undoing.{CanShow}
 use Rattle.trac_step.proofs.ScanningBack.{before_is_restored, can_show_before, shown_is_some}
@@ -75,7 +76,7 @@ uncall-requires g c =
       meta = c.in-Call.meta;
       trace = c.in-Call.trace;
     } in
-    can_show (recorded_by c.args.taken) (Called (call_record told c.in-Call.arguments c.in-Call.change)) c.args.self.now c.args.self.now.state (ap (λ x. recorded_by x) c.in-Call.is) c.requires
+    can_show (recorded_by c.args.taken) (Called (record_with told (all_texts c.lend.result) (undone_in c.in-Call.change))) c.args.self.now c.args.self.now.state (ap (λ x. recorded_by x) c.in-Call.is ∙ ap (λ (a : Arguments). Called (record_with told (all_texts a) (undone_in c.in-Call.change))) (sym c.lend.ensures)) c.requires
 
 pub returns-in-Call-clause-state : goal.returns-in-Call-clause-state
 returns-in-Call-clause-state g c =
@@ -88,5 +89,5 @@ returns-in-Call-clause-state g c =
       meta = c.in-Call.meta;
       trace = c.in-Call.trace;
     } in
-    goes_back (recorded_by c.args.taken) (Called (call_record told c.in-Call.arguments c.in-Call.change)) c.args.self.now c.args.self.now.state (ap (λ x. recorded_by x) c.in-Call.is) c.requires
+    goes_back (recorded_by c.args.taken) (Called (record_with told (all_texts c.lend.result) (undone_in c.in-Call.change))) c.args.self.now c.args.self.now.state (ap (λ x. recorded_by x) c.in-Call.is ∙ ap (λ (a : Arguments). Called (record_with told (all_texts a) (undone_in c.in-Call.change))) (sym c.lend.ensures)) c.requires
     c.uncall.new.self.state c.uncall.ensures.state

@@ -1,0 +1,61 @@
+-- Steps whose records go into a journal, and the way back over them.
+use Rattle.std.specs.Prelude.{◌≡◌, ◌≤◌, ℕ, List, [], ◌∷◌, length, Option, None, Some, IsSomeAnd}
+use Rattle.std.specs.List.{concat}
+use Rattle.trac_journal.specs.declared.called.Called.{Called}
+use Rattle.trac_journal.specs.Journaled.{IsLight}
+use Rattle.trac_journal.specs.Listed.{AreSmall}
+use Rattle.trac_journal.specs.Told.{record_with}
+use Rattle.trac_rules.specs.Records.{CallRecord, Record, Idle, record_of, state_before}
+use Rattle.trac_rules.specs.Records.{Called as CallOf}
+use Rattle.trac_rules.specs.State.{Environment, State}
+use Rattle.trac_rules.specs.Undone.{Undone}
+use Rattle.trac_rules.specs.Weights.{loss, weight}
+use Rattle.trac_step.specs.Layout.{Shown}
+use Rattle.trac_step.specs.Room.{HasRoom}
+
+-- the record of a call with this beside its arguments, these, and what it destroyed of forms and blocks, fits the entries of a journal
+pub record FitsJournal (called : Called) (arguments : List (List ℕ)) (undone : Undone) : Type 0 where
+  pub small : AreSmall called (length (concat arguments)) (length arguments)
+  pub light : IsLight (CallOf (record_with called arguments undone))
+
+-- the records have this one more, the newest
+abbrev pub IsAdded : Option Record → List Record → List Record → Type 0
+IsAdded None old new = ⊥
+IsAdded (Some newest) old new = new ≡ newest ∷ old
+
+-- the records have one more, the newest: that of the step from one state to another, which leads back, and weighs no more than the step lost
+pub record IsKept (environment : Environment) (before after : State) (old new : List Record) : Type 0 where
+  pub newest : Record
+  pub of_step : record_of environment before ≡ Some newest
+  pub leads_back : state_before newest after ≡ Some before
+  pub weighs : weight newest ≤ loss before
+  pub added : new ≡ newest ∷ old
+
+-- the newest of the records, where there is one, leads back to a state for which a machine has room
+abbrev pub CanGoBack : Shown → List Record → Type 0
+CanGoBack m [] = Unit {0}
+CanGoBack m (newest ∷ older) = IsSomeAnd (state_before newest m.state) (λ s. HasRoom m s)
+
+-- the newest of the records is of a call
+abbrev pub IsCallFirst : List Record → Type 0
+IsCallFirst [] = ⊥
+IsCallFirst (CallOf call ∷ older) = Unit {0}
+IsCallFirst (newest ∷ older) = ⊥
+
+-- it is taken out, and this is what it destroyed of forms and blocks
+pub record HasCallOut (undone : Undone) (old new : List Record) : Type 0 where
+  pub call : CallRecord
+  pub taken : old ≡ CallOf call ∷ new
+  pub destroyed : undone ≡ call.undone
+
+-- the newest of the records is of a step that emptied all texts
+abbrev pub IsIdleFirst : List Record → Type 0
+IsIdleFirst [] = ⊥
+IsIdleFirst (Idle base frames ∷ older) = Unit {0}
+IsIdleFirst (newest ∷ older) = ⊥
+
+-- the newest of the records led back from one state to another, and is taken out
+pub record HasGoneBack (after before : State) (old new : List Record) : Type 0 where
+  pub newest : Record
+  pub leads_back : state_before newest after ≡ Some before
+  pub taken : old ≡ newest ∷ new

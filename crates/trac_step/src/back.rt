@@ -1,0 +1,103 @@
+//! The way back over the newest record of a journal.
+ghost use Rattle.std.specs.Prelude.{◌≡◌, ◌∷◌, [], false, IsSomeAnd, IsTrue, Some};
+ghost use Rattle.trac_rules.specs.Records.{Idle, state_before};
+ghost use Rattle.trac_journal.specs.Pieces.{frames_in};
+ghost use Rattle.trac_journal.specs.Told.{said_by};
+ghost use Rattle.trac_journal.specs.Undone.{undone_in};
+ghost use Rattle.trac_step.specs.Kept.{CanGoBack, HasCallOut, HasGoneBack, IsCallFirst, IsIdleFirst};
+ghost use Rattle.trac_step.specs.Room.{HasRoom, IsNoLess};
+
+use crate::calls_back::put_call;
+use crate::engine::Core;
+use crate::storage_back::put_storage;
+use crate::undoing::meta_before;
+use std::alloc::Allocator;
+use trac_gap::TwoEnds;
+use trac_journal::{Emptied, Journal, Lost, Newest, Short, Undone};
+use trac_prims::{Mark, NeutralText};
+
+// Takes out the newest record, which is of a call, and returns what it destroyed of forms and blocks.
+fn pop_undone<A: Allocator + Copy>(journal: &mut Journal<A>) -> Undone<A>
+    requires { IsCallFirst journal.old.records }
+    ensures { HasCallOut (undone_in result) journal.old.records journal.new.records }
+{
+    match journal.pop() {
+        Some(Lost::Storage(undone)) => undone,
+        Some(Lost::Texts(_)) | Some(Lost::Nothing) | None => unreachable!(),
+    }
+}
+
+// Takes out the newest record, which is of a step that emptied all texts, and returns these.
+fn pop_emptied<A: Allocator + Copy>(journal: &mut Journal<A>) -> Emptied<A>
+    requires { IsIdleFirst journal.old.records }
+    ensures { journal.old.records ≡ Idle result.base.items (frames_in result.frames.items) ∷ journal.new.records }
+{
+    match journal.pop() {
+        Some(Lost::Texts(emptied)) => emptied,
+        Some(Lost::Storage(_)) | Some(Lost::Nothing) | None => unreachable!(),
+    }
+}
+
+impl<E: TwoEnds<u8, A>, M: TwoEnds<Mark, A>, A: Allocator + Copy> Core<E, M, A> {
+    // Goes back over a step that performed no function, and did not empty the texts.
+    fn undo_short(&mut self, short: Short)
+        requires { IsSomeAnd (state_before (said_by short) self.old.state) (λ s. HasRoom self.old s) }
+        ensures state { state_before (said_by short) self.old.state ≡ Some self.new.state }
+        ensures room { IsNoLess self.old self.new }
+    {
+        match short {
+            Short::Moved => self.move_back(1),
+            Short::Comma => self.gather_again(),
+            Short::Begun => self.take_beginning_back(),
+            Short::Quoted { inner, closed } => self.unprotect(inner, closed),
+            Short::Deleted(byte) => self.undelete(byte),
+        }
+    }
+
+    /// Goes back over the newest record of a journal, as `undo` does, and takes it out; returns whether there was one. The
+    /// texts of a call are put back from where the journal keeps them. It takes no memory and cannot fail, lessens no room and
+    /// forgets no name. The newest record has to lead back to a state for which the machine has room, as it does after its
+    /// step.
+    pub fn step_back(&mut self, journal: &mut Journal<A>) -> bool
+        requires { CanGoBack self.old journal.old.records }
+        ensures back { IsTrue result → HasGoneBack self.old.state self.new.state journal.old.records journal.new.records }
+        ensures none { result ≡ false → (journal.old.records ≡ []) × ((journal.new.records ≡ []) × (self.new ≡ self.old)) }
+        ensures room { IsNoLess self.old self.new }
+    {
+        match journal.newest() {
+            None => false,
+            Some(Newest::Short(short)) => {
+                self.undo_short(short);
+                journal.pop();
+                true
+            }
+            Some(Newest::Idle) => {
+                let emptied = pop_emptied(journal);
+                let frames = emptied.frames;
+                self.unload(emptied.base.as_slice(), frames);
+                true
+            }
+            Some(Newest::Call { called, arguments }) => {
+                put_call(
+                    &mut self.text,
+                    &mut self.marks,
+                    called.kind,
+                    &arguments,
+                    called.scanned,
+                    called.value,
+                );
+                let change = pop_undone(journal);
+                let text = NeutralText::new(self.text.left(), self.marks.left());
+                let Some(function) = text.innermost() else {
+                    unreachable!()
+                };
+                put_storage(&mut self.store, &function.arguments, change);
+                self.output.truncate(self.output.len() - called.printed);
+                self.position -= called.read;
+                self.meta = meta_before(called, self.meta);
+                self.trace = called.trace;
+                true
+            }
+        }
+    }
+}
