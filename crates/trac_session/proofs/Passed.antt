@@ -1,62 +1,50 @@
 -- Runs of plain bytes, passed at once there and back.
-use Rattle.std.proofs.Common.{◌≡◌, ℕ, zero, suc, ◌+◌, ◌-◌, ◌<◌, ◌≤◌, Bool, true, false, List, [], ◌∷◌, ◌++◌, length, take, drop, reverse, refl, sym, ap, subst, ◌∙◌, arith}
-use Rattle.std.specs.Prelude.{Some, nat_le}
+use Rattle.std.proofs.Common.{◌≡◌, ℕ, zero, suc, ◌+◌, ◌-◌, ◌<◌, ◌≤◌, Bool, true, false, List, [], ◌∷◌, ◌++◌, length, take, drop, refl, sym, ap, subst, ◌∙◌, arith}
+use Rattle.std.specs.Prelude.{Some, nat_le, replicate}
 use Rattle.std.specs.Bool.{then_some}
 use Rattle.std.proofs.lemmas.Bool.{leb-true}
-use Rattle.std.proofs.lemmas.List.{append-nil, append_assoc, drop_at, length-append, length-drop, length-take, replicate_more, take-append-drop, take_at}
+use Rattle.std.proofs.lemmas.List.{drop_at, length-append, length-drop, length-replicate, length-take, take-append-drop, take_at}
 use Rattle.trac_rules.specs.declared.width.Width.{Width}
 use Rattle.trac_rules.specs.declared.width.Width.TheVariants.{W64}
 use Rattle.trac_rules.specs.PlainRuns.{BeginsPlain, moved_on, on_the_way}
 use Rattle.trac_rules.specs.Proper.{IsProper}
-use Rattle.trac_rules.specs.Records as rules
-use Rattle.trac_rules.specs.Records.{all_before_last, last_of, moved_back, moved_back_in, put_before}
+use Rattle.trac_rules.specs.Records.{Record, Moved, all_before_last, last_of, moved_back, moved_back_in, put_before, state_before}
 use Rattle.trac_rules.specs.Scanning.{deleted, gather_first}
 use Rattle.trac_rules.specs.Session.{PlainSession, Back, Step, accepted_by, repeated}
 use Rattle.trac_rules.specs.State.{Frame, State}
+use Rattle.trac_rules.specs.Weights.{weight}
 use Rattle.trac_rules.proofs.MovedOn.{active-gathered, moved_byte_back, moved_byte_weighs, moved_on-suc, moved_on-zero, plain_bytes_there}
 use Rattle.trac_rules.proofs.Replies.{answer_Back_from}
 use Rattle.trac_rules.proofs.Restored.{moved_back-gather, restored_of_before}
 use Rattle.trac_rules.proofs.Scans.{gathered_in_shows}
+use Rattle.trac_journal.specs.Told.{sum_by}
+use Rattle.trac_journal.proofs.Counted.{moved_sum, sum_by-append}
 use Rattle.trac_step.proofs.Rooms.{HasRoom-kept, no_less_state}
-use Rattle.trac_step.proofs.Rules.{reverse_push}
 use Rattle.trac_step.specs.Layout.{Shown}
-use Rattle.trac_step.specs.Record.{before}
 use Rattle.trac_step.specs.Room.{HasRoom, IsNoLess}
-use Rattle.trac_step.specs.declared.record.Record.{Record}
-use Rattle.trac_step.specs.declared.record.Record.TheVariants.{Moved}
-use Rattle.trac_session.specs.Counted.{all_moved}
-use Rattle.trac_session.specs.Weighed.{weighed}
-use Rattle.trac_session.specs.Journal.{earlier_of, AreRecords, plain_of, sum_by, IsWithinReach, IsSound}
-use Rattle.trac_session.proofs.Counted.{length_of_moved}
+use Rattle.trac_session.specs.Journal.{earlier_of, AreRecords, plain_of, IsWithinReach, IsSound}
 use Rattle.trac_session.proofs.Journaled.{led_on-Some, length-earlier, AreRecords-weaker, IsWithinReach-more}
-use Rattle.trac_session.proofs.Summed.{moved_sum, sum_by-append}
 use Rattle.trac_session.proofs.Walked.{repeated-from}
 
 -- ---- records of moved bytes
 
--- turned round, they are first
-pub moved_first : {A : Type 0} → (n : ℕ) (journal : List (Record A)) → reverse (journal ++ all_moved n) ≡ all_moved n ++ reverse journal
-moved_first zero journal = ap reverse (append-nil journal)
-moved_first (suc n) journal =
-    let next : suc n ≡ n + 1 = omega arith in
-    ap (λ k. reverse (journal ++ all_moved k)) next
-    ∙ ap (λ moved. reverse (journal ++ moved)) (sym (replicate_more n Moved))
-    ∙ ap reverse (sym (append_assoc journal (all_moved n) (Moved ∷ [])))
-    ∙ reverse_push (journal ++ all_moved n) Moved
-    ∙ ap (λ records. Moved ∷ records) (moved_first n journal)
+-- so many of them are so many more
+length-moved : (old new : List Record) (n : ℕ) → new ≡ replicate n Moved ++ old → length new ≡ n + length old
+length-moved old new n kept =
+    omega (arith, ap (λ (records : List Record). length records) kept, length-append (replicate n Moved) old, length-replicate n Moved)
 
 -- they say the states on the way
-earlier_of-moved : {A : Type 0} → (n : ℕ) (rest : List (Record A)) (s : State) → IsProper s → n ≤ length s.active →
-    earlier_of before (all_moved n ++ rest) (moved_on n s) ≡ on_the_way n s ++ earlier_of before rest s
-earlier_of-moved zero rest s proper within = ap (λ (t : State). earlier_of before rest t) (moved_on-zero s)
-earlier_of-moved {A} (suc n) rest s proper within =
-    led_on-Some (before {A = A} Moved (moved_on (suc n) s)) (moved_on n s) (λ u. earlier_of before (all_moved n ++ rest) u) (moved_byte_back n s proper (omega arith))
+earlier_of-moved : (n : ℕ) (rest : List Record) (s : State) → IsProper s → n ≤ length s.active →
+    earlier_of (replicate n Moved ++ rest) (moved_on n s) ≡ on_the_way n s ++ earlier_of rest s
+earlier_of-moved zero rest s proper within = ap (λ (t : State). earlier_of rest t) (moved_on-zero s)
+earlier_of-moved (suc n) rest s proper within =
+    led_on-Some (state_before Moved (moved_on (suc n) s)) (moved_on n s) (λ u. earlier_of (replicate n Moved ++ rest) u) (moved_byte_back n s proper (omega arith))
     ∙ ap (λ (states : List State). moved_on n s ∷ states) (earlier_of-moved n rest s proper (omega arith))
 
 -- of which something holds
-AreRecords-moved : {A : Type 0} → (Holds : State → Type 0) (n : ℕ) (rest : List (Record A)) (s : State) → IsProper s → BeginsPlain n s →
-    ((k : ℕ) → k < n → Holds (moved_on k s)) → AreRecords before weighed Holds rest s → AreRecords before weighed Holds (all_moved n ++ rest) (moved_on n s)
-AreRecords-moved Holds zero rest s proper plain holds all = subst (λ (t : State). AreRecords before weighed Holds rest t) (sym (moved_on-zero s)) all
+AreRecords-moved : (Holds : State → Type 0) (n : ℕ) (rest : List Record) (s : State) → IsProper s → BeginsPlain n s →
+    ((k : ℕ) → k < n → Holds (moved_on k s)) → AreRecords Holds rest s → AreRecords Holds (replicate n Moved ++ rest) (moved_on n s)
+AreRecords-moved Holds zero rest s proper plain holds all = subst (λ (t : State). AreRecords Holds rest t) (sym (moved_on-zero s)) all
 AreRecords-moved Holds (suc n) rest s proper plain holds all = (
   moved_on n s,
   record {
@@ -74,32 +62,31 @@ moved_on-position : (n : ℕ) (s : State) → (moved_on n s).position ≡ s.posi
 moved_on-position n s = gathered_in_shows (λ (u : State). u.position) (λ u active base frames. refl) s.frames (take n s.active) (deleted n s)
 
 -- a journal with records of moved bytes says the states on the way before those that it said
-earlier_of-passed : {A : Type 0} → (old new : List (Record A)) (s t : State) (n : ℕ) → IsProper s → n ≤ length s.active → new ≡ old ++ all_moved n → t ≡ moved_on n s →
-    earlier_of before (reverse new) t ≡ on_the_way n s ++ earlier_of before (reverse old) s
-earlier_of-passed {A} old new s t n proper within kept moved =
-    ap (λ (records : List (Record A)). earlier_of before (reverse records) t) kept
-    ∙ ap (λ (records : List (Record A)). earlier_of before records t) (moved_first n old)
-    ∙ ap (λ (u : State). earlier_of before (all_moved n ++ reverse old) u) moved
-    ∙ earlier_of-moved n (reverse old) s proper within
+earlier_of-passed : (old new : List Record) (s t : State) (n : ℕ) → IsProper s → n ≤ length s.active → new ≡ replicate n Moved ++ old → t ≡ moved_on n s →
+    earlier_of new t ≡ on_the_way n s ++ earlier_of old s
+earlier_of-passed old new s t n proper within kept moved =
+    ap (λ (records : List Record). earlier_of records t) kept
+    ∙ ap (λ (u : State). earlier_of (replicate n Moved ++ old) u) moved
+    ∙ earlier_of-moved n old s proper within
 
 -- plain bytes that are moved at once are as many steps
-pub Step_passed : {A : Type 0} → (Holds : State → Type 0) (limit : ℕ) (bytes : List ℕ) (ended : Bool) (old new : List (Record A)) (m k : Shown) (n : ℕ) (p : PlainSession) →
-    plain_of before limit m.width bytes ended old m.state ≡ p → AreRecords before weighed Holds (reverse old) m.state → IsProper m.state → BeginsPlain n m.state → length old + n ≤ limit →
-    new ≡ old ++ all_moved n → k ≡ record m { state = moved_on n m.state } → repeated Step n p ≡ Some (plain_of before limit k.width bytes ended new k.state)
+pub Step_passed : (Holds : State → Type 0) (limit : ℕ) (bytes : List ℕ) (ended : Bool) (old new : List Record) (m k : Shown) (n : ℕ) (p : PlainSession) →
+    plain_of limit m.width bytes ended old m.state ≡ p → AreRecords Holds old m.state → IsProper m.state → BeginsPlain n m.state → length old + n ≤ limit →
+    new ≡ replicate n Moved ++ old → k ≡ record m { state = moved_on n m.state } → repeated Step n p ≡ Some (plain_of limit k.width bytes ended new k.state)
 Step_passed Holds limit bytes ended old new m k n p view all proper plain fits kept moved =
-    let q : PlainSession = plain_of before limit m.width bytes ended old m.state in
+    let q : PlainSession = plain_of limit m.width bytes ended old m.state in
     let there : k.state ≡ moved_on n m.state = ap (λ (u : Shown). u.state) moved in
     ap (repeated Step n) (sym view)
-    ∙ plain_bytes_there n q proper plain (omega (arith, fits, length-earlier before weighed Holds limit bytes ended old m.state q refl all))
+    ∙ plain_bytes_there n q proper plain (omega (arith, fits, length-earlier Holds limit bytes ended old m.state q refl all))
     ∙ ap (λ (earlier : List State). Some (record q { earlier = earlier; last = moved_on n m.state })) (sym (earlier_of-passed old new m.state k.state n proper plain.within kept there))
-    ∙ ap (λ (u : State). Some (record q { earlier = earlier_of before (reverse new) k.state; last = u })) (sym there)
-    ∙ ap (λ (w : Width). Some (plain_of before limit w bytes ended new k.state)) (sym (ap (λ (u : Shown). u.width) moved))
+    ∙ ap (λ (u : State). Some (record q { earlier = earlier_of new k.state; last = u })) (sym there)
+    ∙ ap (λ (w : Width). Some (plain_of limit w bytes ended new k.state)) (sym (ap (λ (u : Shown). u.width) moved))
 
 -- the fields stay sound
-pub IsSound-passed : {A : Type 0} → (limit : ℕ) (bytes : List ℕ) (old new : List (Record A)) (m k : Shown) (n : ℕ) → IsProper m.state → BeginsPlain n m.state →
-    length old + n ≤ limit → new ≡ old ++ all_moved n → k ≡ record m { state = moved_on n m.state } → ((j : ℕ) → j ≤ n → HasRoom m (moved_on j m.state)) →
-    IsSound before weighed limit bytes old m → IsSound before weighed limit bytes new k
-IsSound-passed {A} limit bytes old new m k n proper plain fits kept moved held sound =
+pub IsSound-passed : (limit : ℕ) (bytes : List ℕ) (old new : List Record) (m k : Shown) (n : ℕ) → IsProper m.state → BeginsPlain n m.state →
+    length old + n ≤ limit → new ≡ replicate n Moved ++ old → k ≡ record m { state = moved_on n m.state } → ((j : ℕ) → j ≤ n → HasRoom m (moved_on j m.state)) →
+    IsSound limit bytes old m → IsSound limit bytes new k
+IsSound-passed limit bytes old new m k n proper plain fits kept moved held sound =
     let more : IsNoLess m k = subst (λ (u : Shown). IsNoLess m u) (sym moved) (no_less_state m (moved_on n m.state)) in
     let there : k.state ≡ moved_on n m.state = ap (λ (u : Shown). u.state) moved in
     let Reach : State → Type 0 = IsWithinReach k (length bytes) in
@@ -110,14 +97,14 @@ IsSound-passed {A} limit bytes old new m k n proper plain fits kept moved held s
     record {
       some_records = sound.some_records;
       not_too_many = sound.not_too_many;
-      within_limit = omega (arith, fits, length_of_moved old new n kept);
+      within_limit = omega (arith, fits, length-moved old new n kept);
       tape_limit = sound.tape_limit;
       on_tape = omega (arith, sound.on_tape, ap (λ (u : State). u.position) there, moved_on-position n m.state);
       records =
-          subst (λ (records : List (Record A)). AreRecords before weighed Reach records k.state) (sym (ap reverse kept ∙ moved_first n old))
-          (subst (λ (u : State). AreRecords before weighed Reach (all_moved n ++ reverse old) u) (sym there)
-          (AreRecords-moved Reach n (reverse old) m.state proper plain reach
-          (AreRecords-weaker before weighed (IsWithinReach m (length bytes)) Reach (reverse old) m.state
+          subst (λ (records : List Record). AreRecords Reach records k.state) (sym kept)
+          (subst (λ (u : State). AreRecords Reach (replicate n Moved ++ old) u) (sym there)
+          (AreRecords-moved Reach n old m.state proper plain reach
+          (AreRecords-weaker (IsWithinReach m (length bytes)) Reach old m.state
           (IsWithinReach-more m k (length bytes) (length bytes) more (omega arith)) sound.records)));
     }
 
@@ -177,47 +164,46 @@ moved_there-more n r s t last others = (
 )
 
 -- records of moved bytes lead back to a state, as so many steps back do, and the other records go on from it
-pub record GoesBack {A : Type 0} (Holds : State → Type 0) (n : ℕ) (rest : List (Record A)) (t : State) (p : PlainSession) : Type 0 where
+pub record GoesBack (Holds : State → Type 0) (n : ℕ) (rest : List Record) (t : State) (p : PlainSession) : Type 0 where
   pub first : State
   pub there : IsThere n first t
-  pub records : AreRecords before weighed Holds rest first
-  pub walked : repeated Back n p ≡ Some (record p { earlier = earlier_of before rest first; last = first })
+  pub records : AreRecords Holds rest first
+  pub walked : repeated Back n p ≡ Some (record p { earlier = earlier_of rest first; last = first })
 
-goes_back : {A : Type 0} → (Holds : State → Type 0) (n : ℕ) (rest : List (Record A)) (t : State) (p : PlainSession) → AreRecords before weighed Holds (all_moved n ++ rest) t →
-    p.earlier ≡ earlier_of before (all_moved n ++ rest) t → p.last ≡ t → GoesBack Holds n rest t p
+goes_back : (Holds : State → Type 0) (n : ℕ) (rest : List Record) (t : State) (p : PlainSession) → AreRecords Holds (replicate n Moved ++ rest) t →
+    p.earlier ≡ earlier_of (replicate n Moved ++ rest) t → p.last ≡ t → GoesBack Holds n rest t p
 goes_back Holds zero rest t p all earlier last = record {
   first = t;
   there = (sym (moved_on-zero t), omega arith);
   records = all;
   walked = λ i. Some (record p { earlier = earlier i; last = last i });
 }
-goes_back {A} Holds (suc n) rest t p all earlier last =
+goes_back Holds (suc n) rest t p all earlier last =
     let s : State = all.0 in
-    let some : p.earlier ≡ s ∷ earlier_of before (all_moved n ++ rest) s =
-    earlier ∙ led_on-Some (before {A = A} Moved t) s (λ u. earlier_of before (all_moved n ++ rest) u) all.1.says in
-    let q : PlainSession = record p { earlier = earlier_of before (all_moved n ++ rest) s; last = s } in
-    let back : repeated Back 1 p ≡ Some q = ap accepted_by (answer_Back_from p s (earlier_of before (all_moved n ++ rest) s) some) in
+    let some : p.earlier ≡ s ∷ earlier_of (replicate n Moved ++ rest) s =
+    earlier ∙ led_on-Some (state_before Moved t) s (λ u. earlier_of (replicate n Moved ++ rest) u) all.1.says in
+    let q : PlainSession = record p { earlier = earlier_of (replicate n Moved ++ rest) s; last = s } in
+    let back : repeated Back 1 p ≡ Some q = ap accepted_by (answer_Back_from p s (earlier_of (replicate n Moved ++ rest) s) some) in
     let next : suc n ≡ 1 + n = omega arith in
     let others : GoesBack Holds n rest s q = goes_back Holds n rest s q all.3 refl refl in
     record {
       first = others.first;
-      there = moved_there-more n others.first s t (moved_there 1 s t (restored_of_before rules.Moved s t all.1.says).0) others.there;
+      there = moved_there-more n others.first s t (moved_there 1 s t (restored_of_before Moved s t all.1.says).0) others.there;
       records = others.records;
       walked = ap (λ k. repeated Back k p) next ∙ repeated-from Back 1 n p q back ∙ others.walked;
     }
 
 -- the same of fields
-went_back : {A : Type 0} {width : Width} → (Holds : State → Type 0) (limit : ℕ) (bytes : List ℕ) (ended : Bool) (old new : List (Record A)) (t : State) (n : ℕ) → old ≡ new ++ all_moved n →
-    AreRecords before weighed Holds (reverse old) t → GoesBack Holds n (reverse new) t (plain_of before limit width bytes ended old t)
-went_back {A} {width} Holds limit bytes ended old new t n kept all =
-    let turned : reverse old ≡ all_moved n ++ reverse new = ap reverse kept ∙ moved_first n new in
-    goes_back Holds n (reverse new) t (plain_of before limit width bytes ended old t)
-    (subst (λ (records : List (Record A)). AreRecords before weighed Holds records t) turned all)
-    (ap (λ (records : List (Record A)). earlier_of before records t) turned) refl
+went_back : {width : Width} → (Holds : State → Type 0) (limit : ℕ) (bytes : List ℕ) (ended : Bool) (old new : List Record) (t : State) (n : ℕ) → old ≡ replicate n Moved ++ new →
+    AreRecords Holds old t → GoesBack Holds n new t (plain_of limit width bytes ended old t)
+went_back {width} Holds limit bytes ended old new t n kept all =
+    goes_back Holds n new t (plain_of limit width bytes ended old t)
+    (subst (λ (records : List Record). AreRecords Holds records t) kept all)
+    (ap (λ (records : List Record). earlier_of records t) kept) refl
 
 -- the bytes can go back
-pub moved_back_says : {A : Type 0} → (Holds : State → Type 0) (old new : List (Record A)) (t : State) (n : ℕ) → old ≡ new ++ all_moved n → AreRecords before weighed Holds (reverse old) t →
-    (s : State) × (moved_back n t ≡ Some s) × (s.position ≡ t.position) × AreRecords before weighed Holds (reverse new) s
+pub moved_back_says : (Holds : State → Type 0) (old new : List Record) (t : State) (n : ℕ) → old ≡ replicate n Moved ++ new → AreRecords Holds old t →
+    (s : State) × (moved_back n t ≡ Some s) × (s.position ≡ t.position) × AreRecords Holds new s
 moved_back_says Holds old new t n kept all =
     let went = went_back {width = W64} Holds 0 [] false old new t n kept all in (
       went.first,
@@ -227,20 +213,20 @@ moved_back_says Holds old new t n kept all =
     )
 
 -- that is as many steps back
-pub Back_passed : {A : Type 0} {width after : Width} → (Holds : State → Type 0) (limit : ℕ) (bytes : List ℕ) (ended : Bool) (old new : List (Record A)) (t s : State) (n : ℕ) (p : PlainSession) →
-    plain_of before limit width bytes ended old t ≡ p → AreRecords before weighed Holds (reverse old) t → old ≡ new ++ all_moved n → moved_back n t ≡ Some s → after ≡ width →
-    repeated Back n p ≡ Some (plain_of before limit after bytes ended new s)
-Back_passed {A} {width} {after} Holds limit bytes ended old new t s n p view all kept back still =
+pub Back_passed : {width after : Width} → (Holds : State → Type 0) (limit : ℕ) (bytes : List ℕ) (ended : Bool) (old new : List Record) (t s : State) (n : ℕ) (p : PlainSession) →
+    plain_of limit width bytes ended old t ≡ p → AreRecords Holds old t → old ≡ replicate n Moved ++ new → moved_back n t ≡ Some s → after ≡ width →
+    repeated Back n p ≡ Some (plain_of limit after bytes ended new s)
+Back_passed {width} {after} Holds limit bytes ended old new t s n p view all kept back still =
     let went = went_back Holds limit bytes ended old new t n kept all in
     let here : moved_back n t ≡ Some went.first = ap (moved_back n) went.there.0 ∙ moved_on-back n went.first went.there.1 in
     let same : went.first ≡ s = cc in
-    ap (repeated Back n) (sym view) ∙ went.walked ∙ ap (λ (u : State). Some (plain_of before limit width bytes ended new u)) same
-    ∙ ap (λ (w : Width). Some (plain_of before limit w bytes ended new s)) (sym still)
+    ap (repeated Back n) (sym view) ∙ went.walked ∙ ap (λ (u : State). Some (plain_of limit width bytes ended new u)) same
+    ∙ ap (λ (w : Width). Some (plain_of limit w bytes ended new s)) (sym still)
 
 -- the fields stay sound
-pub IsSound-passed-back : {A : Type 0} → (limit : ℕ) (bytes : List ℕ) (old new : List (Record A)) (m k : Shown) (n : ℕ) → old ≡ new ++ all_moved n →
-    moved_back n m.state ≡ Some k.state → k ≡ record m { state = k.state } → IsSound before weighed limit bytes old m → IsSound before weighed limit bytes new k
-IsSound-passed-back {A} limit bytes old new m k n kept back others sound =
+pub IsSound-passed-back : (limit : ℕ) (bytes : List ℕ) (old new : List Record) (m k : Shown) (n : ℕ) → old ≡ replicate n Moved ++ new →
+    moved_back n m.state ≡ Some k.state → k ≡ record m { state = k.state } → IsSound limit bytes old m → IsSound limit bytes new k
+IsSound-passed-back limit bytes old new m k n kept back others sound =
     let Reach : State → Type 0 = IsWithinReach m (length bytes) in
     let says = moved_back_says Reach old new m.state n kept sound.records in
     let said : moved_back n m.state ≡ Some says.0 = says.1 in
@@ -249,16 +235,16 @@ IsSound-passed-back {A} limit bytes old new m k n kept back others sound =
     record {
       some_records = sound.some_records;
       not_too_many = sound.not_too_many;
-      within_limit = omega (arith, sound.within_limit, length_of_moved new old n kept);
+      within_limit = omega (arith, sound.within_limit, length-moved new old n kept);
       tape_limit = sound.tape_limit;
       on_tape = omega (arith, sound.on_tape, says.2, ap (λ (u : State). u.position) same);
       records =
-          AreRecords-weaker before weighed Reach (IsWithinReach k (length bytes)) (reverse new) k.state
+          AreRecords-weaker Reach (IsWithinReach k (length bytes)) new k.state
           (IsWithinReach-more m k (length bytes) (length bytes) more (omega arith))
-          (subst (λ (u : State). AreRecords before weighed Reach (reverse new) u) same says.3);
+          (subst (λ (u : State). AreRecords Reach new u) same says.3);
     }
 
 -- records of moved bytes weigh nothing
-pub moved_weigh_nothing : {A : Type 0} → (old new : List (Record A)) (n : ℕ) → new ≡ old ++ all_moved n → sum_by weighed new ≡ sum_by weighed old
-moved_weigh_nothing {A} old new n kept =
-    omega (arith, ap (sum_by weighed) kept, sum_by-append weighed old (all_moved n), moved_sum (weighed {A = A}) n refl)
+pub moved_weigh_nothing : (old new : List Record) (n : ℕ) → new ≡ replicate n Moved ++ old → sum_by weight new ≡ sum_by weight old
+moved_weigh_nothing old new n kept =
+    omega (arith, ap (sum_by weight) kept, sum_by-append weight (replicate n Moved) old, moved_sum weight n refl)

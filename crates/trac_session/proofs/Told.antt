@@ -1,5 +1,5 @@
--- What a record of the machine tells of its step: how much it read and printed, and that it leads on from a released state.
-use Rattle.std.proofs.Common.{◌≡◌, ℕ, ◌+◌, ◌-◌, ◌≤◌, Bool, true, false, List, [], ◌++◌, length, take, drop, reverse, refl, sym, ap, ◌∙◌, arith}
+-- What a record tells of its step: how much that read and printed.
+use Rattle.std.proofs.Common.{◌≡◌, ℕ, ◌+◌, ◌-◌, ◌≤◌, Bool, true, false, List, [], ◌++◌, length, drop, refl, sym, ap, ◌∙◌, arith}
 use Rattle.std.specs.Prelude.{Option, None, Some, nat_le, ◌&&◌}
 use Rattle.std.specs.Bool.{then_some}
 use Rattle.std.specs.Option.{unwrap_or}
@@ -9,14 +9,15 @@ use Rattle.trac_rules.specs.Records.{CallRecord, Record, Moved, Comma, Begun, Qu
 use Rattle.trac_rules.specs.State.{State, storage_of}
 use Rattle.trac_rules.specs.Undone.{storage_before}
 use Rattle.trac_rules.proofs.FurtherOn.{put_together_parts, stands_there}
-use Rattle.trac_rules.proofs.Released.{before-released}
 use Rattle.trac_rules.proofs.Restored.{restored_of_before}
-use Rattle.trac_step.specs.Record.{before, recorded_by}
-use Rattle.trac_session.specs.Passed.{printed_by, printed_of, read_by, read_of}
-use Rattle.trac_step.specs.declared.record.Record as machine
-use Rattle.trac_session.specs.Journal.{AreRecords, sum_by}
-use Rattle.trac_session.specs.Weighed.{weighed}
-use Rattle.trac_session.proofs.Windowed.{AreTold, IsKept, Passes}
+use Rattle.trac_journal.specs.Told.{printed_by, read_by}
+
+-- a step read so many bytes, and printed so many
+pub record Passes (reads prints : ℕ) (s t : State) : Type 0 where
+  pub position : t.position ≡ s.position + reads
+  pub more : List ℕ
+  pub output : t.output ≡ s.output ++ more
+  pub count : length more ≡ prints
 
 -- the rest of a state tells what the call read and printed
 record RestPasses (call : CallRecord) (before after : Rest) : Type 0 where
@@ -70,16 +71,5 @@ restored_passes (Called call) s t back =
     let rest = rest_passes call (rest_of s) (rest_of t) parts.2 in
     record { position = rest.position; more = rest.more; output = rest.output; count = rest.count }
 
--- the records of a machine
-pub machine_told : (A : Type 0) → AreTold (before {A = A}) (read_of {A = A}) (printed_of {A = A})
-machine_told A = record {
-  passes = λ r s t says. restored_passes (recorded_by r) s t (restored_of_before (recorded_by r) s t says).0;
-  released = λ o k r s t read printed says. before-released o k (recorded_by r) s t read printed says;
-}
-
--- what `drop_oldest` keeps of a journal is what a commit keeps
-pub kept_of : {A : Type 0} → (Holds : State → Type 0) (keep count : ℕ) (old new : List (machine.Record A)) (last : State) (o k : ℕ) →
-    AreRecords before weighed Holds (reverse old) last → count ≡ length old - keep → new ≡ drop count old → o ≡ sum_by printed_of (take count old) → k ≡ sum_by read_of (take count old) →
-    IsKept before weighed read_of printed_of Holds keep count old new last o k
-kept_of {A} Holds keep count old new last o k all dropped rest printed read =
-    record { told = machine_told A; all = all; dropped = dropped; rest = rest; printed = printed; read = read }
+pub record_passes : (r : Record) (s t : State) → state_before r t ≡ Some s → Passes (read_by r) (printed_by r) s t
+record_passes r s t says = restored_passes r s t (restored_of_before r s t says).0

@@ -2,9 +2,6 @@
 pub mod Replies
 pub mod Commands
 pub mod Journal
-pub mod Counted
-pub mod Weighed
-pub mod Passed
 pub mod Goals
 pub mod Returns
 pub mod Directions

@@ -3,8 +3,6 @@
 
 mod commands;
 pub mod goal;
-mod journal;
-mod keeping;
 mod passing;
 pub mod session;
 mod walk;

@@ -8,12 +8,11 @@ ghost use Rattle.trac_rules.specs.Session.{new_session, Feed, End, Step, Back, C
 ghost use Rattle.trac_rules.specs.Weights.{losses_from, weights_from};
 ghost use Rattle.trac_session.specs.Replies.{reply_of};
 
-use crate::journal::Journal;
-use crate::keeping::step_kept;
 use crate::walk::Walk;
 use std::alloc::{Allocator, Global};
 use std::marker::Model;
 use trac_gap::{SlidingBuf, TwoEnds};
+use trac_journal::Journal;
 use trac_rules::limit::{JOURNAL_LIMIT, TAPE_LIMIT};
 use trac_rules::refusal::Refusal;
 use trac_rules::width::Width;
@@ -31,19 +30,17 @@ pub struct Session<A: Allocator + Copy = Global> {
 }
 
 impl<A: Allocator + Copy> Model for Session<A> {
-    ghost use Rattle.trac_step.specs.Record.{before};
     ghost use Rattle.trac_rules.specs.Session.{PlainSession};
     ghost use Rattle.trac_session.specs.Codes.{session_code};
     ghost use Rattle.trac_session.specs.Journal.{plain_of, IsSound};
-    ghost use Rattle.trac_session.specs.Weighed.{weighed};
 
     ghost Value = { PlainSession };
 
     ghost coded = { session_code };
 
-    ghost view = { λ s. plain_of before s.limit s.machine.width s.tape.items s.ended s.journal s.machine.state };
+    ghost view = { λ s. plain_of s.limit s.machine.width s.tape.items s.ended s.journal.records s.machine.state };
 
-    ghost invariant = { λ s. IsSound before weighed s.limit s.tape.items s.journal s.machine };
+    ghost invariant = { λ s. IsSound s.limit s.tape.items s.journal.records s.machine };
 }
 
 impl<A: Allocator + Copy> Session<A> {
@@ -104,7 +101,7 @@ impl<A: Allocator + Copy> Session<A> {
             bytes: self.tape.as_slice(),
             ended: self.ended,
         };
-        step_kept(&mut self.machine, &mut self.journal, tape)
+        self.machine.step_into(&mut self.journal, tape)
     }
 
     /// Goes back over the last step, which takes no memory.
@@ -112,10 +109,9 @@ impl<A: Allocator + Copy> Session<A> {
     pub(crate) fn step_back(&mut self) -> Result<(), Refusal>
         ensures { answer Back self.old ≡ record { reply = reply_of result; session = self.new } }
     {
-        let Some(record) = self.journal.pop() else {
+        if !self.machine.step_back(&mut self.journal) {
             return Err(Refusal::AtStart);
-        };
-        self.machine.undo(record);
+        }
         Ok(())
     }
 
@@ -142,8 +138,7 @@ impl<A: Allocator + Copy> Session<A> {
         ensures begins { All (λ s. IsFrontOf result.now s.output) (self.now.last ∷ take keep self.now.earlier) }
     {
         let output = self.machine.output();
-        let dropped = self.journal.len().saturating_sub(keep);
-        let printed = self.journal.printed_by_oldest(dropped);
+        let printed = self.journal.printed_before(keep);
         output.split_at(printed).0
     }
 
@@ -177,8 +172,7 @@ impl<A: Allocator + Copy> Session<A> {
     {
         // `len` is called for what it says: the sums of what was printed are no longer than the output, and fit a word.
         let _len = self.machine.output().len();
-        let dropped = self.journal.len().saturating_sub(keep);
-        let passed = self.journal.drop_oldest(dropped);
+        let passed = self.journal.keep_newest(keep);
         self.tape.drop_front(passed.read);
         self.machine.release(passed.printed, passed.read);
     }

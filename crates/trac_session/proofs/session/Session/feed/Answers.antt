@@ -1,29 +1,27 @@
 use Rattle.std.proofs.Common.{◌≡◌, ℕ, length, ap, arith}
 use Rattle.trac_gap.specs.Window.{Window}
-use Rattle.trac_step.specs.Record.{before}
-use Rattle.trac_session.specs.Weighed.{weighed}
 use Rattle.trac_session.proofs.Journaled.{Feed_closed_of_fields, Feed_long_of_fields, Feed_room_of_fields, Feed_memory_of_fields, IsSound-feed}
 use Rattle.trac_session.proofs.session.Session.feed.Goals as goal
 
 pub returns-then-self : goal.returns-then-self
-returns-then-self g c = Feed_closed_of_fields before _ _ _ c.self.inside.journal _ _ _ c.self.view_is c.if-self.true
+returns-then-self g c = Feed_closed_of_fields _ _ _ c.self.inside.journal.records _ _ _ c.self.view_is c.if-self.true
 
 pub returns-then-bytes-len : goal.returns-then-bytes-len
 returns-then-bytes-len g c =
     let count : c.len.result ≡ length c.self.inside.tape.items = c.len.ensures.len in
-    Feed_long_of_fields before _ _ _ c.self.inside.journal _ _ _ c.self.view_is c.if-self.false (omega (arith, c.self.invariant.tape_limit))
+    Feed_long_of_fields _ _ _ c.self.inside.journal.records _ _ _ c.self.view_is c.if-self.false (omega (arith, c.self.invariant.tape_limit))
 
 pub returns-in_default : goal.returns-in_default
 returns-in_default g c =
     let count : c.len.result ≡ length c.self.inside.tape.items = c.len.ensures.len in
-    Feed_memory_of_fields before _ _ _ _ c.self.inside.journal _ _ _ c.self.view_is c.if-self.false (omega (arith, c.self.invariant.tape_limit)) (ap (λ (w : Window ℕ). w.items) c.in_default.ensures.err)
+    Feed_memory_of_fields _ _ _ _ c.self.inside.journal.records _ _ _ c.self.view_is c.if-self.false (omega (arith, c.self.invariant.tape_limit)) (ap (λ (w : Window ℕ). w.items) c.in_default.ensures.err)
 
 pub returns : goal.returns
 returns g c =
     let count : c.len.result ≡ length c.self.inside.tape.items = c.len.ensures.len in
-    Feed_room_of_fields before _ _ _ _ c.self.inside.journal _ _ _ c.self.view_is c.if-self.false (omega (arith, c.self.invariant.tape_limit)) c.in-Ok.ensures.ok
+    Feed_room_of_fields _ _ _ _ c.self.inside.journal.records _ _ _ c.self.view_is c.if-self.false (omega (arith, c.self.invariant.tape_limit)) c.in-Ok.ensures.ok
 
 pub invariant_of-self-2 : goal.invariant_of-self-2
 invariant_of-self-2 g c =
     let count : c.len.result ≡ length c.self.inside.tape.items = c.len.ensures.len in
-    IsSound-feed before weighed _ _ _ c.args.bytes.now c.self.inside.journal _ c.in-Ok.ensures.ok (omega (arith, c.self.invariant.tape_limit)) c.self.invariant
+    IsSound-feed _ _ _ c.args.bytes.now c.self.inside.journal.records _ c.in-Ok.ensures.ok (omega (arith, c.self.invariant.tape_limit)) c.self.invariant

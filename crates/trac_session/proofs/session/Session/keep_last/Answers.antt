@@ -1,60 +1,56 @@
 use Rattle.std.proofs.Common.{ℕ, length, refl, ap, arith}
 use Rattle.trac_gap.specs.Window.{Window}
 use Rattle.trac_step.specs.Layout.{Shown}
-use Rattle.trac_step.specs.Record.{before}
 use Rattle.trac_session.specs.Journal.{IsWithinReach}
-use Rattle.trac_session.specs.Passed.{printed_of, read_of}
-use Rattle.trac_session.specs.Weighed.{weighed}
-use Rattle.trac_session.proofs.Told.{kept_of}
-use Rattle.trac_session.proofs.Windowed.{Commit_of_fields, IsSound-kept, released_there}
+use Rattle.trac_session.proofs.Windowed.{Commit_of_fields, IsSound-kept, newest_kept, released_there}
 use Rattle.trac_session.proofs.session.Session.keep_last.Goals as goal
 
-pub drop_oldest-passed-requires-clause-read_fits : goal.drop_oldest-passed-requires-clause-read_fits
-drop_oldest-passed-requires-clause-read_fits g c =
-    let kept = kept_of (IsWithinReach c.self.inside.machine (length c.self.inside.tape.items)) c.args.keep c.saturating_sub-dropped.result c.self.inside.journal _ c.self.inside.machine.state _ _ c.self.invariant.records
-    (omega (arith, c.saturating_sub-dropped.ensures, c.len.ensures)) refl refl refl in
-    omega (arith, (released_there before weighed read_of printed_of (IsWithinReach c.self.inside.machine (length c.self.inside.tape.items)) c.args.keep c.saturating_sub-dropped.result c.self.inside.journal _ c.self.inside.machine.state _ _ kept).0, c.self.invariant.on_tape, c.self.invariant.tape_limit)
+pub keep_newest-passed-requires-clause-read_fits : goal.keep_newest-passed-requires-clause-read_fits
+keep_newest-passed-requires-clause-read_fits g c =
+    let kept = newest_kept (IsWithinReach c.self.inside.machine (length c.self.inside.tape.items)) c.args.keep c.self.inside.journal.records _ c.self.inside.machine.state _ _
+    c.self.invariant.records refl refl refl in
+    omega (arith, (released_there (IsWithinReach c.self.inside.machine (length c.self.inside.tape.items)) c.args.keep c.self.inside.journal.records _ c.self.inside.machine.state _ _ kept).0, c.self.invariant.on_tape, c.self.invariant.tape_limit)
 
-pub drop_oldest-passed-requires-clause-printed_fits : goal.drop_oldest-passed-requires-clause-printed_fits
-drop_oldest-passed-requires-clause-printed_fits g c =
-    let kept = kept_of (IsWithinReach c.self.inside.machine (length c.self.inside.tape.items)) c.args.keep c.saturating_sub-dropped.result c.self.inside.journal _ c.self.inside.machine.state _ _ c.self.invariant.records
-    (omega (arith, c.saturating_sub-dropped.ensures, c.len.ensures)) refl refl refl in
-    omega (arith, (released_there before weighed read_of printed_of (IsWithinReach c.self.inside.machine (length c.self.inside.tape.items)) c.args.keep c.saturating_sub-dropped.result c.self.inside.journal _ c.self.inside.machine.state _ _ kept).1, ap length c.output-len.ensures, c.output-len.type_inv.0)
+pub keep_newest-passed-requires-clause-printed_fits : goal.keep_newest-passed-requires-clause-printed_fits
+keep_newest-passed-requires-clause-printed_fits g c =
+    let kept = newest_kept (IsWithinReach c.self.inside.machine (length c.self.inside.tape.items)) c.args.keep c.self.inside.journal.records _ c.self.inside.machine.state _ _
+    c.self.invariant.records refl refl refl in
+    omega (arith, (released_there (IsWithinReach c.self.inside.machine (length c.self.inside.tape.items)) c.args.keep c.self.inside.journal.records _ c.self.inside.machine.state _ _ kept).1, ap length c.output-len.ensures, c.output-len.type_inv.0)
 
 pub drop_front-requires : goal.drop_front-requires
 drop_front-requires g c =
-    let kept = kept_of (IsWithinReach c.self.inside.machine (length c.self.inside.tape.items)) c.args.keep c.saturating_sub-dropped.result c.self.inside.journal c.drop_oldest-passed.new.self c.self.inside.machine.state
-    c.drop_oldest-passed.result.printed c.drop_oldest-passed.result.read c.self.invariant.records
-    (omega (arith, c.saturating_sub-dropped.ensures, c.len.ensures)) c.drop_oldest-passed.ensures.kept c.drop_oldest-passed.ensures.printed c.drop_oldest-passed.ensures.read in
-    omega (arith, (released_there before weighed read_of printed_of (IsWithinReach c.self.inside.machine (length c.self.inside.tape.items)) c.args.keep c.saturating_sub-dropped.result c.self.inside.journal _ c.self.inside.machine.state _ _ kept).0, c.self.invariant.on_tape)
+    let kept = newest_kept (IsWithinReach c.self.inside.machine (length c.self.inside.tape.items)) c.args.keep c.self.inside.journal.records c.keep_newest-passed.new.self.records c.self.inside.machine.state
+    c.keep_newest-passed.result.printed c.keep_newest-passed.result.read
+    c.self.invariant.records c.keep_newest-passed.ensures.kept c.keep_newest-passed.ensures.printed c.keep_newest-passed.ensures.read in
+    omega (arith, (released_there (IsWithinReach c.self.inside.machine (length c.self.inside.tape.items)) c.args.keep c.self.inside.journal.records _ c.self.inside.machine.state _ _ kept).0, c.self.invariant.on_tape)
 
 pub release-requires-clause-printed : goal.release-requires-clause-printed
 release-requires-clause-printed g c =
-    let kept = kept_of (IsWithinReach c.self.inside.machine (length c.self.inside.tape.items)) c.args.keep c.saturating_sub-dropped.result c.self.inside.journal c.drop_oldest-passed.new.self c.self.inside.machine.state
-    c.drop_oldest-passed.result.printed c.drop_oldest-passed.result.read c.self.invariant.records
-    (omega (arith, c.saturating_sub-dropped.ensures, c.len.ensures)) c.drop_oldest-passed.ensures.kept c.drop_oldest-passed.ensures.printed c.drop_oldest-passed.ensures.read in
-    (released_there before weighed read_of printed_of (IsWithinReach c.self.inside.machine (length c.self.inside.tape.items)) c.args.keep c.saturating_sub-dropped.result c.self.inside.journal _ c.self.inside.machine.state _ _ kept).1
+    let kept = newest_kept (IsWithinReach c.self.inside.machine (length c.self.inside.tape.items)) c.args.keep c.self.inside.journal.records c.keep_newest-passed.new.self.records c.self.inside.machine.state
+    c.keep_newest-passed.result.printed c.keep_newest-passed.result.read
+    c.self.invariant.records c.keep_newest-passed.ensures.kept c.keep_newest-passed.ensures.printed c.keep_newest-passed.ensures.read in
+    (released_there (IsWithinReach c.self.inside.machine (length c.self.inside.tape.items)) c.args.keep c.self.inside.journal.records _ c.self.inside.machine.state _ _ kept).1
 
 pub release-requires-clause-read : goal.release-requires-clause-read
 release-requires-clause-read g c =
-    let kept = kept_of (IsWithinReach c.self.inside.machine (length c.self.inside.tape.items)) c.args.keep c.saturating_sub-dropped.result c.self.inside.journal c.drop_oldest-passed.new.self c.self.inside.machine.state
-    c.drop_oldest-passed.result.printed c.drop_oldest-passed.result.read c.self.invariant.records
-    (omega (arith, c.saturating_sub-dropped.ensures, c.len.ensures)) c.drop_oldest-passed.ensures.kept c.drop_oldest-passed.ensures.printed c.drop_oldest-passed.ensures.read in
-    (released_there before weighed read_of printed_of (IsWithinReach c.self.inside.machine (length c.self.inside.tape.items)) c.args.keep c.saturating_sub-dropped.result c.self.inside.journal _ c.self.inside.machine.state _ _ kept).0
+    let kept = newest_kept (IsWithinReach c.self.inside.machine (length c.self.inside.tape.items)) c.args.keep c.self.inside.journal.records c.keep_newest-passed.new.self.records c.self.inside.machine.state
+    c.keep_newest-passed.result.printed c.keep_newest-passed.result.read
+    c.self.invariant.records c.keep_newest-passed.ensures.kept c.keep_newest-passed.ensures.printed c.keep_newest-passed.ensures.read in
+    (released_there (IsWithinReach c.self.inside.machine (length c.self.inside.tape.items)) c.args.keep c.self.inside.journal.records _ c.self.inside.machine.state _ _ kept).0
 
 pub invariant_of-self : goal.invariant_of-self
 invariant_of-self g c =
-    let kept = kept_of (IsWithinReach c.self.inside.machine (length c.self.inside.tape.items)) c.args.keep c.saturating_sub-dropped.result c.self.inside.journal c.drop_oldest-passed.new.self c.self.inside.machine.state
-    c.drop_oldest-passed.result.printed c.drop_oldest-passed.result.read c.self.invariant.records
-    (omega (arith, c.saturating_sub-dropped.ensures, c.len.ensures)) c.drop_oldest-passed.ensures.kept c.drop_oldest-passed.ensures.printed c.drop_oldest-passed.ensures.read in
-    IsSound-kept before weighed read_of printed_of c.args.keep c.saturating_sub-dropped.result c.self.inside.limit c.self.inside.tape.items c.drop_front.new.self.items
-    c.self.inside.journal c.drop_oldest-passed.new.self c.self.inside.machine c.release.new.self _ _ kept (ap (λ (w : Window ℕ). w.items) c.drop_front.ensures) c.release.ensures c.self.invariant
+    let kept = newest_kept (IsWithinReach c.self.inside.machine (length c.self.inside.tape.items)) c.args.keep c.self.inside.journal.records c.keep_newest-passed.new.self.records c.self.inside.machine.state
+    c.keep_newest-passed.result.printed c.keep_newest-passed.result.read
+    c.self.invariant.records c.keep_newest-passed.ensures.kept c.keep_newest-passed.ensures.printed c.keep_newest-passed.ensures.read in
+    IsSound-kept c.args.keep c.self.inside.limit c.self.inside.tape.items c.drop_front.new.self.items
+    c.self.inside.journal.records c.keep_newest-passed.new.self.records c.self.inside.machine c.release.new.self _ _ kept (ap (λ (w : Window ℕ). w.items) c.drop_front.ensures) c.release.ensures c.self.invariant
 
 pub returns : goal.returns
 returns g c =
-    let kept = kept_of (IsWithinReach c.self.inside.machine (length c.self.inside.tape.items)) c.args.keep c.saturating_sub-dropped.result c.self.inside.journal c.drop_oldest-passed.new.self c.self.inside.machine.state
-    c.drop_oldest-passed.result.printed c.drop_oldest-passed.result.read c.self.invariant.records
-    (omega (arith, c.saturating_sub-dropped.ensures, c.len.ensures)) c.drop_oldest-passed.ensures.kept c.drop_oldest-passed.ensures.printed c.drop_oldest-passed.ensures.read in
-    Commit_of_fields before weighed read_of printed_of (IsWithinReach c.self.inside.machine (length c.self.inside.tape.items)) c.args.keep c.saturating_sub-dropped.result c.self.inside.limit c.self.inside.tape.items c.drop_front.new.self.items c.self.inside.ended
-    c.self.inside.journal c.drop_oldest-passed.new.self c.self.inside.machine.state c.release.new.self.state _ _ c.args.self.now
+    let kept = newest_kept (IsWithinReach c.self.inside.machine (length c.self.inside.tape.items)) c.args.keep c.self.inside.journal.records c.keep_newest-passed.new.self.records c.self.inside.machine.state
+    c.keep_newest-passed.result.printed c.keep_newest-passed.result.read
+    c.self.invariant.records c.keep_newest-passed.ensures.kept c.keep_newest-passed.ensures.printed c.keep_newest-passed.ensures.read in
+    Commit_of_fields (IsWithinReach c.self.inside.machine (length c.self.inside.tape.items)) c.args.keep c.self.inside.limit c.self.inside.tape.items c.drop_front.new.self.items c.self.inside.ended
+    c.self.inside.journal.records c.keep_newest-passed.new.self.records c.self.inside.machine.state c.release.new.self.state _ _ c.args.self.now
     c.self.view_is kept (ap (λ (w : Window ℕ). w.items) c.drop_front.ensures) (ap (λ (m : Shown). m.state) c.release.ensures) (ap (λ (m : Shown). m.width) c.release.ensures)

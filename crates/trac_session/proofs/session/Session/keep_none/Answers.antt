@@ -1,12 +1,10 @@
-use Rattle.trac_step.specs.Record.{before}
-use Rattle.trac_session.specs.Weighed.{weighed}
 use Rattle.trac_session.proofs.Windowed.{Commit_alone, IsSound-alone}
 use Rattle.trac_session.proofs.session.Session.keep_none.Goals as goal
 
 pub invariant_of-self : goal.invariant_of-self
 invariant_of-self g c =
-    IsSound-alone before weighed _ _ _ c.self.inside.journal c.clear.new.self _ _ c.settle.ensures.tape c.clear.ensures c.settle.ensures.state c.self.invariant
+    IsSound-alone _ _ _ c.self.inside.journal.records c.clear.new.self.records _ _ c.settle.ensures.tape c.clear.ensures c.settle.ensures.state c.self.invariant
 
 pub returns : goal.returns
 returns g c =
-    Commit_alone before _ _ _ _ c.self.inside.journal c.clear.new.self _ _ _ c.self.view_is c.settle.ensures.tape c.clear.ensures c.settle.ensures.state c.settle.ensures.width
+    Commit_alone _ _ _ _ c.self.inside.journal.records c.clear.new.self.records _ _ _ c.self.view_is c.settle.ensures.tape c.clear.ensures c.settle.ensures.state c.settle.ensures.width

@@ -1,13 +1,11 @@
 -- The journal is within the limit, and has as many records as there are earlier states.
 use Rattle.std.proofs.Common.{◌≡◌, ◌∙◌, ap, sym, arith}
 use Rattle.trac_rules.specs.Session.{PlainSession}
-use Rattle.trac_step.specs.Record.{before}
-use Rattle.trac_session.specs.Weighed.{weighed}
 use Rattle.trac_session.proofs.Journaled.{length-earlier}
 use Rattle.trac_session.proofs.session.Session.len.Goals as goal
 
 pub returns-clause-count : goal.returns-clause-count
-returns-clause-count g c = c.len.ensures ∙ sym (length-earlier before weighed _ _ _ _ c.self.inside.journal _ _ c.self.view_is c.self.invariant.records)
+returns-clause-count g c = c.len.ensures ∙ sym (length-earlier _ _ _ _ c.self.inside.journal.records _ _ c.self.view_is c.self.invariant.records)
 
 pub returns-clause-within : goal.returns-clause-within
 returns-clause-within g c =

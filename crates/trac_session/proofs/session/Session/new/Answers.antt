@@ -1,37 +1,35 @@
-use Rattle.std.proofs.Common.{◌≡◌, ℕ, ◌≤◌, false, List, [], length, reverse, sym, ap, subst, arith}
-use Rattle.std.specs.Prelude.{Option}
+use Rattle.std.proofs.Common.{◌≡◌, ℕ, ◌≤◌, false, List, [], length, sym, ap, subst, arith}
 use Rattle.trac_rules.specs.declared.width.Width.{Width}
 use Rattle.trac_rules.specs.declared.limit.TheConstants.{JOURNAL_LIMIT}
+use Rattle.trac_rules.specs.Records.{Record}
 use Rattle.trac_rules.specs.State.{State, initial}
 use Rattle.trac_rules.specs.Session.{new_session}
 use Rattle.trac_gap.specs.Window.{Window}
 use Rattle.trac_step.specs.Layout.{Shown}
-use Rattle.trac_step.specs.Record.{before}
 use Rattle.trac_session.specs.Journal.{AreRecords, IsSound, IsWithinReach, plain_of}
-use Rattle.trac_session.specs.Weighed.{weighed}
 use Rattle.trac_session.proofs.session.Session.new.Goals as goal
 
 -- fields without a record and without input
-sound_at_first : {R : Type 0} → (before : R → State → Option State) (weigh : R → ℕ) (limit : ℕ) (bytes : List ℕ) (journal : List R) (m : Shown) → 1 ≤ limit → limit ≤ JOURNAL_LIMIT → bytes ≡ [] → journal ≡ [] →
-    m.state ≡ initial → IsSound before weigh limit bytes journal m
-sound_at_first {R} before weigh limit bytes journal m some most none first at = record {
+sound_at_first : (limit : ℕ) (bytes : List ℕ) (journal : List Record) (m : Shown) → 1 ≤ limit → limit ≤ JOURNAL_LIMIT → bytes ≡ [] → journal ≡ [] → m.state ≡ initial →
+    IsSound limit bytes journal m
+sound_at_first limit bytes journal m some most none first at = record {
   some_records = some;
   not_too_many = most;
-  within_limit = omega (arith, ap (λ (records : List R). length records) first);
+  within_limit = omega (arith, ap (λ (records : List Record). length records) first);
   tape_limit = omega (arith, ap (λ (xs : List ℕ). length xs) none);
   on_tape = omega (arith, ap (λ (s : State). s.position) at);
-  records = subst (λ (records : List R). AreRecords before weigh (IsWithinReach m (length bytes)) (reverse records) m.state) (sym first)
+  records = subst (λ (records : List Record). AreRecords (IsWithinReach m (length bytes)) records m.state) (sym first)
       (record { nothing_pending = ap (λ (s : State). s.output) at; nothing_read = ap (λ (s : State). s.position) at });
 }
 
-plain_at_first : {R : Type 0} → (before : R → State → Option State) (limit : ℕ) (width made : Width) (bytes : List ℕ) (journal : List R) (last : State) → made ≡ width → bytes ≡ [] → journal ≡ [] → last ≡ initial →
-    plain_of before limit made bytes false journal last ≡ new_session limit width
-plain_at_first before limit width made bytes journal last same none first at i = plain_of before limit (same i) (none i) false (first i) (at i)
+plain_at_first : (limit : ℕ) (width made : Width) (bytes : List ℕ) (journal : List Record) (last : State) → made ≡ width → bytes ≡ [] → journal ≡ [] → last ≡ initial →
+    plain_of limit made bytes false journal last ≡ new_session limit width
+plain_at_first limit width made bytes journal last same none first at i = plain_of limit (same i) (none i) false (first i) (at i)
 
 pub invariant_of-result : goal.invariant_of-result
 invariant_of-result g c =
-    sound_at_first before weighed c.args.limit c.new.result.items c.new-3.result c.in_ok-new.field-0 c.requires.some c.requires.most (ap (λ (w : Window ℕ). w.items) c.new.ensures) c.new-3.ensures c.in_ok-new.ensures.made
+    sound_at_first c.args.limit c.new.result.items c.new-3.result.records c.in_ok-new.field-0 c.requires.some c.requires.most (ap (λ (w : Window ℕ). w.items) c.new.ensures) c.new-3.ensures c.in_ok-new.ensures.made
 
 pub returns-clause-made : goal.returns-clause-made
 returns-clause-made g c =
-    plain_at_first before c.args.limit c.args.width c.in_ok-new.field-0.width c.new.result.items c.new-3.result c.in_ok-new.field-0.state c.in_ok-new.ensures.width (ap (λ (w : Window ℕ). w.items) c.new.ensures) c.new-3.ensures c.in_ok-new.ensures.made
+    plain_at_first c.args.limit c.args.width c.in_ok-new.field-0.width c.new.result.items c.new-3.result.records c.in_ok-new.field-0.state c.in_ok-new.ensures.width (ap (λ (w : Window ℕ). w.items) c.new.ensures) c.new-3.ensures c.in_ok-new.ensures.made

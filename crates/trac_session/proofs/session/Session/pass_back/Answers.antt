@@ -9,17 +9,17 @@ use Rattle.trac_session.proofs.session.Session.pass_back.Goals as goal
 pub move_back-requires : goal.move_back-requires
 move_back-requires g c =
     let m = c.self.inside.machine in
-    let says = moved_back_says (IsWithinReach m (length c.self.inside.tape.items)) c.self.inside.journal c.pop_moved-count.new.self m.state c.pop_moved-count.result
+    let says = moved_back_says (IsWithinReach m (length c.self.inside.tape.items)) c.self.inside.journal.records c.pop_moved-count.new.self.records m.state c.pop_moved-count.result
     c.pop_moved-count.ensures.taken c.self.invariant.records in
     subst (λ (before : Option State). IsSome before) (sym says.1) refl
 
 pub invariant_of-self : goal.invariant_of-self
 invariant_of-self g c =
-    IsSound-passed-back _ _ c.self.inside.journal c.pop_moved-count.new.self c.self.inside.machine c.move_back.new.self c.pop_moved-count.result
+    IsSound-passed-back _ _ c.self.inside.journal.records c.pop_moved-count.new.self.records c.self.inside.machine c.move_back.new.self c.pop_moved-count.result
     c.pop_moved-count.ensures.taken c.move_back.ensures.state c.move_back.ensures.others c.self.invariant
 
 pub returns-clause-passed : goal.returns-clause-passed
 returns-clause-passed g c =
     let m = c.self.inside.machine in
-    Back_passed (IsWithinReach m (length c.self.inside.tape.items)) _ _ _ c.self.inside.journal c.pop_moved-count.new.self m.state c.move_back.new.self.state c.pop_moved-count.result _
+    Back_passed (IsWithinReach m (length c.self.inside.tape.items)) _ _ _ c.self.inside.journal.records c.pop_moved-count.new.self.records m.state c.move_back.new.self.state c.pop_moved-count.result _
     c.self.view_is c.self.invariant.records c.pop_moved-count.ensures.taken c.move_back.ensures.state (ap (λ (m : Shown). m.width) c.move_back.ensures.others)

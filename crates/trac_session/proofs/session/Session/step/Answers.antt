@@ -1,25 +1,23 @@
 use Rattle.std.proofs.Common.{◌≡◌, ◌<◌, length, arith}
-use Rattle.trac_step.specs.Record.{before}
-use Rattle.trac_session.specs.Weighed.{weighed}
 use Rattle.trac_session.proofs.Journaled.{Step_full_of_fields, Step_of_fields, IsSound-step}
 use Rattle.trac_session.proofs.session.Session.step.Goals as goal
 
 pub returns-then-len-self : goal.returns-then-len-self
 returns-then-len-self g c =
-    let count : c.len.result ≡ length c.self.inside.journal = c.len.ensures in
-    Step_full_of_fields before weighed _ _ _ _ c.self.inside.journal _ _ c.self.view_is c.self.invariant.records (omega arith)
+    let count : c.len.result ≡ length c.self.inside.journal.records = c.len.ensures in
+    Step_full_of_fields _ _ _ _ c.self.inside.journal.records _ _ c.self.view_is c.self.invariant.records (omega arith)
 
 pub invariant_of-self : goal.invariant_of-self
 invariant_of-self g c =
-    let count : c.len.result ≡ length c.self.inside.journal = c.len.ensures in
-    let room : length c.self.inside.journal < c.self.inside.limit = omega arith in
-    IsSound-step before weighed _ _ c.self.inside.ended c.self.inside.journal c.step_kept.new.journal _ _ c.step_kept.result room c.self.invariant
-    c.step_kept.ensures.no_less c.step_kept.ensures.back (rw (← c.as_slice.ensures.items) c.step_kept.ensures.taken) c.step_kept.ensures.kept c.step_kept.ensures.same
+    let count : c.len.result ≡ length c.self.inside.journal.records = c.len.ensures in
+    let room : length c.self.inside.journal.records < c.self.inside.limit = omega arith in
+    IsSound-step _ _ c.self.inside.ended c.self.inside.journal.records c.step_into.new.journal.records _ _ c.step_into.result room c.self.invariant
+    c.step_into.ensures.room c.step_into.ensures.held (rw (← c.as_slice.ensures.items) c.step_into.ensures.taken) (rw (← c.as_slice.ensures.items) c.step_into.ensures.kept) c.step_into.ensures.unchanged
 
 pub returns : goal.returns
 returns g c =
-    let count : c.len.result ≡ length c.self.inside.journal = c.len.ensures in
-    let room : length c.self.inside.journal < c.self.inside.limit = omega arith in
-    rw (← c.self.view_is) (Step_of_fields before weighed _ _ _ c.self.inside.ended c.self.inside.journal c.step_kept.new.journal _ _ c.step_kept.result room c.self.invariant.records
-    (rw (← c.as_slice.ensures.items) c.step_kept.ensures.taken) c.step_kept.ensures.kept
-    (rw (← c.as_slice.ensures.items) c.step_kept.ensures.refused) c.step_kept.ensures.same c.step_kept.ensures.no_less.width)
+    let count : c.len.result ≡ length c.self.inside.journal.records = c.len.ensures in
+    let room : length c.self.inside.journal.records < c.self.inside.limit = omega arith in
+    rw (← c.self.view_is) (Step_of_fields _ _ _ c.self.inside.ended c.self.inside.journal.records c.step_into.new.journal.records _ _ c.step_into.result room c.self.invariant.records
+    (rw (← c.as_slice.ensures.items) c.step_into.ensures.taken) (rw (← c.as_slice.ensures.items) c.step_into.ensures.kept)
+    (rw (← c.as_slice.ensures.items) c.step_into.ensures.refused) c.step_into.ensures.unchanged c.step_into.ensures.room.width)

@@ -1,30 +1,29 @@
-use Rattle.std.proofs.Common.{◌≡◌, length, subst, sym}
-use Rattle.std.specs.Prelude.{Option, Some, IsSomeAnd}
-use Rattle.trac_rules.specs.State.{State}
-use Rattle.trac_step.specs.Record.{before}
-use Rattle.trac_step.specs.Room.{HasRoom}
+use Rattle.std.proofs.Common.{length}
 use Rattle.trac_session.specs.Journal.{IsWithinReach}
-use Rattle.trac_session.specs.Weighed.{weighed}
-use Rattle.trac_session.proofs.Journaled.{Back_start_of_fields, Back_of_fields, IsSound-back, newest_says}
+use Rattle.trac_session.proofs.Journaled.{Back_start_of_fields, Back_of_fields, IsSound-back, IsSound-same, can_go_back}
 use Rattle.trac_session.proofs.session.Session.step_back.Goals as goal
 
-some_held : (x : Option State) (s : State) (P : State → Type 0) → x ≡ Some s → P s → IsSomeAnd x P
-some_held x s P e h = subst (λ (y : Option State). IsSomeAnd y P) (sym e) h
+pub step_back-requires : goal.step_back-requires
+step_back-requires g c =
+    let m = c.self.inside.machine in
+    can_go_back m (length c.self.inside.tape.items) c.self.inside.journal.records c.self.invariant.records
 
-pub returns-in_default : goal.returns-in_default
-returns-in_default g c =
-    Back_start_of_fields before _ _ _ c.self.inside.journal c.pop.new.self _ _ c.self.view_is c.in_default.ensures.0 c.in_default.ensures.1
+pub returns-then-not-step_back : goal.returns-then-not-step_back
+returns-then-not-step_back g c =
+    let none = c.step_back.ensures.none c.if-not-step_back.true in
+    Back_start_of_fields _ _ _ c.self.inside.journal.records c.step_back.new.journal.records c.self.inside.machine c.step_back.new.self _ c.self.view_is none.0 none.1.0 none.1.1
+
+pub invariant_of-self : goal.invariant_of-self
+invariant_of-self g c =
+    let none = c.step_back.ensures.none c.if-not-step_back.true in
+    IsSound-same _ _ c.self.inside.journal.records c.step_back.new.journal.records c.self.inside.machine c.step_back.new.self none.0 none.1.0 none.1.1 c.self.invariant
 
 pub invariant_of-self-2 : goal.invariant_of-self-2
 invariant_of-self-2 g c =
-    IsSound-back before weighed _ _ c.self.inside.journal c.pop.new.self c.in-Some.record _ _ c.in-Some.ensures c.undo.ensures.state c.undo.ensures.room c.self.invariant
+    let back = c.step_back.ensures.back c.if-not-step_back.false in
+    IsSound-back _ _ c.self.inside.journal.records c.step_back.new.journal.records back.newest _ _ back.taken back.leads_back c.step_back.ensures.room c.self.invariant
 
 pub returns : goal.returns
 returns g c =
-    Back_of_fields before _ _ _ c.self.inside.journal c.pop.new.self c.in-Some.record _ _ _ c.self.view_is c.in-Some.ensures c.undo.ensures.state c.undo.ensures.room.width
-
-pub undo-requires : goal.undo-requires
-undo-requires g c =
-    let m = c.self.inside.machine in
-    let says = newest_says before weighed (IsWithinReach m (length c.self.inside.tape.items)) c.self.inside.journal c.pop.new.self c.in-Some.record m.state c.in-Some.ensures c.self.invariant.records in
-    some_held (before c.in-Some.record m.state) says.0 (HasRoom m) says.1.says says.2.room
+    let back = c.step_back.ensures.back c.if-not-step_back.false in
+    Back_of_fields _ _ _ c.self.inside.journal.records c.step_back.new.journal.records back.newest _ _ _ c.self.view_is back.taken back.leads_back c.step_back.ensures.room.width
