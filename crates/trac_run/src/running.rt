@@ -19,8 +19,8 @@ use trac_session::Session;
 /// How many bytes one read may give (this project's profile).
 pub const READ_SIZE: usize = 4096;
 
-// How much the records of a run may weigh before it commits: about 64 MiB of records, since an item of a form takes 12 bytes.
-// A run never goes back, so it keeps them for nothing.
+// How much the records of a run may weigh before it commits. An item of a form takes 8 bytes and weighs one, so these are some
+// 43 MiB of forms. A run never goes back, so it keeps them for nothing.
 const JOURNAL_WEIGHT: u64 = 64 * 1024 * 1024 / 12;
 
 /// The most steps that a run may be allowed (this project's profile).
