@@ -3,4 +3,5 @@
 //! `specs/`, and the laws over them are contracts. All of it is this project's profile: T-64 says nothing of origins.
 #![tactic(auto)]
 
+pub mod accounts;
 pub mod rows;
