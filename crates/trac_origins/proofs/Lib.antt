@@ -5,3 +5,7 @@ pub mod Stored
 pub mod CallsBeside
 pub mod StepsBeside
 pub mod Accounted
+pub mod Told
+pub mod Growing
+pub mod ToldSteps
+pub mod ToldCalls

@@ -4,4 +4,5 @@
 #![tactic(auto)]
 
 pub mod accounts;
+pub mod lengths;
 pub mod rows;
