@@ -9,3 +9,4 @@ pub mod Told
 pub mod Growing
 pub mod ToldSteps
 pub mod ToldCalls
+pub mod ToldForms

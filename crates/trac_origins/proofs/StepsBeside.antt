@@ -18,7 +18,7 @@ use Rattle.trac_rules.proofs.Steps.{position-after_call}
 use Rattle.trac_origins.specs.Places.{Place, Origin, Carried, Read, Made, byte_at, found_at}
 use Rattle.trac_origins.specs.Lists.{Origins, all_kept, all_made, frames_kept}
 use Rattle.trac_origins.specs.Moving.{EndedOrigins, deleted_from, ended_from, moved_from}
-use Rattle.trac_origins.specs.Performing.{EffectOrigins, after_call_from, changed_from, effect_from, performed_from, placed_from}
+use Rattle.trac_origins.specs.Performing.{EffectOrigins, after_call_from, changed_from, effect_from, performed_from, placed_from, traced_from}
 use Rattle.trac_origins.specs.Stepping.{call_from, origins, scanned_from}
 use Rattle.trac_origins.specs.Accounts.{made_in, makes, makes_bytes, makes_gaps, makes_idle}
 use Rattle.trac_origins.proofs.Zips.{ends, appended, of_dropped}
@@ -47,6 +47,15 @@ module _ (R : Origin → Item → Type 0) where
     base = b.base;
     frames = b.frames;
     output = appended b.output h.printed;
+    forms = h.forms;
+    blocks = h.blocks;
+  }
+
+  -- a line that is printed first
+  traced_beside : (line : List ℕ) → Text R (all_made line) line → (f : EffectOrigins) (e : Effect) → EffectBeside R f e → EffectBeside R (traced_from line f) (printed_behind line e)
+  traced_beside line t f e h = record {
+    value = h.value;
+    printed = appended t h.printed;
     forms = h.forms;
     blocks = h.blocks;
   }
@@ -87,12 +96,8 @@ module _ (R : Origin → Item → Type 0) (environment : Environment) (s t : Sta
       λ i b less there. may.read (call.state.position + i) b (omega (arith, place)) (omega (arith, less, end))
       (ap (option_map Byte) (sym (of_dropped call.state.position environment.tape.bytes i) ∙ there)) in
       let effect : EffectBeside R (effect_from primitive (doing R environment call from given line plain.0)) plain.0 = (subst (DoneBeside R environment call from given line (λ f. effect_from primitive (doing R environment call from given line f))) plain.1 (effect_beside R environment call from given line primitive made gap)) read in
-      let whole : EffectBeside R (performed_from (doing R environment call from given line plain.0)) (printed_behind line plain.0) = record {
-        value = effect.value;
-        printed = appended (line_beside R call call.state.trace traced) effect.printed;
-        forms = effect.forms;
-        blocks = effect.blocks;
-      } in
+      let whole : EffectBeside R (performed_from (doing R environment call from given line plain.0)) (printed_behind line plain.0) =
+      traced_beside R line (line_beside R call call.state.trace traced) _ plain.0 effect in
       subst
       (λ (f : Effect). StateBeside R (after_call_from (record { environment = environment; call = call; effect = f; from = from })) (after_call call f)) (sym plain.2)
       (placed_beside R call.kind plain.0.forced _ plain.0.value whole.value _ _ (changed_beside R _ _ whole from.others call.state given.others))

@@ -45,7 +45,7 @@ found_of_entries forms base (entry ∷ held) all was q form e =
     q form e
 
 -- none are found among none
-none_found : (q : List ℕ) (form : Form) → finite.get {R = slice_cmp nat_cmp} finite.empty q ≡ Some form → ⊥
+pub none_found : (q : List ℕ) (form : Form) → finite.get {R = slice_cmp nat_cmp} finite.empty q ≡ Some form → ⊥
 none_found q form e = let none : None ≡ Some form = sym (finite.get-empty (slice_cmp nat_cmp) q) ∙ e in cc
 
 -- a form that a new block holds stood under its name

@@ -7,7 +7,7 @@ use Rattle.trac_rules.specs.declared.kind.Kind.{Kind}
 use Rattle.trac_rules.specs.declared.kind.Kind.TheVariants.{Active, Neutral}
 use Rattle.trac_rules.specs.declared.scan.Front.{Front}
 use Rattle.trac_rules.specs.declared.scan.Front.TheVariants.{Nothing, Opening, Layout, Comma, ActiveCall, NeutralCall, Sharp, Closing, Plain}
-use Rattle.trac_rules.specs.Effect.{argument}
+use Rattle.trac_rules.specs.Effect.{Effect, argument}
 use Rattle.trac_rules.specs.Limits.{texts_fit}
 use Rattle.trac_rules.specs.Performing.{after_call, performed}
 use Rattle.trac_rules.specs.Scanning.{Call, Scanned, Moves, Calls, closing_in, deleted, front_of, scan, scan_at}
@@ -74,7 +74,7 @@ call_arguments s call k i is l =
 -- ---- around its value
 
 -- what is left of the active text
-abbrev left_of : State → List Origin
+abbrev pub left_of : State → List Origin
 left_of s = drop 1 (kept InActive s.active)
 
 -- all else without the function
@@ -85,24 +85,27 @@ others_are s call is =
     ∙ ap (λ (u : State). record (all_kept u) { active = left_of s }) (sym at.2.state)
 
 -- the origins after a call with an effect
-record IsAfter (environment : Environment) (s : State) (call : Call) : Type 0 where
-  performing : Performed
-  from : performing.from.others ≡ record (all_kept call.state) { active = left_of s }
-  origins : origins environment s ≡ after_call_from performing
+abbrev pub of_call : Environment → State → Call → Effect → Performed
+of_call environment s call e = record {
+  environment = environment;
+  call = call;
+  effect = e;
+  from = ended_from (frames_kept s.frames) (deleted_from 1 (all_kept s));
+}
 
-is_after : (environment : Environment) (s t : State) (call : Call) → step environment s ≡ Ok t → scan s ≡ Calls call → IsAfter environment s call
+pub record IsAfter (environment : Environment) (s : State) (call : Call) : Type 0 where
+  pub effect : Effect
+  pub from : (of_call environment s call effect).from.others ≡ record (all_kept call.state) { active = left_of s }
+  pub origins : origins environment s ≡ after_call_from (of_call environment s call effect)
+
+pub is_after : (environment : Environment) (s t : State) (call : Call) → step environment s ≡ Ok t → scan s ≡ Calls call → IsAfter environment s call
 unfolding step origins
 is_after environment s t call h is =
     let out : carried_out environment (Calls call) ≡ Ok t =
     ap (carried_out environment) (sym is) ∙ (limited_Ok texts_fit (carried_out environment (scan s)) t h).0 in
     let at = seen_as-Ok (after_call call) (performed environment call) t out in
     record {
-      performing = record {
-        environment = environment;
-        call = call;
-        effect = at.0;
-        from = ended_from (frames_kept s.frames) (deleted_from 1 (all_kept s));
-      };
+      effect = at.0;
       from = others_are s call is;
       origins = ap (scanned_from environment s) is ∙ ap (call_from environment s call) at.1;
     }
@@ -152,7 +155,7 @@ pub call_stays : (environment : Environment) (s t : State) (call : Call) (place 
     found_at call.state place ≡ Some item → origin environment s place ≡ Carried place
 call_stays environment s t call place item h is text e =
     let after = is_after environment s t call h is in
-    let d : Performed = after.performing in
+    let d : Performed = of_call environment s call after.effect in
     let f : EffectOrigins = performed_from d in
     ap (λ (o : Origins). origin_at o place) after.origins
     ∙ ap (λ (o : Origins). origin_at (placed_from d.call.kind d.effect.forced f.value (changed_from f o)) place) after.from
@@ -169,7 +172,7 @@ pub call_rest : (environment : Environment) (s t : State) (call : Call) (i : ℕ
     origin environment s (InActive (length t.active - (length s.active - 1) + i)) ≡ Carried (InActive (i + 1))
 call_rest environment s t call i h is l =
     let after = is_after environment s t call h is in
-    let d : Performed = after.performing in
+    let d : Performed = of_call environment s call after.effect in
     let f : EffectOrigins = performed_from d in
     let placed = placed_active d.call.kind d.effect.forced f.value (changed_from f d.from.others) in
     let split : (origins environment s).active ≡ placed.0 ++ left_of s =

@@ -1,5 +1,10 @@
 -- Words for the law of origins by lengths: where the bytes that a step moves are told by numbers alone, whatever bytes they are.
 use Rattle.std.specs.Prelude.{ℕ, List, [], ◌∷◌, length, Bool, true, false}
+use Rattle.std.specs.Str.{bytes_eq}
+use Rattle.trac_rules.specs.declared.primitive.BlockAction.TheVariants.{StoreBlock, FetchBlock}
+use Rattle.trac_rules.specs.declared.primitive.FormAction.TheVariants.{Define, Segment}
+use Rattle.trac_rules.specs.declared.primitive.Primitive.{Primitive}
+use Rattle.trac_rules.specs.declared.primitive.Primitive.TheVariants.{Handle, HandleBlock}
 use Rattle.trac_rules.specs.declared.scan.Front.{Front}
 use Rattle.trac_rules.specs.declared.scan.Front.TheVariants.{Opening, Sharp, Plain}
 use Rattle.trac_rules.specs.State.{Frame, State}
@@ -36,3 +41,11 @@ moves_bytes front = false
 abbrev pub first_moved : Front → ℕ
 first_moved Opening = 1
 first_moved front = 0
+
+-- whether a primitive with this argument 1 may put a form under a name
+abbrev pub may_put : Primitive → List ℕ → List ℕ → Bool
+may_put (Handle Define) given name = bytes_eq name given
+may_put (Handle Segment) given name = bytes_eq name given
+may_put (HandleBlock StoreBlock) given name = bytes_eq name given
+may_put (HandleBlock FetchBlock) given name = true
+may_put primitive given name = false

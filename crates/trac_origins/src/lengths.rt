@@ -1,12 +1,13 @@
 //! The law of origins by lengths: no origin merely finds an equal byte.
-ghost use Rattle.std.specs.Prelude.{◌≡◌, ◌<◌, ◌+◌, ◌-◌, [], get_or, length, false, true, Ok, Some, ℕ};
+ghost use Rattle.std.specs.Prelude.{◌≡◌, ◌<◌, ◌+◌, ◌-◌, [], get_or, length, List, false, true, Ok, Some, ℕ};
 ghost use Rattle.trac_origins.specs.Accounts.{makes_idle};
-ghost use Rattle.trac_origins.specs.Lengths.{current_text, first_moved, in_current, is_of_text, is_outside, moves_bytes};
+ghost use Rattle.trac_origins.specs.Lengths.{current_text, first_moved, in_current, is_of_text, is_outside, may_put, moves_bytes};
 ghost use Rattle.trac_origins.specs.Lists.{all_kept, frames_kept};
 ghost use Rattle.trac_origins.specs.Moving.{deleted_from, ended_from};
-ghost use Rattle.trac_origins.specs.Places.{Carried, InActive, InArgument, Made, Place, found_at};
+ghost use Rattle.trac_origins.specs.Places.{Carried, InActive, InArgument, InForm, InHeld, Made, Place, found_at};
 ghost use Rattle.trac_origins.specs.Stepping.{origin};
 ghost use Rattle.trac_rules.specs.Effect.{argument};
+ghost use Rattle.trac_rules.specs.Performing.{primitive_of};
 ghost use Rattle.trac_rules.specs.Scanning.{Call, Calls, Moves, front_of, scan};
 ghost use Rattle.trac_rules.specs.State.{Environment, State};
 ghost use Rattle.trac_rules.specs.Stepping.{step};
@@ -28,13 +29,19 @@ pub fn scanning_is_told_by_lengths()
 {}
 
 /// Around a call too: what is left of the active text, after the value where that is scanned and without the `)`, is its
-/// end. What stands in the output and in the texts without the function stands where it stood, and the bytes of the
-/// arguments are said to be just these, one after another.
+/// end. What stands in the output and in the texts without the function stands where it stood, and so do the items of each
+/// form that the call does not put, and of all that blocks hold. The bytes of the arguments are said to be just these, one
+/// after another.
 pub fn calls_are_told_by_lengths()
     ensures rest { (environment : Environment) (s t : State) (call : Call) (i : ℕ) → step environment s ≡ Ok t → scan s ≡ Calls call → i + 1 < length s.active →
         origin environment s (InActive (length t.active - (length s.active - 1) + i)) ≡ Carried (InActive (i + 1)) }
     ensures stays { (environment : Environment) (s t : State) (call : Call) (place : Place) (item : Item) → step environment s ≡ Ok t → scan s ≡ Calls call →
         is_of_text place ≡ true → found_at call.state place ≡ Some item → origin environment s place ≡ Carried place }
+    ensures forms { (environment : Environment) (s t : State) (call : Call) (name : List ℕ) (i : ℕ) (item : Item) → step environment s ≡ Ok t → scan s ≡ Calls call →
+        may_put (primitive_of (argument 0 call.arguments)) (argument 1 call.arguments) name ≡ false → found_at call.state (InForm name i) ≡ Some item →
+        origin environment s (InForm name i) ≡ Carried (InForm name i) }
+    ensures held { (environment : Environment) (s t : State) (call : Call) (number : ℕ) (name : List ℕ) (i : ℕ) (item : Item) → step environment s ≡ Ok t → scan s ≡ Calls call →
+        found_at call.state (InHeld number name i) ≡ Some item → origin environment s (InHeld number name i) ≡ Carried (InHeld number name i) }
     ensures arguments { (s : State) (call : Call) (k i : ℕ) → scan s ≡ Calls call → i < length (argument k call.arguments) →
         get_or (get_or (ended_from (frames_kept s.frames) (deleted_from 1 (all_kept s))).arguments k []) i Made ≡ Carried (InArgument (length call.state.frames) k i) }
 {}

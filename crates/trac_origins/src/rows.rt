@@ -1,8 +1,9 @@
 //! Worked rows of origins, computed from the definitions.
-ghost use Rattle.std.specs.Prelude.{◌≡◌, ◌++◌, ◌∷◌, [], codes, replicate, None, false, true};
+ghost use Rattle.std.specs.Prelude.{◌≡◌, ◌++◌, ◌∷◌, [], codes, replicate, None, Some, false, true};
+ghost use Rattle.std.specs.FinMap as map;
 ghost use Rattle.trac_origins.specs.Lists.{kept};
-ghost use Rattle.trac_origins.specs.Performing.{called_from, effect_from, reading_from, segmented_from, shown_from};
-ghost use Rattle.trac_origins.specs.Places.{Carried, InActive, InArgument, InBase, InForm, InOutput, Made, Read};
+ghost use Rattle.trac_origins.specs.Performing.{called_from, effect_from, fetched_from, listed_from, reading_from, segmented_from, shown_from};
+ghost use Rattle.trac_origins.specs.Places.{Carried, InActive, InArgument, InBase, InForm, InHeld, InOutput, Made, Read};
 ghost use Rattle.trac_origins.specs.Rows.{active, calling, followed_in, given, item, on_tape, performing, untaped};
 ghost use Rattle.trac_origins.specs.Stepping.{origins};
 ghost use Rattle.trac_rules.specs.Form.{all_items, as_items, pointed_at};
@@ -112,6 +113,8 @@ pub fn worked_forms()
     ensures no_until { reading_from ReadUntil (pointed_at 0 (Byte 97 ∷ Gap 1 1 ∷ Byte 98 ∷ Byte 99 ∷ Gap 2 1 ∷ [])) (performing (texts_of (codes "in,F,ab,Z")) (pointed_at 0 (Byte 97 ∷ Gap 1 1 ∷ Byte 98 ∷ Byte 99 ∷ Gap 2 1 ∷ [])) initial) ≡ given 3 0 ∷ [] }
     // `pf` prints `a<^><1>bc<2>`: the marks are made.
     ensures printing { shown_from (pointed_at 1 (Byte 97 ∷ Gap 1 1 ∷ Byte 98 ∷ Byte 99 ∷ Gap 2 1 ∷ [])) (kept (InForm (codes "F")) (all_items (pointed_at 1 (Byte 97 ∷ Gap 1 1 ∷ Byte 98 ∷ Byte 99 ∷ Gap 2 1 ∷ [])))) ≡ item 0 ∷ replicate 6 Made ++ item 2 ∷ item 3 ∷ replicate 3 Made }
+    // `ln`: the text before each name is that of the call, and the name is made.
+    ensures listing { listed_from (map.from_entries ((codes "b", pointed_at 0 []) ∷ (codes "aa", pointed_at 0 []) ∷ [])) (performing (texts_of (codes "ln,xy")) (pointed_at 0 []) initial) ≡ given 1 0 ∷ given 1 1 ∷ Made ∷ Made ∷ given 1 0 ∷ given 1 1 ∷ Made ∷ [] }
     // `ds` puts its text under its name, and nothing under another.
     ensures defining { (effect_from (Handle Define) (performing (texts_of (codes "ds,G,ab")) (pointed_at 0 (as_items (codes "cd"))) initial)).forms (codes "G") ≡ given 2 0 ∷ given 2 1 ∷ [] }
     ensures defining_beside { (effect_from (Handle Define) (performing (texts_of (codes "ds,G,ab")) (pointed_at 0 (as_items (codes "cd"))) initial)).forms (codes "F") ≡ item 0 ∷ item 1 ∷ [] }
@@ -123,6 +126,9 @@ pub fn worked_forms()
     ensures storing_address { (effect_from (HandleBlock StoreBlock) (performing (texts_of (codes "sb,G,F")) (pointed_at 0 (as_items (codes "cd"))) (record initial { blocks = None ∷ [] }))).forms (codes "G") ≡ Made ∷ [] }
     ensures storing_held { (effect_from (HandleBlock StoreBlock) (performing (texts_of (codes "sb,G,F")) (pointed_at 0 (as_items (codes "cd"))) (record initial { blocks = None ∷ [] }))).blocks 1 (codes "F") ≡ item 0 ∷ item 1 ∷ [] }
     ensures storing_beside { (effect_from (HandleBlock StoreBlock) (performing (texts_of (codes "sb,G,F")) (pointed_at 0 (as_items (codes "cd"))) (record initial { blocks = None ∷ [] }))).forms (codes "F") ≡ item 0 ∷ item 1 ∷ [] }
+    // `fb`: a form of the block has its items from there, and no other form.
+    ensures fetching { (fetched_from 0 (performing (texts_of (codes "fb,G")) (pointed_at 0 (as_items (codes "cd"))) (record initial { blocks = Some ((codes "A", pointed_at 0 (as_items (codes "pq"))) ∷ []) ∷ [] }))).forms (codes "A") ≡ Carried (InHeld 0 (codes "A") 0) ∷ Carried (InHeld 0 (codes "A") 1) ∷ [] }
+    ensures fetching_beside { (fetched_from 0 (performing (texts_of (codes "fb,G")) (pointed_at 0 (as_items (codes "cd"))) (record initial { blocks = Some ((codes "A", pointed_at 0 (as_items (codes "pq"))) ∷ []) ∷ [] }))).forms (codes "F") ≡ item 0 ∷ item 1 ∷ [] }
     // `eb` moves no item.
     ensures erasing { (effect_from (HandleBlock EraseBlock) (performing (texts_of (codes "sb,G,F")) (pointed_at 0 (as_items (codes "cd"))) (record initial { blocks = None ∷ [] }))).forms (codes "F") ≡ item 0 ∷ item 1 ∷ [] }
 {}

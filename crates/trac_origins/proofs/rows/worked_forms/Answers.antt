@@ -1,5 +1,17 @@
--- Each clause is computed from the definitions.
-use Rattle.std.proofs.Common.{refl}
+-- Each clause is computed from the definitions; those that look into a finite map by its laws.
+use Rattle.std.proofs.Common.{◌++◌, ◌∷◌, [], cond, codes, is_some, map, refl, ap, ◌∙◌}
+use Rattle.std.specs.Prelude.{Option}
+use Rattle.std.specs.Cmp.Lexicographic.{nat_list_cmp_total}
+use Rattle.std.specs.FinMap as finite
+use Rattle.std.specs.List.{flat_map}
+use Rattle.trac_rules.specs.Form.{Form, as_items, pointed_at}
+use Rattle.trac_rules.specs.Rows.{Named, texts_of}
+use Rattle.trac_rules.specs.State.{initial}
+use Rattle.trac_rules.proofs.FormCalls.{entries-held}
+use Rattle.trac_origins.specs.Lists.{all_made, kept}
+use Rattle.trac_origins.specs.Performing.{argument_from}
+use Rattle.trac_origins.specs.Places.{InForm, InHeld, items_of}
+use Rattle.trac_origins.specs.Rows.{performing}
 use Rattle.std.specs.Fmt.{digits}
 use Rattle.trac_rules.specs.Number.{number_of, numeral_of, whole_number}
 use Rattle.trac_rules.specs.Segmenting.{cut_out, part}
@@ -116,3 +128,19 @@ returns-clause-storing_beside c = refl
 pub returns-clause-erasing : goal.returns-clause-erasing
 unfolding cut_out part digits number_of numeral_of whole_number
 returns-clause-erasing c = refl
+
+pub returns-clause-listing : goal.returns-clause-listing
+returns-clause-listing c =
+    ap
+    (λ (entries : Named). flat_map (λ name. argument_from 1 (performing (texts_of (codes "ln,xy")) (pointed_at 0 []) initial) ++ all_made name) (map (λ entry. entry.0) entries))
+    (entries-held ((codes "b", pointed_at 0 []) ∷ (codes "aa", pointed_at 0 []) ∷ []))
+
+pub returns-clause-fetching : goal.returns-clause-fetching
+returns-clause-fetching c =
+    ap (λ (found : Option Form). cond (is_some found) (kept (InHeld 0 (codes "A")) (items_of found)) (kept (InForm (codes "A")) (as_items (codes "cd"))))
+    (finite.get-insert nat_list_cmp_total finite.empty (codes "A") (pointed_at 0 (as_items (codes "pq"))) (codes "A"))
+
+pub returns-clause-fetching_beside : goal.returns-clause-fetching_beside
+returns-clause-fetching_beside c =
+    ap (λ (found : Option Form). cond (is_some found) (kept (InHeld 0 (codes "F")) (items_of found)) (kept (InForm (codes "F")) (as_items (codes "cd"))))
+    (finite.get-insert nat_list_cmp_total finite.empty (codes "A") (pointed_at 0 (as_items (codes "pq"))) (codes "F") ∙ finite.get-empty _ _)
