@@ -1,0 +1,12 @@
+pub mod Zips
+pub mod Besides
+pub mod Values
+pub mod Stored
+pub mod CallsBeside
+pub mod StepsBeside
+pub mod Accounted
+pub mod Told
+pub mod Growing
+pub mod ToldSteps
+pub mod ToldCalls
+pub mod ToldForms

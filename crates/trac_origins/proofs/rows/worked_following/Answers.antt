@@ -1,0 +1,36 @@
+-- Each clause is computed from the definitions.
+use Rattle.std.proofs.Common.{refl}
+use Rattle.std.specs.Fmt.{digits}
+use Rattle.trac_origins.specs.Stepping.{origins}
+use Rattle.trac_rules.specs.Limits.{texts_fit}
+use Rattle.trac_rules.specs.Matching.{match_of}
+use Rattle.trac_rules.specs.Number.{calculated, difference_of, is_greater, number_of, numeral_of, prefix_of, product_of, quotient_of, sum_of, whole_number}
+use Rattle.trac_rules.specs.Performing.{performed}
+use Rattle.trac_rules.specs.Scanning.{scan}
+use Rattle.trac_rules.specs.Session.{answer}
+use Rattle.trac_rules.specs.Stepping.{step}
+use Rattle.trac_origins.proofs.rows.worked_following.Goals as goal
+
+pub returns-clause-first_byte : goal.returns-clause-first_byte
+unfolding answer step texts_fit origins match_of scan performed calculated prefix_of numeral_of number_of whole_number is_greater sum_of difference_of product_of quotient_of digits
+returns-clause-first_byte c = refl
+
+pub returns-clause-second_byte : goal.returns-clause-second_byte
+unfolding answer step texts_fit origins match_of scan performed calculated prefix_of numeral_of number_of whole_number is_greater sum_of difference_of product_of quotient_of digits
+returns-clause-second_byte c = refl
+
+pub returns-clause-in_the_middle : goal.returns-clause-in_the_middle
+unfolding answer step texts_fit origins match_of scan performed calculated prefix_of numeral_of number_of whole_number is_greater sum_of difference_of product_of quotient_of digits
+returns-clause-in_the_middle c = refl
+
+pub returns-clause-name : goal.returns-clause-name
+unfolding answer step texts_fit origins match_of scan performed calculated prefix_of numeral_of number_of whole_number is_greater sum_of difference_of product_of quotient_of digits
+returns-clause-name c = refl
+
+pub returns-clause-idle_program : goal.returns-clause-idle_program
+unfolding answer step texts_fit origins match_of scan performed calculated prefix_of numeral_of number_of whole_number is_greater sum_of difference_of product_of quotient_of digits
+returns-clause-idle_program c = refl
+
+pub returns-clause-digit : goal.returns-clause-digit
+unfolding answer step texts_fit origins match_of scan performed calculated prefix_of numeral_of number_of whole_number is_greater sum_of difference_of product_of quotient_of digits
+returns-clause-digit c = refl
