@@ -1,24 +1,24 @@
 -- Forms and blocks that are put back: the names of the forms are known, and the order in which they come does not matter.
 use Rattle.std.proofs.Common.{◌≡◌, ℕ, zero, suc, ◌+◌, ◌-◌, ◌≤◌, Bool, true, false, cond, List, [], ◌∷◌, ◌++◌, length, take, drop, refl, sym, ap, subst, ◌∙◌, arith, is_some, IsTrue}
-use Rattle.std.specs.Prelude.{Option, Some, None, ◌&&◌, bytes_eq, nat_le, nat_lt, not, slice_get, slice_set, option_and_then, option_map}
+use Rattle.std.specs.Prelude.{Option, Some, None, ◌&&◌, IfSome, bytes_eq, nat_le, nat_lt, not, slice_get, slice_set, option_and_then, unwrap_or}
 use Rattle.std.specs.Bool.{then_some}
 use Rattle.std.specs.FinMap as finite
 use Rattle.std.specs.FinSet as set
 use Rattle.std.specs.Cmp.Lexicographic.{slice_cmp, nat_list_cmp_total, nat_list_eq_equiv}
 use Rattle.std.specs.Ordering.{nat_cmp, eq_by_cmp}
 use Rattle.std.specs.List.{AllByRecursion, IsDistinct}
-use Rattle.std.proofs.lemmas.Bool.{and_parts, leb-true, ltb-true}
+use Rattle.std.proofs.lemmas.Bool.{and_parts, ltb-true}
 use Rattle.std.proofs.lemmas.Option.{slice_get-get_or}
 use Rattle.trac_rules.specs.Blocks.{block_at, with_all}
 use Rattle.trac_rules.specs.declared.item.CutGap.{CutGap}
 use Rattle.trac_rules.specs.declared.item.Item.{Item}
 use Rattle.trac_rules.specs.Cuts.{joined}
-use Rattle.trac_rules.specs.Form.{Form, all_items, at_start, pointed_at}
+use Rattle.trac_rules.specs.Form.{Form, all_items, pointed_at}
 use Rattle.trac_rules.specs.Handling.{keeping, pointing, without}
 use Rattle.trac_rules.specs.State.{Block, Forms, Held, Storage}
 use Rattle.trac_rules.specs.Undone.{are_free, are_there, is_erased, joined_back, last_block, moved_out_again, names_in, pointed_back, pointer_back, swapped_back, unbrought}
 use Rattle.trac_rules.proofs.NamedForms.{get-put, one_name, only_equal_tie}
-use Rattle.trac_forms.specs.Stored.{AreApart, KnowsAll, Names, Stored}
+use Rattle.trac_forms.specs.Stored.{AreApart, KnowsAll, Names, Stored, changing, storage_in, unsegmented}
 use Rattle.trac_prims.specs.Effects.{pointed}
 use Rattle.trac_step.specs.Changing.{KnowsNamed}
 use Rattle.trac_step.specs.Returning.{KnowsBefore}
@@ -212,43 +212,25 @@ set_again (block ∷ blocks) (suc number) held there =
 
 -- ---- gaps that are filled again
 
--- the gaps of a cut can be filled in a form, and then its pointer can be set
-pub record IsJoined (known : Names) (texts : List (List ℕ)) (cut : List CutGap) (name : List ℕ) (place : ℕ) (storage : Storage) (form : Form) : Type 0 where
-  pub items : List Item
-  pub joins : joined texts cut (all_items form) ≡ Some items
-  pub within : place ≤ length items
-  pub knows : IsTrue (set.contains known name)
-  pub state : joined_back texts cut name place (finite.get storage.forms name) storage ≡ Some (keeping (finite.insert storage.forms name (pointed_at place items)) storage)
+module _ (texts : List (List ℕ)) (cut : List CutGap) (name : List ℕ) (place : ℕ) (store : Stored) where
+  abbrev back : Option (List Item) → Option Storage
+  back o = option_and_then (λ items. pointed_back name place items (storage_in store)) o
 
-module _ (known : Names) (texts : List (List ℕ)) (cut : List CutGap) (name : List ℕ) (place : ℕ) (storage : Storage) where
-  with_items : (form : Form) (o : Option (List Item)) → joined texts cut (all_items form) ≡ o → finite.get storage.forms name ≡ Some form →
-      KnowsBefore known (option_and_then (λ items. pointed_back name place items storage) o) → IsJoined known texts cut name place storage form
-  with_items form None is there knows = absurd knows
-  with_items form (Some items) is there knows =
-      let back : Storage = keeping (finite.insert storage.forms name (pointed_at place items)) storage in
-      let at = tested (nat_le place (length items)) known back knows in
-      record {
-        items = items;
-        joins = is;
-        within = leb-true place (length items) at.0;
-        knows = knows_put known storage.forms name (pointed_at place items) at.1;
-        state =
-            ap (λ (o : Option Form). joined_back texts cut name place o storage) there
-            ∙ ap (option_and_then (λ (items : List Item). pointed_back name place items storage)) is
-            ∙ at.2;
-      }
+  -- they can be filled in the form that is there
+  pub can_join : (found : Option Form) → KnowsBefore store.known (joined_back texts cut name place found (storage_in store)) → IfSome found (λ form. IsTrue (is_some (joined texts cut (all_items form))))
+  can_join None knows = absurd knows
+  can_join (Some form) knows = by_items (joined texts cut (all_items form)) knows
+    where
+      by_items : (o : Option (List Item)) → KnowsBefore store.known (back o) → IsTrue (is_some o)
+      by_items None knows = absurd knows
+      by_items (Some items) knows = refl
 
-  pub is_joined : (form : Form) → Some form ≡ finite.get storage.forms name → KnowsBefore known (joined_back texts cut name place (finite.get storage.forms name) storage) →
-      IsJoined known texts cut name place storage form
-  is_joined form there knows =
-      with_items form (joined texts cut (all_items form)) refl (sym there)
-      (subst (λ (o : Option Form). KnowsBefore known (joined_back texts cut name place o storage)) (sym there) knows)
-
-  pub never_missing : None ≡ finite.get storage.forms name → KnowsBefore known (joined_back texts cut name place (finite.get storage.forms name) storage) → ⊥
-  never_missing none knows = subst (λ (o : Option Form). KnowsBefore known (joined_back texts cut name place o storage)) (sym none) knows
-
--- what a filled form holds
-pub filled_items : (form : Form) (items : List Item) → option_map at_start (Some items) ≡ Some form → all_items form ≡ items
-filled_items form items is =
-    let same : at_start items ≡ form = cc in
-    ap all_items (sym same)
+  -- and then the form before is there
+  pub joins_again : (found : Option Form) → KnowsBefore store.known (joined_back texts cut name place found (storage_in store)) →
+      joined_back texts cut name place found (storage_in store) ≡ Some (storage_in (record store { forms = changing name (λ form. unsegmented texts cut place form) found store.forms }))
+  joins_again None knows = absurd knows
+  joins_again (Some form) knows = by_items (joined texts cut (all_items form)) knows
+    where
+      by_items : (o : Option (List Item)) → KnowsBefore store.known (back o) → back o ≡ Some (storage_in (record store { forms = finite.insert store.forms name (pointed_at place (unwrap_or o [])) }))
+      by_items None knows = absurd knows
+      by_items (Some items) knows = (tested (nat_le place (length items)) store.known (keeping (finite.insert store.forms name (pointed_at place items)) (storage_in store)) knows).2

@@ -1,5 +1,5 @@
 //! Changing forms and blocks as a call planned it.
-ghost use Rattle.std.specs.Prelude.{◌≡◌, ◌≤◌, [], drop, length, is_some, option_map, IfSome, IsTrue, Some};
+ghost use Rattle.std.specs.Prelude.{◌≡◌, ◌≤◌, [], drop, length, is_some, IfSome, IsTrue, Some};
 ghost use Rattle.std.specs.FinMap as finite;
 ghost use Rattle.std.specs.FinSet as set;
 ghost use Rattle.trac_rules.specs.Blocks.{block_at, erased, put_aside};
@@ -70,16 +70,10 @@ fn cut_out<A: Allocator + Copy>(
     ensures undone { undone_in result ≡ cut_lost cut (finite.get store.old.forms name.now) }
     ensures names { store.new.known ≡ store.old.known }
 {
-    if store.get(name).is_none() {
-        return Undone::Nothing;
+    match store.segment(name, &cut, &arguments.behind(2)) {
+        Some(pointer) => Undone::Join { cut, pointer },
+        None => Undone::Nothing,
     }
-    let Some(mut form) = store.take(name) else {
-        return Undone::Nothing;
-    };
-    let pointer = form.pointer();
-    form.segment(&cut, &arguments.behind(2));
-    store.put(name, form);
-    Undone::Join { cut, pointer }
 }
 
 // Sets the pointer of the form of this name, if there is one.
@@ -88,7 +82,7 @@ fn set_pointer<A: Allocator + Copy>(store: &mut Store<A>, name: &[u8], place: us
     ensures undone { undone_in result ≡ pointer_lost (finite.get store.old.forms name.now) }
     ensures names { store.new.known ≡ store.old.known }
 {
-    match point(store, name, place) {
+    match store.set_pointer(name, place) {
         Some(old) => Undone::Point(old),
         None => Undone::Nothing,
     }
@@ -133,24 +127,4 @@ fn erase<A: Allocator + Copy>(store: &mut Store<A>, number: usize, name: &[u8]) 
         },
         None => Undone::Nothing,
     }
-}
-
-// Sets the pointer of the form of this name, if there is one: before the item at this place, or at the end where there
-// is none. Returns where it stood.
-pub(crate) fn point<A: Allocator + Copy>(
-    store: &mut Store<A>,
-    name: &[u8],
-    place: usize,
-) -> Option<usize>
-    ensures storage { storage_in store.new ≡ pointed name.now place (finite.get store.old.forms name.now) (storage_in store.old) }
-    ensures old { result ≡ option_map (λ form. length form.before) (finite.get store.old.forms name.now) }
-    ensures names { store.new.known ≡ store.old.known }
-{
-    if store.get(name).is_none() {
-        return None;
-    }
-    let mut form = store.take(name)?;
-    let old = form.set_pointer(place.min(form.len()));
-    store.put(name, form);
-    Some(old)
 }

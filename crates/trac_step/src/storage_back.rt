@@ -4,7 +4,7 @@ ghost use Rattle.std.specs.FinMap as finite;
 ghost use Rattle.std.specs.FinSet as set;
 ghost use Rattle.trac_rules.specs.Blocks.{block_at, with_all};
 ghost use Rattle.trac_rules.specs.Handling.{keeping, without};
-ghost use Rattle.trac_rules.specs.Undone.{Join, MoveOut, names_in, storage_before, swapped_back, unbrought, unerased};
+ghost use Rattle.trac_rules.specs.Undone.{MoveOut, names_in, storage_before, swapped_back, unbrought, unerased};
 ghost use Rattle.trac_forms.specs.Stored.{storage_in};
 ghost use Rattle.trac_prims.specs.Effects.{named_forms};
 ghost use Rattle.trac_step.specs.Changing.{KnowsNamed};
@@ -12,9 +12,8 @@ ghost use Rattle.trac_step.specs.Returning.{KnowsBefore};
 ghost use Rattle.trac_journal.specs.Undone.{undone_in};
 
 use crate::blocking::put_each;
-use crate::changing::point;
 use std::alloc::Allocator;
-use trac_forms::{Block, Cut, Form, Store};
+use trac_forms::{Block, Form, Store};
 use trac_journal::Undone;
 use trac_prims::Args;
 
@@ -33,9 +32,9 @@ pub(crate) fn put_storage<A: Allocator + Copy>(
     match change {
         Undone::Nothing => {}
         Undone::Point(place) => {
-            point(store, name, place);
+            store.set_pointer(name, place);
         }
-        Undone::Join { cut, pointer } => join(store, arguments, cut, pointer),
+        Undone::Join { cut, pointer } => store.unsegment(name, cut, &arguments.behind(2), pointer),
         Undone::Swap(old) => swap(store, name, old),
         Undone::Restore(forms) => put_each(store, forms),
         Undone::MoveOut(old) => move_out(store, arguments, old),
@@ -46,27 +45,6 @@ pub(crate) fn put_storage<A: Allocator + Copy>(
             address,
         } => unerase(store, name, number, block, address),
     }
-}
-
-// Fills the gaps of a cut, in the form that the arguments name, with the texts that they give after
-// the name, and sets its pointer.
-fn join<A: Allocator + Copy>(
-    store: &mut Store<A>,
-    arguments: &Args<'_>,
-    cut: Cut<A>,
-    pointer: usize,
-)
-    requires { KnowsBefore store.old.known (storage_before arguments.now (Join cut pointer) (storage_in store.old)) }
-    ensures storage { storage_before arguments.now (Join cut pointer) (storage_in store.old) ≡ Some (storage_in store.new) }
-    ensures names { store.new.known ≡ store.old.known }
-{
-    let name = arguments.get(1);
-    let Some(mut form) = store.take(name) else {
-        unreachable!()
-    };
-    form.unsegment(cut, &arguments.behind(2));
-    form.set_pointer(pointer);
-    store.put(name, form);
 }
 
 // Puts a form under a name again, or takes away the one that is there.

@@ -1,12 +1,18 @@
-use Rattle.std.proofs.Common.{ap, drop, ◌∙◌}
+use Rattle.std.proofs.Common.{◌≡◌, List, ℕ, drop, sym, subst}
+use Rattle.std.specs.Prelude.{IfSome}
 use Rattle.std.specs.FinMap as finite
-use Rattle.trac_rules.specs.Handling.{keeping}
-use Rattle.trac_forms.specs.Stored.{Stored, storage_in}
-use Rattle.trac_step.proofs.Pointers.{cut_back}
+use Rattle.trac_rules.specs.Cuts.{cut_of}
+use Rattle.trac_step.proofs.Pointers.{cut_there}
 use Rattle.trac_step.proofs.changing.cut_out.Goals as goal
 
-pub returns-clause-storage : goal.returns-clause-storage
-returns-clause-storage g c =
-    ap storage_in c.put.ensures.put
-    ∙ ap (λ (s : Stored). keeping (finite.insert s.forms c.args.name.now c.segment.new.self) (storage_in s)) c.take.ensures.gone
-    ∙ cut_back c.args.store.now c.args.name.now c.behind.result (drop 2 c.args.arguments.now) c.in-Some.form c.segment.new.self c.in-Some.ensures.taken c.segment.ensures c.behind.ensures
+pub segment-requires : goal.segment-requires
+segment-requires g c =
+    subst (λ (texts : List (List ℕ)). IfSome (finite.get c.args.store.now.forms c.args.name.now) (λ form. c.args.cut ≡ cut_of texts form)) (sym c.behind.ensures) c.requires
+
+pub returns-in-Some-clause-storage : goal.returns-in-Some-clause-storage
+returns-in-Some-clause-storage g c =
+    cut_there c.args.store.now c.segment.new.self c.args.name.now c.behind.result (drop 2 c.args.arguments.now) c.segment.ensures.cut c.behind.ensures
+
+pub returns-in-None-clause-storage : goal.returns-in-None-clause-storage
+returns-in-None-clause-storage g c =
+    cut_there c.args.store.now c.segment.new.self c.args.name.now c.behind.result (drop 2 c.args.arguments.now) c.segment.ensures.cut c.behind.ensures

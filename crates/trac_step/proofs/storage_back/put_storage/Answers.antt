@@ -1,15 +1,18 @@
 -- The names of the forms that come back are known, and each part puts back what the rules say.
-use Rattle.std.proofs.Common.{List, ℕ, ap, drop, is_some, sym, subst, ◌∙◌}
-use Rattle.std.specs.Prelude.{Some, ◌&&◌}
+use Rattle.std.proofs.Common.{List, ℕ, ap, drop, is_some, sym, subst, ◌∙◌, IsTrue}
+use Rattle.std.specs.Prelude.{IfSome, Some, ◌&&◌}
 use Rattle.std.specs.FinMap as finite
+use Rattle.trac_rules.specs.Cuts.{joined}
 use Rattle.trac_rules.specs.Effect.{argument}
+use Rattle.trac_rules.specs.Form.{all_items}
 use Rattle.trac_rules.specs.Handling.{keeping}
 use Rattle.trac_rules.specs.Undone.{are_free, names_in, storage_before, swapped_back}
-use Rattle.trac_forms.specs.Stored.{storage_in}
+use Rattle.trac_forms.specs.Stored.{changed_at, storage_in, unsegmented}
 use Rattle.trac_prims.specs.Effects.{named_forms, pointed}
 use Rattle.trac_step.specs.Returning.{KnowsBefore}
 use Rattle.trac_journal.specs.Undone.{undone_in}
-use Rattle.trac_step.proofs.StorageBack.{knows_each, pointed_again, tested}
+use Rattle.trac_step.proofs.Pointers.{pointed_there}
+use Rattle.trac_step.proofs.StorageBack.{can_join, joins_again, knows_each, pointed_again, tested}
 use Rattle.trac_step.proofs.storage_back.put_storage.Goals as goal
 
 pub put_each-requires : goal.put_each-requires
@@ -41,7 +44,30 @@ returns-in-Point-clause-storage g c =
     ∙ pointed_again store.known name c.in-Point.place (storage_in store) (finite.get store.forms name)
     (subst (λ change. KnowsBefore store.known (storage_before arguments (undone_in change) (storage_in store))) c.in-Point.is c.requires)
     ∙ ap (λ (n : List ℕ). Some (pointed n c.in-Point.place (finite.get store.forms n) (storage_in store))) (sym c.get-name.ensures)
-    ∙ ap Some (sym c.point.ensures.storage)
+    ∙ ap Some (sym (pointed_there store c.set_pointer.new.self c.get-name.result.now c.in-Point.place c.set_pointer.ensures.set))
+
+pub unsegment-requires : goal.unsegment-requires
+unsegment-requires g c =
+    let store = c.args.store.now in
+    let arguments = c.args.arguments.now in
+    let name = argument 1 arguments in
+    subst (λ (n : List ℕ). IfSome (finite.get store.forms n) (λ form. IsTrue (is_some (joined c.behind.result c.in-Join.cut (all_items form))))) (sym c.get-name.ensures)
+    (subst (λ (texts : List (List ℕ)). IfSome (finite.get store.forms name) (λ form. IsTrue (is_some (joined texts c.in-Join.cut (all_items form))))) (sym c.behind.ensures)
+    (can_join (drop 2 arguments) c.in-Join.cut name c.in-Join.pointer store (finite.get store.forms name)
+    (subst (λ change. KnowsBefore store.known (storage_before arguments (undone_in change) (storage_in store))) c.in-Join.is c.requires)))
+
+pub returns-in-Join-clause-storage : goal.returns-in-Join-clause-storage
+returns-in-Join-clause-storage g c =
+    let store = c.args.store.now in
+    let arguments = c.args.arguments.now in
+    let name = argument 1 arguments in
+    let after = λ (ts : List (List ℕ)) (n : List ℕ). Some (storage_in (record store { forms = changed_at n (λ form. unsegmented ts c.in-Join.cut c.in-Join.pointer form) store.forms })) in
+    ap (λ change. storage_before arguments (undone_in change) (storage_in store)) c.in-Join.is
+    ∙ joins_again (drop 2 arguments) c.in-Join.cut name c.in-Join.pointer store (finite.get store.forms name)
+    (subst (λ change. KnowsBefore store.known (storage_before arguments (undone_in change) (storage_in store))) c.in-Join.is c.requires)
+    ∙ ap (λ (ts : List (List ℕ)). after ts name) (sym c.behind.ensures)
+    ∙ ap (λ (n : List ℕ). after c.behind.result n) (sym c.get-name.ensures)
+    ∙ ap (λ s. Some (storage_in s)) (sym c.unsegment.ensures)
 
 pub swap-requires : goal.swap-requires
 swap-requires g c =
