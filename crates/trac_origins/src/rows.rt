@@ -7,7 +7,7 @@ ghost use Rattle.trac_origins.specs.Places.{Carried, InActive, InArgument, InBas
 ghost use Rattle.trac_origins.specs.Rows.{active, calling, followed_in, given, item, on_tape, performing, untaped};
 ghost use Rattle.trac_origins.specs.Stepping.{origins};
 ghost use Rattle.trac_rules.specs.Form.{all_items, as_items, pointed_at};
-ghost use Rattle.trac_rules.specs.Rows.{session_after, texts_of};
+ghost use Rattle.trac_rules.specs.Rows.{pointing_at, session_after, texts_of, with_forms};
 ghost use Rattle.trac_rules.specs.Session.{Feed, Step, new_session};
 ghost use Rattle.trac_rules.specs.State.{initial};
 ghost use Rattle.trac_rules.specs.declared.byte.TheConstants.{TAB};
@@ -93,6 +93,8 @@ pub fn worked_forms()
     // `cl` of `a<^><1>bc<2>`: the gaps' bytes are those of the call's texts. A missing one gives none.
     ensures calling { called_from (pointed_at 1 (Byte 97 ∷ Gap 1 1 ∷ Byte 98 ∷ Byte 99 ∷ Gap 2 1 ∷ [])) (performing (texts_of (codes "cl,F,X,Y")) (pointed_at 1 (Byte 97 ∷ Gap 1 1 ∷ Byte 98 ∷ Byte 99 ∷ Gap 2 1 ∷ [])) initial) ≡ given 2 0 ∷ item 2 ∷ item 3 ∷ given 3 0 ∷ [] }
     ensures calling_without_texts { called_from (pointed_at 0 (Byte 97 ∷ Gap 1 1 ∷ Byte 98 ∷ Byte 99 ∷ Gap 2 1 ∷ [])) (performing (texts_of (codes "cl,F")) (pointed_at 0 (Byte 97 ∷ Gap 1 1 ∷ Byte 98 ∷ Byte 99 ∷ Gap 2 1 ∷ [])) initial) ≡ item 0 ∷ item 2 ∷ item 3 ∷ [] }
+    // A whole step: the value stands before what is left of the active text.
+    ensures calling_a_form { (origins untaped (calling Active (texts_of (codes "cl,F")) (codes "X") (with_forms (pointing_at 1 (codes "F") (Byte 97 ∷ Gap 1 1 ∷ Byte 98 ∷ [])) initial))).active ≡ given 2 0 ∷ item 2 ∷ active 1 ∷ [] }
     // `ss` makes gaps, each in place of as many bytes as it is wide; earlier gaps stay.
     ensures segmenting { segmented_from (pointed_at 0 (as_items (codes "abcabc"))) (performing (texts_of (codes "ss,F,b,ca")) (pointed_at 0 (as_items (codes "abcabc"))) initial) ≡ item 0 ∷ Made ∷ Made ∷ Made ∷ item 5 ∷ [] }
     ensures segmenting_wide { segmented_from (pointed_at 0 (as_items (codes "xaay"))) (performing (texts_of (codes "ss,F,aa")) (pointed_at 0 (as_items (codes "xaay"))) initial) ≡ item 0 ∷ Made ∷ item 3 ∷ [] }

@@ -5,6 +5,8 @@ use Rattle.std.specs.Cmp.Lexicographic.{nat_list_cmp_total}
 use Rattle.std.specs.FinMap as finite
 use Rattle.std.specs.List.{flat_map}
 use Rattle.trac_rules.specs.Form.{Form, as_items, pointed_at}
+use Rattle.trac_rules.specs.Performing.{performed}
+use Rattle.trac_rules.specs.Scanning.{scan}
 use Rattle.trac_rules.specs.Rows.{Named, texts_of}
 use Rattle.trac_rules.specs.State.{initial}
 use Rattle.trac_rules.proofs.FormCalls.{entries-held}
@@ -12,6 +14,7 @@ use Rattle.trac_origins.specs.Lists.{all_made, kept}
 use Rattle.trac_origins.specs.Performing.{argument_from}
 use Rattle.trac_origins.specs.Places.{InForm, InHeld, items_of}
 use Rattle.trac_origins.specs.Rows.{performing}
+use Rattle.trac_origins.specs.Stepping.{origins}
 use Rattle.std.specs.Fmt.{digits}
 use Rattle.trac_rules.specs.Number.{number_of, numeral_of, whole_number}
 use Rattle.trac_rules.specs.Segmenting.{cut_out, part}
@@ -144,3 +147,7 @@ pub returns-clause-fetching_beside : goal.returns-clause-fetching_beside
 returns-clause-fetching_beside c =
     ap (λ (found : Option Form). cond (is_some found) (kept (InHeld 0 (codes "F")) (items_of found)) (kept (InForm (codes "F")) (as_items (codes "cd"))))
     (finite.get-insert nat_list_cmp_total finite.empty (codes "A") (pointed_at 0 (as_items (codes "pq"))) (codes "F") ∙ finite.get-empty _ _)
+
+pub returns-clause-calling_a_form : goal.returns-clause-calling_a_form
+unfolding origins scan performed
+returns-clause-calling_a_form c = simp (finite.get-from_entries {X = Form} nat_list_cmp_total)
