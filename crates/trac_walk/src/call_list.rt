@@ -1,0 +1,113 @@
+//! The last calls with their values.
+
+use crate::aim::Aim;
+use crate::screen_line::ScreenLine;
+use crate::standing::{call_into, innermost};
+use crate::walker::Walker;
+use std::alloc::{AllocError, Allocator};
+use trac_session::Machine;
+
+// So many columns a call takes at most, with its number, so that its value is seen.
+const CALL_WIDTH: usize = 56;
+
+/// Puts a line for each of the last calls of the program's own at the end of a text, the earliest first: the number of its
+/// step, the call, and its value. To find them it goes back, and then forward again to where it was; where memory is refused
+/// on the way forward it stands there. The error is that memory was refused for the lines, here and below.
+pub fn calls_into<A: Allocator + Copy>(
+    alloc: A,
+    walker: &mut Walker<A>,
+    count: u64,
+    out: &mut Vec<u8, A>,
+) -> Result<(), AllocError> {
+    let end = walker.step();
+    let listed = lines_into(alloc, walker, count, out);
+    let left = end.saturating_sub(walker.step());
+    let _ = walker.forward(left);
+    listed
+}
+
+// Goes back over so many calls, and forward again from each to the next, with a line for it.
+fn lines_into<A: Allocator + Copy>(
+    alloc: A,
+    walker: &mut Walker<A>,
+    count: u64,
+    out: &mut Vec<u8, A>,
+) -> Result<(), AllocError> {
+    let mut steps = Vec::new(alloc);
+    for _ in 0..count {
+        if walker.return_to(Aim::OwnCall).is_some() {
+            break;
+        }
+        steps.push(walker.step())?;
+    }
+    if steps.is_empty() {
+        return out.extend_from_slice(b"no call is met on the way back\n");
+    }
+    while let Some(step) = steps.pop() {
+        let _ = walker.forward(step.saturating_sub(walker.step()));
+        line_into(alloc, walker, out)?;
+    }
+    Ok(())
+}
+
+// A line for the call that is performed next, which is performed.
+fn line_into<A: Allocator + Copy>(
+    alloc: A,
+    walker: &mut Walker<A>,
+    out: &mut Vec<u8, A>,
+) -> Result<(), AllocError> {
+    let mut line = ScreenLine::new(alloc);
+    line.count(walker.step())?;
+    line.say(b"  ")?;
+    if let Some((kind, arguments)) = innermost(walker.machine()) {
+        call_into(kind, &arguments, &mut line)?;
+    }
+    line.cut(CALL_WIDTH)?;
+    line.say(b" gives ")?;
+    let before = Lengths::of(walker.machine());
+    if walker.forward(1).is_none() {
+        line.show(before.value(walker.machine()))?;
+    }
+    line.end_into(out)
+}
+
+// How long the texts are that a value may be added to.
+#[derive(Clone, Copy)]
+struct Lengths {
+    // the active text without the `)` that ends the call
+    active: usize,
+    // the text that the call stands in
+    around: usize,
+}
+
+impl Lengths {
+    // Before a call.
+    fn of<A: Allocator + Copy>(machine: &Machine<A>) -> Lengths {
+        let depth = machine.depth().saturating_sub(1);
+        Lengths {
+            active: machine.active().len().saturating_sub(1),
+            around: current_at(machine, depth).len(),
+        }
+    }
+
+    // The value, after the call: what was added to the front of the active text, or to the end of the text around.
+    fn value<'m, A: Allocator + Copy>(&self, machine: &'m Machine<A>) -> &'m [u8] {
+        let active = machine.active();
+        if active.len() > self.active {
+            return active.split_at(active.len() - self.active).0;
+        }
+        let around = current_at(machine, machine.depth());
+        around.split_at(around.len().min(self.around)).1
+    }
+}
+
+// The text that is gathered at this depth.
+fn current_at<A: Allocator + Copy>(machine: &Machine<A>, depth: usize) -> &[u8] {
+    if depth == 0 {
+        return machine.base();
+    }
+    match machine.frame(depth - 1) {
+        Some((_, arguments)) => arguments.get(arguments.count().saturating_sub(1)),
+        None => &[],
+    }
+}
