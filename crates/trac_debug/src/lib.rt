@@ -18,4 +18,4 @@ pub use one_text::one_text_has_no_refused_memory;
 pub use replies::reply_to;
 pub use states::state_lines;
 pub use tape::read_tape;
-pub use texts::{escaped_into, form_line_into, number_into};
+pub use texts::{escaped_into, number_into};

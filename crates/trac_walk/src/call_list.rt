@@ -1,38 +1,57 @@
 //! The last calls with their values.
 
 use crate::aim::Aim;
+use crate::notes::refused;
 use crate::screen_line::ScreenLine;
 use crate::standing::{call_into, innermost};
 use crate::walker::Walker;
 use std::alloc::{AllocError, Allocator};
-use trac_session::Machine;
+use trac_session::{Machine, Refusal};
 
 // So many columns a call takes at most, with its number, so that its value is seen.
 const CALL_WIDTH: usize = 56;
 
 /// Puts a line for each of the last calls of the program's own at the end of a text, the earliest first: the number of its
-/// step, the call, and its value. To find them it goes back, and then forward again to where it was; where memory is refused
-/// on the way forward it stands there. The error is that memory was refused for the lines, here and below.
+/// step, the call, and its value. To find them it goes back, and then forward again to where it was; where a step is refused on
+/// the way forward, for memory alone, it stands there, and the refusal is returned. The error is that memory was refused for the
+/// lines, here and below.
 pub fn calls_into<A: Allocator + Copy>(
     alloc: A,
     walker: &mut Walker<A>,
     count: u64,
     out: &mut Vec<u8, A>,
-) -> Result<(), AllocError> {
+) -> Result<Option<Refusal>, AllocError> {
     let end = walker.step();
-    let listed = lines_into(alloc, walker, count, out);
-    let left = end.saturating_sub(walker.step());
-    let _ = walker.forward(left);
-    listed
+    lines_into(alloc, walker, count, out)?;
+    Ok(walker.forward(end.saturating_sub(walker.step())))
 }
 
-// Goes back over so many calls, and forward again from each to the next, with a line for it.
+// Goes back over so many calls, and forward again from each to the next, with a line for it, until a step is refused.
 fn lines_into<A: Allocator + Copy>(
     alloc: A,
     walker: &mut Walker<A>,
     count: u64,
     out: &mut Vec<u8, A>,
 ) -> Result<(), AllocError> {
+    let mut steps = steps_of_calls(alloc, walker, count)?;
+    if steps.is_empty() {
+        return out.extend_from_slice(b"no call is met on the way back\n");
+    }
+    while let Some(step) = steps.pop() {
+        if walker.forward(step.saturating_sub(walker.step())).is_some() {
+            return Ok(());
+        }
+        line_into(alloc, walker, out)?;
+    }
+    Ok(())
+}
+
+// Goes back over so many calls, or all that there are. Returns the numbers of their steps, the latest first.
+fn steps_of_calls<A: Allocator + Copy>(
+    alloc: A,
+    walker: &mut Walker<A>,
+    count: u64,
+) -> Result<Vec<u64, A>, AllocError> {
     let mut steps = Vec::new(alloc);
     for _ in 0..count {
         if walker.return_to(Aim::OwnCall).is_some() {
@@ -40,14 +59,7 @@ fn lines_into<A: Allocator + Copy>(
         }
         steps.push(walker.step())?;
     }
-    if steps.is_empty() {
-        return out.extend_from_slice(b"no call is met on the way back\n");
-    }
-    while let Some(step) = steps.pop() {
-        let _ = walker.forward(step.saturating_sub(walker.step()));
-        line_into(alloc, walker, out)?;
-    }
-    Ok(())
+    Ok(steps)
 }
 
 // A line for the call that is performed next, which is performed.
@@ -63,10 +75,16 @@ fn line_into<A: Allocator + Copy>(
         call_into(kind, &arguments, &mut line)?;
     }
     line.cut(CALL_WIDTH)?;
-    line.say(b" gives ")?;
     let before = Lengths::of(walker.machine());
-    if walker.forward(1).is_none() {
-        line.show(before.value(walker.machine()))?;
+    match walker.forward(1) {
+        None => {
+            line.say(b" gives ")?;
+            line.show(before.value(walker.machine()))?;
+        }
+        Some(refusal) => {
+            line.say(b": ")?;
+            line.say(refused(refusal))?;
+        }
     }
     line.end_into(out)
 }

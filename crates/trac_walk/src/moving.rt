@@ -23,8 +23,12 @@ pub enum Stop {
     NotMet,
     /// No function is begun.
     Outside,
+    /// The value of no function ends here.
+    NoValue,
     /// The output has no such byte or text.
     NotPrinted,
+    /// The output has no such text since the first step that one can go back to; what was printed before is not known.
+    NotPrintedSince,
     /// The byte was printed before the first step that one can go back to.
     PrintedEarlier,
 }
@@ -139,14 +143,43 @@ fn over_call<A: Allocator + Copy>(walker: &mut Walker<A>) -> Option<Stop> {
     ahead(walker.forward_to(Aim::Rest(rest), SEARCH_LIMIT))
 }
 
-// Back to the end of the last function beside this place, and from there to its beginning.
+// Back to where the function began whose value ends here, the way over it back; forward again where there is none.
 fn over_back<A: Allocator + Copy>(walker: &mut Walker<A>) -> Option<Stop> {
-    let inside = walker.machine().depth().saturating_add(1);
-    let stopped = behind(walker.return_to(Aim::End(inside)));
-    if stopped.is_some() {
-        return stopped;
+    let here = walker.step();
+    let stopped = to_beginning(walker, here)?;
+    match ahead(walker.forward(here.saturating_sub(walker.step()))) {
+        None => Some(stopped),
+        refused => refused,
     }
-    behind(walker.return_to(Aim::Shallower(inside)))
+}
+
+// Back to the beginning of a function whose value ends at this step, that of the earliest where there are several: what is left
+// to scan here was left after the `)` that ended it, and until here no less was left.
+fn to_beginning<A: Allocator + Copy>(walker: &mut Walker<A>, here: u64) -> Option<Stop> {
+    let rest = walker.machine().active().len();
+    match walker.return_to(Aim::Rest(rest)) {
+        None => {}
+        Some(Refusal::NotMet) => {
+            let _ = walker.back(u64::MAX);
+        }
+        Some(refusal) => return Some(Stop::Refused(refusal)),
+    }
+    for _ in walker.step()..here {
+        if is_call_before(walker.machine(), rest) {
+            let inside = walker.machine().depth();
+            return behind(walker.return_to(Aim::Shallower(inside)));
+        }
+        let stopped = ahead(walker.forward(1));
+        if stopped.is_some() {
+            return stopped;
+        }
+    }
+    Some(Stop::NoValue)
+}
+
+// Whether the next step performs a call, with so many bytes left after its `)`.
+fn is_call_before<A: Allocator + Copy>(machine: &Machine<A>, rest: usize) -> bool {
+    machine.at_call().is_some() && machine.active().len().saturating_sub(1) == rest
 }
 
 // To the end of the innermost begun function; from there to that of the one around it.
@@ -185,13 +218,22 @@ fn to_printed<A: Allocator + Copy>(walker: &mut Walker<A>, number: u64) -> Optio
     behind(walker.return_to(Aim::Unprinted(place as usize)))
 }
 
+// Why a text is not met in the output.
+fn not_printed<A: Allocator + Copy>(walker: &Walker<A>) -> Stop {
+    if walker.released() == 0 {
+        Stop::NotPrinted
+    } else {
+        Stop::NotPrintedSince
+    }
+}
+
 // Back to where the last occurrence of a text was not printed whole yet.
 fn to_printed_text<A: Allocator + Copy>(walker: &mut Walker<A>, text: &[u8]) -> Option<Stop> {
     if text.is_empty() {
         return Some(Stop::NotPrinted);
     }
     let Some(place) = memmem::rfind(walker.machine().output(), text) else {
-        return Some(Stop::NotPrinted);
+        return Some(not_printed(walker));
     };
     let last = place.saturating_add(text.len() - 1);
     behind(walker.return_to(Aim::Unprinted(last)))

@@ -12,7 +12,7 @@ pub const NOT_UNDERSTOOD: &[u8] = b"not understood; h lists the commands\n";
 /// The commands, on one screen.
 pub const HELP: &[u8] = b"\
 s [N]      N steps forward (1)           b [N]      N steps back (1)
-n          over the next function        N          back over the last one
+n          over the next function        N          back over it
 o          out of the function           O          back to where it began
 u CALL..   forward to a call             r CALL..   back to a call
            (CALL..: its first arguments, as u cl hanoi; none: any call)
@@ -45,7 +45,7 @@ pub fn stop_into<A: Allocator + Copy>(
 // Whether the reason ends with the first step that one can go back to.
 fn is_about_reach(stop: Stop) -> bool {
     match stop {
-        Stop::AtFirst | Stop::NotMet | Stop::PrintedEarlier => true,
+        Stop::AtFirst | Stop::NotMet | Stop::NotPrintedSince | Stop::PrintedEarlier => true,
         _ => false,
     }
 }
@@ -57,8 +57,10 @@ fn reason(stop: Stop) -> &'static [u8] {
         Stop::Spent => b"not met in 10000000 steps; an empty line goes on",
         Stop::AtFirst => b"the way back ends here, at step ",
         Stop::NotMet => b"not met on the way back, which ends at step ",
-        Stop::Outside => b"no function is begun",
+        Stop::Outside => b"there is no function to go out of",
+        Stop::NoValue => b"the value of no function ends here",
         Stop::NotPrinted => b"that was not printed",
+        Stop::NotPrintedSince => b"that was not printed since the way back begins, at step ",
         Stop::PrintedEarlier => b"that was printed before the way back begins, at step ",
     }
 }

@@ -1,7 +1,7 @@
 //! The state on one screen.
 ghost use Rattle.std.specs.Prelude.{◌≤◌, length};
 
-use crate::screen_line::{ScreenLine, tail};
+use crate::screen_line::{ScreenLine, shown_tail, tail};
 use crate::standing::{begun_into, sharps};
 use crate::walker::Walker;
 use std::alloc::{AllocError, Allocator};
@@ -14,13 +14,18 @@ const OUTER_ROWS: usize = 3;
 
 const INNER_ROWS: usize = 8;
 
-// So many columns of scanned text stand left of the mark at most, and of them so many are filled.
+// So many columns of scanned text stand left of the mark at most. A function that is begun takes two of them at least, so the
+// innermost of so many fill them.
 const SCANNED: usize = 34;
 
-// So many lines of the output are shown at most, of so many bytes together.
+const SCANNED_ROWS: usize = SCANNED / 2 + 1;
+
+// So many lines of the output are shown at most, of so many bytes together, and of each so many columns.
 const OUTPUT_ROWS: usize = 4;
 
 const OUTPUT_BYTES: usize = 320;
+
+const OUTPUT_WIDTH: usize = 70;
 
 /// Puts the state at the end of a text, in at most 20 lines of 80 columns: the begun functions, the text with a mark between
 /// what is scanned and what is not yet, and the end of the output. It takes no more time for a long text, a large form or
@@ -89,13 +94,23 @@ fn text_into<A: Allocator + Copy>(
 ) -> Result<(), AllocError> {
     let scanned = scanned_end(alloc, machine)?;
     let mut line = labelled(alloc, b"text    ")?;
-    if scanned.len() > SCANNED {
-        line.say(b"..")?;
-    }
-    line.say(tail(scanned.as_slice(), SCANNED))?;
+    end_of_into(scanned.as_slice(), SCANNED, false, &mut line)?;
     line.say(b"[|]")?;
     line.show(machine.active())?;
     line.end_into(out)
+}
+
+// The end of a shown text, of so many columns at most, after `..` where something stands before it.
+fn end_of_into<A: Allocator + Copy>(
+    shown: &[u8],
+    columns: usize,
+    is_cut: bool,
+    line: &mut ScreenLine<A>,
+) -> Result<(), AllocError> {
+    if is_cut || shown.len() > columns {
+        line.say(b"..")?;
+    }
+    line.say(shown_tail(shown, columns))
 }
 
 // The end of the scanned text in reading order, shown, so that the columns that are wanted of it are there.
@@ -105,10 +120,10 @@ fn scanned_end<A: Allocator + Copy>(
 ) -> Result<Vec<u8, A>, AllocError> {
     let mut shown = Vec::new(alloc);
     let depth = machine.depth();
-    if depth <= INNER_ROWS {
+    if depth <= SCANNED_ROWS {
         escaped_into(tail(machine.base(), SCANNED + 1), &mut shown)?;
     }
-    for i in depth.saturating_sub(INNER_ROWS)..depth {
+    for i in depth.saturating_sub(SCANNED_ROWS)..depth {
         frame_end_into(machine, i, &mut shown)?;
     }
     Ok(shown)
@@ -141,11 +156,14 @@ fn output_into<A: Allocator + Copy>(
     out: &mut Vec<u8, A>,
 ) -> Result<(), AllocError> {
     let mut rest = last_lines(tail(output, OUTPUT_BYTES));
+    let is_cut = begins_within_line(output, rest.len());
     for row in 0..OUTPUT_ROWS {
         let label: &[u8] = if row == 0 { b"output  " } else { b"        " };
         let len = line_len(rest);
+        let mut shown = Vec::new(alloc);
+        escaped_into(rest.split_at(len).0, &mut shown)?;
         let mut line = labelled(alloc, label)?;
-        line.show(rest.split_at(len).0)?;
+        end_of_into(shown.as_slice(), OUTPUT_WIDTH, row == 0 && is_cut, &mut line)?;
         line.end_into(out)?;
         if len == rest.len() {
             return Ok(());
@@ -153,6 +171,12 @@ fn output_into<A: Allocator + Copy>(
         rest = rest.split_at(len).1;
     }
     Ok(())
+}
+
+// Whether the last bytes of a text, so many, begin within a line.
+fn begins_within_line(text: &[u8], count: usize) -> bool {
+    let before = text.split_at(text.len() - text.len().min(count)).0;
+    before.last().is_some_and(|byte| *byte != LINE_FEED)
 }
 
 // How long the first line of a text is, with its line feed.

@@ -4,7 +4,6 @@ ghost use Rattle.std.specs.Prelude.{◌≤◌, length};
 use std::alloc::{AllocError, Allocator};
 use trac_debug::{escaped_into, number_into};
 use trac_rules::byte::LINE_FEED;
-use trac_rules::item::Item;
 
 /// How many columns a screen has (this project's profile).
 pub const WIDTH: usize = 80;
@@ -86,6 +85,17 @@ pub fn front(text: &[u8], most: usize) -> &[u8]
 /// The last bytes of a text, so many at most.
 pub fn tail(text: &[u8], most: usize) -> &[u8] {
     text.split_at(text.len() - text.len().min(most)).1
+}
+
+/// The end of a text of shown bytes, of so many columns at most, where no byte is cut that is shown by four.
+pub fn shown_tail(shown: &[u8], most: usize) -> &[u8] {
+    let place = shown.len() - shown.len().min(most);
+    for back in 1..4 {
+        if back <= place && shown[place - back] == b'\\' {
+            return shown.split_at(shown.len().min(place - back + 4)).1;
+        }
+    }
+    shown.split_at(place).1
 }
 
 // Where a line of shown bytes can be cut, at this place at the latest: not within a byte that is shown by four.

@@ -6,7 +6,7 @@ ghost use Rattle.trac_walk.specs.Talks.{Gives, IsFault, IsStop, MayEnd, Takes};
 
 use crate::call_list::calls_into;
 use crate::form_list::{form_into, list_into};
-use crate::moving::carry_out;
+use crate::moving::{Stop, carry_out};
 use crate::notes::{HELP, NOT_UNDERSTOOD, refused, stop_into, window_into};
 use crate::order::{Move, Order, order_of};
 use crate::screen::screen_into;
@@ -297,13 +297,23 @@ impl<A: Allocator + Copy> Dialogue<A> {
             }
             Order::Forms => list_into(alloc, self.walker.machine().store(), out),
             Order::Form(name) => form_into(self.walker.machine().store(), name, out),
-            Order::Calls(count) => {
-                calls_into(alloc, &mut self.walker, count, out)?;
-                standing_into(alloc, &self.walker, out)
-            }
+            Order::Calls(count) => self.list_calls(alloc, count, out),
             Order::Help => out.extend_from_slice(HELP),
             Order::Go(_) | Order::Quit => Ok(()),
         }
+    }
+
+    // Lists the last calls, and says where it stands.
+    fn list_calls(
+        &mut self,
+        alloc: A,
+        count: u64,
+        out: &mut Vec<u8, A>,
+    ) -> Result<(), AllocError> {
+        if let Some(refusal) = calls_into(alloc, &mut self.walker, count, out)? {
+            stop_into(alloc, &self.walker, Stop::Refused(refusal), out)?;
+        }
+        standing_into(alloc, &self.walker, out)
     }
 
     // Feeds a line, and says where it stands, or why the line was refused.
