@@ -1,1 +1,2 @@
 pub mod Talked
+pub mod Reached
