@@ -1,2 +1,1 @@
 pub mod Talked
-pub mod Reached

@@ -1,11 +1,13 @@
 -- A dialogue, as one read or write follows another.
-use Rattle.std.proofs.Common.{◌≡◌, ◌⊎◌, inl, inr, ℕ, ◌<◌, ◌≤◌, List, [], ◌++◌, length, ⊥, refl, sym, subst, ◌∙◌, arith}
-use Rattle.std.specs.Prelude.{Option, ◌↔◌}
+use Rattle.std.proofs.Common.{◌≡◌, ◌⊎◌, inl, inr, ℕ, ◌<◌, ◌≤◌, List, [], ◌++◌, length, ⊥, refl, sym, subst, ◌∙◌, arith, ⊎_elim}
+use Rattle.std.specs.Prelude.{Option, Result, Ok, Err, IfErr, ◌↔◌}
 use Rattle.std.specs.Io.KnownBytes.{Keeps}
 use Rattle.trac_rules.specs.declared.limit.TheConstants.{TAPE_LIMIT}
 use Rattle.trac_run.specs.declared.ending.Ending.{Ending}
 use Rattle.trac_run.specs.declared.ending.Ending.TheVariants.{Ended, Budget, Limit, Memory, Read, Write, NotUnderstood}
 use Rattle.trac_run.proofs.Known.{Appends-both, Appends-kept, Appends-nothing, Consumes-both, Consumes-nothing}
+use Rattle.trac_debug.specs.Pending.{Pending}
+use Rattle.trac_debug.specs.Reading.{Gathers, MayFail}
 use Rattle.trac_walk.specs.Talks.{Gives, IsFault, IsStop, MayEnd, MayRefuseProgram, Takes}
 
 -- nothing is written
@@ -31,6 +33,20 @@ takes_both a b c first second = record { got = first.got ++ second.got; took = C
 pub fault_stops : (e : Ending) → IsFault e → IsStop e
 fault_stops e (inl is) = subst IsStop (sym is) tt
 fault_stops e (inr is) = subst IsStop (sym is) tt
+
+pub faults_stop : {T : Type 0} (r : Result T Ending) → IfErr r IsFault → IfErr r IsStop
+faults_stop (Ok v) h = tt
+faults_stop (Err e) h = fault_stops e h
+
+-- reads that gave what they were asked for took bytes, and those before one that failed; a read that failed ends a dialogue
+pub seek_takes : (a b : Option (List ℕ)) (old new : Pending) → Gathers a b old new → Takes a b
+seek_takes a b old new h = record { got = h.got; took = h.took }
+
+pub failed_takes : (a b : Option (List ℕ)) (old new : Pending) (e : Ending) → MayFail a b old new e → Takes a b
+failed_takes a b old new e h = record { got = h.kept ++ h.lost; took = h.took }
+
+pub failed_stops : (a b : Option (List ℕ)) (old new : Pending) (e : Ending) → MayFail a b old new e → IsStop e
+failed_stops a b old new e h = ⊎_elim (λ (is : e ≡ Memory). subst IsStop (sym is) tt) (λ (is : (e ≡ Read) × (h.lost ≡ [])). subst IsStop (sym is.0) tt) h.fault
 
 -- what ends a dialogue that was begun may end one
 pub stop_may_end : (e : Ending) → IsStop e → MayEnd e

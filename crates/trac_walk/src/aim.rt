@@ -1,7 +1,4 @@
 //! What a walker is sent to.
-ghost use Rattle.std.specs.Prelude.{◌≡◌};
-ghost use Rattle.trac_session.specs.Goals.{goal_of};
-ghost use Rattle.trac_walk.specs.Moves.{aimed_at};
 
 use std::alloc::Allocator;
 use trac_session::Goal;
@@ -24,9 +21,7 @@ pub enum Aim<'a> {
 }
 
 /// The goal that this is for a session.
-pub fn goal_for<'a, A: Allocator + Copy>(aim: Aim<'a>) -> Goal<'a, A>
-    ensures { goal_of result ≡ aimed_at aim.entry }
-{
+pub fn goal_for<'a, A: Allocator + Copy>(aim: Aim<'a>) -> Goal<'a, A> {
     match aim {
         Aim::Call(call) => Goal::Call(call),
         Aim::OwnCall => Goal::OwnCall,

@@ -102,7 +102,7 @@ fn take_lines<R: Read, W: Write, A: Allocator + Copy>(
 }
 
 // Takes a line, or as much as is read of one that is too long.
-#[tactic(auto, using(crate::proofs::Talked::takes_none, crate::proofs::Talked::gives_both, crate::proofs::Talked::fault_stops))]
+#[tactic(auto, using(crate::proofs::Talked::seek_takes, crate::proofs::Talked::failed_takes, crate::proofs::Talked::failed_stops, crate::proofs::Talked::fault_stops, crate::proofs::Talked::faults_stop, crate::proofs::Talked::takes_none, crate::proofs::Talked::gives_both))]
 fn take_line<R: Read, W: Write, A: Allocator + Copy>(
     alloc: A,
     dialogue: &mut Dialogue<A>,
@@ -116,20 +116,22 @@ fn take_line<R: Read, W: Write, A: Allocator + Copy>(
     ensures at_end { OnOk result (lines.new.ended ≡ true → IsAtEnd (R.remaining input.new)) }
     ensures stopped { IfErr result IsStop }
 {
-    ask(alloc, dialogue, output)?;
-    let front = lines.seek(input)?;
-    match front {
-        Front::End => Err(Ending::Ended),
-        Front::TooLong => {
+    if let Err(ending) = ask(alloc, dialogue, output) {
+        return Err(ending);
+    }
+    match lines.seek(input) {
+        Err(ending) => Err(ending),
+        Ok(Front::End) => Err(Ending::Ended),
+        Ok(Front::TooLong) => {
             lines.pass_all();
             pass_part(alloc, dialogue, output)
         }
-        Front::Line { len, whole } => {
+        Ok(Front::Line { len, whole }) => {
             let replied = answer(alloc, dialogue, lines.front(len), output);
             lines.pass(whole);
             replied
         }
-        Front::Part => unreachable!(),
+        Ok(Front::Part) => unreachable!(),
     }
 }
 
@@ -188,6 +190,7 @@ fn prompt<A: Allocator + Copy>(alloc: A, dialogue: &Dialogue<A>) -> Result<Vec<u
 }
 
 // Does what a line asks for, and writes what is to be said of it.
+#[tactic(auto, using(crate::proofs::Talked::faults_stop, crate::proofs::Talked::gives_none))]
 fn answer<W: Write, A: Allocator + Copy>(
     alloc: A,
     dialogue: &mut Dialogue<A>,

