@@ -1,5 +1,5 @@
 -- A dialogue, as one read or write follows another.
-use Rattle.std.proofs.Common.{◌≡◌, ◌⊎◌, inl, inr, ℕ, ◌<◌, ◌≤◌, List, [], ◌++◌, length, ⊥, refl, sym, subst, ◌∙◌, arith, ⊎_elim}
+use Rattle.std.proofs.Common.{◌≡◌, ◌⊎◌, inl, inr, ℕ, ◌<◌, ◌≤◌, List, [], ◌++◌, length, refl, sym, subst, ◌∙◌, arith, ⊎_elim}
 use Rattle.std.specs.Prelude.{Option, Result, Ok, Err, IfErr, ◌↔◌}
 use Rattle.std.specs.Io.KnownBytes.{Keeps}
 use Rattle.trac_rules.specs.declared.limit.TheConstants.{TAPE_LIMIT}
