@@ -94,8 +94,9 @@ fn take_lines<R: Read, W: Write, A: Allocator + Copy>(
 {
     let mut lines = Lines::new(alloc);
     for turn in 0..u64::MAX {
-        if let Err(ending) = take_line(alloc, dialogue, &mut lines, input, output) {
-            return ending;
+        match take_line(alloc, dialogue, &mut lines, input, output) {
+            Ok(()) => {}
+            Err(ending) => return ending,
         }
     }
     Ending::Budget
