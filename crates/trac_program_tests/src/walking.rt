@@ -116,7 +116,8 @@ fn a_walk_is_flushed_before_more_is_read(rt: HostRuntime) {
 
 const TAPE: &[u8] = b"#(ds,A,(x,y))'#(ss,A,x)'#(ps,##(cl,A,1))'";
 
-const ORDERS: &[u8] = b"s 90\np\nb 3\nn\nN\nO\no\nu ps\nr\nw #1\nw \"1\"\nw A\ng 60\nf\nf A\nt 3\np all\ni \"a'\"\n\nh\nx\ne\n";
+const ORDERS: &[u8] =
+    b"s 90\np\nb 3\nn\nN\nO\no\nu ps\nr\nw #1\nw \"1\"\nw A\ng 60\nf\nf A\nt 3\np all\ni \"a'\"\n\nh\nx\ne\n";
 
 // A walk with each kind of line. Where a request is refused it ends for that, or says so of a step or of the input.
 #[derive(Clone, Copy)]

@@ -47,10 +47,7 @@ pub fn form_into<A: Allocator + Copy>(
 }
 
 // Puts the items of a form at the end of a text, with its pointer.
-fn items_into<A: Allocator + Copy>(
-    form: &Form<A>,
-    out: &mut Vec<u8, A>,
-) -> Result<(), AllocError> {
+fn items_into<A: Allocator + Copy>(form: &Form<A>, out: &mut Vec<u8, A>) -> Result<(), AllocError> {
     let pointer = form.pointer();
     for place in 0..form.len() {
         if place == pointer {

@@ -163,7 +163,12 @@ fn output_into<A: Allocator + Copy>(
         let mut shown = Vec::new(alloc);
         escaped_into(rest.split_at(len).0, &mut shown)?;
         let mut line = labelled(alloc, label)?;
-        end_of_into(shown.as_slice(), OUTPUT_WIDTH, row == 0 && is_cut, &mut line)?;
+        end_of_into(
+            shown.as_slice(),
+            OUTPUT_WIDTH,
+            row == 0 && is_cut,
+            &mut line,
+        )?;
         line.end_into(out)?;
         if len == rest.len() {
             return Ok(());

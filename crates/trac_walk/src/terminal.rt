@@ -308,12 +308,7 @@ impl<A: Allocator + Copy> Dialogue<A> {
     }
 
     // Lists the last calls, and says where it stands.
-    fn list_calls(
-        &mut self,
-        alloc: A,
-        count: u64,
-        out: &mut Vec<u8, A>,
-    ) -> Result<(), AllocError> {
+    fn list_calls(&mut self, alloc: A, count: u64, out: &mut Vec<u8, A>) -> Result<(), AllocError> {
         if let Some(refusal) = calls_into(alloc, &mut self.walker, count, out)? {
             stop_into(alloc, &self.walker, Stop::Refused(refusal), out)?;
         }
