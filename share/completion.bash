@@ -1,4 +1,4 @@
-# Completion of trac for bash: subcommands, options, and a FILE for debug.
+# Completion of trac and trac-walk for bash: subcommands, options, and a FILE for debug and for trac-walk.
 _trac() {
     local word=${COMP_WORDS[COMP_CWORD]} before=${COMP_WORDS[COMP_CWORD - 1]} words=''
     COMPREPLY=()
@@ -26,3 +26,21 @@ _trac() {
     fi
 }
 complete -F _trac trac
+
+_trac_walk() {
+    local word=${COMP_WORDS[COMP_CWORD]}
+    COMPREPLY=()
+    case ${COMP_WORDS[COMP_CWORD - 1]} in
+        --journal) ;;
+        --decimals) mapfile -t COMPREPLY < <(compgen -W '64 128' -- "$word") ;;
+        *)
+            if [[ $word == -* ]]; then
+                mapfile -t COMPREPLY < <(compgen -W '--journal --decimals --prompt --help --version' -- "$word")
+            else
+                compopt -o filenames 2>/dev/null
+                mapfile -t COMPREPLY < <(compgen -f -- "$word")
+            fi
+            ;;
+    esac
+}
+complete -F _trac_walk trac-walk

@@ -13,7 +13,9 @@ mod texts;
 
 pub use command::{Command, command_in};
 pub use debugging::debug;
-pub use lines::{Front, Lines};
+pub use lines::{Front, LINE_LIMIT, Lines};
 pub use one_text::one_text_has_no_refused_memory;
 pub use replies::reply_to;
+pub use states::state_lines;
 pub use tape::read_tape;
+pub use texts::{escaped_into, number_into};

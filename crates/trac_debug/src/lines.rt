@@ -125,6 +125,13 @@ impl<A: Allocator + Copy> Lines<A> {
         self.taken += len;
     }
 
+    /// Takes all bytes that were read: of a line that is too long, what was read of it. It takes no memory.
+    pub fn pass_all(&mut self)
+        ensures { self.new ≡ record self.old { bytes = [] } }
+    {
+        self.taken = self.bytes.len();
+    }
+
     // The bytes that were read and are not taken yet.
     fn rest(&self) -> &[u8]
         ensures { result.now ≡ self.now.bytes }

@@ -52,8 +52,9 @@ pub fn text_into<A: Allocator>(text: &[u8], out: &mut Vec<u8, A>) -> Result<(), 
     out.extend_from_slice(b"]")
 }
 
-// Puts a text byte by byte at the end of another one.
-fn escaped_into<A: Allocator>(text: &[u8], out: &mut Vec<u8, A>) -> Result<(), AllocError>
+/// Puts a text at the end of another one, byte by byte, as `text_into` does, but without brackets. The error is that memory
+/// was refused.
+pub fn escaped_into<A: Allocator>(text: &[u8], out: &mut Vec<u8, A>) -> Result<(), AllocError>
     ensures { OnOk result (out.new.items ≡ out.old.items ++ escaped text.now) }
 {
     for byte in text {

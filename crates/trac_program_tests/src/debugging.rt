@@ -1,6 +1,6 @@
 //! Sessions in which reads, writes, flushes and requests for memory fail in turn.
 use crate::faulty::{Fault, Trial, expect_trial};
-use crate::session::{expect_session, session, session_over};
+use crate::session::{contains, expect_session, session, session_over};
 use std::alloc::{AllocError, Global};
 use std::process::Abort;
 use std::test::Fail;
@@ -75,17 +75,6 @@ fn replies_are_flushed_before_more_is_read(rt: HostRuntime) {
 fn is_whole(written: &[u8]) -> bool {
     (written.is_empty() || written.last() == Some(&b'\n'))
         && contains(written, b"active [") == contains(written, b"journal ")
-}
-
-// Whether a text stands in another one.
-fn contains(text: &[u8], wanted: &[u8]) -> bool {
-    for at in 0..text.len() {
-        let (_, rest) = text.split_at(at);
-        if rest.starts_with(wanted) {
-            return true;
-        }
-    }
-    false
 }
 
 // A session over `AB'`. Where a request is refused, whole replies stand before the end; a walk for which

@@ -27,6 +27,17 @@ pub(crate) fn expect_written(rt: &impl Abort, written: &[u8], wanted: &[u8]) {
     assert_eq!(rt; written, wanted);
 }
 
+/// Whether a text stands in another one.
+pub(crate) fn contains(text: &[u8], wanted: &[u8]) -> bool {
+    for at in 0..text.len() {
+        let (_, rest) = text.split_at(at);
+        if rest.starts_with(wanted) {
+            return true;
+        }
+    }
+    false
+}
+
 /// How a session with these commands ends, which come at most so many bytes at a time, and what it has written. The readers
 /// and writers that fail are named here: a proof shows anew, at each call with certain ones, that they read and write.
 pub(crate) fn session_over<A: Allocator + Copy>(

@@ -6,6 +6,10 @@ use Rattle.trac_rules.specs.declared.width.Width.{Width}
 use Rattle.trac_rules.specs.declared.width.Width.TheVariants.{W64, W128}
 use Rattle.trac_run.specs.declared.running.TheConstants.{BUDGET_LIMIT}
 use Rattle.trac_run.specs.declared.running.Options.{Options}
+use Rattle.trac_words.specs.declared.walk_words.WalkLine.{WalkLine}
+use Rattle.trac_words.specs.declared.walk_words.WalkLine.TheVariants as walks
+use Rattle.trac_words.specs.declared.words.Asked.{Asked}
+use Rattle.trac_words.specs.declared.words.Asked.TheVariants as asked
 use Rattle.trac_words.specs.declared.words.Line.{Line}
 use Rattle.trac_words.specs.declared.words.Line.TheVariants.{Run, Debug, Help, Bad}
 
@@ -21,6 +25,17 @@ IsLine (Run options) = AreWithin options
 IsLine (Debug path options) = AreWithin options
 IsLine (Help text) = Unit {0}
 IsLine (Bad text) = Unit {0}
+
+-- the options that a command line gives, if they are understood, are within their ranges
+abbrev pub IsWithin : Asked → Type 0
+IsWithin (asked.Options options) = AreWithin options
+IsWithin (asked.Bad text) = Unit {0}
+
+-- so are those of a walk
+abbrev pub IsWalkLine : WalkLine → Type 0
+IsWalkLine (walks.Walk path options prompt) = AreWithin options
+IsWalkLine (walks.Help text) = Unit {0}
+IsWalkLine (walks.Bad text) = Unit {0}
 
 -- the width of numbers that a word asks for, if it asks for one
 abbrev pub width_of : List ℕ → Option Width

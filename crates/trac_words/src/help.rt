@@ -56,6 +56,14 @@ a call of `cl`. To edit lines and get them back by arrow keys: rlwrap trac debug
 Exit status: 0 at the end; 2 command line, 3 too many lines, 4 FILE too long, 5 no memory, 6 FILE or
 commands not readable, 7 write fault, 8 a command is not understood. `trac help` lists all.";
 
+/// What stands at the end of the help of `trac-walk`.
+pub const WALK_USE: &str = "\
+FILE is the input of the program so far. At a terminal, h lists the commands; q, or Ctrl-D, ends.
+Commands are read from standard input, one a line, and each gets its reply at once.
+
+Exit status: 0 at the end; 2 command line, 4 FILE too long, 5 no memory, 6 FILE or commands not
+readable, 7 write fault, 70 ./trac-walk of a checkout could not build the program.";
+
 /// The tip for a word that `trac` or `trac run` does not understand: a file is often named there.
 pub const RUN_TIP: &str =
     "\n  tip: to run the program in FILE, write: trac run < FILE; trac help and trac --version say more\n";

@@ -1,5 +1,6 @@
-//! The command line of the program `trac`: what its words ask for.
+//! The command lines of the programs `trac` and `trac-walk`: what their words ask for.
 #![tactic(auto)]
 
 pub mod help;
+pub mod walk_words;
 pub mod words;

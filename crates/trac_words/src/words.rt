@@ -1,7 +1,7 @@
 //! The command line.
 ghost use Rattle.std.specs.Prelude.{◌≡◌, ◌≤◌, IfOk, IfSome, MatchOption, Some};
 ghost use Rattle.trac_rules.specs.declared.width.Width.TheVariants.{W128};
-ghost use Rattle.trac_words.specs.Words.{IsLine, width_of};
+ghost use Rattle.trac_words.specs.Words.{IsLine, IsWithin, width_of};
 
 use crate::help::{DEBUG_TIP, DEBUG_USE, RUN_TIP, RUN_USE, USE, VERSION};
 use clap::error::ErrorKind;
@@ -87,37 +87,60 @@ fn run_line(alloc: Global, found: &ArgMatches<'_>) -> Result<Line, AllocError>
     ensures { IfOk result IsLine }
 {
     let Some(budget) = number_in(found, "budget", DEFAULT_BUDGET, BUDGET_LIMIT) else {
-        return out_of_range(alloc, found, "budget", BUDGET_LIMIT);
+        return Ok(Line::Bad(out_of_range(alloc, found, "budget", BUDGET_LIMIT)?));
     };
+    match options_in(alloc, found, budget)? {
+        Asked::Options(options) => Ok(Line::Run(options)),
+        Asked::Bad(text) => Ok(Line::Bad(text)),
+    }
+}
+
+fn debug_line(alloc: Global, found: &ArgMatches<'_>) -> Result<Line, AllocError>
+    ensures { IfOk result IsLine }
+{
+    match options_in(alloc, found, DEFAULT_BUDGET)? {
+        Asked::Options(options) => Ok(Line::Debug(path_in(alloc, found)?, options)),
+        Asked::Bad(text) => Ok(Line::Bad(text)),
+    }
+}
+
+/// Options that a command line gives.
+#[derive(Drop)]
+pub(crate) enum Asked {
+    /// These, which are within their ranges.
+    Options(Options),
+    /// None that are understood: this text says why.
+    Bad(String),
+}
+
+/// The options that a command line gives, with this budget: 1 to 1,000,000,000,000 steps. The error is that memory was
+/// refused.
+pub(crate) fn options_in(
+    alloc: Global,
+    found: &ArgMatches<'_>,
+    budget: u64,
+) -> Result<Asked, AllocError>
+    requires some { 1 ≤ budget }
+    requires most { budget ≤ BUDGET_LIMIT }
+    ensures { IfOk result IsWithin }
+{
     let Some(journal) = journal_in(found) else {
-        return out_of_range(alloc, found, "journal", JOURNAL_LIMIT as u64);
+        let text = out_of_range(alloc, found, "journal", JOURNAL_LIMIT as u64)?;
+        return Ok(Asked::Bad(text));
     };
     let Some(decimals) = decimals_of(found.get_str("decimals")) else {
-        return unknown_width(alloc, found);
+        return Ok(Asked::Bad(unknown_width(alloc, found)?));
     };
-    Ok(Line::Run(Options {
+    Ok(Asked::Options(Options {
         budget,
         journal,
         decimals,
     }))
 }
 
-fn debug_line(alloc: Global, found: &ArgMatches<'_>) -> Result<Line, AllocError>
-    ensures { IfOk result IsLine }
-{
-    let Some(journal) = journal_in(found) else {
-        return out_of_range(alloc, found, "journal", JOURNAL_LIMIT as u64);
-    };
-    let Some(decimals) = decimals_of(found.get_str("decimals")) else {
-        return unknown_width(alloc, found);
-    };
-    let path = String::from_str(alloc, found.get_str("FILE").unwrap_or(""))?;
-    let options = Options {
-        budget: DEFAULT_BUDGET,
-        journal,
-        decimals,
-    };
-    Ok(Line::Debug(path, options))
+/// The path of the file that is named. The error is that memory was refused.
+pub(crate) fn path_in(alloc: Global, found: &ArgMatches<'_>) -> Result<String, AllocError> {
+    String::from_str(alloc, found.get_str("FILE").unwrap_or(""))
 }
 
 // How many records were asked for, or the default number; none where that is out of range.
@@ -156,14 +179,12 @@ fn out_of_range(
     found: &ArgMatches<'_>,
     option: &str,
     most: u64,
-) -> Result<Line, AllocError>
-    ensures { IfOk result IsLine }
-{
+) -> Result<String, AllocError> {
     let value = found.get_str(option).unwrap_or("");
-    Ok(Line::Bad(format!(in alloc;
+    format!(in alloc;
         "error: invalid value '{value}' for '--{option} <N>': it has to be a number from 1 to {most}\n\n\
          For more information, try '--help'.\n"
-    )?))
+    )
 }
 
 // How wide numbers are to be where this is asked for: of 128 bits where nothing is said. None where another width is asked
@@ -184,14 +205,12 @@ fn decimals_of(asked: Option<&str>) -> Option<Width>
 }
 
 // What is said of a width that is neither of the two.
-fn unknown_width(alloc: Global, found: &ArgMatches<'_>) -> Result<Line, AllocError>
-    ensures { IfOk result IsLine }
-{
+fn unknown_width(alloc: Global, found: &ArgMatches<'_>) -> Result<String, AllocError> {
     let value = found.get_str("decimals").unwrap_or("");
-    Ok(Line::Bad(format!(in alloc;
+    format!(in alloc;
         "error: invalid value '{value}' for '--decimals <BITS>': it has to be 64 or 128\n\n\
          For more information, try '--help'.\n"
-    )?))
+    )
 }
 
 // The program's commands. What can be refused is made before what would have to be let go then.
@@ -240,7 +259,7 @@ fn debug_command<'a>(alloc: Global) -> Result<Command<'a>, AllocError> {
         .arg(decimals(alloc))
 }
 
-fn file<'a>(alloc: Global) -> Arg<'a> {
+pub(crate) fn file<'a>(alloc: Global) -> Arg<'a> {
     Arg::new(alloc, "FILE")
         .required(true)
         .help("The file that holds the program")
@@ -255,7 +274,7 @@ fn budget<'a>(alloc: Global) -> Arg<'a> {
 }
 
 // The option that says how many records a journal may hold, with what that means for this command.
-fn journal<'a>(alloc: Global, help: &'a str) -> Arg<'a> {
+pub(crate) fn journal<'a>(alloc: Global, help: &'a str) -> Arg<'a> {
     Arg::new(alloc, "journal")
         .long("journal")
         .value_name("N")
@@ -263,7 +282,7 @@ fn journal<'a>(alloc: Global, help: &'a str) -> Arg<'a> {
 }
 
 // The option that says how wide numbers are.
-fn decimals<'a>(alloc: Global) -> Arg<'a> {
+pub(crate) fn decimals<'a>(alloc: Global) -> Arg<'a> {
     Arg::new(alloc, "decimals")
         .long("decimals")
         .value_name("BITS")

@@ -1,0 +1,40 @@
+-- What a dialogue with a person reads and writes, and how it ends.
+use Rattle.std.specs.Prelude.{◌≡◌, ◌⊎◌, ℕ, ◌<◌, ◌≤◌, List, length, Option}
+use Rattle.std.specs.Io.KnownBytes.{Appends, Consumes}
+use Rattle.trac_rules.specs.declared.limit.TheConstants.{TAPE_LIMIT}
+use Rattle.trac_run.specs.declared.ending.Ending.{Ending}
+use Rattle.trac_run.specs.declared.ending.Ending.TheVariants.{Ended, Budget, Limit, Memory, Read, Write, NotUnderstood}
+
+-- some bytes were read, from the front of what there is
+pub record Takes (old new : Option (List ℕ)) : Type 0 where
+  pub got : List ℕ
+  pub took : Consumes old new got
+
+-- some bytes were written, after those that were there
+pub record Gives (old new : Option (List ℕ)) : Type 0 where
+  pub written : List ℕ
+  pub gave : Appends old new written
+
+-- nothing can be said: there is no memory for it, or the writer failed
+abbrev pub IsFault : Ending → Type 0
+IsFault ending = (ending ≡ Memory) ⊎ (ending ≡ Write)
+
+-- how a dialogue may end that was begun: no line ends it but the last one, and the one that asks for the end; its turns are as many as a
+-- number of 64 bits counts
+abbrev pub IsStop : Ending → Type 0
+IsStop Ended = Unit {0}
+IsStop Budget = Unit {0}
+IsStop Limit = ⊥
+IsStop Memory = Unit {0}
+IsStop Read = Unit {0}
+IsStop Write = Unit {0}
+IsStop (NotUnderstood line) = ⊥
+
+-- how it may end: also before it is begun, where the program is too long
+abbrev pub MayEnd : Ending → Type 0
+MayEnd (NotUnderstood line) = ⊥
+MayEnd ending = Unit {0}
+
+-- why there is no session over a program: memory was refused, or the program is too long
+abbrev pub MayRefuseProgram : List ℕ → Ending → Type 0
+MayRefuseProgram program ending = ((ending ≡ Memory) × (length program ≤ TAPE_LIMIT)) ⊎ ((ending ≡ Limit) × (TAPE_LIMIT < length program))

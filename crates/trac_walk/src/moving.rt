@@ -1,0 +1,240 @@
+//! Moves, carried out.
+
+use crate::aim::Aim;
+use crate::order::Move;
+use crate::walker::Walker;
+use memchr::memmem;
+use std::alloc::Allocator;
+use trac_session::{Machine, Refusal};
+
+/// A search forward stops after so many steps (this project's profile).
+pub const SEARCH_LIMIT: u64 = 10_000_000;
+
+/// Why a move stopped before its goal.
+#[derive(Clone, Copy, Debug, PartialEq, Eq)]
+pub enum Stop {
+    /// A step forward was refused so.
+    Refused(Refusal),
+    /// The steps of a search were spent.
+    Spent,
+    /// There is no step to go back over.
+    AtFirst,
+    /// What was looked for is not met on the way back.
+    NotMet,
+    /// No function is begun.
+    Outside,
+    /// The value of no function ends here.
+    NoValue,
+    /// The output has no such byte or text.
+    NotPrinted,
+    /// The output has no such text since the first step that one can go back to; what was printed before is not known.
+    NotPrintedSince,
+    /// The byte was printed before the first step that one can go back to.
+    PrintedEarlier,
+}
+
+/// Carries out a move, and says why it stopped before its goal, where it did. It takes no memory but for steps.
+pub fn carry_out<A: Allocator + Copy>(walker: &mut Walker<A>, way: Move<'_>) -> Option<Stop> {
+    match way {
+        Move::Forward(steps) => ahead(walker.forward(steps)),
+        Move::Back(steps) => behind(walker.back(steps)),
+        Move::To(step) => go_to(walker, step),
+        Move::Over => over(walker),
+        Move::OverBack => over_back(walker),
+        Move::Out => out(walker),
+        Move::OutBack => out_back(walker),
+        Move::Until(call) => ahead(walker.forward_to(call_aim(call), SEARCH_LIMIT)),
+        Move::Return(call) => behind(walker.return_to(call_aim(call))),
+        Move::Changed(name) => behind(walker.return_to_change(name)),
+        Move::Printed(number) => to_printed(walker, number),
+        Move::PrintedText(text) => to_printed_text(walker, text),
+    }
+}
+
+// Why a walk forward stopped.
+fn ahead(why: Option<Refusal>) -> Option<Stop> {
+    match why? {
+        Refusal::NotMet => Some(Stop::Spent),
+        refusal => Some(Stop::Refused(refusal)),
+    }
+}
+
+// Why a walk back stopped.
+fn behind(why: Option<Refusal>) -> Option<Stop> {
+    match why? {
+        Refusal::NotMet => Some(Stop::NotMet),
+        Refusal::AtStart => Some(Stop::AtFirst),
+        refusal => Some(Stop::Refused(refusal)),
+    }
+}
+
+// What a walk to a call looks for.
+fn call_aim<'a>(call: &'a [&'a [u8]]) -> Aim<'a> {
+    if call.is_empty() {
+        Aim::OwnCall
+    } else {
+        Aim::Call(call)
+    }
+}
+
+fn go_to<A: Allocator + Copy>(walker: &mut Walker<A>, step: u64) -> Option<Stop> {
+    let now = walker.step();
+    if step < now {
+        behind(walker.back(now - step))
+    } else {
+        ahead(walker.forward(step - now))
+    }
+}
+
+// What the next step does with functions.
+#[derive(Clone, Copy, PartialEq, Eq)]
+enum Next {
+    Begins,
+    Performs,
+    Neither,
+}
+
+fn next_of<A: Allocator + Copy>(machine: &Machine<A>) -> Next {
+    if machine.at_call().is_some() {
+        return Next::Performs;
+    }
+    match machine.active() {
+        [b'#', b'(', ..] | [b'#', b'#', b'(', ..] => Next::Begins,
+        _ => Next::Neither,
+    }
+}
+
+// Over the function that begins or is performed next: until its value is scanned too.
+fn over<A: Allocator + Copy>(walker: &mut Walker<A>) -> Option<Stop> {
+    if let Some(stop) = to_function(walker) {
+        return Some(stop);
+    }
+    if next_of(walker.machine()) == Next::Begins {
+        let inside = walker.machine().depth().saturating_add(1);
+        let ended = ahead(walker.forward_to(Aim::End(inside), SEARCH_LIMIT));
+        if ended.is_some() {
+            return ended;
+        }
+    }
+    over_call(walker)
+}
+
+// Forward until a function begins or is performed next; that may be so already.
+fn to_function<A: Allocator + Copy>(walker: &mut Walker<A>) -> Option<Stop> {
+    for _ in 0..SEARCH_LIMIT {
+        if next_of(walker.machine()) != Next::Neither {
+            return None;
+        }
+        let stopped = ahead(walker.forward(1));
+        if stopped.is_some() {
+            return stopped;
+        }
+    }
+    Some(Stop::Spent)
+}
+
+// Over the call that is performed next, and its value.
+fn over_call<A: Allocator + Copy>(walker: &mut Walker<A>) -> Option<Stop> {
+    let rest = walker.machine().active().len().saturating_sub(1);
+    let stopped = ahead(walker.forward(1));
+    if stopped.is_some() || walker.machine().active().len() <= rest {
+        return stopped;
+    }
+    ahead(walker.forward_to(Aim::Rest(rest), SEARCH_LIMIT))
+}
+
+// Back to where the function began whose value ends here, the way over it back; forward again where there is none.
+fn over_back<A: Allocator + Copy>(walker: &mut Walker<A>) -> Option<Stop> {
+    let here = walker.step();
+    let stopped = to_beginning(walker, here)?;
+    match ahead(walker.forward(here.saturating_sub(walker.step()))) {
+        None => Some(stopped),
+        refused => refused,
+    }
+}
+
+// Back to the beginning of a function whose value ends at this step, that of the earliest where there are several: what is left
+// to scan here was left after the `)` that ended it, and until here no less was left.
+fn to_beginning<A: Allocator + Copy>(walker: &mut Walker<A>, here: u64) -> Option<Stop> {
+    let rest = walker.machine().active().len();
+    match walker.return_to(Aim::Rest(rest)) {
+        None => {}
+        Some(Refusal::NotMet) => {
+            let _ = walker.back(u64::MAX);
+        }
+        Some(refusal) => return Some(Stop::Refused(refusal)),
+    }
+    for _ in walker.step()..here {
+        if is_call_before(walker.machine(), rest) {
+            let inside = walker.machine().depth();
+            return behind(walker.return_to(Aim::Shallower(inside)));
+        }
+        let stopped = ahead(walker.forward(1));
+        if stopped.is_some() {
+            return stopped;
+        }
+    }
+    Some(Stop::NoValue)
+}
+
+// Whether the next step performs a call, with so many bytes left after its `)`.
+fn is_call_before<A: Allocator + Copy>(machine: &Machine<A>, rest: usize) -> bool {
+    machine.at_call().is_some() && machine.active().len().saturating_sub(1) == rest
+}
+
+// To the end of the innermost begun function; from there to that of the one around it.
+fn out<A: Allocator + Copy>(walker: &mut Walker<A>) -> Option<Stop> {
+    let machine = walker.machine();
+    let ended = if machine.at_call().is_some() { 1 } else { 0 };
+    let inside = machine.depth().saturating_sub(ended);
+    if inside == 0 {
+        return Some(Stop::Outside);
+    }
+    ahead(walker.forward_to(Aim::End(inside), SEARCH_LIMIT))
+}
+
+// To the beginning of the innermost begun function.
+fn out_back<A: Allocator + Copy>(walker: &mut Walker<A>) -> Option<Stop> {
+    let inside = walker.machine().depth();
+    if inside == 0 {
+        return Some(Stop::Outside);
+    }
+    behind(walker.return_to(Aim::Shallower(inside)))
+}
+
+// Back to where the byte of this number was not printed yet, counted from 1.
+fn to_printed<A: Allocator + Copy>(walker: &mut Walker<A>, number: u64) -> Option<Stop> {
+    let before = walker.released();
+    if number == 0 {
+        return Some(Stop::NotPrinted);
+    }
+    if number <= before {
+        return Some(Stop::PrintedEarlier);
+    }
+    let place = number - before - 1;
+    if place >= walker.machine().output().len() as u64 {
+        return Some(Stop::NotPrinted);
+    }
+    behind(walker.return_to(Aim::Unprinted(place as usize)))
+}
+
+// Why a text is not met in the output.
+fn not_printed<A: Allocator + Copy>(walker: &Walker<A>) -> Stop {
+    if walker.released() == 0 {
+        Stop::NotPrinted
+    } else {
+        Stop::NotPrintedSince
+    }
+}
+
+// Back to where the last occurrence of a text was not printed whole yet.
+fn to_printed_text<A: Allocator + Copy>(walker: &mut Walker<A>, text: &[u8]) -> Option<Stop> {
+    if text.is_empty() {
+        return Some(Stop::NotPrinted);
+    }
+    let Some(place) = memmem::rfind(walker.machine().output(), text) else {
+        return Some(not_printed(walker));
+    };
+    let last = place.saturating_add(text.len() - 1);
+    behind(walker.return_to(Aim::Unprinted(last)))
+}

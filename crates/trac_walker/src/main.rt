@@ -1,0 +1,110 @@
+//! The program `trac-walk`: a debugger of TRAC T-64 for a person at a terminal.
+#![tactic(auto)]
+
+ghost use Rattle.std.specs.Prelude.{◌≡◌, ◌≤◌, IfOk};
+ghost use Rattle.std.specs.Process.{exit_status};
+ghost use Rattle.trac_run.specs.Runs.{status_of};
+ghost use Rattle.trac_words.specs.Words.{IsWalkLine};
+
+use std::alloc::{AllocError, Global};
+use std::env::Args;
+use std::process::ExitCode;
+use std::rt::Env;
+use std::{env, fs, io};
+use trac_debug::read_tape;
+use trac_rules::limit::JOURNAL_LIMIT;
+use trac_run::{Ending, Options};
+use trac_walk::{Settings, walk};
+use trac_words::help::NOT_TEXT;
+use trac_words::walk_words::{WalkLine, read_walk_line};
+
+/// The status of a command line that is not understood.
+const NOT_UNDERSTOOD: u8 = 2;
+
+fn main(rt: HostRuntime) -> ExitCode {
+    match asked_line(&rt) {
+        Ok(WalkLine::Walk(path, options, prompt)) => {
+            let ending = walk_file(&rt, path.as_str(), options, prompt);
+            say(&rt, ending)
+        }
+        Ok(WalkLine::Help(text)) => match print!(rt; "{text}") {
+            Ok(()) => ExitCode::SUCCESS,
+            Err(_) => say(&rt, Ending::Write),
+        },
+        Ok(WalkLine::Bad(text)) => {
+            let _ = eprint!(rt; "{text}");
+            ExitCode::from(NOT_UNDERSTOOD)
+        }
+        Err(AllocError) => say(&rt, Ending::Memory),
+    }
+}
+
+// What the words of the command line ask for. The error is that memory was refused.
+fn asked_line(rt: &(impl Env + AllocGlobal)) -> Result<WalkLine, AllocError>
+    ensures { IfOk result IsWalkLine }
+{
+    match env::args(rt) {
+        Ok(words) => line_in(rt.alloc(), words),
+        Err(error) if error.kind() == io::ErrorKind::OutOfMemory => Err(AllocError),
+        Err(_) => {
+            let text = String::from_str(rt.alloc(), NOT_TEXT)?;
+            Ok(WalkLine::Bad(text))
+        }
+    }
+}
+
+fn line_in(alloc: Global, words: Args<Global>) -> Result<WalkLine, AllocError>
+    ensures { IfOk result IsWalkLine }
+{
+    let words: Vec<String> = words.collect(alloc)?;
+    line_of(alloc, words.as_slice())
+}
+
+fn line_of(alloc: Global, words: &[String]) -> Result<WalkLine, AllocError>
+    ensures { IfOk result IsWalkLine }
+{
+    let texts: Vec<&str> = words.iter().map(|word| word.as_str()).collect(alloc)?;
+    read_walk_line(alloc, texts.as_slice())
+}
+
+// Walks through the program in the file at this path.
+fn walk_file(rt: &HostRuntime, path: &str, options: Options, prompt: bool) -> Ending
+    requires some_records { 1 ≤ options.journal }
+    requires most_records { options.journal ≤ JOURNAL_LIMIT }
+{
+    let settings = Settings {
+        journal: options.journal,
+        decimals: options.decimals,
+        prompt,
+    };
+    match tape_in(rt, path) {
+        Ok(tape) => walk(
+            rt.alloc(),
+            tape.as_slice(),
+            &mut rt.stdin(),
+            &mut rt.stdout(),
+            settings,
+        ),
+        Err(ending) => ending,
+    }
+}
+
+// The bytes of the file at this path, which is closed before any command is read: where standard input is closed, the
+// system opens the file in its place.
+fn tape_in(rt: &HostRuntime, path: &str) -> Result<Vec<u8>, Ending> {
+    match fs::File::open(rt, path) {
+        Ok(mut file) => read_tape(rt.alloc(), &mut file),
+        Err(error) if error.kind() == io::ErrorKind::OutOfMemory => Err(Ending::Memory),
+        Err(_) => Err(Ending::Read),
+    }
+}
+
+// Says on standard error how the walk ended, and gives the status for it. A print that fails changes nothing.
+fn say(rt: &impl Eprint, ending: Ending) -> ExitCode
+    ensures { exit_status result ≡ status_of ending }
+{
+    if ending != Ending::Ended {
+        let _ = rt.eprintln(ending);
+    }
+    ExitCode::from(ending.status())
+}

@@ -1,0 +1,83 @@
+//! The command line of `trac-walk`.
+ghost use Rattle.std.specs.Prelude.{IfOk};
+ghost use Rattle.trac_words.specs.Words.{IsWalkLine};
+
+use crate::help::{VERSION, WALK_USE};
+use crate::words::{Asked, decimals, file, journal, options_in, path_in};
+use clap::error::ErrorKind;
+use clap::{Arg, ArgAction, ArgMatches, Command, Error};
+use std::alloc::{AllocError, Global};
+use trac_run::{DEFAULT_BUDGET, Options};
+
+/// What a command line of `trac-walk` asks for.
+#[derive(Drop)]
+pub enum WalkLine {
+    /// To walk through the program in this file, with a prompt or without one. The budget is the default one, and not used.
+    Walk(String, Options, bool),
+    /// To be shown this text: help, or the version.
+    Help(String),
+    /// Nothing that is understood: this text says why.
+    Bad(String),
+}
+
+/// Reads a command line of `trac-walk`, the program's name first. The options are within their ranges. The error is that
+/// memory was refused.
+pub fn read_walk_line(alloc: Global, words: &[&str]) -> Result<WalkLine, AllocError>
+    ensures { IfOk result IsWalkLine }
+{
+    match walk_command(alloc)?.try_get_matches_from(words) {
+        Ok(matches) => walk_line(alloc, &matches),
+        Err(error) => no_walk(alloc, &error),
+    }
+}
+
+fn walk_line(alloc: Global, found: &ArgMatches<'_>) -> Result<WalkLine, AllocError>
+    ensures { IfOk result IsWalkLine }
+{
+    match options_in(alloc, found, DEFAULT_BUDGET)? {
+        Asked::Options(options) => {
+            let path = path_in(alloc, found)?;
+            Ok(WalkLine::Walk(path, options, found.get_flag("prompt")))
+        }
+        Asked::Bad(text) => Ok(WalkLine::Bad(text)),
+    }
+}
+
+// What is said where a command line asks for no walk.
+fn no_walk(alloc: Global, error: &Error) -> Result<WalkLine, AllocError>
+    ensures { IfOk result IsWalkLine }
+{
+    let kind = error.kind();
+    if kind == ErrorKind::OutOfMemory {
+        return Err(AllocError);
+    }
+    let text = error.to_string(alloc)?;
+    match kind {
+        ErrorKind::DisplayHelp | ErrorKind::DisplayVersion => Ok(WalkLine::Help(text)),
+        _ => Ok(WalkLine::Bad(text)),
+    }
+}
+
+fn walk_command<'a>(alloc: Global) -> Result<Command<'a>, AllocError> {
+    Command::new(alloc, "trac-walk")
+        .about(
+            "Walks through the TRAC T-64 program in FILE, forwards and backwards, for a person at a terminal",
+        )
+        .version(VERSION)
+        .after_help(WALK_USE)
+        .arg(file(alloc))?
+        .arg(journal(
+            alloc,
+            "How many steps can be gone back over: 1 to 1048576 [default: 65536]",
+        ))?
+        .arg(decimals(alloc))?
+        .arg(prompt(alloc))
+}
+
+// The flag that asks for a prompt.
+fn prompt<'a>(alloc: Global) -> Arg<'a> {
+    Arg::new(alloc, "prompt")
+        .long("prompt")
+        .action(ArgAction::SetTrue)
+        .help("Write the number of the next step, and >, before each command is read")
+}
