@@ -12,9 +12,9 @@ use trac_session::{Machine, Refusal};
 const CALL_WIDTH: usize = 56;
 
 /// Puts a line for each of the last calls of the program's own at the end of a text, the earliest first: the number of its
-/// step, the call, and its value. To find them it goes back, and then forward again to where it was; where a step is refused on
-/// the way forward, for memory alone, it stands there, and the refusal is returned. The error is that memory was refused for the
-/// lines, here and below.
+/// step, the call, and its value. To find them it goes back, and then forward again to where it was. Where a step is refused on
+/// the way, for memory alone, the lines end there, and the refusal is returned; where that is refused too, it stands there. The
+/// error is that memory was refused for the lines, here and below.
 pub fn calls_into<A: Allocator + Copy>(
     alloc: A,
     walker: &mut Walker<A>,
@@ -22,8 +22,9 @@ pub fn calls_into<A: Allocator + Copy>(
     out: &mut Vec<u8, A>,
 ) -> Result<Option<Refusal>, AllocError> {
     let end = walker.step();
-    lines_into(alloc, walker, count, out)?;
-    Ok(walker.forward(end.saturating_sub(walker.step())))
+    let met = lines_into(alloc, walker, count, out)?;
+    let ahead = walker.forward(end.saturating_sub(walker.step()));
+    Ok(if met.is_some() { met } else { ahead })
 }
 
 // Goes back over so many calls, and forward again from each to the next, with a line for it, until a step is refused.
@@ -32,34 +33,40 @@ fn lines_into<A: Allocator + Copy>(
     walker: &mut Walker<A>,
     count: u64,
     out: &mut Vec<u8, A>,
-) -> Result<(), AllocError> {
-    let mut steps = steps_of_calls(alloc, walker, count)?;
+) -> Result<Option<Refusal>, AllocError> {
+    let mut steps = Vec::new(alloc);
+    let met = steps_into(walker, count, &mut steps)?;
+    if met.is_some() {
+        return Ok(met);
+    }
     if steps.is_empty() {
-        return out.extend_from_slice(b"no call is met on the way back\n");
+        out.extend_from_slice(b"no call is met on the way back\n")?;
     }
     while let Some(step) = steps.pop() {
-        if walker.forward(step.saturating_sub(walker.step())).is_some() {
-            return Ok(());
+        let stopped = walker.forward(step.saturating_sub(walker.step()));
+        if stopped.is_some() {
+            return Ok(stopped);
         }
         line_into(alloc, walker, out)?;
     }
-    Ok(())
+    Ok(None)
 }
 
-// Goes back over so many calls, or all that there are. Returns the numbers of their steps, the latest first.
-fn steps_of_calls<A: Allocator + Copy>(
-    alloc: A,
+// Goes back over so many calls, or all that there are, and puts the numbers of their steps at the end of these, the latest first.
+// Returns why a step was refused on the way forward again from where no more is met, if one was.
+fn steps_into<A: Allocator + Copy>(
     walker: &mut Walker<A>,
     count: u64,
-) -> Result<Vec<u64, A>, AllocError> {
-    let mut steps = Vec::new(alloc);
+    steps: &mut Vec<u64, A>,
+) -> Result<Option<Refusal>, AllocError> {
     for _ in 0..count {
-        if walker.return_to(Aim::OwnCall).is_some() {
-            break;
+        match walker.return_to(Aim::OwnCall) {
+            None => steps.push(walker.step())?,
+            Some(Refusal::NotMet) => return Ok(None),
+            Some(refusal) => return Ok(Some(refusal)),
         }
-        steps.push(walker.step())?;
     }
-    Ok(steps)
+    Ok(None)
 }
 
 // A line for the call that is performed next, which is performed.
