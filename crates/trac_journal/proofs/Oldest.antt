@@ -17,7 +17,7 @@ use Rattle.trac_journal.specs.declared.entry.Kept.TheVariants as kept
 use Rattle.trac_journal.proofs.Calls.{undone_stays}
 use Rattle.trac_journal.proofs.Ends.{before-behind, before-last, ends_joined, last-behind, last-last, length-last}
 
--- ---- lists with older ones behind them
+-- ---- lists with older ones after them
 
 joined_nothing : (l : Listed) → joined l nothing_listed ≡ l
 joined_nothing l =
@@ -33,7 +33,7 @@ joined_assoc a b c =
       emptied = sym (append_assoc c.emptied b.emptied a.emptied) i;
     }
 
--- with others behind it the newest call is the same
+-- with others after it the newest call is the same
 record CallBehind (calls : List Call) (older l : Listed) : Type 0 where
   has : HasCall (calls ++ older.calls) (older.bytes ++ l.bytes) (older.commas ++ l.commas)
   same : (undone : Undone) → call_of (calls ++ older.calls) undone (older.bytes ++ l.bytes) (older.commas ++ l.commas) ≡ call_of calls undone l.bytes l.commas

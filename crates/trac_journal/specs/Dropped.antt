@@ -10,7 +10,7 @@ use Rattle.trac_journal.specs.declared.entry.Kept.{Kept}
 use Rattle.trac_journal.specs.declared.entry.Kept.TheVariants as kept
 use Rattle.trac_journal.specs.declared.lists.Gone.{Gone}
 
--- lists with older ones behind them
+-- lists with older ones after them
 abbrev pub joined : Listed → Listed → Listed
 joined older l = record {
   calls = l.calls ++ older.calls;

@@ -56,7 +56,7 @@ impl<'a> Model for PiecesRef<'a> {
 impl<A: Allocator + Copy> Pieces<A> {
     /// A copy of these arguments, at least one, of which `joined` has the bytes, one after another, fewer than 2^32. It is
     /// made in memory for exactly their bytes and a length for each but the last: where there are no bytes, or no further
-    /// argument, none is asked for. It takes time for the bytes and the arguments.
+    /// argument, no block is taken. It takes time for the bytes and the arguments.
     /// Refused with `Memory` where the allocator refuses.
     pub fn of<T: Texts>(alloc: A, arguments: &T, joined: &[u8]) -> Result<Self, Refusal>
         requires some { 1 ≤ length (T.texts arguments.now) }

@@ -108,7 +108,7 @@ module _ (environment : Environment) (call : Call) (kind : Kind) (arguments : Li
   pub unplanned : (refusal : Refusal) → MayFail outcome refusal → MayRefuse wanted refusal
   unplanned refusal h = subst (λ o. MayRefuse (limited (fits_after call) o) refusal) (sym performed_is) (not_made call line outcome refusal h)
 
-  -- the primitive was performed, its texts behind the line of the trace
+  -- the primitive was performed, its texts after the line of the trace
   module _ {A : Type 0} (texts made : Made A) (deed : Deed A) (is : seen_as (added_to texts) outcome ≡ Ok (done_on arguments (storage_of call.state) made deed)) where
     -- but memory for the line was refused
     pub lacks : MayLackMemory wanted

@@ -38,7 +38,7 @@ pub faults_stop : {T : Type 0} (r : Result T Ending) → IfErr r IsFault → IfE
 faults_stop (Ok v) h = tt
 faults_stop (Err e) h = fault_stops e h
 
--- reads that gave what they were asked for took bytes, and those before one that failed; a read that failed ends a dialogue
+-- reads that gave what was wanted took bytes, and those before one that failed; a read that failed ends a dialogue
 pub seek_takes : (a b : Option (List ℕ)) (old new : Pending) → Gathers a b old new → Takes a b
 seek_takes a b old new h = record { got = h.got; took = h.took }
 

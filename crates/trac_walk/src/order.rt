@@ -79,7 +79,7 @@ pub fn order_of<'a>(words: &'a [&'a [u8]], quoted: bool) -> Option<Order<'a>> {
     }
 }
 
-// The move that is asked for, if it is one.
+// The move that these words say, if they say one.
 fn move_of<'a>(command: &[u8], rest: &'a [&'a [u8]], quoted: bool) -> Option<Move<'a>> {
     match command {
         b"s" => Some(Move::Forward(count_in(rest, 1)?)),

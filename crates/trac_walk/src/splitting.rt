@@ -65,7 +65,7 @@ fn without_blanks(text: &[u8]) -> &[u8]
     &[]
 }
 
-// The word at the front of a text that is not empty; the whole text where that is asked for and no quote begins it.
+// The word at the front of a text that is not empty; the whole text where that is wanted and no quote begins it.
 fn first_word<A: Allocator + Copy>(
     alloc: A,
     text: &[u8],

@@ -35,7 +35,7 @@ pub struct Settings {
 #[derive(Drop)]
 struct Dialogue<A: Allocator + Copy> {
     walker: Walker<A>,
-    // the line that asked for the last move; empty before the first
+    // the line of the last move; empty before the first
     last: Vec<u8, A>,
     prompt: bool,
     // whether it was said that steps are forgotten
@@ -286,7 +286,7 @@ impl<A: Allocator + Copy> Dialogue<A> {
         standing_into(alloc, &self.walker, out)
     }
 
-    // Does what is asked for that is no move.
+    // Carries out an order that is no move.
     fn obey(&mut self, alloc: A, order: Order<'_>, out: &mut Vec<u8, A>) -> Result<(), AllocError> {
         match order {
             Order::Feed(text) => self.feed(alloc, text, out),
