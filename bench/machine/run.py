@@ -16,7 +16,8 @@ import sys
 HERE = pathlib.Path(__file__).resolve().parent
 ROOT = HERE.parent.parent
 WORK = ROOT / "target" / "bench_machine"
-BELOW = ["trac_rules", "trac_num", "trac_forms", "trac_gap", "trac_prims"]
+BELOW = ["trac_rules", "trac_num", "trac_gap", "trac_text", "trac_forms", "trac_change", "trac_journal", "trac_prims",
+         "trac_storage"]
 
 # What is timed, how many steps that is, and how a row of the table reads.
 ROWS = [

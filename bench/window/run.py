@@ -24,7 +24,8 @@ HERE = pathlib.Path(__file__).resolve().parent
 ROOT = HERE.parent.parent
 TRAC = os.environ.get("TRAC", str(ROOT / "out" / "trac"))
 WORK = ROOT / "target" / "bench_window"
-BELOW = ["trac_rules", "trac_num", "trac_forms", "trac_gap", "trac_prims", "trac_step", "trac_session"]
+BELOW = ["trac_rules", "trac_num", "trac_gap", "trac_text", "trac_forms", "trac_change", "trac_journal", "trac_prims",
+         "trac_storage", "trac_step", "trac_session"]
 SECONDS = 120
 JOURNAL = 65_536
 WINDOW = b"c 1000\n"

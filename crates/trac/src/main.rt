@@ -1,19 +1,18 @@
 //! The program `trac`: a processor for the language TRAC T-64.
 #![tactic(auto)]
 
-ghost use Rattle.std.specs.Prelude.{◌≡◌, ◌≤◌, IfOk};
-ghost use Rattle.std.specs.Process.{exit_status};
-ghost use Rattle.trac_run.specs.Runs.{status_of};
+ghost use Rattle.std.specs.Prelude.{◌≤◌, IfOk};
 ghost use Rattle.trac_words.specs.Words.{IsLine};
 
 use std::alloc::{AllocError, Global};
 use std::env::Args;
 use std::process::ExitCode;
 use std::rt::Env;
-use std::{env, fs, io};
-use trac_debug::{debug, read_tape};
+use std::{env, io};
+use trac_debug::debug;
 use trac_rules::limit::JOURNAL_LIMIT;
-use trac_run::{Ending, Options, run};
+use trac_run::run;
+use trac_streams::{Ending, Options, say, tape_in};
 use trac_words::help::NOT_TEXT;
 use trac_words::words::{Line, read_line};
 
@@ -85,24 +84,4 @@ fn debug_file(rt: &HostRuntime, path: &str, options: Options) -> Ending
         ),
         Err(ending) => ending,
     }
-}
-
-// The bytes of the file at this path, which is closed before any command is read: where standard input is closed, the
-// system opens the file in its place.
-fn tape_in(rt: &HostRuntime, path: &str) -> Result<Vec<u8>, Ending> {
-    match fs::File::open(rt, path) {
-        Ok(mut file) => read_tape(rt.alloc(), &mut file),
-        Err(error) if error.kind() == io::ErrorKind::OutOfMemory => Err(Ending::Memory),
-        Err(_) => Err(Ending::Read),
-    }
-}
-
-// Says on standard error how the run ended, and gives the status for it. A print that fails changes nothing.
-fn say(rt: &impl Eprint, ending: Ending) -> ExitCode
-    ensures { exit_status result ≡ status_of ending }
-{
-    if ending != Ending::Ended {
-        let _ = rt.eprintln(ending);
-    }
-    ExitCode::from(ending.status())
 }

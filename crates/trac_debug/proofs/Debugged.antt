@@ -11,24 +11,23 @@ use Rattle.trac_rules.specs.declared.limit.TheConstants.{TAPE_LIMIT}
 use Rattle.trac_rules.specs.Fronts.{IsFrontOf}
 use Rattle.trac_rules.specs.Session.{PlainSession, Feed, End, answer, done, new_session}
 use Rattle.trac_rules.proofs.Replies.{End_done, Feed_done, with_end, with_more}
-use Rattle.trac_run.specs.Written.{WritesFront}
-use Rattle.trac_run.specs.declared.ending.Ending.{Ending}
-use Rattle.trac_run.specs.declared.ending.Ending.TheVariants.{Ended, Budget, Limit, Memory, Read, Write, NotUnderstood}
-use Rattle.trac_run.proofs.Known.{Appends-nothing, Appends-both, Appends-kept, Consumes-nothing, Consumes-both, front_of_front, front_of_nothing}
-use Rattle.trac_run.proofs.Ran.{front_behind}
+use Rattle.trac_streams.specs.Written.{WritesFront}
+use Rattle.trac_streams.specs.declared.ending.Ending.{Ending}
+use Rattle.trac_streams.specs.declared.ending.Ending.TheVariants.{Ended, Budget, Limit, Memory, Read, Write, NotUnderstood}
+use Rattle.trac_streams.proofs.Known.{Appends-nothing, Appends-both, Appends-kept, Consumes-nothing, Consumes-both, front_behind, front_of_front, front_of_nothing}
 use Rattle.trac_debug.specs.declared.command.Command as code
-use Rattle.trac_debug.specs.declared.lines.Front.TheVariants.{Line, TooLong}
-use Rattle.trac_debug.specs.declared.lines.TheConstants.{LINE_LIMIT, LINE_COUNT_LIMIT}
-use Rattle.trac_debug.specs.Lines.{lines_of, is_within}
+use Rattle.trac_streams.specs.declared.lines.Front.TheVariants.{Line, TooLong}
+use Rattle.trac_streams.specs.declared.lines.TheConstants.{LINE_LIMIT, LINE_COUNT_LIMIT}
+use Rattle.trac_streams.specs.Lines.{lines_of, is_within}
 use Rattle.trac_debug.specs.Commands.{Command, command_of}
 use Rattle.trac_debug.specs.Replies.{Replies}
 use Rattle.trac_debug.specs.Debugging.{Turn, Passes, Does, Ends, Takes, MayWrite, MayFollow, FollowsFirst, MayShow, RepliesToFirst, ready, shown_where, turn_at, turn_of}
 use Rattle.trac_debug.specs.Debugs.{UnlessFault, UnlessWrite, Debugs, IsReady, MayRefuseTape, IsNotReplied, Settles, Stops, Advances, Halts}
-use Rattle.trac_debug.specs.Pending.{Pending}
-use Rattle.trac_debug.specs.Reading.{HELD_LIMIT, IsFront, Gathers, MayFail}
+use Rattle.trac_streams.specs.Pending.{Pending}
+use Rattle.trac_streams.specs.Reading.{HELD_LIMIT, IsFront, Gathers, MayFail}
 use Rattle.trac_debug.specs.Views.{command_seen}
 use Rattle.trac_debug.proofs.Existing.{some_reply, some_text}
-use Rattle.trac_debug.proofs.Splitting.{first_line}
+use Rattle.trac_streams.proofs.Splitting.{first_line}
 
 -- ---- what becomes of a line
 

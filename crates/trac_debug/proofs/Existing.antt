@@ -11,10 +11,11 @@ use Rattle.trac_rules.specs.Session.{PlainSession, Goal, Answer, IsWalk, Answers
 use Rattle.trac_rules.proofs.Replies.{Back_refused, Step_refusals, answer_Commit}
 use Rattle.trac_session.specs.Goals.{is_call_of, outcome}
 use Rattle.trac_session.proofs.Walked.{GoesOn, Back_answered, Back_refused_same, Step_refused_same, goes_on_first, goes_on_more, stopped_walk, met_walk, whole_walk}
-use Rattle.trac_run.specs.declared.ending.Ending.{Ending}
-use Rattle.trac_run.specs.declared.ending.Ending.TheVariants as endings
+use Rattle.trac_streams.specs.declared.ending.Ending.{Ending}
+use Rattle.trac_streams.specs.declared.ending.Ending.TheVariants as endings
 use Rattle.trac_debug.specs.Commands.{Command, Forward, Back, Until, Return, Print, Commit, Quit}
-use Rattle.trac_debug.specs.Texts.{state_text, text_line}
+use Rattle.trac_show.specs.StateLines.{state_text}
+use Rattle.trac_streams.specs.Escapes.{text_line}
 use Rattle.trac_debug.specs.Replies.{Replies, RepliesWithMemory, walk_line}
 use Rattle.trac_debug.specs.Debugging.{Turn, Passes, Does, Ends, TakesBy, WritesBy, MayWrite, turn_at}
 

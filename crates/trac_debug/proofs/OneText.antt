@@ -12,10 +12,10 @@ use Rattle.trac_rules.specs.Session as session
 use Rattle.trac_rules.specs.Session.{PlainSession, Goal, IsWalk, HasEnded, Answers, accepted_by, answer, done, refused, repeated, no_goal}
 use Rattle.trac_rules.proofs.Replies.{Commit_done, accepted_done, done_of_refused, refused_alike}
 use Rattle.trac_session.specs.Goals.{IsSearch, is_call_of, outcome}
-use Rattle.trac_run.specs.declared.ending.Ending.{Ending}
-use Rattle.trac_run.specs.declared.ending.Ending.TheVariants as endings
+use Rattle.trac_streams.specs.declared.ending.Ending.{Ending}
+use Rattle.trac_streams.specs.declared.ending.Ending.TheVariants as endings
 use Rattle.trac_debug.specs.Commands.{Command, Forward, Back, Until, Return, Print, Commit, Quit}
-use Rattle.trac_debug.specs.Lines.{lines_of}
+use Rattle.trac_streams.specs.Lines.{lines_of}
 use Rattle.trac_debug.specs.Replies.{Replies, RepliesWithMemory, SaysMemory, walk_line}
 use Rattle.trac_debug.specs.Debugging.{Turn, Passes, Does, Ends, TakesBy, WritesBy, MayWrite, MayShow, ShowsWithMemory, ready, shown_by, shown_where, turn_at}
 use Rattle.trac_debug.proofs.Existing.{reply_allowed, some_text_with}

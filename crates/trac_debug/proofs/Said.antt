@@ -6,8 +6,8 @@ use Rattle.std.proofs.lemmas.List.Splits.{slice_split-cons_yes, slice_split-cons
 use Rattle.std.proofs.lemmas.Bool.{cases_Bool}
 use Rattle.trac_debug.specs.declared.command.TheConstants.{SPACE}
 use Rattle.trac_debug.specs.Commands.{words_of, said_by, command_of, alone, with_one, with_two}
-use Rattle.trac_debug.specs.Reading.{IsPlace}
-use Rattle.trac_debug.proofs.Splitting.{split_at, split_none}
+use Rattle.trac_streams.specs.Reading.{IsPlace}
+use Rattle.trac_streams.proofs.Splitting.{split_at, split_none}
 
 -- a first word, and those after its space
 words_at : (text : List ℕ) (place : ℕ) → IsPlace SPACE text (Some place) → words_of text ≡ take place text ∷ words_of (drop (place + 1) text)

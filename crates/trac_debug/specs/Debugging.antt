@@ -3,10 +3,10 @@ use Rattle.std.specs.Prelude.{◌≡◌, ℕ, ◌+◌, nat_le, List, [], ◌∷�
 use Rattle.trac_rules.specs.declared.width.Width.{Width}
 use Rattle.trac_rules.specs.declared.limit.TheConstants.{TAPE_LIMIT}
 use Rattle.trac_rules.specs.Session.{PlainSession, new_session}
-use Rattle.trac_run.specs.declared.ending.Ending.{Ending}
-use Rattle.trac_run.specs.declared.ending.Ending.TheVariants.{Ended, Budget, Limit, NotUnderstood}
-use Rattle.trac_debug.specs.declared.lines.TheConstants.{LINE_COUNT_LIMIT}
-use Rattle.trac_debug.specs.Lines.{is_within, lines_of}
+use Rattle.trac_streams.specs.declared.ending.Ending.{Ending}
+use Rattle.trac_streams.specs.declared.ending.Ending.TheVariants.{Ended, Budget, Limit, NotUnderstood}
+use Rattle.trac_streams.specs.declared.lines.TheConstants.{LINE_COUNT_LIMIT}
+use Rattle.trac_streams.specs.Lines.{is_within, lines_of}
 use Rattle.trac_debug.specs.Commands.{Command, Quit, command_of}
 use Rattle.trac_debug.specs.Replies.{Replies, RepliesWithMemory}
 

@@ -5,15 +5,15 @@ use Rattle.trac_rules.specs.declared.width.Width.{Width}
 use Rattle.trac_rules.specs.declared.limit.TheConstants.{TAPE_LIMIT}
 use Rattle.trac_rules.specs.Fronts.{IsFrontOf}
 use Rattle.trac_rules.specs.Session.{PlainSession}
-use Rattle.trac_run.specs.declared.ending.Ending.{Ending}
-use Rattle.trac_run.specs.declared.ending.Ending.TheVariants.{Memory, Read, Write, Limit}
-use Rattle.trac_debug.specs.Lines.{lines_of}
+use Rattle.trac_streams.specs.declared.ending.Ending.{Ending}
+use Rattle.trac_streams.specs.declared.ending.Ending.TheVariants.{Memory, Read, Write, Limit}
+use Rattle.trac_streams.specs.Lines.{lines_of}
 use Rattle.trac_debug.specs.Commands.{Command}
 use Rattle.trac_debug.specs.Replies.{Replies}
 use Rattle.trac_debug.specs.Debugging.{Turn, Passes, Does, Ends, MayWrite, ready}
-use Rattle.trac_debug.specs.declared.lines.TheConstants.{LINE_LIMIT, LINE_COUNT_LIMIT}
-use Rattle.trac_debug.specs.Pending.{Pending}
-use Rattle.trac_debug.specs.Reading.{HELD_LIMIT}
+use Rattle.trac_streams.specs.declared.lines.TheConstants.{LINE_LIMIT, LINE_COUNT_LIMIT}
+use Rattle.trac_streams.specs.Pending.{Pending}
+use Rattle.trac_streams.specs.Reading.{HELD_LIMIT}
 
 -- ---- a whole session
 

@@ -1,14 +1,10 @@
--- The debugger, to be read in this order: the lines of a text, the command of a line, how texts and states are shown, the reply to a
--- command, and a whole session. All of it is this project's profile.
-pub mod Lines
+-- The debugger, to be read in this order, once what a text of commands is (`trac_streams/specs/Lines.antt`) and how a state is shown
+-- (`trac_show/specs/StateLines.antt`) are read: the command of a line, the reply to a command, and a whole session. All of it is this
+-- project's profile.
 pub mod Commands
-pub mod Texts
 pub mod Replies
 pub mod Debugging
--- How the code's values are seen.
+-- How the code's commands are seen.
 pub mod Views
-pub mod Pending
-pub mod Reading
 -- What the debugger reads and writes.
-pub mod Tape
 pub mod Debugs

@@ -6,7 +6,8 @@ use Rattle.trac_rules.specs.Session as session
 use Rattle.trac_rules.specs.Session.{PlainSession, IsWalk, answer, done, first_kept, no_goal}
 use Rattle.trac_session.specs.Goals.{IsSearch, is_call_of}
 use Rattle.trac_debug.specs.Commands.{Command, Forward, Back, Until, Return, Print, Commit, Quit}
-use Rattle.trac_debug.specs.Texts.{feed, state_text, text_line}
+use Rattle.trac_show.specs.StateLines.{state_text}
+use Rattle.trac_streams.specs.Escapes.{feed, text_line}
 
 -- ---- walks
 

@@ -4,7 +4,7 @@ ghost use Rattle.std.specs.Option.{option_map};
 ghost use Rattle.trac_debug.specs.Commands.{command_of, count_of, name_of, alone, with_one, with_two};
 ghost use Rattle.trac_debug.specs.Views.{command_seen};
 
-use crate::places::place_of;
+use trac_streams::place_of;
 
 /// What stands between two words of a line.
 pub const SPACE: u8 = b' ';

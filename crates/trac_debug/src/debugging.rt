@@ -6,15 +6,14 @@ ghost use Rattle.trac_debug.specs.Debugs.{Advances, Debugs, Halts, IsReady, MayR
 ghost use Rattle.trac_debug.specs.Views.{command_seen};
 
 use crate::command::{Command, command_in};
-use crate::lines::{Front, LINE_COUNT_LIMIT, LINE_LIMIT, Lines};
 use crate::replies::reply_to;
 use std::alloc::Allocator;
 use std::io::{Read, Write};
 use trac_rules::limit::{JOURNAL_LIMIT, TAPE_LIMIT};
 use trac_rules::width::Width;
-use trac_run::writing::{flush, write_whole};
-use trac_run::{Ending, Options};
 use trac_session::Session;
+use trac_streams::writing::{flush, write_whole};
+use trac_streams::{Ending, Front, LINE_COUNT_LIMIT, LINE_LIMIT, Lines, Options};
 
 /// Goes forwards and backwards over a program, the tape being the whole of its input: it reads commands, one a line,
 /// carries each of them out, and writes the reply to it, which is flushed before more is read. The commands are read by

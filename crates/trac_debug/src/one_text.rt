@@ -2,7 +2,7 @@
 ghost use Rattle.std.specs.Prelude.{◌≡◌, ◌⊎◌, List, ℕ};
 ghost use Rattle.trac_rules.specs.Session.{PlainSession};
 ghost use Rattle.trac_rules.specs.declared.width.Width.{Width};
-ghost use Rattle.trac_run.specs.declared.ending.Ending.{Ending};
+ghost use Rattle.trac_streams.specs.declared.ending.Ending.{Ending};
 ghost use Rattle.trac_debug.specs.Commands.{Command};
 ghost use Rattle.trac_debug.specs.Debugging.{MayShow, ShowsWithMemory};
 ghost use Rattle.trac_debug.specs.Replies.{Replies, RepliesWithMemory, SaysMemory};

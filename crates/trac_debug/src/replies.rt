@@ -2,15 +2,16 @@
 ghost use Rattle.std.specs.Prelude.{◌≡◌, ◌++◌, IfOk, OnErr, OnOk, codes};
 ghost use Rattle.trac_debug.specs.Commands.{Commit};
 ghost use Rattle.trac_debug.specs.Replies.{Replies, StandsUnreplied, reason, refusal_name, walk_line};
-ghost use Rattle.trac_debug.specs.Texts.{text_line};
+ghost use Rattle.trac_show.specs.StateLines.{state_text};
+ghost use Rattle.trac_streams.specs.Escapes.{text_line};
 ghost use Rattle.trac_debug.specs.Views.{command_seen};
 
 use crate::command::Command;
-use crate::states::state_lines;
-use crate::texts::{number_into, text_line_into};
 use std::alloc::{AllocError, Allocator};
 use trac_rules::byte::LINE_FEED;
 use trac_session::{Refusal, Session, Walk};
+use trac_show::machine_lines;
+use trac_streams::{number_into, text_line_into};
 
 /// Carries out a command, and gives the reply to it, which is exact: a word, how many steps were taken, and why no more
 /// were; or what was released; or the state (this project's profile). To `Quit` nothing is replied. The error is that memory
@@ -32,6 +33,17 @@ pub fn reply_to<A: Allocator + Copy>(
         Command::Commit(keep) => commit_reply(alloc, session, keep as usize),
         Command::Quit => Ok(Vec::new(alloc)),
     }
+}
+
+/// All parts of a session's last state and how many records it has, as lines (this project's profile).
+/// The error is that memory was refused.
+pub fn state_lines<A: Allocator + Copy>(
+    alloc: A,
+    session: &Session<A>,
+) -> Result<Vec<u8, A>, AllocError>
+    ensures { IfOk result (λ text. text.items ≡ state_text session.now) }
+{
+    machine_lines(alloc, session.machine(), session.len())
 }
 
 // Keeps so many steps, and shows what was released, as a line. Nothing is committed where memory is refused for the line.

@@ -153,7 +153,7 @@ pub known_written : (es : Entries) (name : List ℕ) (w : Option Form) → known
 known_written es name w = ap (λ (ks : List (List ℕ)). let s : Names = set.from_list ks in s) (keys-set_value (bytes_eq name) es w)
 
 -- a name without a form has none to be taken
-nothing_taken : (forms : Forms) (name : List ℕ) → finite.get forms name ≡ None → finite.remove forms name ≡ forms
+pub nothing_taken : (forms : Forms) (name : List ℕ) → finite.get forms name ≡ None → finite.remove forms name ≡ forms
 nothing_taken forms name none =
     finite.same_map nat_list_cmp_total only_equal_tie (finite.remove forms name) forms (λ q.
     get-with_entry name q None forms

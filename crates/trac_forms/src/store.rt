@@ -237,6 +237,7 @@ impl<A: Allocator + Copy> Store<A> {
         ensures room { OnOk result (n ≤ self.new.spare) }
         ensures no_less { self.old.spare ≤ self.new.spare }
         ensures stays { self.new ≡ record self.old { spare = self.new.spare } }
+        ensures unchanged { OnErr result (self.new ≡ self.old) }
         ensures err { IsOkUnless result FormError.Memory }
     {
         self.blocks.reserve(n)?;

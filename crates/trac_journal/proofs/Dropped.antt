@@ -1,9 +1,9 @@
 -- What the oldest record has in the lists, dropped.
-use Rattle.std.proofs.Common.{◌≡◌, ℕ, zero, suc, ◌+◌, ◌-◌, ◌<◌, ◌≤◌, ◌^◌, List, [], ◌∷◌, ◌++◌, length, map, take, drop, All, refl, sym, ap, subst, ◌∙◌, arith}
+use Rattle.std.proofs.Common.{◌≡◌, ℕ, ◌+◌, ◌-◌, ◌<◌, ◌≤◌, ◌^◌, List, [], ◌∷◌, ◌++◌, length, map, take, drop, refl, sym, ap, subst, ◌∙◌, arith}
 use Rattle.std.specs.Prelude.{min, replicate, reverse}
-use Rattle.std.proofs.lemmas.List.{append-nil, append_assoc, drop-append-le, drop-drop, drop_all, drop_at, drop_min, length-append, length-drop, length-replicate, length-take, map-append, replicate-append-replicate, reverse-append, take-append-drop, take-take, take_all, take_at, take_min}
+use Rattle.std.proofs.lemmas.List.{append-nil, append_assoc, drop-append-le, drop-drop, drop_all, drop_at, drop_min, length-append, length-replicate, length-take, map-append, replicate-append-replicate, reverse-append, take-append-drop, take-take, take_all, take_at, take_min}
 use Rattle.std.proofs.lemmas.List.Elements.{All-drop, All-head, All-same, All-take}
-use Rattle.trac_rules.specs.Records.{Record, Called, Idle, Moved, all_before_last}
+use Rattle.trac_rules.specs.Records.{Record, Idle, Moved}
 use Rattle.trac_rules.specs.State.{Frame}
 use Rattle.trac_rules.specs.Undone.{Undone, Nothing, Point}
 use Rattle.trac_rules.specs.Weights.{meta_weight, undone_weight, weight}
@@ -18,7 +18,8 @@ use Rattle.trac_journal.specs.declared.entry.Kept.TheVariants as kept
 use Rattle.trac_journal.specs.declared.lists.Gone.{Gone}
 use Rattle.trac_journal.proofs.Calls.{call_weighs, newest_call, undone_stays}
 use Rattle.trac_journal.proofs.Counted.{moved_sum, sum_by-append}
-use Rattle.trac_journal.proofs.Ends.{length-alone, same_before_last}
+use Rattle.trac_text.proofs.TakenOut.{same_before_last}
+use Rattle.trac_journal.proofs.Ends.{length-alone}
 use Rattle.trac_journal.proofs.Oldest.{OldestApart, oldest_apart, oldest_last}
 
 -- ---- the first of a list of the code is the last of those that are seen

@@ -1,13 +1,11 @@
 -- Lists from their ends.
 use Rattle.std.proofs.Common.{◌≡◌, ℕ, zero, suc, ◌+◌, ◌-◌, ◌<◌, ◌≤◌, List, [], ◌∷◌, ◌++◌, length, take, drop, get_or, add-one, drop-cons, refl, sym, ap, ◌∙◌, arith}
 use Rattle.std.specs.Prelude.{reverse}
-use Rattle.std.proofs.lemmas.List.{append-nil, drop-drop, drop_at, length-append, length-drop, length-take-le, nil_from_length, reverse-append, reverse-reverse, take-append-drop, take_at}
+use Rattle.std.proofs.lemmas.List.{drop-drop, drop_at, length-append, length-drop, length-take-le, nil_from_length, take-append-drop, take_at}
 use Rattle.trac_rules.specs.Records.{all_before_last, last_of}
+use Rattle.trac_text.proofs.Marking.{reverse_push}
 
 -- ---- what stands at the end
-
-pub reverse_push : {X : Type 0} (xs : List X) (x : X) → reverse (xs ++ x ∷ []) ≡ x ∷ reverse xs
-reverse_push xs x = reverse-append xs (x ∷ [])
 
 last_apart : {X : Type 0} (xs : List X) (x : X) (n : ℕ) → length xs ≡ n + 1 → x ≡ get_or xs n x → xs ≡ take n xs ++ x ∷ []
 last_apart [] x n many is = absurd (omega (arith, many))
@@ -68,13 +66,6 @@ before-last n xs few =
 -- where nothing stands before the last n there are n
 pub length-alone : (n : ℕ) (xs : List ℕ) → n ≤ length xs → all_before_last n xs ≡ [] → length xs ≡ n
 length-alone n xs few none = omega (arith, few, ap (λ (ys : List ℕ). length ys) none, length-take-le (length xs - n) xs (omega arith))
-
--- lists that are the same with one more at the end of each are the same, and so are these two
-pub same_before_last : {X : Type 0} (xs ys : List X) (x y : X) → xs ++ x ∷ [] ≡ ys ++ y ∷ [] → (xs ≡ ys) × (x ≡ y)
-same_before_last xs ys x y e =
-    let back : x ∷ reverse xs ≡ y ∷ reverse ys = sym (reverse_push xs x) ∙ ap reverse e ∙ reverse_push ys y in
-    let fronts : reverse xs ≡ reverse ys = cc in
-    (sym (reverse-reverse xs) ∙ ap reverse fronts ∙ reverse-reverse ys, cc)
 
 -- what stands at a place, and what stands after it
 pub next_of : {X : Type 0} → (xs : List X) (i : ℕ) (x : X) → i < length xs → x ≡ get_or xs i x → drop i xs ≡ x ∷ drop (i + 1) xs

@@ -1,5 +1,4 @@
 pub mod Ends
-pub mod Texts
 pub mod Weighed
 pub mod Calls
 pub mod Counted

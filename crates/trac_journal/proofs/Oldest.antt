@@ -1,14 +1,14 @@
 -- The oldest record of a journal, and the others.
-use Rattle.std.proofs.Common.{◌≡◌, ℕ, ◌+◌, ◌-◌, ◌<◌, ◌≤◌, List, [], ◌∷◌, ◌++◌, length, take, drop, refl, sym, ap, subst, ◌∙◌, arith}
+use Rattle.std.proofs.Common.{◌≡◌, ℕ, ◌≤◌, List, [], ◌∷◌, ◌++◌, length, take, drop, refl, sym, ap, subst, ◌∙◌, arith}
 use Rattle.std.specs.Prelude.{replicate, sum}
 use Rattle.std.proofs.lemmas.List.{append-nil, append_assoc, length-append, length-take-le, take-append-drop}
-use Rattle.trac_rules.specs.Records.{Record, Called, Idle, Moved, all_before_last, last_of}
+use Rattle.trac_rules.specs.Records.{Record, Called, Moved, last_of}
 use Rattle.trac_rules.specs.State.{Frame}
 use Rattle.trac_rules.specs.Undone.{Undone, Nothing, Point}
 use Rattle.trac_journal.specs.Dropped.{joined, IsOldest}
 use Rattle.trac_journal.specs.Journaled.{unpacked, AreListed}
 use Rattle.trac_journal.specs.Listed.{Listed, call_of, called_in, first_undone, idle_of, newest_in, nothing_listed, older_in, without_call, HasCall, Holds}
-use Rattle.trac_journal.specs.Pieces.{all_texts, cut_at}
+use Rattle.trac_text.specs.Pieces.{all_texts, cut_at}
 use Rattle.trac_journal.specs.Told.{record_with}
 use Rattle.trac_journal.specs.declared.entry.Call.{Call}
 use Rattle.trac_journal.specs.declared.entry.Entry.{Entry}

@@ -1,13 +1,13 @@
 -- How much the steps of the oldest records printed, told by their calls alone.
-use Rattle.std.proofs.Common.{◌≡◌, ℕ, zero, suc, ◌+◌, ◌-◌, ◌<◌, ◌≤◌, Bool, true, false, List, [], ◌∷◌, ◌++◌, length, drop, refl, sym, ap, subst, ◌∙◌, inl, inr, arith}
-use Rattle.std.specs.Prelude.{nat_le, if◌then◌else◌, replicate, reverse}
+use Rattle.std.proofs.Common.{◌≡◌, ℕ, suc, ◌+◌, ◌-◌, ◌<◌, ◌≤◌, List, [], ◌∷◌, ◌++◌, length, drop, refl, sym, ap, ◌∙◌, inl, inr, arith}
+use Rattle.std.specs.Prelude.{nat_le, replicate, reverse}
 use Rattle.std.proofs.lemmas.Bool.{cases_lt, cond-false, cond-true, le-leb, lt-leb}
-use Rattle.std.proofs.lemmas.List.{append-nil, drop-append-le, drop-drop, drop_at, length-append, length-replicate}
+use Rattle.std.proofs.lemmas.List.{drop-append-le, drop-drop, drop_at, length-append, length-replicate}
 use Rattle.trac_rules.specs.Records.{Record, Moved}
 use Rattle.trac_rules.specs.Undone.{Nothing, Point}
-use Rattle.trac_journal.specs.Dropped.{calls_of, joined, printed_at, printed_first, printed_in, IsOldest}
+use Rattle.trac_journal.specs.Dropped.{calls_of, printed_at, printed_first, printed_in, IsOldest}
 use Rattle.trac_journal.specs.Journaled.{unpacked, AreListed}
-use Rattle.trac_journal.specs.Listed.{Listed, first_undone, newest_in, nothing_listed, Holds}
+use Rattle.trac_journal.specs.Listed.{Listed, first_undone, newest_in}
 use Rattle.trac_journal.specs.Told.{printed_by, sum_by}
 use Rattle.trac_journal.specs.declared.entry.Call.{Call}
 use Rattle.trac_journal.specs.declared.entry.Entry.{Entry}

@@ -1,5 +1,5 @@
 -- The code of what a journal is seen as, by which a proof tells two of them apart. Nothing of the language stands here.
-use Rattle.std.specs.Prelude.{◌≡◌, ℕ, zero, suc, List, refl, ◌⊎◌, Bool, Option, true, false}
+use Rattle.std.specs.Prelude.{◌≡◌, ℕ, zero, suc, List, refl, ◌⊎◌, Bool, Option, true}
 use Rattle.std.proofs.Common.{inl, inr}
 use Rattle.std.specs.Coded.{Coded, code_by, coded×, coded⊎, coded_list, coded_option, coded_bool, coded_ℕ}
 use Rattle.trac_rules.specs.declared.item.CutGap.{CutGap}

@@ -1,6 +1,6 @@
 -- A journal as its fields show it.
 use Rattle.std.specs.List.{All}
-use Rattle.std.specs.Prelude.{◌≡◌, ℕ, ◌+◌, ◌≤◌, ◌^◌, List, [], ◌∷◌, ◌++◌, length, map, replicate, reverse}
+use Rattle.std.specs.Prelude.{◌≡◌, ℕ, ◌≤◌, ◌^◌, List, [], ◌∷◌, ◌++◌, length, replicate}
 use Rattle.trac_rules.specs.Records.{Record, Moved}
 use Rattle.trac_rules.specs.Weights.{weight}
 use Rattle.trac_journal.specs.Listed.{Listed, Holds, newest_in, nothing_listed, older_in}

@@ -1,6 +1,5 @@
 -- What a journal keeps.
-pub mod Pieces
-pub mod Undone
+pub mod Emptied
 pub mod Told
 pub mod Listed
 pub mod Journaled

@@ -1,14 +1,15 @@
 -- The lists of a journal, in which its records stand one after another.
-use Rattle.std.specs.Prelude.{◌≡◌, ℕ, ◌-◌, ◌<◌, ◌≤◌, ◌^◌, List, [], ◌∷◌, ◌++◌, length, map, drop, reverse, sum}
+use Rattle.std.specs.Prelude.{◌≡◌, ℕ, ◌<◌, ◌≤◌, ◌^◌, List, [], ◌∷◌, length, map, drop, reverse, sum}
 use Rattle.trac_rules.specs.Records.{Record, Moved, Comma, Begun, Quoted, Deleted, Idle, Called, all_before_last, last_of}
 use Rattle.trac_rules.specs.State.{Frame}
 use Rattle.trac_rules.specs.Undone.{Undone, Nothing, Point}
-use Rattle.trac_journal.specs.Pieces.{all_texts, cut_at}
+use Rattle.trac_text.specs.Pieces.{all_texts, cut_at}
 use Rattle.trac_journal.specs.Told.{record_with}
-use Rattle.trac_journal.specs.Undone.{texts_in, undone_in}
+use Rattle.trac_journal.specs.Emptied.{texts_in}
+use Rattle.trac_change.specs.Undone.{undone_in}
 use Rattle.trac_journal.specs.declared.called.Called as code
 use Rattle.trac_journal.specs.declared.emptied.Emptied.{Emptied}
-use Rattle.trac_journal.specs.declared.undone.Undone as destroyed
+use Rattle.trac_change.specs.declared.undone.Undone as destroyed
 use Rattle.trac_journal.specs.declared.entry.Call.{Call}
 use Rattle.trac_journal.specs.declared.entry.Kept.{Kept}
 use Rattle.trac_journal.specs.declared.entry.Kept.TheVariants as kept

@@ -3,8 +3,9 @@ use Rattle.std.specs.Prelude.{◌≡◌, ℕ, ◌+◌, ◌<◌, ◌^◌, List, [
 use Rattle.trac_rules.specs.Records.{CallRecord, Record, Moved, Comma, Begun, Quoted, Deleted, Idle, Called}
 use Rattle.trac_rules.specs.State.{Frame}
 use Rattle.trac_rules.specs.Undone as rules
-use Rattle.trac_journal.specs.Pieces.{all_texts}
-use Rattle.trac_journal.specs.Undone.{texts_in, undone_in}
+use Rattle.trac_text.specs.Pieces.{all_texts}
+use Rattle.trac_journal.specs.Emptied.{texts_in}
+use Rattle.trac_change.specs.Undone.{undone_in}
 use Rattle.trac_journal.specs.declared.called.Called as code
 use Rattle.trac_journal.specs.declared.called.Short.{Short}
 use Rattle.trac_journal.specs.declared.called.Short.TheVariants as short

@@ -1,10 +1,6 @@
 //! What an idle step empties.
-use crate::pieces::Pieces;
 use std::alloc::{Allocator, Global};
-use trac_rules::kind::Kind;
-
-/// Begun functions, the innermost first: the kind of each, and all its arguments, of which the last was being gathered.
-pub type Functions<A = Global> = Vec<(Kind, Pieces<A>), A>;
+use trac_text::Functions;
 
 /// What the step empties that loads the idle program: the text outside all begun functions, and these.
 #[derive(Drop)]

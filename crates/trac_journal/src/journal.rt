@@ -6,21 +6,21 @@ ghost use Rattle.trac_rules.specs.Records.{Called as CallOf, Idle, Moved, Record
 ghost use Rattle.trac_rules.specs.Weights.{meta_weight, undone_weight, weight};
 ghost use Rattle.trac_journal.specs.Journaled.{HasPlaceForCall, HasPlaceForIdle, IsLight};
 ghost use Rattle.trac_journal.specs.Listed.{newest_in, nothing_listed, AreSmall, IsBrief};
-ghost use Rattle.trac_journal.specs.Pieces.{frames_in};
+ghost use Rattle.trac_text.specs.Pieces.{frames_in};
 ghost use Rattle.trac_journal.specs.Told.{record_with, said_by, sum_by, FitsEntry, IsLost, IsTold};
-ghost use Rattle.trac_journal.specs.Undone.{undone_in};
+ghost use Rattle.trac_change.specs.Undone.{undone_in};
 
 use crate::called::{Called, Short};
 use crate::emptied::Emptied;
 use crate::entry::{Entry, Kept};
 use crate::lists::Lists;
 use crate::told::{Lost, Newest};
-use crate::undone::Undone;
 use std::alloc::{Allocator, Global};
 use std::collections::VecDeque;
 use std::marker::Model;
-use trac_forms::Texts;
+use trac_change::Undone;
 use trac_rules::refusal::Refusal;
+use trac_text::Args;
 
 /// What the steps of a machine destroyed, a record for each: seen as the list of the rules' records, the newest first, and
 /// beside it how much room there is for more.
@@ -176,26 +176,19 @@ impl<A: Allocator + Copy> Journal<A> {
         self.weight += weigh_brief(kept);
     }
 
-    /// Keeps the record of one call more, the newest: what it says beside its arguments, these, at least one, of which `joined`
-    /// has the bytes, one after another, and what it destroyed of forms and blocks. There has to be room for it, each number to
-    /// be below 2^32, and the record to weigh no more than 2^42, as that of every step from a proper state does.
-    pub fn push_call<T: Texts>(
-        &mut self,
-        called: Called,
-        arguments: &T,
-        joined: &[u8],
-        undone: Undone<A>,
-    )
+    /// Keeps the record of one call more, the newest: what it says beside its arguments, these, and what it destroyed of forms
+    /// and blocks. There has to be room for it, each number to be below 2^32, and the record to weigh no more than 2^42, as that
+    /// of every step from a proper state does.
+    pub fn push_call(&mut self, called: Called, arguments: &Args<'_>, undone: Undone<A>)
         requires not_full { length self.old.records < JOURNAL_LIMIT }
-        requires some { 1 ≤ length (T.texts arguments.now) }
-        requires joined { joined.now ≡ concat (T.texts arguments.now) }
-        requires small { AreSmall called (length joined.now) (length (T.texts arguments.now)) }
-        requires light { IsLight (CallOf (record_with called (T.texts arguments.now) (undone_in undone))) }
-        requires room { HasPlaceForCall (length joined.now) (length (T.texts arguments.now) - 1) self.old }
-        ensures { self.new.records ≡ CallOf (record_with called (T.texts arguments.now) (undone_in undone)) ∷ self.old.records }
+        requires small { AreSmall called (length (concat arguments.now)) (length arguments.now) }
+        requires light { IsLight (CallOf (record_with called arguments.now (undone_in undone))) }
+        requires room { HasPlaceForCall (length (concat arguments.now)) (length arguments.now - 1) self.old }
+        ensures { self.new.records ≡ CallOf (record_with called arguments.now (undone_in undone)) ∷ self.old.records }
     {
-        let weight = weigh_call(joined.len() + (arguments.count() - 1), called.meta, &undone);
-        let kept = self.lists.push_call(called, arguments, joined, undone);
+        let bytes = arguments.joined().len();
+        let weight = weigh_call(bytes + arguments.comma_count(), called.meta, &undone);
+        let kept = self.lists.push_call(called, arguments, undone);
         self.entries.push_back_reserved(Entry {
             moved: self.moved as u32,
             kept,

@@ -8,22 +8,20 @@ pub mod emptied;
 pub mod entry;
 pub mod journal;
 pub mod lists;
-pub mod pieces;
 pub mod told;
-pub mod undone;
 mod weighing;
 
 pub use called::{Called, Short};
 pub use dropping::Passed;
-pub use emptied::{Emptied, Functions};
+pub use emptied::Emptied;
 #[doc(hidden)]
 pub use entry::{Call, Entry, Kept};
 pub use journal::Journal;
 #[doc(hidden)]
 pub use lists::Lists;
-pub use pieces::{Pieces, PiecesRef};
 pub use told::{Lost, Newest};
+pub use trac_change::{Undone, undone};
 pub use trac_rules::kind::Kind;
 pub use trac_rules::refusal::Refusal;
-pub use undone::Undone;
+pub use trac_text::{Functions, Pieces, PiecesRef};
 pub use weighing::weigh_functions;

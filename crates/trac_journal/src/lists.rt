@@ -9,22 +9,23 @@ ghost use Rattle.trac_rules.specs.Weights.{meta_weight, undone_weight, weight};
 ghost use Rattle.trac_journal.specs.Dropped.{printed_at, printed_in, without_oldest, EndsWithCall, IsGone, IsGoneCall, IsOldest};
 ghost use Rattle.trac_journal.specs.Journaled.{HasRoom};
 ghost use Rattle.trac_journal.specs.Listed.{call_of, called_in, first_undone, idle_of, newest_in, nothing_listed, older_in, without_call, AreSmall, HasCall, HasMore, Holds, IsKept, Listed};
-ghost use Rattle.trac_journal.specs.Pieces.{frames_in};
+ghost use Rattle.trac_text.specs.Pieces.{frames_in};
 ghost use Rattle.trac_journal.specs.Told.{record_with, IsLost, IsTold};
-ghost use Rattle.trac_journal.specs.Undone.{texts_in, undone_in};
+ghost use Rattle.trac_journal.specs.Emptied.{texts_in};
+ghost use Rattle.trac_change.specs.Undone.{undone_in};
 
 use crate::called::{Called, Short};
 use crate::emptied::Emptied;
 use crate::entry::{Call, Kept};
-use crate::pieces::{PiecesRef, push_lengths};
 use crate::told::{Lost, Newest};
-use crate::undone::Undone;
 use std::alloc::{Allocator, Global};
 use std::collections::VecDeque;
 use std::marker::Model;
-use trac_forms::Texts;
+use trac_change::Undone;
 use trac_gap::SlidingBuf;
 use trac_rules::refusal::Refusal;
+use trac_text::pieces::push_lengths;
+use trac_text::{Args, PiecesRef};
 
 /// What the records of a journal destroyed, but for what an entry holds: the calls with their arguments one after another, what
 /// was destroyed of forms and blocks, and what idle steps emptied, each in a list of its own. It is seen as these lists, and
@@ -108,26 +109,24 @@ impl<A: Allocator + Copy> Lists<A> {
         Ok(())
     }
 
-    // Puts a call, at least one argument, and what it destroyed of forms and blocks after all others, and returns what an entry
-    // is to keep. `joined` has the bytes of the arguments, one after another. There has to be room.
-    pub(crate) fn push_call<T: Texts>(
+    // Puts a call with its arguments, and what it destroyed of forms and blocks, after all others, and returns what an entry
+    // is to keep. There has to be room.
+    pub(crate) fn push_call(
         &mut self,
         called: Called,
-        arguments: &T,
-        joined: &[u8],
+        arguments: &Args<'_>,
         undone: Undone<A>,
     ) -> Kept
-        requires some { 1 ≤ length (T.texts arguments.now) }
-        requires joined { joined.now ≡ concat (T.texts arguments.now) }
-        requires small { AreSmall called (length joined.now) (length (T.texts arguments.now)) }
-        requires room { HasRoom (length joined.now) (length (T.texts arguments.now) - 1) self.old.room }
-        ensures { HasMore result (CallOf (record_with called (T.texts arguments.now) (undone_in undone))) self.old.listed self.new.listed }
+        requires small { AreSmall called (length (concat arguments.now)) (length arguments.now) }
+        requires room { HasRoom (length (concat arguments.now)) (length arguments.now - 1) self.old.room }
+        ensures { HasMore result (CallOf (record_with called arguments.now (undone_in undone))) self.old.listed self.new.listed }
     {
         // `len` is called for what it says: there are no more items than places.
         let _bytes = self.bytes.len();
         let _commas = self.commas.len();
+        let joined = arguments.joined();
         self.calls
-            .push_back_reserved(call_by(called, joined.len(), arguments.count() - 1));
+            .push_back_reserved(call_by(called, joined.len(), arguments.comma_count()));
         self.bytes.put(joined);
         push_lengths(&mut self.commas, arguments);
         keep_undone(undone, &mut self.undone)

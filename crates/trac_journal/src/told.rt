@@ -1,9 +1,9 @@
 //! What a journal tells of its newest record, and hands out with it.
 use crate::called::{Called, Short};
 use crate::emptied::Emptied;
-use crate::pieces::PiecesRef;
-use crate::undone::Undone;
 use std::alloc::{Allocator, Global};
+use trac_change::Undone;
+use trac_text::PiecesRef;
 
 /// The newest record of a journal, but for what its step destroyed of forms and blocks, or emptied.
 #[derive(Drop)]

@@ -25,7 +25,7 @@ use Rattle.trac_forms.specs.Outcomes.{MayRefuseForm, as_refusal}
 use Rattle.trac_forms.specs.Stored.{Gathered}
 use Rattle.trac_prims.specs.Blocks.{IsBlock}
 use Rattle.trac_rules.specs.Undone.{names_in}
-use Rattle.trac_prims.specs.Effects.{with_form}
+use Rattle.trac_change.specs.Changed.{with_form}
 use Rattle.trac_prims.proofs.MovedOut.{get-without, len-without, moved_out-again, without-again}
 
 -- ---- `sb`

@@ -20,9 +20,10 @@ use Rattle.trac_rules.specs.Handling.{keeping, named_form, without}
 use Rattle.trac_rules.specs.State.{Forms, Held, Storage}
 use Rattle.trac_rules.specs.Undone.{Join, Swap, Restore, MoveOut, Unbring, block_lost, bytes_lost, pointer_lost, replaced_lost, names_in}
 use Rattle.trac_rules.proofs.NamedForms.{only_equal_tie}
-use Rattle.trac_prims.specs.declared.change.Change.TheVariants.{Put, Cut, Remove, Point, MoveIn, Bring, Erase}
-use Rattle.trac_prims.specs.Changes.{IsChangeOf, cut_lost}
-use Rattle.trac_prims.specs.Effects.{named_forms, pointed, texts_of}
+use Rattle.trac_change.specs.declared.change.Change.TheVariants.{Put, Cut, Remove, Point, MoveIn, Bring, Erase}
+use Rattle.trac_change.specs.Changes.{IsChangeOf, cut_lost}
+use Rattle.trac_change.specs.Changed.{named_forms, pointed}
+use Rattle.trac_text.specs.Framing.{texts_of}
 use Rattle.trac_prims.proofs.MovedOut.{without-again}
 
 -- ---- a form whose pointer stays

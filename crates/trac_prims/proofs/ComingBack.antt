@@ -15,7 +15,7 @@ use Rattle.trac_rules.specs.Form.{Form}
 use Rattle.trac_rules.specs.State.{Forms, Held}
 use Rattle.trac_forms.specs.Stored.{AreApart}
 use Rattle.trac_prims.specs.Blocks.{count_further}
-use Rattle.trac_prims.specs.Effects.{named_forms}
+use Rattle.trac_change.specs.Changed.{named_forms}
 
 -- a form that is put is not seen under other names
 get_other : (forms : Forms) (name q : List ℕ) (form : Form) → bytes_eq name q ≡ false → finite.get (finite.insert forms name form) q ≡ finite.get forms q

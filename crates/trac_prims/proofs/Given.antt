@@ -10,8 +10,8 @@ use Rattle.trac_rules.specs.declared.primitive.FormReading.{FormReading}
 use Rattle.trac_rules.specs.Handling.{default_argument, form_read, gives_piece, handled, named_form, on_form, piece_read, pointing}
 use Rattle.trac_rules.specs.Pieces.{Piece}
 use Rattle.trac_rules.specs.State.{Storage}
-use Rattle.trac_prims.specs.declared.change.Change.TheVariants.{Point}
-use Rattle.trac_prims.specs.Effects.{changed, pointed}
+use Rattle.trac_change.specs.declared.change.Change.TheVariants.{Point}
+use Rattle.trac_change.specs.Changed.{changed, pointed}
 use Rattle.trac_prims.proofs.Changes.{pointer_stays}
 
 -- the pointer of a form that is there, set by a change

@@ -12,7 +12,8 @@ use Rattle.trac_rules.specs.Limits.{may_be_put}
 use Rattle.trac_rules.specs.Outcomes.{limited}
 use Rattle.trac_rules.specs.Segmenting.{segmented}
 use Rattle.trac_rules.specs.State.{Storage}
-use Rattle.trac_prims.specs.Effects.{MayFail, cut_in, pieces_fit, pointed}
+use Rattle.trac_prims.specs.Effects.{MayFail, pieces_fit}
+use Rattle.trac_change.specs.Changed.{cut_in, pointed}
 use Rattle.trac_prims.proofs.Putting.{is_put, long_text, not_put, putting_lacks}
 
 -- the pointer of a form is set where the form is there

@@ -14,12 +14,13 @@ use Rattle.trac_rules.specs.Reading.{byte_read, rest_read}
 use Rattle.trac_rules.specs.State.{Storage}
 use Rattle.trac_rules.specs.Undone.{Nothing, undone_by}
 use Rattle.trac_rules.proofs.Outcomes.{limited_beyond}
-use Rattle.trac_prims.specs.declared.change.Change.{Change}
-use Rattle.trac_prims.specs.declared.change.Change.TheVariants.{Keep}
+use Rattle.trac_change.specs.declared.change.Change.{Change}
+use Rattle.trac_change.specs.declared.change.Change.TheVariants.{Keep}
 use Rattle.trac_prims.specs.declared.effect.Deed.{Deed}
 use Rattle.trac_prims.specs.declared.effect.Made.{Made}
-use Rattle.trac_prims.specs.Changes.{IsChangeOf}
-use Rattle.trac_prims.specs.Effects.{IsChanged, IsDone, changed, changing, done_on, pieces_fit}
+use Rattle.trac_change.specs.Changes.{IsChangeOf}
+use Rattle.trac_prims.specs.Effects.{IsChanged, IsDone, changing, done_on, pieces_fit}
+use Rattle.trac_change.specs.Changed.{changed}
 
 module _ {A : Type 0} (arguments : List (List ℕ)) (storage : Storage) (old new : Made A) where
   -- the texts are longer by those of an effect, and all else is as it says

@@ -1,8 +1,3 @@
-pub mod Cutting
-pub mod Neutral
-pub mod Ending
-pub mod Peeling
-pub mod Walking
 pub mod Kept
 pub mod Calculated
 pub mod FirstPlaces
@@ -18,6 +13,5 @@ pub mod Given
 pub mod Fitting
 pub mod ReadCounts
 pub mod Slots
-pub mod MetaSets
 pub mod Joining
 pub mod Planned

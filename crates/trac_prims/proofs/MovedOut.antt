@@ -16,23 +16,11 @@ use Rattle.trac_rules.specs.Handling.{without}
 use Rattle.trac_rules.specs.State.{Forms, Held}
 use Rattle.trac_rules.proofs.NamedForms.{only_equal_tie, ties_itself}
 use Rattle.trac_rules.specs.Undone.{names_in}
-use Rattle.trac_prims.specs.Effects.{texts_of}
+use Rattle.trac_text.specs.Framing.{texts_of}
+use Rattle.trac_change.proofs.Found.{taken_get}
+use Rattle.trac_forms.proofs.Tables.{nothing_taken}
 
 -- ---- one name
-
--- the order tells names apart as the test of their bytes does
-get_removed : (forms : Forms) (name q : List ℕ) → finite.get (finite.remove forms name) q ≡ cond (bytes_eq q name) None (finite.get forms q)
-get_removed forms name q = finite.get-remove nat_list_cmp_total forms name q ∙ ap (λ b. cond b None (finite.get forms q)) (is_eq-slice_cmp q name)
-
--- where a name has no form, taking it changes nothing
-remove_none : (forms : Forms) (name : List ℕ) → finite.get forms name ≡ None → finite.remove forms name ≡ forms
-remove_none forms name none =
-    finite.same_map nat_list_cmp_total only_equal_tie (finite.remove forms name) forms (λ q.
-    get_removed forms name q
-    ∙ ⊎_elim
-    (λ (t : bytes_eq q name ≡ true). rw t (sym (ap (finite.get forms) ((bytes_eq-Decides q name).0 t) ∙ none)))
-    (λ (t : bytes_eq q name ≡ false). rw t refl)
-    (cases_Bool (bytes_eq q name)))
 
 -- a form that is taken and put again
 put_back : (forms : Forms) (name : List ℕ) (form : Form) → finite.get forms name ≡ Some form → finite.insert (finite.remove forms name) name form ≡ forms
@@ -40,7 +28,7 @@ put_back forms name form there =
     finite.same_map nat_list_cmp_total only_equal_tie (finite.insert (finite.remove forms name) name form) forms (λ q.
     finite.get-insert nat_list_cmp_total (finite.remove forms name) name form q
     ∙ ap (λ b. cond b (Some form) (finite.get (finite.remove forms name) q)) (is_eq-slice_cmp q name)
-    ∙ ap (cond (bytes_eq q name) (Some form)) (get_removed forms name q)
+    ∙ ap (cond (bytes_eq q name) (Some form)) (taken_get forms name q)
     ∙ ⊎_elim
     (λ (t : bytes_eq q name ≡ true). rw t (sym (ap (finite.get forms) ((bytes_eq-Decides q name).0 t) ∙ there)))
     (λ (t : bytes_eq q name ≡ false). rw t refl)
@@ -49,7 +37,7 @@ put_back forms name form there =
 -- what is found is one form less
 len_found : (forms : Forms) (name : List ℕ) (found : Option Form) → finite.get forms name ≡ found →
     finite.len (finite.remove forms name) + length (with_name name found) ≡ finite.len forms
-len_found forms name None there = let same = ap (λ (f : Forms). finite.len f) (remove_none forms name there) in omega (arith, same)
+len_found forms name None there = let same = ap (λ (f : Forms). finite.len f) (nothing_taken forms name there) in omega (arith, same)
 len_found forms name (Some form) there =
     let gone : finite.get (finite.remove forms name) name ≡ None =
     finite.get-remove nat_list_cmp_total forms name name ∙ cond-true (eq_by_cmp (slice_cmp nat_cmp) name name) None (finite.get forms name) (ties_itself name) in
@@ -95,7 +83,7 @@ pub get-without : (names : List (List ℕ)) (forms : Forms) (q : List ℕ) →
 get-without [] forms q = refl
 get-without (name ∷ names) forms q =
     get-without names (finite.remove forms name) q
-    ∙ ap (cond (list_any (bytes_eq q) (names_in (moved_out names (finite.remove forms name)))) None) (get_removed forms name q)
+    ∙ ap (cond (list_any (bytes_eq q) (names_in (moved_out names (finite.remove forms name)))) None) (taken_get forms name q)
     ∙ first_found forms name q (finite.get forms name) (moved_out names (finite.remove forms name)) refl
 
 -- what a further name adds
@@ -150,7 +138,7 @@ module _ (names : List (List ℕ)) (forms : Forms) (name : List ℕ) (held : Lis
 
 again_moved : (forms : Forms) (name : List ℕ) (found : Option Form) (rest : Held) → finite.get forms name ≡ found →
     moved_out (names_in rest) (finite.remove forms name) ≡ rest → moved_out (names_in (with_name name found ++ rest)) forms ≡ with_name name found ++ rest
-again_moved forms name None rest there others = ap (moved_out (names_in rest)) (sym (remove_none forms name there)) ∙ others
+again_moved forms name None rest there others = ap (moved_out (names_in rest)) (sym (nothing_taken forms name there)) ∙ others
 again_moved forms name (Some form) rest there others =
     ap (λ found. with_name name found ++ moved_out (names_in rest) (finite.remove forms name)) there ∙ ap (λ held. (name, form) ∷ held) others
 
@@ -161,7 +149,7 @@ moved_out-again (name ∷ names) forms =
 
 again_without : (forms left : Forms) (name : List ℕ) (found : Option Form) (rest : Held) → finite.get forms name ≡ found →
     without (names_in rest) (finite.remove forms name) ≡ left → without (names_in (with_name name found ++ rest)) forms ≡ left
-again_without forms left name None rest there others = ap (without (names_in rest)) (sym (remove_none forms name there)) ∙ others
+again_without forms left name None rest there others = ap (without (names_in rest)) (sym (nothing_taken forms name there)) ∙ others
 again_without forms left name (Some form) rest there others = others
 
 pub without-again : (names : List (List ℕ)) (forms : Forms) → without (names_in (moved_out names forms)) forms ≡ without names forms

@@ -1,56 +1,17 @@
 -- What is planned, as the definitions see it.
-use Rattle.std.specs.Prelude.{◌≡◌, ◌+◌, ◌++◌, ◌&&◌, ℕ, List, length, map, drop, nat_le, Bool, false, Option, None, Some, Vec, Result, Ok, Err}
-use Rattle.std.specs.FinMap as finite
+use Rattle.std.specs.Prelude.{◌≡◌, ◌+◌, ◌++◌, ◌&&◌, ℕ, List, length, nat_le, Bool, false, None, Result, Ok, Err}
 use Rattle.std.specs.Option.{unwrap_or}
 use Rattle.trac_rules.specs.declared.limit.TheConstants.{OUTPUT_LIMIT, TEXT_LIMIT}
 use Rattle.trac_rules.specs.declared.refusal.Refusal.{Refusal}
-use Rattle.trac_rules.specs.Blocks.{erased, put_aside, with_all}
 use Rattle.trac_rules.specs.Effect.{Effect, leaves}
-use Rattle.trac_rules.specs.Form.{Form}
-use Rattle.trac_rules.specs.Handling.{keeping, pointing, without}
 use Rattle.trac_rules.specs.Outcomes.{MayLackMemory, OrMemory, limited, seen_as}
-use Rattle.trac_rules.specs.Segmenting.{segmented}
-use Rattle.trac_rules.specs.State.{Held, Storage}
-use Rattle.trac_prims.specs.declared.change.Change as code
-use Rattle.trac_prims.specs.declared.change.Change.TheVariants.{Keep, Put, Cut, Remove, Clear, Point, MoveIn, Bring, Erase}
+use Rattle.trac_rules.specs.State.{Storage}
+use Rattle.trac_change.specs.declared.change.Change as code
+use Rattle.trac_change.specs.Changed.{changed}
 use Rattle.trac_prims.specs.declared.effect.Effect as planned
 use Rattle.trac_prims.specs.declared.effect.Deed as deed
 use Rattle.trac_prims.specs.declared.effect.Made as made
 use Rattle.trac_prims.specs.declared.effect.Now.{Now}
-
--- texts of the code as lists of bytes
-abbrev pub texts_of : {A : Type 0} → List (Vec ℕ A) → List (List ℕ)
-texts_of texts = map (λ text. text.items) texts
-
--- the storage where the pointer of a form, if it is there, is set
-abbrev pub pointed : List ℕ → ℕ → Option Form → Storage → Storage
-pointed name place None storage = storage
-pointed name place (Some form) storage = pointing name place form storage
-
--- the storage where a form, if it is there, has these texts cut out
-abbrev pub cut_in : List ℕ → List (List ℕ) → Option Form → Storage → Storage
-cut_in name texts None storage = storage
-cut_in name texts (Some form) storage = keeping (finite.insert storage.forms name (segmented texts form)) storage
-
--- forms of the code with their names
-abbrev pub named_forms : {A : Type 0} → List (Vec ℕ A × Form) → Held
-named_forms forms = map (λ entry. (entry.0.items, entry.1)) forms
-
--- the storage with this form under a name
-abbrev pub with_form : List ℕ → Form → Storage → Storage
-with_form name form storage = keeping (finite.insert storage.forms name form) storage
-
--- the storage after a change by a call of these arguments
-abbrev pub changed : {A : Type 0} → List (List ℕ) → code.Change A → Storage → Storage
-changed arguments Keep storage = storage
-changed arguments (Put name form) storage = keeping (finite.insert storage.forms name.items form) storage
-changed arguments (Cut name cut) storage = cut_in name.items (drop 2 arguments) (finite.get storage.forms name.items) storage
-changed arguments (Remove names) storage = keeping (without (texts_of names.items) storage.forms) storage
-changed arguments Clear storage = keeping finite.empty storage
-changed arguments (Point name place) storage = pointed name.items place (finite.get storage.forms name.items) storage
-changed arguments (MoveIn held name address) storage = with_form name.items address (put_aside (texts_of held.items) storage)
-changed arguments (Bring number forms) storage = keeping (with_all (named_forms forms.items) storage.forms) storage
-changed arguments (Erase number name) storage = erased number name.items storage
 
 -- a change, and nothing else
 abbrev pub changing : {A : Type 0} → code.Change A → deed.Deed A

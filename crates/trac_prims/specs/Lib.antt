@@ -1,10 +1,5 @@
--- Arguments, the text that they lie in, and what is planned with them.
-pub mod Cuts
-pub mod Neutral
-pub mod Frames
-pub mod Begun
+-- The tape, and what is planned with the arguments of a call.
 pub mod Tape
 pub mod Effects
-pub mod Changes
 pub mod Blocks
 pub mod Plans

@@ -7,12 +7,12 @@ ghost use Rattle.trac_rules.specs.State.{Storage};
 ghost use Rattle.trac_rules.specs.declared.primitive.Computation.TheVariants.{Complement, Meet, Rotate, Shift, Union};
 ghost use Rattle.trac_rules.specs.declared.width.Width.{Width};
 
-use crate::args::Args;
 use crate::computing::number_at;
 use std::alloc::Allocator;
 use trac_num::{complement, meet, octal_tail, rotate, shift, union};
 use trac_rules::refusal::Refusal;
 use trac_rules::width::Width;
+use trac_text::Args;
 
 // `bu`: the bitwise or of two octal strings.
 pub(crate) fn union_of<A: Allocator + Copy>(

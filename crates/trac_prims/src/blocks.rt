@@ -11,18 +11,20 @@ ghost use Rattle.trac_rules.specs.Pieces.{bytes_in};
 ghost use Rattle.trac_rules.specs.declared.primitive.BlockAction.TheVariants.{EraseBlock, FetchBlock, StoreBlock};
 ghost use Rattle.trac_prims.specs.Blocks.{IsBlock, count_further};
 ghost use Rattle.trac_rules.specs.declared.primitive.Primitive.TheVariants.{HandleBlock};
-ghost use Rattle.trac_prims.specs.Changes.{IsChangeOf};
+ghost use Rattle.trac_change.specs.Changes.{IsChangeOf};
 ghost use Rattle.trac_rules.specs.Undone.{names_in};
-ghost use Rattle.trac_prims.specs.Effects.{IsChanged, named_forms, texts_of};
+ghost use Rattle.trac_prims.specs.Effects.{IsChanged};
+ghost use Rattle.trac_change.specs.Changed.{named_forms};
+ghost use Rattle.trac_text.specs.Framing.{texts_of};
 
-use crate::args::{Args, Behind};
-use crate::change::Change;
 use std::alloc::Allocator;
+use trac_change::{Behind, Change, after};
 use trac_forms::{Block, Form, Item, Store, Texts};
 use trac_num::{print_into, read_tail, value};
 use trac_rules::limit::{BLOCK_LIMIT, FORM_COUNT_LIMIT, NAME_LIMIT};
 use trac_rules::refusal::Refusal;
 use trac_rules::width::Width;
+use trac_text::Args;
 
 /// A form with its name.
 type Named<A> = (Vec<u8, A>, Form<A>);
@@ -37,7 +39,7 @@ pub(crate) fn store_block<A: Allocator + Copy>(
     ensures change { IfOk result (IsChangeOf (HandleBlock StoreBlock) args.now (storage_in store.now)) }
 {
     let name = args.get(1);
-    let held = leaving(alloc, store, &args.behind(2))?;
+    let held = leaving(alloc, store, &after(args, 2))?;
     let number = store.block_count();
     if held.len() > FORM_COUNT_LIMIT || number >= BLOCK_LIMIT {
         return Err(Refusal::TooLong);

@@ -5,18 +5,18 @@ ghost use Rattle.trac_rules.specs.Effect.{argument, gives};
 ghost use Rattle.trac_rules.specs.Number.{is_greater, numeral_of, on_both};
 ghost use Rattle.trac_rules.specs.State.{Storage};
 ghost use Rattle.trac_rules.specs.declared.primitive.Computation.TheVariants.{Calculate};
-ghost use Rattle.trac_prims.specs.declared.change.Change.TheVariants.{Keep};
+ghost use Rattle.trac_change.specs.declared.change.Change.TheVariants.{Keep};
 ghost use Rattle.trac_prims.specs.Effects.{IsDone};
 
-use crate::args::Args;
 use crate::bits::{complement_of, meet_of, rotation_of, shift_of, union_of};
-use crate::change::Change;
 use crate::effect::{Deed, Made};
 use std::alloc::Allocator;
+use trac_change::Change;
 use trac_num::{add, div, greater, mul, print_into, read_tail, sub, value};
 use trac_rules::primitive::{Computation, Operation};
 use trac_rules::refusal::Refusal;
 use trac_rules::width::Width;
+use trac_text::Args;
 
 // What a primitive does that looks at its arguments alone.
 pub(crate) fn compute<A: Allocator + Copy>(

@@ -3,8 +3,8 @@ ghost use Rattle.std.specs.Prelude.{◌≡◌, ◌+◌, ◌<◌, ◌^◌, [], Li
 ghost use Rattle.trac_rules.specs.State.{Storage};
 ghost use Rattle.trac_prims.specs.Effects.{changing, done_on, planned_from, planned_on};
 
-use crate::change::Change;
 use std::alloc::{Allocator, Global};
+use trac_change::Change;
 use trac_rules::width::Width;
 
 /// What a call will do, its pieces already made. Position, meta character and trace are those after the call.

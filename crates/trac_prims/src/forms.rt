@@ -9,18 +9,19 @@ ghost use Rattle.trac_rules.specs.Limits.{may_be_put};
 ghost use Rattle.trac_rules.specs.State.{Storage};
 ghost use Rattle.trac_rules.specs.declared.primitive.FormAction.TheVariants.{Define, Delete, ListNames, PrintForm, Restore, Segment, Call as CallForm};
 ghost use Rattle.trac_rules.specs.declared.primitive.Primitive.TheVariants.{Handle};
-ghost use Rattle.trac_prims.specs.declared.change.Change.TheVariants.{Keep};
-ghost use Rattle.trac_prims.specs.Changes.{IsChangeOf};
-ghost use Rattle.trac_prims.specs.Effects.{IsChanged, IsDone, texts_of};
+ghost use Rattle.trac_change.specs.declared.change.Change.TheVariants.{Keep};
+ghost use Rattle.trac_change.specs.Changes.{IsChangeOf};
+ghost use Rattle.trac_prims.specs.Effects.{IsChanged, IsDone};
+ghost use Rattle.trac_text.specs.Framing.{texts_of};
 ghost use Rattle.trac_rules.specs.declared.width.Width.{Width};
 
-use crate::args::{Args, Behind};
-use crate::change::Change;
 use crate::effect::{Deed, Made};
 use std::alloc::Allocator;
+use trac_change::{Behind, Change, after};
 use trac_forms::{Form, Store, Texts};
 use trac_rules::limit::{FORM_COUNT_LIMIT, MARK_LIMIT, NAME_LIMIT, TEXT_LIMIT};
 use trac_rules::refusal::Refusal;
+use trac_text::Args;
 
 // `ds`: a text becomes a form.
 pub(crate) fn define<A: Allocator + Copy>(
@@ -40,7 +41,7 @@ pub(crate) fn delete<A: Allocator + Copy>(alloc: A, args: &Args<'_>) -> Result<C
     ensures outcome { (width : Width) (storage : Storage) → IsChanged args.now storage (handled Delete width args.now storage) result }
     ensures change { IfOk result (λ change. (storage : Storage) → IsChangeOf (Handle Delete) args.now storage change) }
 {
-    let names = copies(alloc, &args.behind(1))?;
+    let names = copies(alloc, &after(args, 1))?;
     Ok(Change::Remove(names))
 }
 
@@ -61,7 +62,7 @@ pub(crate) fn segment<A: Allocator + Copy>(
     if !may_put(store, name) {
         return Err(Refusal::TooLong);
     }
-    let cut = form.cut_for(&args.behind(2))?;
+    let cut = form.cut_for(&after(args, 2))?;
     let name = Vec::from_slice(alloc, name)?;
     Ok(Change::Cut(name, cut))
 }
@@ -95,7 +96,7 @@ pub(crate) fn call<A: Allocator + Copy>(
     let Some(form) = store.get(args.get(1)) else {
         return Ok(Deed::changing(Change::Keep));
     };
-    let texts = args.behind(2);
+    let texts = after(args, 2);
     let Some(len) = form.call_len(&texts) else {
         return Err(Refusal::TooLong);
     };

@@ -1,19 +1,18 @@
 //! Input and output.
-ghost use Rattle.std.specs.Prelude.{◌≡◌, ◌==◌, ◌+◌, ◌<◌, ◌≤◌, List, ℕ, length, drop, is_some, position, IfOk, IfSome, Ok};
-ghost use Rattle.trac_rules.specs.Effect.{Effect, argument, prints, reads};
-ghost use Rattle.trac_rules.specs.Performing.{effect_of, primitive_of};
+ghost use Rattle.std.specs.Prelude.{◌≡◌, ◌==◌, ◌+◌, ◌<◌, ◌≤◌, List, ℕ, length, drop, position, IfOk, IfSome, Ok};
+ghost use Rattle.trac_rules.specs.Effect.{argument, prints, reads};
 ghost use Rattle.trac_rules.specs.Reading.{byte_read, string_read};
-ghost use Rattle.trac_rules.specs.State.{Environment, State, Storage};
-ghost use Rattle.trac_prims.specs.declared.change.Change.TheVariants.{Keep};
+ghost use Rattle.trac_rules.specs.State.{Storage};
+ghost use Rattle.trac_change.specs.declared.change.Change.TheVariants.{Keep};
 ghost use Rattle.trac_prims.specs.Effects.{IsDone};
 
-use crate::args::Args;
-use crate::change::Change;
 use crate::effect::{Deed, Made};
 use crate::tape::Tape;
 use memchr::memchr;
 use std::alloc::Allocator;
+use trac_change::Change;
 use trac_rules::refusal::Refusal;
+use trac_text::Args;
 
 // `ps`: prints the argument after its name.
 pub(crate) fn print_string<A: Allocator + Copy>(
@@ -89,15 +88,6 @@ fn take<A: Allocator + Copy>(
         read,
         ..Deed::changing(Change::Keep)
     })
-}
-
-/// Whether a call of these arguments sets the meta character, as the rule of T-64 for `cm` has it: its name is one of the
-/// primitive, each letter in either case, and the text after it is not empty (that an empty one sets nothing, and the cases,
-/// are this project's profile). It takes no memory, and looks at the name alone and not at the table of names.
-pub fn sets_meta(args: &Args<'_>) -> bool
-    ensures { (environment : Environment) (s : State) (e : Effect) → effect_of (primitive_of (argument 0 args.now)) environment args.now s ≡ Ok e → is_some e.meta ≡ result }
-{
-    args.get(0).eq_ignore_ascii_case(b"cm") && !args.get(1).is_empty()
 }
 
 // The first place of a byte.

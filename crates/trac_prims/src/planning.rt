@@ -9,14 +9,12 @@ ghost use Rattle.trac_rules.specs.Performing.{effect_of, performed, primitive_of
 ghost use Rattle.trac_rules.specs.Scanning.{Call};
 ghost use Rattle.trac_rules.specs.State.{State, storage_of};
 ghost use Rattle.trac_rules.specs.declared.primitive.Primitive.TheVariants as primitive;
-ghost use Rattle.trac_prims.specs.Changes.{IsChangeOf};
+ghost use Rattle.trac_change.specs.Changes.{IsChangeOf};
 ghost use Rattle.trac_prims.specs.Effects.{IsChanged, IsDone, changing, done_on, planned_from, planned_on};
 ghost use Rattle.trac_prims.specs.Plans.{HasPlace, IsGiven, IsNow, fits_after};
 ghost use Rattle.trac_prims.specs.Tape.{environment_of};
 
-use crate::args::Args;
 use crate::blocks::{erase_block, fetch_block, store_block};
-use crate::change::Change;
 use crate::computing::compute;
 use crate::effect::{Deed, Effect, Made, Now};
 use crate::forms::{call, define, delete, list_names, print_form, restore, segment};
@@ -26,12 +24,14 @@ use crate::reading::read;
 use crate::tape::Tape;
 use crate::tracing::line_into;
 use std::alloc::Allocator;
+use trac_change::Change;
 use trac_forms::Store;
 use trac_rules::kind::Kind;
 use trac_rules::limit::{MARK_LIMIT, OUTPUT_LIMIT, TEXT_LIMIT};
 use trac_rules::primitive::{BlockAction, FormAction, Primitive};
 use trac_rules::refusal::Refusal;
 use trac_rules::width::Width;
+use trac_text::Args;
 
 /// What the call of these arguments by a function of this kind will do, the first of them being the name: everything,
 /// its pieces already made. The primitives are those of T-64, with this project's profile.

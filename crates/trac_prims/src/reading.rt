@@ -9,18 +9,18 @@ ghost use Rattle.trac_rules.specs.State.{Storage};
 ghost use Rattle.trac_rules.specs.declared.primitive.FormAction.TheVariants.{Read};
 ghost use Rattle.trac_rules.specs.declared.primitive.FormReading.{FormReading};
 ghost use Rattle.trac_rules.specs.declared.primitive.Primitive.TheVariants.{Handle};
-ghost use Rattle.trac_prims.specs.Changes.{IsChangeOf};
+ghost use Rattle.trac_change.specs.Changes.{IsChangeOf};
 ghost use Rattle.trac_prims.specs.Effects.{IsDone};
 
-use crate::args::Args;
-use crate::change::Change;
 use crate::computing::number_at;
 use crate::effect::{Deed, Made};
 use std::alloc::Allocator;
+use trac_change::Change;
 use trac_forms::{Form, Piece, Store};
 use trac_rules::primitive::FormReading;
 use trac_rules::refusal::Refusal;
 use trac_rules::width::Width;
+use trac_text::Args;
 
 // `cs`, `cc`, `cn` and `in`: what is read of a form at its pointer, and the pointer where it stands then; where there is
 // nothing to read the default argument, which is forced, and the pointer where it stands already.

@@ -1,13 +1,14 @@
 //! The line that is printed for each call while the trace is on.
 ghost use Rattle.std.specs.Prelude.{◌≡◌, ◌++◌, IsOkUnless, OnOk};
 ghost use Rattle.std.specs.List.{join_with_byte};
-ghost use Rattle.trac_rules.specs.Performing.{beginning_of, trace_line};
+ghost use Rattle.trac_rules.specs.Performing.{trace_line};
 
-use crate::args::Args;
 use std::alloc::Allocator;
 use trac_rules::byte::{CLOSING, LINE_FEED, STAR};
 use trac_rules::kind::Kind;
 use trac_rules::refusal::Refusal;
+use trac_text::Args;
+use trac_text::front::beginning_of;
 
 // Puts the line of a call by a function of this kind at the end of `out`, where the trace is on.
 pub(crate) fn line_into<A: Allocator + Copy>(
@@ -27,16 +28,6 @@ pub(crate) fn line_into<A: Allocator + Copy>(
     out.push(CLOSING)?;
     out.push(LINE_FEED)?;
     Ok(())
-}
-
-/// How a function of this kind begins, by T-64's rules of scanning.
-pub fn beginning_of(kind: Kind) -> &'static [u8]
-    ensures { result.now ≡ beginning_of kind }
-{
-    match kind {
-        Kind::Active => b"#(",
-        Kind::Neutral => b"##(",
-    }
 }
 
 // Puts all arguments at the end of `out`, with `*` between them.

@@ -1,7 +1,7 @@
-//! Readers and writers of which a call fails, and memory of which a request is refused.
-use std::alloc::{AllocError, Global};
-use std::process::Abort;
-use trac_faults::{FaultyReader, FaultyWriter, Refusing};
+//! Readers and writers of which a call fails.
+use std::alloc::Global;
+use std::io::ErrorKind;
+use trac_faults::{FaultyReader, FaultyWriter};
 
 /// What fails: the call of this number.
 #[derive(Clone, Copy)]
@@ -13,12 +13,24 @@ pub(crate) enum Fault {
     Write(u64),
     /// Nothing is taken.
     TakeNone(u64),
+    /// Each write takes one byte, and the write of this number fails. At 0 none fails.
+    TakeOne(u64),
     Flush(u64),
 }
 
+/// The kinds of errors that a call fails with. By the rule of std a call that was interrupted may be tried again; what is
+/// tested here tries no call again, and ends for any error.
+pub(crate) const KINDS: &[ErrorKind] = &[ErrorKind::Other, ErrorKind::Interrupted];
+
+/// What fails, and with which kind of error.
+pub(crate) type Failing = (Fault, ErrorKind);
+
+/// No call fails.
+pub(crate) const NO_FAULT: Failing = (Fault::None, ErrorKind::Other);
+
 /// A reader of these bytes, at most so many at a time.
-pub(crate) fn reader_of(input: &[u8], most: usize, fault: Fault) -> FaultyReader<'_> {
-    let reader = FaultyReader::new(input).at_most(most);
+pub(crate) fn reader_of(input: &[u8], most: usize, (fault, kind): Failing) -> FaultyReader<'_> {
+    let reader = FaultyReader::new(input).at_most(most).with_kind(kind);
     match fault {
         Fault::Read(nth) => reader.failing_at(nth),
         Fault::ReadAtEnd => reader.failing_at_end(),
@@ -27,43 +39,13 @@ pub(crate) fn reader_of(input: &[u8], most: usize, fault: Fault) -> FaultyReader
 }
 
 /// A writer.
-pub(crate) fn writer_of(plain: Global, fault: Fault) -> FaultyWriter {
-    let writer = FaultyWriter::new(plain);
+pub(crate) fn writer_of(plain: Global, (fault, kind): Failing) -> FaultyWriter {
+    let writer = FaultyWriter::new(plain).with_kind(kind);
     match fault {
         Fault::Write(nth) => writer.failing_at(nth),
         Fault::TakeNone(nth) => writer.taking_none_at(nth),
+        Fault::TakeOne(nth) => writer.at_most(1).failing_at(nth),
         Fault::Flush(nth) => writer.failing_flush_at(nth),
         _ => writer,
     }
-}
-
-/// A run over memory of which a request may be refused.
-pub(crate) trait Trial {
-    /// Runs it. Where no request is refused, it must end well.
-    fn run(
-        &self,
-        rt: &(impl Abort + AllocGlobal),
-        memory: &Refusing<Global>,
-    ) -> Result<(), AllocError>;
-}
-
-fn expect_each<T: Trial>(
-    rt: &(impl Abort + AllocGlobal),
-    memory: &Refusing<Global>,
-    fewer: u64,
-    trial: &T,
-) -> Result<(), AllocError> {
-    let runs = memory.refuse_each(10_000, |_| trial.run(rt, memory))?;
-    assert!(rt; runs > Some(fewer), "{runs:?} runs");
-    Ok(())
-}
-
-/// Each request of this run is refused in turn, which takes more runs than this.
-pub(crate) fn expect_trial<T: Trial>(
-    rt: &(impl Abort + AllocGlobal),
-    fewer: u64,
-    trial: &T,
-) -> Result<(), AllocError> {
-    let memory = Refusing::new(rt.alloc());
-    expect_each(rt, &memory, fewer, trial)
 }

@@ -164,9 +164,9 @@ module _ (arguments : List (List ℕ)) (storage : Storage) (proper : IsProperSto
 
 -- ---- a step
 
-total-append : (texts : List (List ℕ)) (text : List ℕ) → total_length (texts ++ text ∷ []) ≡ total_length texts + length text
-total-append [] text = omega arith
-total-append (first ∷ texts) text = omega (arith, total-append texts text)
+pub total_length-append : (texts : List (List ℕ)) (text : List ℕ) → total_length (texts ++ text ∷ []) ≡ total_length texts + length text
+total_length-append [] text = omega arith
+total_length-append (first ∷ texts) text = omega (arith, total_length-append texts text)
 
 -- texts and marks of a proper state
 fits_so : (s : State) → texts_fit s ≡ true → (text_bytes s ≤ TEXT_LIMIT) × (marks s.frames ≤ MARK_LIMIT)
@@ -188,7 +188,7 @@ closing_bounded s proper (f ∷ fs) bytes few =
     omega (
       arith,
       primitive_bounded arguments (storage_of s) proper (primitive_of (argument 0 arguments)),
-      total-append f.arguments f.gathered,
+      total_length-append f.arguments f.gathered,
       length-append f.arguments (f.gathered ∷ []),
       bytes,
       few,

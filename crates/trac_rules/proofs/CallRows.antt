@@ -23,7 +23,7 @@ use Rattle.trac_rules.specs.Performing.{primitive_of}
 use Rattle.trac_rules.specs.RecordRows.{Destroys, GivesBack, GivesNothingBack, stored}
 use Rattle.trac_rules.specs.Rows.{Named}
 use Rattle.trac_rules.specs.State.{Block, Forms, Held, Storage}
-use Rattle.trac_rules.specs.Undone.{Undone, Point, Join, Swap, Restore, MoveOut, Unbring, Unerase, are_free, are_there, block_lost, handling_lost, is_erased, joined_back, last_block, names_in, pointed_back, pointer_back, replaced_lost, storage_before, swapped_back, undone_by}
+use Rattle.trac_rules.specs.Undone.{Undone, Point, Join, Swap, Restore, MoveOut, Unbring, Unerase, are_deleted, are_free, are_there, block_lost, handling_lost, is_erased, joined_back, last_block, names_in, pointed_back, pointer_back, replaced_lost, storage_before, swapped_back, undone_by}
 use Rattle.trac_rules.proofs.BlockCalls.{all_put, moved_from, moved_out-held, with_all-held}
 use Rattle.trac_rules.proofs.FormCalls.{all_removed, entries-held, held, held-removed, in_order, removed, same_held, without-held}
 
@@ -139,11 +139,20 @@ module _ (arguments : List (List ℕ)) (es : Named) (blocks : List Block) where
   no_swap old none = swap_tested old ∙ not_given (is_some (looked_up name_of es)) (keeping (swapped_back name_of old (held es)) (stored [] blocks)) none
 
   -- forms that were deleted
+  abbrev pub deleted_by : Primitive → Bool
+  deleted_by (Handle action.DeleteAll) = nat_le (length (in_order es)) 0
+  deleted_by primitive = free_in (drop 1 arguments) es
+
+  are_deleted-held : (primitive : Primitive) → are_deleted primitive arguments (held es) ≡ deleted_by primitive
+  are_deleted-held (Handle action.DeleteAll) = ap (λ (n : ℕ). nat_le n 0) (finite.len-entries (held es) ∙ ap length (entries-held es))
+  are_deleted-held primitive = are_free-held (drop 1 arguments) es
+
   abbrev pub deleted_in : Held → Bool
-  deleted_in entries = free_in (drop 1 arguments) es && free_in (names_in entries) es
+  deleted_in entries = deleted_by (primitive_of (argument 0 arguments)) && free_in (names_in entries) es
 
   restore_tested : (entries : Held) → storage_before arguments (Restore entries) (stored es blocks) ≡ then_some (deleted_in entries) (keeping (with_all entries (held es)) (stored [] blocks))
-  restore_tested entries = λ i. then_some (are_free-held (drop 1 arguments) es i && are_free-held (names_in entries) es i) (keeping (with_all entries (held es)) (stored [] blocks))
+  restore_tested entries =
+      λ i. then_some (are_deleted-held (primitive_of (argument 0 arguments)) i && are_free-held (names_in entries) es i) (keeping (with_all entries (held es)) (stored [] blocks))
 
   pub restore : (entries : Held) (before : Named) → deleted_in entries ≡ true → in_order (all_put entries es) ≡ in_order before → GivesBack arguments (Restore entries) es blocks before blocks
   restore entries before free same =

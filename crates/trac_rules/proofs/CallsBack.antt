@@ -177,7 +177,7 @@ performed_kept environment call e done =
     let primitive = primitive_of (argument 0 call.arguments) in
     let line = trace_line call.state.trace call.kind call.arguments in
     let parts = seen_as-Ok (printed_behind line) (effect_of primitive environment call.arguments call.state) e done in
-    let kept = effect_kept primitive environment call.arguments call.state parts.0 parts.1 in
+    let kept = effect_kept primitive environment call.arguments call.state parts.0 refl parts.1 in
     subst (IsKept primitive call.arguments (storage_of call.state)) (sym parts.2) (record { storage_back = kept.storage_back; meta = kept.meta })
 
 pub storage_goes_back : (environment : Environment) (s t : State) (kept : CallRecord) → step environment s ≡ Ok t → call_record_of environment s ≡ Some kept →

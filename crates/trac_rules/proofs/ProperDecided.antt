@@ -41,7 +41,7 @@ form_decided name form =
 -- ---- entries
 
 -- a name below all names of a list is not found in it
-not_below : (name : List ℕ) (es : List (List ℕ × Form)) → T (below_all (slice_cmp nat_cmp) name es) → find (slice_cmp nat_cmp) name es ≡ None
+pub not_below : (name : List ℕ) (es : List (List ℕ × Form)) → T (below_all (slice_cmp nat_cmp) name es) → find (slice_cmp nat_cmp) name es ≡ None
 not_below name [] below = refl
 not_below name (e ∷ es) below = go (slice_cmp nat_cmp name e.0) below (not_below name es)
   where

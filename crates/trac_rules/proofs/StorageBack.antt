@@ -2,7 +2,9 @@
 use Rattle.std.proofs.Common.{◌≡◌, ℕ, zero, suc, ◌-◌, ◌<◌, Bool, true, false, List, [], ◌∷◌, ◌++◌, length, take, drop, refl, sym, ap, subst, ◌∙◌, arith}
 use Rattle.std.specs.Prelude.{Option, None, Some, Result, Ok, Err, ◌==◌, ◌&&◌, not, nat_le, nat_lt, if◌then◌else◌, is_some, option_and_then, position, slice_set, decimal}
 use Rattle.std.specs.Bool.{then_some}
+use Rattle.std.specs.Cmp.Lexicographic.{slice_cmp}
 use Rattle.std.specs.FinMap as finite
+use Rattle.std.specs.Ordering.{nat_cmp}
 use Rattle.std.specs.Str.{bytes_eq}
 use Rattle.std.proofs.lemmas.Bool.{and_from, and_parts, le-leb, lt-ltb}
 use Rattle.std.proofs.lemmas.List.{drop_at, get_or_at, length-append, length-set, take-append-drop, take_at}
@@ -27,14 +29,14 @@ use Rattle.trac_rules.specs.Form.{Form, all_items, defined, pointed_at}
 use Rattle.trac_rules.specs.Handling.{default_argument, form_read, gives_piece, handled, keeping, named_form, on_form, piece_read, pointing, putting, without}
 use Rattle.trac_rules.specs.Limits.{may_be_put}
 use Rattle.trac_rules.specs.Number.{calculated}
-use Rattle.trac_rules.specs.Performing.{effect_of, meta_set}
+use Rattle.trac_rules.specs.Performing.{effect_of, meta_set, primitive_of}
 use Rattle.trac_rules.specs.Pieces.{Piece, bytes_in}
 use Rattle.trac_rules.specs.Reading.{byte_read, read_up_to, rest_read, unread}
 use Rattle.trac_rules.specs.Segmenting.{segmented}
 use Rattle.trac_rules.specs.Showing.{shown}
 use Rattle.trac_rules.specs.declared.width.Width.{Width}
 use Rattle.trac_rules.specs.State.{Block, Environment, Forms, Held, State, Storage, storage_of}
-use Rattle.trac_rules.specs.Undone.{Undone, Nothing, Point, Join, Swap, MoveOut, are_free, are_there, block_handling_lost, block_lost, bytes_lost, handling_lost, is_erased, is_free, joined_back, last_block, moved_out_again, names_in, pointed_back, pointer_back, pointer_lost, replaced_lost, storage_before, swapped_back, undefined, undone_by, unerased}
+use Rattle.trac_rules.specs.Undone.{Undone, Nothing, Point, Join, Swap, MoveOut, are_deleted, are_free, are_there, block_handling_lost, block_lost, bytes_lost, handling_lost, is_erased, is_free, joined_back, last_block, moved_out_again, names_in, pointed_back, pointer_back, pointer_lost, replaced_lost, storage_before, swapped_back, undefined, undeleted, undone_by, unerased}
 use Rattle.trac_rules.specs.Weights.{meta_kept, meta_weight}
 use Rattle.trac_rules.proofs.Balanced.{first_place_passes}
 use Rattle.trac_rules.proofs.Cuts.{cut_joined}
@@ -106,11 +108,14 @@ defined_back name form storage =
     ap (λ (found : Option Form). then_some (is_some found) (keeping (swapped_back name old m) storage)) (get-put storage.forms name form)
     ∙ ap (λ (forms : Forms). Some (keeping forms storage)) (swapped name old m storage.forms refl (put_differs name form storage.forms))
 
--- what is tested of names before forms are put back, and then the forms
-put_back_free : (names others : List (List ℕ)) (left before : Forms) (storage : Storage) → are_free names left ≡ true → are_free others left ≡ true → before ≡ storage.forms →
-    then_some (are_free names left && are_free others left) (keeping before storage) ≡ Some storage
-put_back_free names others left before storage free apart same =
-    ap (λ (b : Bool). then_some b (keeping before storage)) (and_from (are_free names left) (are_free others left) free apart)
+-- what is tested before deleted forms are put back, after a call of a primitive, and then the forms
+put_back_deleted : (arguments : List (List ℕ)) (primitive : Primitive) (held : Held) (left : Forms) (storage : Storage) → primitive_of (argument 0 arguments) ≡ primitive →
+    are_deleted primitive arguments left ≡ true → are_free (names_in held) left ≡ true → with_all held left ≡ storage.forms →
+    undeleted arguments held (keeping left storage) ≡ Some storage
+put_back_deleted arguments primitive held left storage named gone free same =
+    let before = keeping (with_all held left) storage in
+    let deleted = ap (λ (p : Primitive). are_deleted p arguments left) named ∙ gone in
+    ap (λ (b : Bool). then_some b before) (and_from (are_deleted (primitive_of (argument 0 arguments)) arguments left) (are_free (names_in held) left) deleted free)
     ∙ ap (λ (forms : Forms). Some (keeping forms storage)) same
 
 -- a call on a form, where it is there or not
@@ -140,36 +145,37 @@ module _ (arguments : List (List ℕ)) (storage : Storage) where
   keeps_all None act is = (refl, refl)
   keeps_all (Some form) act is = is form
 
-  handled_back : (action : FormAction) (width : Width) → IsUndone arguments (handling_lost action arguments storage) storage (handled action width arguments storage)
-  handled_back action.Define width =
+  handled_back : (action : FormAction) (width : Width) → primitive_of (argument 0 arguments) ≡ Handle action →
+      IsUndone arguments (handling_lost action arguments storage) storage (handled action width arguments storage)
+  handled_back action.Define width named =
       or_refused arguments (Swap (named_form arguments storage)) storage (may_be_put (argument 1 arguments) (defined (argument 2 arguments)) storage.forms)
       (Ok (leaves (keeping (finite.insert storage.forms (argument 1 arguments) (defined (argument 2 arguments))) storage)))
       (defined_back (argument 1 arguments) (defined (argument 2 arguments)) storage, refl)
-  handled_back action.Delete width =
+  handled_back action.Delete width named =
       let names = drop 1 arguments in
-      let held = moved_out names storage.forms in
-      let left = without names storage.forms in (
-        put_back_free names (names_in held) left (with_all held left) storage (taken_free names storage.forms) (moved_free names storage.forms) (moved_back_in names storage.forms),
+      let held = moved_out names storage.forms in (
+        put_back_deleted arguments (Handle action.Delete) held (without names storage.forms) storage named
+            (taken_free names storage.forms) (moved_free names storage.forms) (moved_back_in names storage.forms),
         refl,
       )
-  handled_back action.DeleteAll width =
-      let names = drop 1 arguments in
+  handled_back action.DeleteAll width named =
       let held = finite.entries storage.forms in (
-        put_back_free names (names_in held) finite.empty (with_all held finite.empty) storage (empty_free names) (empty_free (names_in held)) (all_put_back storage.forms),
+        put_back_deleted arguments (Handle action.DeleteAll) held finite.empty storage named
+            (ap (λ (n : ℕ). nat_le n 0) (finite.len-empty (slice_cmp nat_cmp) Form)) (empty_free (names_in held)) (all_put_back storage.forms),
         refl,
       )
-  handled_back action.Segment width = segmenting_back (named_form arguments storage) refl
-  handled_back action.Restore width = restoring_back (named_form arguments storage) refl
-  handled_back action.Call width =
+  handled_back action.Segment width named = segmenting_back (named_form arguments storage) refl
+  handled_back action.Restore width named = restoring_back (named_form arguments storage) refl
+  handled_back action.Call width named =
       keeps_all (named_form arguments storage) (λ form. Ok (gives (called (drop 2 arguments) form) storage)) (λ form. (refl, refl))
-  handled_back (action.Read reading) width = reading_back (named_form arguments storage) refl
+  handled_back (action.Read reading) width named = reading_back (named_form arguments storage) refl
     where
       reading_back : (found : Option Form) → named_form arguments storage ≡ found →
           IsUndone arguments (pointer_lost found) storage (on_form found (λ form. Ok (form_read reading width arguments form storage)) storage)
       reading_back None there = (refl, refl)
       reading_back (Some form) there = piece_back (piece_read reading width arguments form) (default_argument reading arguments) form there
-  handled_back action.ListNames width = (refl, refl)
-  handled_back action.PrintForm width = keeps_all (named_form arguments storage) (λ form. Ok (prints (shown form) storage)) (λ form. (refl, refl))
+  handled_back action.ListNames width named = (refl, refl)
+  handled_back action.PrintForm width named = keeps_all (named_form arguments storage) (λ form. Ok (prints (shown form) storage)) (λ form. (refl, refl))
 
 -- ---- blocks
 
@@ -341,20 +347,20 @@ abbrev pub SetsNoMeta : Primitive → Type 0
 SetsNoMeta SetMeta = ⊥
 SetsNoMeta primitive = Unit {0}
 
--- each primitive but `cm`
-pub effect_undone : (primitive : Primitive) (environment : Environment) (arguments : List (List ℕ)) (s : State) → SetsNoMeta primitive →
+-- each primitive but `cm`, called by its name
+pub effect_undone : (primitive : Primitive) (environment : Environment) (arguments : List (List ℕ)) (s : State) → SetsNoMeta primitive → primitive_of (argument 0 arguments) ≡ primitive →
     IsUndone arguments (undone_by primitive arguments (storage_of s)) (storage_of s) (effect_of primitive environment arguments s)
-effect_undone PrintString environment arguments s sets_none = (refl, refl)
-effect_undone ReadString environment arguments s sets_none =
+effect_undone PrintString environment arguments s sets_none named = (refl, refl)
+effect_undone ReadString environment arguments s sets_none named =
     read_back arguments (storage_of s) (position (λ b. b == s.meta) (unread environment.tape s)) (unread environment.tape s) environment.tape.ended
-effect_undone ReadByte environment arguments s sets_none = byte_back arguments (storage_of s) (unread environment.tape s) environment.tape.ended
-effect_undone Halt environment arguments s sets_none = tt
-effect_undone SetMeta environment arguments s sets_none = absurd sets_none
-effect_undone (SetTrace trace) environment arguments s sets_none = (refl, refl)
-effect_undone (Compute computation) environment arguments s sets_none = computed_back arguments (storage_of s) computation environment.width
-effect_undone (Handle action) environment arguments s sets_none = handled_back arguments (storage_of s) action environment.width
-effect_undone (HandleBlock action) environment arguments s sets_none = block_handled_back arguments (storage_of s) action
-effect_undone Unknown environment arguments s sets_none = (refl, refl)
+effect_undone ReadByte environment arguments s sets_none named = byte_back arguments (storage_of s) (unread environment.tape s) environment.tape.ended
+effect_undone Halt environment arguments s sets_none named = tt
+effect_undone SetMeta environment arguments s sets_none named = absurd sets_none
+effect_undone (SetTrace trace) environment arguments s sets_none named = (refl, refl)
+effect_undone (Compute computation) environment arguments s sets_none named = computed_back arguments (storage_of s) computation environment.width
+effect_undone (Handle action) environment arguments s sets_none named = handled_back arguments (storage_of s) action environment.width named
+effect_undone (HandleBlock action) environment arguments s sets_none named = block_handled_back arguments (storage_of s) action
+effect_undone Unknown environment arguments s sets_none named = (refl, refl)
 
 -- what a call's effect leaves is undone, and the old meta character is kept where one is set
 pub record IsKept (primitive : Primitive) (arguments : List (List ℕ)) (storage : Storage) (e : Effect) : Type 0 where
@@ -373,10 +379,10 @@ kept_of_undone primitive arguments storage (Ok f) e none is same =
     subst (IsKept primitive arguments storage) one (record { storage_back = is.0; meta = ap meta_weight is.1 ∙ sym none })
 kept_of_undone primitive arguments storage (Err refusal) e none is same = absurd (cc)
 
-pub effect_kept : (primitive : Primitive) (environment : Environment) (arguments : List (List ℕ)) (s : State) (e : Effect) → effect_of primitive environment arguments s ≡ Ok e →
-    IsKept primitive arguments (storage_of s) e
-effect_kept SetMeta environment arguments s e same =
+pub effect_kept : (primitive : Primitive) (environment : Environment) (arguments : List (List ℕ)) (s : State) (e : Effect) → primitive_of (argument 0 arguments) ≡ primitive →
+    effect_of primitive environment arguments s ≡ Ok e → IsKept primitive arguments (storage_of s) e
+effect_kept SetMeta environment arguments s e named same =
     let one : meta_set (argument 1 arguments) (storage_of s) ≡ e = cc in
     subst (IsKept SetMeta arguments (storage_of s)) one (meta_is_kept (argument 1 arguments) arguments (storage_of s) refl)
-effect_kept primitive environment arguments s e same =
-    kept_of_undone primitive arguments (storage_of s) (effect_of primitive environment arguments s) e refl (effect_undone primitive environment arguments s tt) same
+effect_kept primitive environment arguments s e named same =
+    kept_of_undone primitive arguments (storage_of s) (effect_of primitive environment arguments s) e refl (effect_undone primitive environment arguments s tt named) same

@@ -18,6 +18,7 @@ use Rattle.trac_rules.specs.Cuts.{cut_of, joined}
 use Rattle.trac_rules.specs.Effect.{argument}
 use Rattle.trac_rules.specs.Form.{Form, all_items, pointed_at}
 use Rattle.trac_rules.specs.Handling.{keeping, named_form, without}
+use Rattle.trac_rules.specs.Performing.{primitive_of}
 use Rattle.trac_rules.specs.State.{Block, Forms, Held, Storage}
 
 pub data Undone : Type 0 where
@@ -97,6 +98,12 @@ is_free name forms = not (is_some (finite.get forms name))
 abbrev pub are_free : List (List ℕ) → Forms → Bool
 are_free names forms = list_all (λ name. is_free name forms) names
 
+-- whether no form stands that a call of this primitive with these arguments deletes: none at all, where it deletes all forms, or else none
+-- under the names that it is given
+abbrev pub are_deleted : Primitive → List (List ℕ) → Forms → Bool
+are_deleted (Handle action.DeleteAll) arguments forms = nat_le (finite.len forms) 0
+are_deleted primitive arguments forms = are_free (drop 1 arguments) forms
+
 -- whether a form stands under each of these names
 abbrev pub are_there : List (List ℕ) → Forms → Bool
 are_there names forms = list_all (λ name. is_some (finite.get forms name)) names
@@ -127,11 +134,12 @@ abbrev pub undefined : List ℕ → Option Form → Storage → Option Storage
 undefined name old storage =
     then_some (is_some (finite.get storage.forms name)) (keeping (swapped_back name old storage.forms) storage)
 
--- these forms are put among the others, after these names were given to delete their forms; none where a form stands under one of those
--- names, or under the name of one of these forms
+-- these forms are put among the others, after a call of these arguments deleted them; none where a form stands that such a call deletes, or
+-- one under the name of one of these forms
 abbrev pub undeleted : List (List ℕ) → Held → Storage → Option Storage
-undeleted names held storage =
-    then_some (are_free names storage.forms && are_free (names_in held) storage.forms) (keeping (with_all held storage.forms) storage)
+undeleted arguments held storage =
+    then_some (are_deleted (primitive_of (argument 0 arguments)) arguments storage.forms && are_free (names_in held) storage.forms)
+    (keeping (with_all held storage.forms) storage)
 
 -- the last block; where there are none it is as if erased
 abbrev pub last_block : List Block → Block
@@ -178,7 +186,7 @@ storage_before arguments (Point place) storage = pointer_back (argument 1 argume
 storage_before arguments (Join cut place) storage =
     joined_back (drop 2 arguments) cut (argument 1 arguments) place (named_form arguments storage) storage
 storage_before arguments (Swap old) storage = undefined (argument 1 arguments) old storage
-storage_before arguments (Restore held) storage = undeleted (drop 1 arguments) held storage
+storage_before arguments (Restore held) storage = undeleted arguments held storage
 storage_before arguments (MoveOut old) storage = moved_out_again (argument 1 arguments) (drop 2 arguments) old storage
 storage_before arguments (Unbring number replaced) storage = unbrought number replaced storage
 storage_before arguments (Unerase number held address) storage = unerased number held (argument 1 arguments) address storage

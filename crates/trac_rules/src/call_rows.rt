@@ -91,6 +91,7 @@ pub fn worked_given_back()
     ensures no_form_to_undefine { GivesNothingBack (texts_of (codes "ds,a,1")) (Swap None) ((codes "b", defined (codes "2")) ∷ []) [] }
     ensures deleted_form_there { GivesNothingBack (texts_of (codes "dd,a")) (Restore ((codes "a", defined (codes "1")) ∷ [])) ((codes "a", defined (codes "2")) ∷ []) [] }
     ensures deleted_name_there { GivesNothingBack (texts_of (codes "dd,a,b")) (Restore ((codes "a", defined (codes "1")) ∷ [])) ((codes "b", defined (codes "2")) ∷ []) [] }
+    ensures deleted_all_but_one { GivesNothingBack (texts_of (codes "da")) (Restore ((codes "a", defined (codes "1")) ∷ [])) ((codes "zz", defined (codes "2")) ∷ []) [] }
     ensures no_address_of_the_block { GivesNothingBack (texts_of (codes "sb,G,A")) (MoveOut None) [] (Some ((codes "A", defined (codes "1")) ∷ []) ∷ []) }
     ensures form_of_the_block_there { GivesNothingBack (texts_of (codes "sb,G,A")) (MoveOut None) ((codes "A", defined (codes "2")) ∷ (codes "G", defined (codes "0")) ∷ []) (Some ((codes "A", defined (codes "1")) ∷ []) ∷ []) }
     ensures moved_name_there { GivesNothingBack (texts_of (codes "sb,G,C")) (MoveOut None) ((codes "C", defined (codes "3")) ∷ (codes "G", defined (codes "0")) ∷ []) (Some [] ∷ []) }

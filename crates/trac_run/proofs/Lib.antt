@@ -1,4 +1,3 @@
-pub mod Known
 pub mod Turned
 pub mod Taken
 pub mod Ran

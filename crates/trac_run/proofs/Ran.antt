@@ -10,12 +10,12 @@ use Rattle.trac_rules.specs.Session.{PlainSession, new_session}
 use Rattle.trac_rules.specs.Running.{Output, output_of}
 use Rattle.trac_rules.specs.GoingOn.{prepended, going_on_from}
 use Rattle.trac_rules.proofs.GoingOn.{prepended-prepended}
-use Rattle.trac_run.specs.declared.ending.Ending.{Ending}
-use Rattle.trac_run.specs.declared.ending.Ending.TheVariants.{Ended, Budget, Limit, Memory, Read, Write, NotUnderstood}
+use Rattle.trac_streams.specs.declared.ending.Ending.{Ending}
+use Rattle.trac_streams.specs.declared.ending.Ending.TheVariants.{Ended, Budget, Limit, Memory, Read, Write, NotUnderstood}
 use Rattle.trac_rules.specs.Fronts.{IsFrontOf}
-use Rattle.trac_run.specs.Written.{Closes}
+use Rattle.trac_streams.specs.Written.{Closes}
 use Rattle.trac_run.specs.Runs.{Shows, Runs, IsFresh, GoesOn, Finishes, most_read, unread_count}
-use Rattle.trac_run.proofs.Known.{Appends-nothing, Appends-both, Consumes-nothing, Consumes-both, front_of_nothing, empty_front}
+use Rattle.trac_streams.proofs.Known.{Appends-nothing, Appends-both, Consumes-nothing, Consumes-both, front_behind, front_of_nothing, empty_front}
 use Rattle.trac_run.proofs.Turned.{Shows-Write}
 
 -- what a run has done so far: what was read, and that it is no more than the steps so far may take and what is unread; what was written,
@@ -64,10 +64,6 @@ so_far_turn in_old in_now in_new out_old out_now out_new width budget p q m n fa
   fits = on.fits far.fits;
   few = omega (arith, length-append far.got on.got, far.few, on.few far.fits);
 }
-
--- a front after what was written
-pub front_behind : (text front whole : List ℕ) → IsFrontOf front whole → IsFrontOf (text ++ front) (text ++ whole)
-front_behind text front whole f = (f.0, ap (λ t. text ++ t) f.1 ∙ sym (append_assoc text front f.0))
 
 -- what an ending says after what was written
 pub Shows-prepended : (ending : Ending) (text written : List ℕ) (o : Output) → Shows ending written o → Shows ending (text ++ written) (prepended text o)

@@ -13,11 +13,12 @@ use Rattle.trac_rules.specs.GoingOn.{prepended, going_on_from}
 use Rattle.trac_rules.proofs.GoingOn.{after_Commit, going_on-Commit, after_Feed, going_on-Feed, after_End, going_on-End, going_on_hopeless}
 use Rattle.trac_rules.proofs.Refusals.{wants_input_of_open}
 use Rattle.trac_rules.proofs.Replies.{Commit_done, End_done, Feed_done, Feed_refused, Step_refused_NeedInput}
-use Rattle.trac_run.specs.declared.ending.Ending.{Ending}
-use Rattle.trac_run.specs.declared.ending.Ending.TheVariants.{Ended, Budget, Limit, Memory, Read, Write, NotUnderstood}
-use Rattle.trac_run.specs.Written.{WritesFront, Closes}
+use Rattle.trac_streams.specs.declared.ending.Ending.{Ending}
+use Rattle.trac_streams.specs.declared.ending.Ending.TheVariants.{Ended, Budget, Limit, Memory, Read, Write, NotUnderstood}
+use Rattle.trac_streams.specs.Written.{WritesFront, Closes}
 use Rattle.trac_run.specs.Runs.{Shows, ending_of_feed, IsFresh, turns_left, unread_count, most_read, GoesOn, Finishes, EndsFor, TakesNone, TakesMore}
-use Rattle.trac_run.proofs.Known.{Appends-both, Appends-kept, Consumes-nothing, front_of_front, front_of_itself, empty_front}
+use Rattle.trac_streams.proofs.Gathered.{if_ended, if_open}
+use Rattle.trac_streams.proofs.Known.{Appends-both, Appends-kept, Consumes-nothing, front_of_front, front_of_itself, empty_front}
 use Rattle.trac_run.proofs.Turned.{front_pending, Shows-Write, ended_after_Commit, end_turns, few_of_none, unread_after_Commit}
 
 -- ---- one read
@@ -165,24 +166,17 @@ taken_fresh in_old in_new q r s some e taken =
     let at = after_Feed r s taken.got (on_tape_after_Commit q r e) fed.1 in fresh_like q r s some e (at.0, at.1, at.2))
     taken.fed
 
--- the end adds nothing where it has come, and one before
-pub no_end_turn : (b : Bool) → b ≡ true → ◌≡◌ {A = ℕ} (if b then 0 else 1) 0
-no_end_turn b e = rw e refl
-
-pub one_end_turn : (b : Bool) → b ≡ false → ◌≡◌ {A = ℕ} (if b then 0 else 1) 1
-one_end_turn b e = rw e refl
-
 -- with nothing read before, there are fewer turns left: the tape is longer, or it has ended
 pub taken_fewer : (in_old in_new : Option (List ℕ)) (q r s : PlainSession) (n : ℕ) → answer Step q ≡ refused refusals.NeedInput q → answer (Commit 0) q ≡ done r → TakesMore in_old in_new r s →
     q.last.position ≡ 0 → turns_left s n < turns_left q n
 taken_fewer in_old in_new q r s n wanted e taken start =
     let kept : length r.tape.bytes ≡ length q.tape.bytes =
     ap length (tape_after_Commit q r e) ∙ length-drop q.last.position q.tape.bytes ∙ ap (λ k. length q.tape.bytes - k) start ∙ omega arith in
-    let before = one_end_turn q.tape.ended (wanted_open q wanted) in
+    let before = if_open q.tape.ended (wanted_open q wanted) in
     ⊎_elim
     (λ (end : (taken.got ≡ []) × IsAtEnd in_new × (answer End r ≡ done s)).
     let same : length s.tape.bytes ≡ length r.tape.bytes = ap (λ (t : PlainSession). length t.tape.bytes) (End_done r s end.2) in
-    let after = no_end_turn s.tape.ended (after_End r s (on_tape_after_Commit q r e) end.2).4 in
+    let after = if_ended s.tape.ended (after_End r s (on_tape_after_Commit q r e) end.2).4 in
     omega (arith, before, after, same, kept))
     (λ (fed : (0 < length taken.got) × (answer (Feed taken.got) r ≡ done s)).
     let at = Feed_done taken.got r s fed.1 in

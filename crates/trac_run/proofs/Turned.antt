@@ -15,12 +15,12 @@ use Rattle.trac_rules.specs.GoingOn.{prepended, going_on_from}
 use Rattle.trac_rules.proofs.GoingOn.{after_repeated, going_on-repeated, after_Commit, going_on-Commit, going_on_spent, going_on_ended, going_on_too_long}
 use Rattle.trac_rules.proofs.Replies.{Commit_done, Step_refused_JournalFull, Step_refusals}
 use Rattle.trac_session.specs.Within.{IsWalkWithin}
-use Rattle.trac_run.specs.declared.ending.Ending.{Ending}
-use Rattle.trac_run.specs.declared.ending.Ending.TheVariants.{Ended, Budget, Limit, Write}
+use Rattle.trac_streams.specs.declared.ending.Ending.{Ending}
+use Rattle.trac_streams.specs.declared.ending.Ending.TheVariants.{Ended, Budget, Limit, Write}
 use Rattle.trac_rules.specs.Fronts.{IsFrontOf}
-use Rattle.trac_run.specs.Written.{WritesFront, Closes}
+use Rattle.trac_streams.specs.Written.{WritesFront, Closes}
 use Rattle.trac_run.specs.Runs.{Shows, IsFresh, turns_left, unread_count, most_read, GoesOn, Finishes}
-use Rattle.trac_run.proofs.Known.{Consumes-nothing, front_of_front}
+use Rattle.trac_streams.proofs.Known.{Consumes-nothing, front_of_front}
 
 -- ---- the walk
 

@@ -10,11 +10,11 @@ use Rattle.trac_rules.specs.Session.{PlainSession, Step, refused, answer}
 use Rattle.trac_rules.specs.Running.{Output}
 use Rattle.trac_rules.specs.GoingOn.{prepended, going_on_from}
 use Rattle.trac_rules.proofs.GoingOn.{prepended-prepended}
-use Rattle.trac_run.specs.declared.ending.Ending.{Ending}
+use Rattle.trac_streams.specs.declared.ending.Ending.{Ending}
 use Rattle.trac_run.specs.Runs.{Shows, IsFresh, turns_left, GoesOn, Finishes}
-use Rattle.trac_run.proofs.Known.{Appends-both, Consumes-both}
+use Rattle.trac_streams.proofs.Known.{Appends-both, Consumes-both, front_behind}
 use Rattle.trac_run.proofs.Taken.{wanted_open}
-use Rattle.trac_run.proofs.Ran.{front_behind, Shows-prepended}
+use Rattle.trac_run.proofs.Ran.{Shows-prepended}
 
 -- ---- one part of a run after another
 
@@ -89,10 +89,6 @@ has_taken_all in_old in_now in_new out_old out_now out_new p q waits n ending be
     goes_on_to_finish in_old in_now in_new out_old out_now out_new p q n n ending (wanted_open q (before.wanted e)) (before.on n) last
 
 -- ---- whether the step is sure to go on waiting
-
--- a text that is tested not to be empty has a byte
-pub some_by_test : (n : ℕ) (empty : Bool) → empty ≡ (n == 0) → empty ≡ false → 0 < n
-some_by_test n empty is e = grind (arith, nat_tests)
 
 -- a search that is tested to have found nothing
 pub none_by_test : (at : Option ℕ) (absent : Bool) → is_some at ≡ not absent → absent ≡ true → at ≡ None

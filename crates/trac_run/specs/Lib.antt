@@ -1,3 +1,2 @@
 -- What a run reads and writes.
-pub mod Written
 pub mod Runs

@@ -7,21 +7,12 @@ use Rattle.trac_rules.specs.declared.refusal.Refusal.TheVariants as refusals
 use Rattle.trac_rules.specs.Session.{PlainSession, Feed, End, Step, done, refused, answer}
 use Rattle.trac_rules.specs.Running.{Output, BudgetSpent, InputEnded, LimitPassed}
 use Rattle.trac_rules.specs.GoingOn.{prepended, going_on_from}
-use Rattle.trac_run.specs.declared.ending.Ending.{Ending}
-use Rattle.trac_run.specs.declared.running.TheConstants.{READ_SIZE}
-use Rattle.trac_run.specs.declared.ending.Ending.TheVariants.{Ended, Budget, Limit, Memory, Read, Write, NotUnderstood}
+use Rattle.trac_streams.specs.declared.ending.Ending.{Ending}
+use Rattle.trac_streams.specs.declared.input.TheConstants.{READ_SIZE}
+use Rattle.trac_streams.specs.declared.ending.Ending.TheVariants.{Ended, Budget, Limit, Memory, Read, Write, NotUnderstood}
 use Rattle.trac_rules.specs.Fronts.{IsFrontOf}
 
 -- ---- endings
-
-abbrev pub status_of : Ending → ℕ
-status_of Ended = 0
-status_of Budget = 3
-status_of Limit = 4
-status_of Memory = 5
-status_of Read = 6
-status_of Write = 7
-status_of (NotUnderstood line) = 8
 
 -- how a run ends whose feed is refused
 abbrev pub ending_of_feed : Refusal → Ending

@@ -1,10 +1,8 @@
 //! Runs: a program's input from a reader, its output to a writer, and how it ended.
 #![tactic(auto)]
 
-mod ending;
 pub mod running;
-pub mod writing;
 
-pub use ending::Ending;
 pub use running::{BUDGET_LIMIT, DEFAULT_BUDGET, Options, budget_of, run};
 pub use trac_rules::width::Width;
+pub use trac_streams::{Ending, writing};

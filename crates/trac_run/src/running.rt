@@ -1,57 +1,24 @@
 //! A run: a program's input from a reader, its output to a writer.
-ghost use Rattle.std.specs.Prelude.{◌≡◌, ℕ, ◌+◌, ◌<◌, ◌≤◌, true, false, length, MatchOption, OnOk, IfOk, IfErr};
+ghost use Rattle.std.specs.Prelude.{◌≡◌, ℕ, ◌+◌, ◌<◌, ◌≤◌, true, false, length, OnOk, IfOk, IfErr};
 ghost use Rattle.std.specs.Io.KnownBytes.{Appends, IsAtEnd};
 ghost use Rattle.trac_rules.specs.Session.{PlainSession, Feed, Step, Commit, done, refused, answer};
 ghost use Rattle.trac_rules.specs.Running.{output_of};
-ghost use Rattle.trac_run.specs.Written.{WritesFront};
+ghost use Rattle.trac_streams.specs.Written.{WritesFront};
 ghost use Rattle.trac_run.specs.Runs.{Runs, most_read, ending_of_feed as ending_of, IsFresh, GoesOn, Finishes, TakesMore, TakesNone, StillWaits, turns_left};
 
-use crate::ending::Ending;
-use crate::writing::{finish, flush, write_whole};
 use memchr::memchr;
 use std::alloc::Allocator;
 use std::io::{Read, Write};
 use trac_rules::limit::{JOURNAL_LIMIT, TEXT_LIMIT};
 use trac_rules::refusal::Refusal;
-use trac_rules::width::Width;
 use trac_session::Session;
-
-/// How many bytes one read may give (this project's profile).
-pub const READ_SIZE: usize = 4096;
+use trac_streams::Ending;
+use trac_streams::writing::{finish, flush, write_whole};
+pub use trac_streams::{BUDGET_LIMIT, DEFAULT_BUDGET, Options, READ_SIZE, budget_of};
 
 // How much the records of a run may weigh before it commits. An item of a form takes 8 bytes and weighs one, so these are some
 // 43 MiB of forms. A run never goes back, so it keeps them for nothing.
 const JOURNAL_WEIGHT: u64 = 64 * 1024 * 1024 / 12;
-
-/// The most steps that a run may be allowed (this project's profile).
-pub const BUDGET_LIMIT: u64 = 1_000_000_000_000;
-
-/// How many steps a run may take where nothing else is said (this project's profile).
-pub const DEFAULT_BUDGET: u64 = 1_000_000_000;
-
-/// The options of a run.
-#[derive(Clone, Copy, Debug, PartialEq, Eq)]
-pub struct Options {
-    /// How many steps it may take: 1 to 1,000,000,000,000.
-    pub budget: u64,
-    /// How many records its journal may hold: 1 to 1,048,576.
-    pub journal: usize,
-    /// How wide its numbers are.
-    pub decimals: Width,
-}
-
-/// How many steps a run may take where so many are asked for: as many, within the range, or the default number where none is
-/// said (this project's profile).
-pub fn budget_of(asked: Option<u64>) -> u64
-    ensures some { 1 ≤ result }
-    ensures most { result ≤ BUDGET_LIMIT }
-    ensures asked { MatchOption asked (result ≡ DEFAULT_BUDGET) (λ budget. 1 ≤ budget → budget ≤ BUDGET_LIMIT → result ≡ budget) }
-{
-    match asked {
-        Some(budget) => budget.clamp(1, BUDGET_LIMIT),
-        None => DEFAULT_BUDGET,
-    }
-}
 
 /// Runs what the reader gives, and writes what it prints, until the budget is spent, the input has ended, or a limit,
 /// memory, the reader or the writer ends it. Output is written and flushed before each read, and before the end.

@@ -1,16 +1,15 @@
 //! What walks look for.
-ghost use Rattle.std.specs.Prelude.{◌≡◌, bytes_eq, map, option_copied, Some};
+ghost use Rattle.std.specs.Prelude.{◌≡◌, bytes_eq, is_some, map, option_copied, Some};
 ghost use Rattle.std.specs.List.{starts_with};
-ghost use Rattle.trac_rules.specs.Goals.{frame_at, is_begun_with, is_call_with, is_form_as, is_idle_printing, is_idle_reading, is_own_call, is_same_form, is_same_item};
+ghost use Rattle.trac_rules.specs.Goals.{frame_at, has_other_form, is_begun_with, is_call_with, is_end_of, is_form_as, is_idle_printing, is_idle_reading, is_own_call, is_same_form, is_same_item, next_call};
 ghost use Rattle.trac_rules.specs.declared.item.Item.{Item};
 ghost use Rattle.trac_session.specs.Goals.{goal_of};
 
-use std::alloc::{Allocator, Global};
+use std::alloc::{AllocError, Allocator, Global};
 use trac_forms::{Form, Item};
 use trac_step::{Args, Kind, Machine};
 
 /// What a walk looks for. Whether a state meets it is a definition (`trac_rules/specs/Goals.antt`), in this project's profile.
-#[derive(Clone, Copy)]
 pub enum Goal<'a, A: Allocator + Copy = Global> {
     /// The next step performs a call whose first arguments are these, its name first, each compared byte for byte. Where none
     /// are given, any call.
@@ -35,6 +34,19 @@ pub enum Goal<'a, A: Allocator + Copy = Global> {
     Unprinted(usize),
 }
 
+impl<'a, A: Allocator + Copy> Clone for Goal<'a, A> {
+    ghost is_clone = { λ goal copy. copy ≡ goal };
+
+    ghost is_infallible = { λ _. Unit {0} };
+
+    // The whole is copied at once: a body that is derived takes each goal apart.
+    fn clone(&self) -> Result<Goal<'a, A>, AllocError> {
+        Ok(*self)
+    }
+}
+
+impl<'a, A: Allocator + Copy> Copy for Goal<'a, A> {}
+
 // Whether a machine shows a state that meets the goal.
 pub(crate) fn is_met<A: Allocator + Copy>(machine: &Machine<A>, goal: &Goal<'_, A>) -> bool
     ensures { result ≡ goal_of goal.now machine.now.state }
@@ -42,14 +54,37 @@ pub(crate) fn is_met<A: Allocator + Copy>(machine: &Machine<A>, goal: &Goal<'_, 
     match goal {
         Goal::Call(wanted) => is_before_call(machine, wanted),
         Goal::OwnCall => is_before_own_call(machine),
-        Goal::End(depth) => machine.next_call().is_some() && machine.depth() == *depth,
+        Goal::End(depth) => is_at_end(machine, *depth),
         Goal::Shallower(count) => machine.depth() < *count,
         Goal::Rest(most) => machine.active().len() <= *most,
-        Goal::OtherForm(name, form) => {
-            machine.next_call().is_some() && !are_alike(machine.store().get(name), form)
-        }
+        Goal::OtherForm(name, form) => has_other_form(machine, name, form),
         Goal::Unprinted(count) => machine.output().len() <= *count,
     }
+}
+
+// Whether the next step performs a call.
+fn is_calling<A: Allocator + Copy>(machine: &Machine<A>) -> bool
+    ensures { result ≡ is_some (next_call machine.now.state) }
+{
+    machine.next_call().is_some()
+}
+
+// Whether it performs the begun function of this number, the outermost being number 1.
+fn is_at_end<A: Allocator + Copy>(machine: &Machine<A>, depth: usize) -> bool
+    ensures { result ≡ is_end_of depth machine.now.state }
+{
+    is_calling(machine) && machine.depth() == depth
+}
+
+// Whether it performs a call, and the form of this name is another one than this.
+fn has_other_form<A: Allocator + Copy>(
+    machine: &Machine<A>,
+    name: &[u8],
+    form: &Option<Form<A>>,
+) -> bool
+    ensures { result ≡ has_other_form name.now form.now machine.now.state }
+{
+    is_calling(machine) && !are_alike(machine.store().get(name), form)
 }
 
 // Whether arguments begin with these.
@@ -108,7 +143,7 @@ fn prints_idly<A: Allocator + Copy>(machine: &Machine<A>) -> bool
 fn is_before_own_call<A: Allocator + Copy>(machine: &Machine<A>) -> bool
     ensures { result ≡ is_own_call machine.now.state }
 {
-    machine.next_call().is_some() && !(reads_idly(machine) || prints_idly(machine))
+    is_calling(machine) && !(reads_idly(machine) || prints_idly(machine))
 }
 
 // Whether there is a form on neither side, or the same one on both.

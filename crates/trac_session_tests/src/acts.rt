@@ -2,27 +2,15 @@
 ghost use Rattle.std.specs.Prelude.{◌≤◌};
 
 use crate::sessions::let_go;
+use crate::shown::texts_shown;
 use std::alloc::{Allocator, Global};
 use std::process::Abort;
-use std::test::Fail;
 use trac_gap::TwoEnds;
-use trac_machine_tests::shown::texts_shown;
 use trac_rules::limit::JOURNAL_LIMIT;
 use trac_rules::refusal::Refusal;
 use trac_rules::width::Width;
-use trac_session::{Form, Goal, Return, Session, Walk};
+use trac_session::Session;
 use trac_step::{Core, Mark};
-
-/// What a search looks for, in a table: a goal may hold a form, and so cannot stand in one.
-#[derive(Clone, Copy)]
-pub(crate) enum Sought {
-    Call(&'static [&'static [u8]]),
-    OwnCall,
-    End(usize),
-    Shallower(usize),
-    Rest(usize),
-    Unprinted(usize),
-}
 
 /// One act on a session with what it answers, or one part of what it shows then.
 pub(crate) enum Act {
@@ -32,6 +20,8 @@ pub(crate) enum Act {
     FeedRefused(&'static [u8], Refusal),
     /// So many letters `a` are fed.
     FeedLetters(usize),
+    /// So many letters `a` are refused.
+    LettersRefused(usize, Refusal),
     /// So many letters `a` are fed and not read yet, and nothing else.
     UnreadLetters(usize),
     End,
@@ -49,16 +39,6 @@ pub(crate) enum Act {
     Back(u64),
     /// Of so many steps the second number are gone back over, and then the start is there.
     BackToStart(u64, u64),
-    /// Of so many steps forward to a goal the second number are taken, and then it is met.
-    ForwardTo(Sought, u64, u64),
-    /// So many steps forward are taken, and the goal is not met.
-    ForwardPast(Sought, u64),
-    /// After so many steps back a goal is met.
-    BackTo(Sought, u64),
-    /// After so many steps back the form of this name is another one than it was.
-    BackToOther(&'static [u8], u64),
-    /// A search back that goes forward again ends so.
-    ReturnTo(Sought, Return),
     /// The base text, the begun functions, a `^`, and what is not scanned yet.
     Shows(&'static [u8]),
     /// What is not scanned yet.
@@ -86,8 +66,14 @@ fn letters(rt: &impl Abort, alloc: Global, count: usize) -> Vec<u8> {
     vec![in alloc; b'a'; count].expect(rt, "there was no memory")
 }
 
-fn feed_letters(rt: &impl Abort, session: &mut Session, alloc: Global, count: usize) -> bool {
-    feeds(session, letters(rt, alloc, count).as_slice(), Ok(()))
+fn feed_letters(
+    rt: &impl Abort,
+    session: &mut Session,
+    alloc: Global,
+    count: usize,
+    answer: Result<(), Refusal>,
+) -> bool {
+    feeds(session, letters(rt, alloc, count).as_slice(), answer)
 }
 
 // The refusal that ends all steps forward, of which there may be a thousand.
@@ -115,24 +101,6 @@ fn goes_back(session: &mut Session, n: u64, done: u64, why: Option<Refusal>) -> 
     walk.done == done && walk.why == why
 }
 
-// Whether a walk took so many steps, and ended for this reason.
-fn is_walk(walk: Walk, done: u64, why: Option<Refusal>) -> bool {
-    walk.done == done && walk.why == why
-}
-
-// The form of a name, copied, if there is one.
-fn copied(rt: &impl Abort, session: &Session, name: &[u8]) -> Option<Form> {
-    let form = session.machine().store().get(name)?;
-    Some(form.copy().expect(rt, "there was no memory"))
-}
-
-// Whether after so many steps back the form of this name is another one than now.
-fn goes_back_to_other(rt: &impl Abort, session: &mut Session, name: &[u8], done: u64) -> bool {
-    let form = copied(rt, session, name);
-    let walk = session.back_to(Goal::OtherForm(name, &form));
-    is_walk(walk, done, None)
-}
-
 // Whether so many steps are taken, each with a commit after it. Before a commit there is one record more than it keeps at most.
 fn goes_in_window(session: &mut Session, n: u64, keep: usize) -> bool {
     for _ in 0..n {
@@ -145,42 +113,13 @@ fn goes_in_window(session: &mut Session, n: u64, keep: usize) -> bool {
     session.len() <= keep
 }
 
-fn goal_of(sought: Sought) -> Goal<'static> {
-    match sought {
-        Sought::Call(wanted) => Goal::Call(wanted),
-        Sought::OwnCall => Goal::OwnCall,
-        Sought::End(depth) => Goal::End(depth),
-        Sought::Shallower(count) => Goal::Shallower(count),
-        Sought::Rest(most) => Goal::Rest(most),
-        Sought::Unprinted(count) => Goal::Unprinted(count),
-    }
-}
-
-// Carries out one search, and says whether it is answered so.
-fn search(session: &mut Session, act: &Act) -> bool {
-    match *act {
-        Act::ForwardTo(sought, n, done) => {
-            is_walk(session.forward_to(goal_of(sought), n), done, None)
-        }
-        Act::ForwardPast(sought, n) => {
-            is_walk(
-                session.forward_to(goal_of(sought), n),
-                n,
-                Some(Refusal::NotMet),
-            )
-        }
-        Act::BackTo(sought, done) => is_walk(session.back_to(goal_of(sought)), done, None),
-        Act::ReturnTo(sought, end) => session.return_to(goal_of(sought)) == end,
-        _ => true,
-    }
-}
-
 // Carries out one act that may change the session, and says whether it is answered so.
 fn carry_out(rt: &impl Abort, alloc: Global, session: &mut Session, act: &Act) -> bool {
     match *act {
         Act::Feed(bytes) => feeds(session, bytes, Ok(())),
         Act::FeedRefused(bytes, why) => feeds(session, bytes, Err(why)),
-        Act::FeedLetters(count) => feed_letters(rt, session, alloc, count),
+        Act::FeedLetters(count) => feed_letters(rt, session, alloc, count, Ok(())),
+        Act::LettersRefused(count, why) => feed_letters(rt, session, alloc, count, Err(why)),
         Act::End => {
             session.end();
             true
@@ -195,8 +134,7 @@ fn carry_out(rt: &impl Abort, alloc: Global, session: &mut Session, act: &Act) -
         Act::ForwardUntil(why) => forward_to_end(session) == Err(why),
         Act::Back(n) => goes_back(session, n, n, None),
         Act::BackToStart(n, done) => goes_back(session, n, done, Some(Refusal::AtStart)),
-        Act::BackToOther(name, done) => goes_back_to_other(rt, session, name, done),
-        _ => search(session, act),
+        _ => true,
     }
 }
 
@@ -207,8 +145,7 @@ fn shows<E: TwoEnds<u8, A>, M: TwoEnds<Mark, A>, A: Allocator + Copy>(
     machine: &Core<E, M, A>,
     text: &[u8],
 ) -> bool {
-    let shown = texts_shown(alloc, machine).expect(rt, "there was no memory");
-    shown.as_slice() == text
+    texts_shown(rt, alloc, machine).as_slice() == text
 }
 
 // Whether all parts but the texts are those in which a processor begins.
@@ -272,10 +209,9 @@ fn play_all(rt: &impl Abort, alloc: Global, session: &mut Session, acts: &[Act])
 }
 
 /// Carries out these acts, one after another, on a new session whose journal may hold so many records.
-pub(crate) fn play(rt: &impl Abort, alloc: Global, limit: usize, acts: &[Act]) -> Result<(), Fail> {
+pub(crate) fn play(rt: &impl Abort, alloc: Global, limit: usize, acts: &[Act]) {
     assert!(rt; 1 <= limit && limit <= JOURNAL_LIMIT);
-    let mut session = Session::new(alloc, limit, Width::W128)?;
+    let mut session = Session::new(alloc, limit, Width::W128).expect(rt, "there was no memory");
     play_all(rt, alloc, &mut session, acts);
     let_go(session);
-    Ok(())
 }

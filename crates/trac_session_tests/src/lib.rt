@@ -1,19 +1,26 @@
-//! Tests of sessions. The library itself is empty.
+//! Tests of the machine and of sessions. The library itself has the programs that they run.
 //!
-//! All that a session is told stands in tables, and one loop carries it out: what a test's proof costs grows with the calls
-//! that stand in it. Each call stands in a helper that promises nothing. Expected values come from the definition of the
-//! language, not from this program.
+//! All that a machine or a session is told stands in tables, and one loop carries it out: what a test's proof costs grows with
+//! the calls that stand in it. Each call stands in a helper that promises nothing. Expected values come from the definition of
+//! the language, not from this program.
 #![tactic(auto)]
 
 #[cfg(test)]
 mod acts;
 #[cfg(test)]
+mod back_and_forth;
+#[cfg(test)]
 mod commands;
 #[cfg(test)]
-mod searches;
+mod elsewhere;
+#[cfg(test)]
+mod loading;
+#[cfg(test)]
+mod machines;
+pub mod programs;
 #[cfg(test)]
 mod sessions;
 #[cfg(test)]
-mod walks;
+mod shown;
 #[cfg(test)]
 mod whole_runs;

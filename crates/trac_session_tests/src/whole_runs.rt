@@ -1,14 +1,15 @@
-//! Whole runs of a session: to the end, and all the way back, where each state is the one on the way out. Each request for
-//! memory is refused in turn, and all of them on the way back. With a commit after each step that keeps so many, the states
-//! are the same but for what was released, and the way back goes so far.
-use crate::sessions::{Memory, expect_each, let_go, made};
+//! Whole runs of a session, step by step: to the end, and all the way back, where each state is the one on the way out. Each
+//! request for memory is refused in turn on the way out, and all of them on the way back. With a commit after each step that
+//! keeps so many, the states are the same but for what was released, and the way back goes so far.
+use crate::machines::{Memory, expect_text};
+use crate::programs::{EACH_PRIMITIVE, PROGRAMS};
+use crate::sessions::{let_go, made};
+use crate::shown::shown_after;
 use std::alloc::Global;
 use std::process::Abort;
-use std::test::Fail;
 use trac_faults::Refusing;
-use trac_machine_tests::shown::{EACH_PRIMITIVE, PROGRAMS, state_shown_after};
-use trac_rules::limit::JOURNAL_LIMIT;
 use trac_rules::refusal::Refusal;
+use trac_rules::width::Width;
 use trac_session::{Session, Walk};
 
 // The input of a program that reads a form by segments, single bytes, counts and up to a text, sets the meta character,
@@ -33,16 +34,23 @@ const SHORT_RUNS: &[(&[u8], &[u8])] = &[
 ];
 
 // How many steps the commits keep in further runs of each program.
-const WINDOWS: &[usize] = &[0, 1, 5, 1_000];
+const WINDOWS: &[Option<usize>] = &[Some(0), Some(1), Some(5), Some(1_000)];
 
 // The runs in which each request for memory is refused: without a commit, and with one after each step.
 const REFUSED_RUNS: &[Option<usize>] = &[None, Some(5)];
+
+// The widths of numbers. These programs print the same with both.
+const WIDTHS: &[Width] = &[Width::W128, Width::W64];
+
+// How many records the journal of a run without commits may hold, as that of the programs where nothing else is said.
+const JOURNAL: usize = 65_536;
 
 /// What a run is over.
 #[derive(Clone, Copy)]
 struct Run<'a> {
     plain: Global,
     memory: Memory<'a>,
+    width: Width,
     input: &'a [u8],
     output: &'a [u8],
     // how many steps the commit keeps that is made after each step; none is made without it
@@ -79,10 +87,18 @@ fn shown(
     released: Released,
 ) -> Vec<u8> {
     let printed = front(run.output, released.printed);
-    state_shown_after(run.plain, session.machine(), printed, released.read).expect(
-        rt,
-        "there was no memory",
-    )
+    shown_after(rt, run.plain, session.machine(), printed, released.read)
+}
+
+// A session shows this, with what was released.
+fn expect_shown(
+    rt: &impl Abort,
+    run: &Run<'_>,
+    session: &Session<Memory<'_>>,
+    released: Released,
+    state: &[u8],
+) {
+    expect_text(rt, shown(rt, run, session, released).as_slice(), state);
 }
 
 fn forward(session: &mut Session<Memory<'_>>, n: u64) -> Walk {
@@ -97,28 +113,27 @@ fn expect_walk(rt: &impl Abort, walk: Walk, done: u64, why: Refusal) {
     assert!(rt; walk.done == done && walk.why == Some(why));
 }
 
-fn expect_text(rt: &impl Abort, text: &[u8], wanted: &[u8], input: &[u8]) {
-    assert!(rt; text == wanted, "from {input:?}");
-}
-
 fn feed(session: &mut Session<Memory<'_>>, input: &[u8]) -> Result<(), Refusal> {
     session.feed(input)
 }
 
-// These bytes are fed after others, where one request may be refused: the tape is as before then.
-fn feed_after(rt: &impl Abort, session: &mut Session<Memory<'_>>, before: &[u8], bytes: &[u8]) {
-    if feed(session, bytes).is_err() {
-        expect_text(rt, session.unread(), before, bytes);
-        feed(session, bytes).expect(rt, "it was refused again");
+// All of the input is fed, and then it ends. One request may be refused: that is answered as such, the tape is as before, and
+// the next try is accepted.
+fn feed_all(rt: &impl Abort, run: &Run<'_>, session: &mut Session<Memory<'_>>) {
+    let refusals = run.memory.refusals();
+    if let Err(refusal) = feed(session, run.input) {
+        assert!(rt; refusal == Refusal::Memory && run.memory.refusals() > refusals);
+        assert!(rt; session.unread().is_empty());
+        feed(session, run.input).expect(rt, "it was refused again");
     }
+    session.end();
 }
 
-// All of this input is fed, its first byte alone, and then it ends.
-fn feed_all(rt: &impl Abort, session: &mut Session<Memory<'_>>, input: &[u8]) {
-    let first = front(input, 1);
-    feed_after(rt, session, b"", first);
-    feed_after(rt, session, first, rest(input, 1));
-    session.end();
+// Commits, for which no memory is asked.
+fn commit_at(rt: &impl Abort, memory: Memory<'_>, session: &mut Session<Memory<'_>>, keep: usize) {
+    let requests = memory.requests();
+    session.commit(keep);
+    assert!(rt; memory.requests() == requests);
 }
 
 // Makes the commit of this run, where there is one, and returns what is released by then. What the commit says to release is
@@ -134,9 +149,9 @@ fn commit(
     };
     let more = session.pending_before(keep).len();
     let wanted = front(rest(run.output, released.printed), more);
-    expect_text(rt, session.pending_before(keep), wanted, run.input);
+    expect_text(rt, session.pending_before(keep), wanted);
     let position = session.machine().position();
-    session.commit(keep);
+    commit_at(rt, run.memory, session, keep);
     let dropped = position.saturating_sub(session.machine().position());
     Released {
         printed: released.printed.saturating_add(more),
@@ -144,16 +159,23 @@ fn commit(
     }
 }
 
-// Keeps what a session shows after the states that were kept before.
-fn keep(
+// Takes a step from this state, where one request may be refused: that is answered as such, nothing has changed then, and the
+// next try is accepted. Returns why no step is taken.
+fn step_from(
     rt: &impl Abort,
     run: &Run<'_>,
-    session: &Session<Memory<'_>>,
+    session: &mut Session<Memory<'_>>,
     released: Released,
-    states: &mut Vec<Vec<u8>>,
-) {
-    let state = shown(rt, run, session, released);
-    states.push(state).expect(rt, "there was no memory");
+    state: &[u8],
+) -> Option<Refusal> {
+    let refusals = run.memory.refusals();
+    let why = forward(session, 1).why;
+    assert!(rt; (why == Some(Refusal::Memory)) == (run.memory.refusals() > refusals));
+    if why != Some(Refusal::Memory) {
+        return why;
+    }
+    expect_shown(rt, run, session, released, state);
+    forward(session, 1).why
 }
 
 // To the end, step by step: the state before each step, and the last one. Returns what is released.
@@ -164,28 +186,17 @@ fn to_end(
     states: &mut Vec<Vec<u8>>,
 ) -> Released {
     let mut released = NOTHING_RELEASED;
-    let mut why = None;
     for _ in 0..5_000 {
-        if why.is_none() {
-            keep(rt, run, session, released, states);
-            why = forward(session, 1).why;
-            released = commit(rt, run, session, released);
+        let state = shown(rt, run, session, released);
+        let why = step_from(rt, run, session, released, state.as_slice());
+        released = commit(rt, run, session, released);
+        states.push(state).expect(rt, "there was no memory");
+        if let Some(refusal) = why {
+            assert!(rt; refusal == Refusal::Ended);
+            return released;
         }
     }
-    assert!(rt; why == Some(Refusal::Ended));
-    released
-}
-
-// A session shows this, with what was released.
-fn expect_shown(
-    rt: &impl Abort,
-    run: &Run<'_>,
-    session: &Session<Memory<'_>>,
-    released: Released,
-    state: &[u8],
-) {
-    let text = shown(rt, run, session, released);
-    expect_text(rt, text.as_slice(), state, run.input);
+    panic!(rt; "too few steps");
 }
 
 // All the way back, step by step, while every request for memory is refused: none is made. The first state has no output, and
@@ -214,269 +225,107 @@ fn kept_of(states: &[Vec<u8>], window: Option<usize>) -> &[Vec<u8>] {
     let Some(keep) = window else {
         return states;
     };
-    let dropped = states.len().saturating_sub(keep.saturating_add(1));
-    states.split_at(dropped).1
+    rest_of(states, states.len().saturating_sub(keep.saturating_add(1)))
 }
 
-fn steps_over(states: &[Vec<u8>]) -> u64 {
-    states.len().saturating_sub(1) as u64
+fn rest_of(states: &[Vec<u8>], count: usize) -> &[Vec<u8>] {
+    states.split_at(count.min(states.len())).1
 }
 
-// To the end and all the way back: each state is the one on the way out. The same steps lead to the end again.
+// To the end and all the way back: each state is the one on the way out. The same steps at once lead to the end again.
 fn there_and_back(
     rt: &impl Abort,
     run: &Run<'_>,
     session: &mut Session<Memory<'_>>,
     states: &mut Vec<Vec<u8>>,
 ) {
-    feed_all(rt, session, run.input);
+    feed_all(rt, run, session);
     let released = to_end(rt, run, session, states);
-    expect_text(
-        rt,
-        session.pending(),
-        rest(run.output, released.printed),
-        run.input,
-    );
+    expect_text(rt, session.pending(), rest(run.output, released.printed));
     let kept = kept_of(states.as_slice(), run.window);
     to_start(rt, run, session, released, kept);
-    expect_walk(
-        rt,
-        forward(session, u64::MAX),
-        steps_over(kept),
-        Refusal::Ended,
-    );
+    let steps = kept.len().saturating_sub(1) as u64;
+    expect_walk(rt, forward(session, u64::MAX), steps, Refusal::Ended);
 }
 
 // How many records the journal of a run has to hold: with commits one more than they keep.
 fn journal_of(window: Option<usize>) -> usize {
     match window {
         Some(keep) => keep.saturating_add(1),
-        None => JOURNAL_LIMIT,
+        None => JOURNAL,
     }
 }
 
 // The states of such a run, the first one first.
-fn states_of(rt: &impl Abort, run: &Run<'_>) -> Result<Vec<Vec<u8>>, Fail> {
-    let limit = journal_of(run.window);
-    assert!(rt; 1 <= limit && limit <= JOURNAL_LIMIT);
-    let mut session = made(run.memory, limit)?;
+fn states_of(rt: &impl Abort, run: &Run<'_>) -> Vec<Vec<u8>> {
+    let mut session = made(rt, run.memory, journal_of(run.window), run.width);
     let mut states = Vec::new(run.plain);
     there_and_back(rt, run, &mut session, &mut states);
     let_go(session);
-    Ok(states)
+    states
 }
 
-// A run with commits has the states of the one without.
-fn expect_states(rt: &impl Abort, run: &Run<'_>, states: &[Vec<u8>]) -> Result<(), Fail> {
-    let others = states_of(rt, run)?;
-    assert!(rt; others.as_slice() == states);
-    Ok(())
+// A run with commits, or in which a request is refused, has these states too.
+fn expect_states(rt: &impl Abort, run: &Run<'_>, states: &[Vec<u8>]) {
+    assert!(rt; states_of(rt, run).as_slice() == states);
 }
 
-// A run without a commit, and one with each window.
-fn expect_windows(rt: &impl Abort, mut run: Run<'_>) -> Result<(), Fail> {
-    let states = states_of(rt, &run)?;
-    for keep in WINDOWS.iter() {
-        run.window = Some(*keep);
-        expect_states(rt, &run, states.as_slice())?;
+// The run again and again, with one more request accepted before the refused one each time, until none is refused. A moved
+// byte takes no memory, so there may be fewer requests than steps.
+fn expect_each_request(rt: &impl Abort, run: &Run<'_>, states: &[Vec<u8>]) {
+    for nth in 1..10_000 {
+        let refusals = run.memory.refusals();
+        run.memory.refuse_nth(nth);
+        expect_states(rt, run, states);
+        run.memory.accept_all();
+        if run.memory.refusals() == refusals {
+            assert!(rt; nth > 10, "{nth} runs");
+            return;
+        }
     }
-    Ok(())
+    panic!(rt; "too few runs");
 }
 
-#[test]
-fn each_state_on_the_way_back(rt: HostRuntime) -> Result<(), Fail> {
+// A run without a commit, and one with each of these windows; each request is refused in turn, or none.
+fn expect_runs(
+    rt: &(impl Abort + AllocGlobal),
+    width: Width,
+    (input, output): (&[u8], &[u8]),
+    windows: &[Option<usize>],
+    is_refused: bool,
+) {
     let memory = Refusing::new(rt.alloc());
-    for (input, output) in PROGRAMS.iter() {
-        let run = Run {
-            plain: rt.alloc(),
-            memory: &memory,
-            input: *input,
-            output: *output,
-            window: None,
-        };
-        expect_windows(&rt, run)?;
-    }
-    Ok(())
-}
-
-// Whether this is the state after so many steps.
-fn is_state(states: &[Vec<u8>], steps: u64, text: &[u8]) -> bool {
-    match states.get(steps as usize) {
-        Some(state) => state.as_slice() == text,
-        None => false,
-    }
-}
-
-// A session shows the state after so many steps.
-fn expect_state(
-    rt: &impl Abort,
-    run: &Run<'_>,
-    session: &Session<Memory<'_>>,
-    states: &[Vec<u8>],
-    steps: u64,
-) {
-    let text = shown(rt, run, session, NOTHING_RELEASED);
-    assert!(rt; is_state(states, steps, text.as_slice()));
-}
-
-// To the end. A refused request is answered as such, and nothing else is.
-fn forward_to_end(rt: &impl Abort, memory: Memory<'_>, session: &mut Session<Memory<'_>>) -> Walk {
-    let refusals = memory.refusals();
-    let walk = forward(session, u64::MAX);
-    let is_refused = memory.refusals() > refusals;
-    assert!(rt; is_refused == (walk.why == Some(Refusal::Memory)));
-    walk
-}
-
-// To the end, where one request may be refused: nothing has changed then, and the next try goes on.
-fn to_end_at_once(
-    rt: &impl Abort,
-    run: &Run<'_>,
-    session: &mut Session<Memory<'_>>,
-    states: &[Vec<u8>],
-) {
-    let steps = steps_over(states);
-    let walk = forward_to_end(rt, run.memory, session);
-    expect_state(rt, run, session, states, walk.done);
-    if walk.why == Some(Refusal::Memory) {
-        let left = steps.saturating_sub(walk.done);
-        expect_walk(rt, forward(session, u64::MAX), left, Refusal::Ended);
-    } else {
-        expect_walk(rt, walk, steps, Refusal::Ended);
-    }
-    expect_state(rt, run, session, states, steps);
-}
-
-// To the end, where one request may be refused, and all the way back while every request is refused.
-fn there_and_back_at_once(
-    rt: &impl Abort,
-    run: &Run<'_>,
-    session: &mut Session<Memory<'_>>,
-    states: &[Vec<u8>],
-) {
-    feed_all(rt, session, run.input);
-    to_end_at_once(rt, run, session, states);
-    run.memory.refuse_all();
-    let walk = back(session, u64::MAX);
-    expect_walk(rt, walk, steps_over(states), Refusal::AtStart);
-    expect_state(rt, run, session, states, 0);
-}
-
-fn at_once(rt: &impl Abort, run: &Run<'_>, states: &[Vec<u8>]) -> Result<(), Fail> {
-    let mut session = made(run.memory, JOURNAL_LIMIT)?;
-    there_and_back_at_once(rt, run, &mut session, states);
-    let_go(session);
-    Ok(())
-}
-
-// Takes the step from this state, where one request may be refused: nothing has changed then, and the next try is accepted.
-// Returns why no step is taken.
-fn step_from(
-    rt: &impl Abort,
-    run: &Run<'_>,
-    session: &mut Session<Memory<'_>>,
-    released: Released,
-    state: &[u8],
-) -> Option<Refusal> {
-    let why = forward(session, 1).why;
-    if why != Some(Refusal::Memory) {
-        return why;
-    }
-    expect_shown(rt, run, session, released, state);
-    forward(session, 1).why
-}
-
-// To the end, step by step, from each of these states to the next. Returns what is released.
-fn to_end_again(
-    rt: &impl Abort,
-    run: &Run<'_>,
-    session: &mut Session<Memory<'_>>,
-    states: &[Vec<u8>],
-) -> Released {
-    let mut released = NOTHING_RELEASED;
-    let mut why = None;
-    for state in states.iter() {
-        assert!(rt; why.is_none());
-        why = step_from(rt, run, session, released, state.as_slice());
-        released = commit(rt, run, session, released);
-    }
-    assert!(rt; why == Some(Refusal::Ended));
-    released
-}
-
-// To the end, where one request may be refused, and back over the steps that the commits have kept.
-fn there_and_back_again(
-    rt: &impl Abort,
-    run: &Run<'_>,
-    session: &mut Session<Memory<'_>>,
-    states: &[Vec<u8>],
-) {
-    feed_all(rt, session, run.input);
-    let released = to_end_again(rt, run, session, states);
-    to_start(rt, run, session, released, kept_of(states, run.window));
-}
-
-fn step_by_step(rt: &impl Abort, run: &Run<'_>, states: &[Vec<u8>]) -> Result<(), Fail> {
-    let limit = journal_of(run.window);
-    assert!(rt; 1 <= limit && limit <= JOURNAL_LIMIT);
-    let mut session = made(run.memory, limit)?;
-    there_and_back_again(rt, run, &mut session, states);
-    let_go(session);
-    Ok(())
-}
-
-// A run again: without a commit all steps at once, and else step by step.
-fn again(rt: &impl Abort, run: &Run<'_>, states: &[Vec<u8>]) -> Result<(), Fail> {
-    match run.window {
-        Some(_) => step_by_step(rt, run, states),
-        None => at_once(rt, run, states),
-    }
-}
-
-fn expect_short_run(rt: &impl Abort, mut run: Run<'_>) -> Result<(), Fail> {
-    let states = states_of(rt, &run)?;
-    for window in REFUSED_RUNS.iter() {
+    let mut run = Run {
+        plain: rt.alloc(),
+        memory: &memory,
+        width,
+        input,
+        output,
+        window: None,
+    };
+    let states = states_of(rt, &run);
+    for window in windows.iter() {
         run.window = *window;
-        // A moved byte takes no memory, so there may be fewer requests than steps.
-        expect_each(rt, run.memory, 10, |_| again(rt, &run, states.as_slice()))?;
+        if is_refused {
+            expect_each_request(rt, &run, states.as_slice());
+        } else {
+            expect_states(rt, &run, states.as_slice());
+        }
     }
-    Ok(())
 }
 
 #[test]
-fn each_request(rt: HostRuntime) -> Result<(), Fail> {
-    let memory = Refusing::new(rt.alloc());
-    for (input, output) in SHORT_RUNS.iter() {
-        let run = Run {
-            plain: rt.alloc(),
-            memory: &memory,
-            input: *input,
-            output: *output,
-            window: None,
-        };
-        expect_short_run(&rt, run)?;
+fn each_state_on_the_way_back(rt: HostRuntime) {
+    for program in PROGRAMS.iter() {
+        expect_runs(&rt, Width::W128, *program, WINDOWS, false);
     }
-    Ok(())
 }
 
-// Each single byte, as all of the input.
 #[test]
-fn single_bytes(rt: HostRuntime) -> Result<(), Fail> {
-    let memory = Refusing::new(rt.alloc());
-    for byte in 0..=255u8 {
-        let input = [byte];
-        let output = match byte {
-            b'\'' | b'(' | b')' | b',' | b'\r' | b'\n' | b'\t' => b"".as_slice(),
-            _ => input.as_slice(),
-        };
-        let run = Run {
-            plain: rt.alloc(),
-            memory: &memory,
-            input: &input,
-            output,
-            window: None,
-        };
-        states_of(&rt, &run)?;
+fn each_request(rt: HostRuntime) {
+    for program in SHORT_RUNS.iter() {
+        for width in WIDTHS.iter() {
+            expect_runs(&rt, *width, *program, REFUSED_RUNS, true);
+        }
     }
-    Ok(())
 }

@@ -5,15 +5,14 @@ use Rattle.std.proofs.lemmas.List.{length-take-le, length-reverse}
 use Rattle.trac_rules.specs.declared.kind.Kind.{Kind}
 use Rattle.trac_rules.specs.State.{Frame, State}
 use Rattle.trac_rules.specs.Limits.{argument_bytes, marks}
-use Rattle.trac_prims.specs.declared.mark.Mark.{Mark}
-use Rattle.trac_prims.specs.Cuts.{AreArguments, BeginsFunction, cut, no_mark}
-use Rattle.trac_prims.specs.Frames.{IsInnermost}
-use Rattle.trac_prims.specs.Neutral.{MarkedText, Neutral, IsOrdered, cut_back, neutral_of}
-use Rattle.trac_prims.proofs.Ending.{is_innermost, no_function}
-use Rattle.trac_prims.proofs.Neutral.{bytes-neutral, marks-neutral}
-use Rattle.trac_step.specs.declared.calling.Beginning.{Beginning}
-use Rattle.trac_step.specs.Calling.{BeginsFirst, BeginsInnermost}
-use Rattle.trac_step.specs.Layout.{Parts, marked_text, state_of, IsSound}
+use Rattle.trac_text.specs.declared.mark.Mark.{Mark}
+use Rattle.trac_text.specs.Cuts.{AreArguments, BeginsFunction, cut, no_mark}
+use Rattle.trac_text.specs.Frames.{IsInnermost}
+use Rattle.trac_text.specs.Neutral.{MarkedText, Neutral, IsOrdered, cut_back, neutral_of}
+use Rattle.trac_text.proofs.Ending.{cuts_behind, is_innermost, no_function}
+use Rattle.trac_text.proofs.Neutral.{bytes-neutral, marks-neutral}
+use Rattle.trac_text.specs.declared.calls.Beginning.{Beginning}
+use Rattle.trac_step.specs.Calling.{BeginsFirst, BeginsInnermost, IsBegun}
 
 -- ---- from the marks
 
@@ -78,14 +77,14 @@ begun_last m ordered inside = begun_by (last_begun m.marks)
     begun_by (inl all) = absurd (omega (arith, ap (λ (fs : List Frame). length fs) (no_function m ordered all), inside))
     begun_by (inr b) = b
 
-some_frame : (fs : List Frame) (base : List ℕ) (b : Beginning) → BeginsFirst fs base b → 0 < length fs
+-- some function is begun
+pub some_frame : (fs : List Frame) (base : List ℕ) (b : Beginning) → BeginsFirst fs base b → 0 < length fs
 some_frame [] base b h = absurd h
 some_frame (f ∷ fs) base b h = omega arith
 
--- the function that begins here by the state is the innermost one of the marks
-pub innermost_of : (m : MarkedText) (b : Beginning) → IsOrdered m → BeginsFirst (neutral_of m).frames (neutral_of m).base b →
-    (texts : List (List ℕ)) × IsInnermost m b.number b.place b.kind texts
-innermost_of m b ordered begins =
+-- where the innermost function of the state begins, that of the marks does
+pub is_begun : (m : MarkedText) (b : Beginning) → IsOrdered m → BeginsFirst (neutral_of m).frames (neutral_of m).base b → IsBegun m b
+is_begun m b ordered begins =
     let last = begun_last m ordered (some_frame (neutral_of m).frames (neutral_of m).base b begins) in
     let k = last.0 in
     let kind = last.1 in
@@ -94,15 +93,10 @@ innermost_of m b ordered begins =
     let found = is_innermost m k kind ordered last.2 at texts refl refl in
     let same : record { number = k; place = at; kind = kind } ≡ b =
     one_beginning (neutral_of m).frames (neutral_of m).base (record { number = k; place = at; kind = kind }) b (begins_first m k at kind texts found) begins in
-    (texts, subst (λ (c : Beginning). IsInnermost m c.number c.place c.kind texts) same found)
+    subst (IsBegun m) same (record { cuts = cuts_behind m k kind ordered last.2; innermost = found })
 
--- ---- the same of a machine
-
+-- where the innermost function of the marks begins, that of the state does
 pub begins_innermost : (s : State) (m : MarkedText) (number place : ℕ) (kind : Kind) (texts : List (List ℕ)) → neutral_of m ≡ record { base = s.base; frames = s.frames } →
     IsInnermost m number place kind texts → BeginsInnermost s (record { number = number; place = place; kind = kind })
 begins_innermost s m number place kind texts same inner =
     subst (λ (n : Neutral). BeginsFirst n.frames n.base (record { number = number; place = place; kind = kind })) same (begins_first m number place kind texts inner)
-
-pub innermost_parts : (p : Parts) (s : State) (b : Beginning) → IsSound p → state_of p ≡ s → BeginsInnermost s b → (texts : List (List ℕ)) × IsInnermost (marked_text p) b.number b.place b.kind texts
-innermost_parts p s b sound view begins =
-    innermost_of (marked_text p) b sound.ordered (subst (λ (t : State). BeginsInnermost t b) (sym view) begins)

@@ -1,6 +1,6 @@
 -- Going back over a call: the parts before it, which show the state that its record restores.
 use Rattle.std.proofs.Common.{◌≡◌, ℕ, ◌+◌, ◌-◌, ◌≤◌, Bool, true, false, List, [], ◌∷◌, ◌++◌, length, map, take, drop, reverse, refl, sym, ap, ◌∙◌, subst, arith}
-use Rattle.std.specs.Prelude.{Option, Some, None, IsSome, codes, nat_le, ◌&&◌, option_map, option_and_then}
+use Rattle.std.specs.Prelude.{Option, Some, None, IsSome, IsSomeAnd, codes, nat_le, ◌&&◌, option_map, option_and_then}
 use Rattle.std.specs.Bool.{then_some}
 use Rattle.std.specs.Option.{unwrap_or}
 use Rattle.std.proofs.lemmas.Bool.{and_parts, leb-true}
@@ -8,27 +8,30 @@ use Rattle.trac_rules.specs.declared.width.Width.{Width}
 use Rattle.trac_gap.specs.Window.{Window}
 use Rattle.trac_gap.specs.Ends.{Ends, item_count}
 use Rattle.trac_rules.specs.declared.kind.Kind.{Kind}
-use Rattle.trac_rules.specs.Limits.{argument_bytes, marks}
-use Rattle.trac_rules.specs.Proper.{IsProper}
+use Rattle.trac_rules.specs.Limits.{argument_bytes, marks, texts_fit}
+use Rattle.trac_rules.specs.Proper.{IsProper, IsProperStorage}
 use Rattle.trac_rules.specs.Records.{CallRecord, Rest, Texts, all_before_last, begun_again, end_taken_in, last_of, moved_back, moved_back_in, put_before, put_together, rest_before, rest_of, restored_call, texts_before, texts_in, value_taken}
 use Rattle.trac_rules.specs.Records as rules
+use Rattle.trac_rules.specs.Scanning.{scan}
 use Rattle.trac_rules.specs.State.{Frame, State, Storage, storage_of}
-use Rattle.trac_rules.specs.Undone.{Undone, storage_before}
+use Rattle.trac_rules.specs.Undone.{Nothing, Undone, storage_before}
+use Rattle.trac_rules.proofs.FurtherOn.{put_together_parts}
 use Rattle.trac_rules.proofs.Restored.{frame_of-last}
-use Rattle.trac_forms.specs.Stored.{Stored, storage_in}
-use Rattle.trac_prims.specs.declared.mark.Mark.{Mark}
-use Rattle.trac_prims.specs.Frames.{IsInnermost}
-use Rattle.trac_prims.specs.Neutral.{AreMarks, MarkedText, Neutral, cut_back, neutral, neutral_of}
+use Rattle.trac_forms.specs.Stored.{KnowsAll, Stored}
+use Rattle.trac_text.specs.declared.mark.Mark.{Mark}
+use Rattle.trac_text.specs.Neutral.{AreMarks, MarkedText, Neutral}
 use Rattle.trac_journal.specs.declared.called.Called.{Called}
+use Rattle.trac_step.specs.Calling.{arguments_in, with_storage}
 use Rattle.trac_step.specs.Layout.{Parts, IsSound, Shown, parts_of, shown_by, state_of}
-use Rattle.trac_journal.specs.Pieces.{Arguments, all_texts, frame_in}
-use Rattle.trac_step.specs.Marks.{function_marks}
-use Rattle.trac_step.specs.Returning.{HasValue, KnowsBefore, before_call, without_value}
-use Rattle.trac_step.specs.Room.{HasRoom}
+use Rattle.trac_text.specs.Pieces.{Arguments, all_texts, frame_in}
+use Rattle.trac_text.specs.Marks.{function_marks}
+use Rattle.trac_text.specs.MovingBack.{HasValue, before_call, without_value}
+use Rattle.trac_step.specs.Room.{HasRoom, IsNoLess}
 use Rattle.trac_journal.specs.Told.{record_with}
-use Rattle.trac_step.specs.Undoing.{CanShow}
+use Rattle.trac_step.specs.Undoing.{CanRestore, CanShow, IsBegunAgain, IsRestored}
+use Rattle.trac_step.proofs.Calls.{scan_call}
 use Rattle.trac_step.proofs.Limited.{sound_if_proper}
-use Rattle.trac_step.proofs.NeutralAgain.{Shows, mark_size, shows_function, text_size}
+use Rattle.trac_text.proofs.NeutralAgain.{Shows, mark_size, shows_function, text_size}
 use Rattle.trac_step.proofs.ScanningBack.{is_moved_back, moved_parts}
 
 -- ---- options
@@ -126,27 +129,19 @@ texts_back called a p texts ordered h = by_taken (value_taken called.scanned cal
 
 -- ---- the state before the call
 
--- the parts before a call, from those after it, with these forms and blocks
-abbrev pub parts_before : Called → Arguments → Parts → Storage → ℕ → Parts
-parts_before called a p storage spare =
+-- the parts before a call, from those after it, but for forms and blocks
+abbrev pub parts_before : Called → Arguments → Parts → Parts
+parts_before called a p =
     let e = before_call called.scanned called.value (all_texts a) (ends_in p) in
     record p {
       active = e.right;
       text = e.left;
       marks = p.marks ++ function_marks (length (without_value called.scanned called.value (ends_in p)).left) called.kind (map length a.finished);
-      storage = storage;
       meta = unwrap_or called.meta p.meta;
       trace = called.trace;
       position = p.position - called.read;
       output = take (length p.output - called.printed) p.output;
-      spare = spare;
     }
-
--- what stands at the end of the text then
-abbrev pub neutral_before : Called → Arguments → Parts → Neutral
-neutral_before called a p =
-    let e = before_call called.scanned called.value (all_texts a) (ends_in p) in
-    neutral e.left (reverse (p.marks ++ function_marks (length (without_value called.scanned called.value (ends_in p)).left) called.kind (map length a.finished)))
 
 -- the three parts of a state are there, and a machine can show them
 record CanShowParts (call : CallRecord) (m : Shown) (t : State) : Type 0 where
@@ -185,17 +180,17 @@ record IsRestBack (called : Called) (p : Parts) (rest : Rest) : Type 0 where
   printed : called.printed ≤ length p.output
   same : record { meta = unwrap_or called.meta p.meta; trace = called.trace; position = p.position - called.read; output = take (length p.output - called.printed) p.output } ≡ rest
 
-rest_back : (called : Called) (a : Arguments) (undone : Undone) (p : Parts) (rest : Rest) →
-    rest_before (record_with called (all_texts a) undone) (rest_of (state_of p)) ≡ Some rest → IsRestBack called p rest
-rest_back called a undone p rest h =
+rest_back : (called : Called) (a : Arguments) (p : Parts) (rest : Rest) →
+    rest_before (record_with called (all_texts a) Nothing) (rest_of (state_of p)) ≡ Some rest → IsRestBack called p rest
+rest_back called a p rest h =
     let is = then_is (nat_le called.read p.position && nat_le called.printed (length p.output)) _ rest h in
     let both = and_parts (nat_le called.read p.position) (nat_le called.printed (length p.output)) is.0 in
     record { read = leb-true called.read p.position both.0; printed = leb-true called.printed (length p.output) both.1; same = is.1 }
 
-module _ {width : Width} (called : Called) (a : Arguments) (undone : Undone) (p : Parts) (m : Shown) (sound : IsSound p) (view : shown_by width p ≡ m)
-    (h : CanShow m (restored_call (record_with called (all_texts a) undone) m.state)) where
+module _ {width : Width} (called : Called) (a : Arguments) (p : Parts) (m : Shown) (sound : IsSound p) (view : shown_by width p ≡ m)
+    (h : CanShow m (restored_call (record_with called (all_texts a) Nothing) m.state)) where
   abbrev call : CallRecord
-  call = record_with called (all_texts a) undone
+  call = record_with called (all_texts a) Nothing
 
   there : CanShowParts call (shown_by width p) (state_of p)
   there = can_show_parts call (shown_by width p) (state_of p) (subst (λ (n : Shown). CanShow n (restored_call call n.state)) (sym view) h)
@@ -204,20 +199,25 @@ module _ {width : Width} (called : Called) (a : Arguments) (undone : Undone) (p 
   texts = texts_back called a p there.texts sound.ordered there.texts_are
 
   rest : IsRestBack called p there.rest
-  rest = rest_back called a undone p there.rest there.rest_is
+  rest = rest_back called a p there.rest there.rest_is
 
-  shows : Shows (parts_before called a p p.storage 0).text (parts_before called a p p.storage 0).marks
-      (record { base = texts.without.base; frames = frame_in (called.kind, a) ∷ texts.without.frames })
+  abbrev before : Parts
+  before = parts_before called a p
+
+  shows : Shows before.text before.marks (record { base = texts.without.base; frames = frame_in (called.kind, a) ∷ texts.without.frames })
   shows = shows_function (without_value called.scanned called.value (ends_in p)).left p.marks (record { base = texts.without.base; frames = texts.without.frames }) called.kind a texts.taken.shows
 
   -- the state that is shown
   same_texts : there.texts ≡ record { active = codes ")" ++ (without_value called.scanned called.value (ends_in p)).right; base = texts.without.base; frames = frame_in (called.kind, a) ∷ texts.without.frames }
   same_texts = sym texts.same ∙ ap (λ (active : List ℕ). let t : Texts = record { active = codes ")" ++ active; base = texts.without.base; frames = frame_in (called.kind, a) ∷ texts.without.frames } in t) texts.taken.active
 
-  shown : (storage : Storage) (spare : ℕ) → rules.state_of there.texts storage there.rest ≡ state_of (parts_before called a p storage spare)
-  shown storage spare =
-      (λ i. rules.state_of (same_texts i) storage (sym rest.same i))
-      ∙ ap (λ (n : Neutral). record (state_of (parts_before called a p storage spare)) { base = n.base; frames = n.frames }) (sym shows.same)
+  same_storage : there.storage ≡ p.storage
+  same_storage = let both : Some p.storage ≡ Some there.storage = there.storage_is in let same : there.storage ≡ p.storage = cc in same
+
+  shown : rules.state_of there.texts there.storage there.rest ≡ state_of before
+  shown =
+      (λ i. rules.state_of (same_texts i) (same_storage i) (sym rest.same i))
+      ∙ ap (λ (n : Neutral). record (state_of before) { base = n.base; frames = n.frames }) (sym shows.same)
 
   pub has_value : HasValue called.scanned called.value (ends_in p)
   has_value = texts.taken.there
@@ -228,12 +228,12 @@ module _ {width : Width} (called : Called) (a : Arguments) (undone : Undone) (p 
   pub printed_within : called.printed ≤ length p.output
   printed_within = rest.printed
 
-  text_fits : length (parts_before called a p p.storage 0).active + length (parts_before called a p p.storage 0).text ≤ p.text_room
+  text_fits : length before.active + length before.text ≤ p.text_room
   text_fits =
       omega (
         arith,
         there.room.text,
-        text_size (parts_before called a p p.storage 0).text (parts_before called a p p.storage 0).marks _ shows,
+        text_size before.text before.marks _ shows,
         ap (λ (t : Texts). length t.active + length t.base + argument_bytes t.frames) same_texts,
       )
 
@@ -249,77 +249,111 @@ module _ {width : Width} (called : Called) (a : Arguments) (undone : Undone) (p 
         ap (λ (t : Texts). marks t.frames) same_texts,
       )
 
-  pub ordered : AreMarks (length (parts_before called a p p.storage 0).text) (reverse (parts_before called a p p.storage 0).marks)
-  ordered = shows.ordered
+  -- the function is begun, with these arguments
+  begun : (state_of before).frames ≡ frame_in (called.kind, a) ∷ texts.without.frames
+  begun = ap (λ (n : Neutral). n.frames) shows.same
 
-  -- the innermost function is the one that is back
-  is_inside : (neutral_before called a p).frames ≡ frame_in (called.kind, a) ∷ texts.without.frames
-  is_inside = ap (λ (n : Neutral). n.frames) shows.same
+  restores : restored_call call m.state ≡ Some (state_of before)
+  restores =
+      ap (λ (n : Shown). restored_call call n.state) (sym view)
+      ∙ (λ i. put_together (there.texts_are i) (there.storage_is i) (there.rest_is i))
+      ∙ ap Some shown
 
-  pub never_outside : (neutral_before called a p).frames ≡ [] → ⊥
-  never_outside none = let unset : [] ≡ frame_in (called.kind, a) ∷ texts.without.frames = sym none ∙ is_inside in absurd (cc)
+  pub sound_before : IsSound before
+  sound_before =
+      sound_if_proper before shows.ordered text_fits
+      (omega (arith, there.room.marks, mark_size before.text before.marks _ shows, ap (λ (t : Texts). marks t.frames) same_texts))
+      (subst IsProper shown there.proper)
 
-  pub same_arguments : (n : MarkedText) (number place : ℕ) (kind : Kind) (arguments : List (List ℕ)) → neutral_of n ≡ neutral_before called a p → IsInnermost n number place kind arguments →
-      arguments ≡ all_texts a
-  same_arguments n number place kind arguments is inner =
-      let both : inner.frame ∷ (neutral_of (cut_back number place n)).frames ≡ frame_in (called.kind, a) ∷ texts.without.frames = sym inner.frames_are ∙ ap (λ (x : Neutral). x.frames) is ∙ is_inside in
-      let same : inner.frame ≡ frame_in (called.kind, a) = cc in
-      sym inner.arguments_are ∙ ap (λ (f : Frame). f.arguments ++ f.gathered ∷ []) same
-
-  pub knows : (arguments : List (List ℕ)) → arguments ≡ all_texts a → KnowsBefore p.known (storage_before arguments (undone) p.storage)
-  knows arguments same =
-      let one : KnowsBefore p.known (storage_before (all_texts a) (undone) p.storage) = subst (λ (o : Option Storage). KnowsBefore p.known o) (sym there.storage_is) there.room.names in
-      subst (λ (texts : List (List ℕ)). KnowsBefore p.known (storage_before texts (undone) p.storage)) (sym same) one
-
-  module _ (arguments : List (List ℕ)) (same : arguments ≡ all_texts a) (storage : Storage) (spare : ℕ) (is : storage_before arguments (undone) p.storage ≡ Some storage) where
-    same_storage : there.storage ≡ storage
-    same_storage =
-        let both : Some there.storage ≡ Some storage = sym there.storage_is ∙ ap (λ (texts : List (List ℕ)). storage_before texts (undone) p.storage) (sym same) ∙ is in
-        let one : there.storage ≡ storage = cc in
-        one
-
-    shows_before : rules.state_of there.texts there.storage there.rest ≡ state_of (parts_before called a p storage spare)
-    shows_before = ap (λ (s : Storage). rules.state_of there.texts s there.rest) same_storage ∙ shown storage spare
-
-    pub restores : restored_call call m.state ≡ Some (state_of (parts_before called a p storage spare))
-    restores =
-        ap (λ (n : Shown). restored_call call n.state) (sym view)
-        ∙ (λ i. put_together (there.texts_are i) (there.storage_is i) (there.rest_is i))
-        ∙ ap Some shows_before
-
-    pub sound_before : IsSound (parts_before called a p storage spare)
-    sound_before =
-        sound_if_proper (parts_before called a p storage spare) ordered text_fits
-        (omega (arith, there.room.marks, mark_size (parts_before called a p p.storage 0).text (parts_before called a p p.storage 0).marks _ shows, ap (λ (t : Texts). marks t.frames) same_texts))
-        (subst IsProper shows_before there.proper)
+  -- parts that are these show the machine at the call
+  pub stands_again : (q : Parts) → q ≡ before → IsBegunAgain called (all_texts a) m (shown_by width q)
+  stands_again q is = subst (λ (x : Parts). IsBegunAgain called (all_texts a) m (shown_by width x)) (sym is) (record {
+    state = restores;
+    others = ap (λ (n : Shown). let kept : Shown = record n { state = state_of before } in kept) view;
+    front = refl;
+    inside = omega (arith, ap (λ (fs : List Frame). length fs) begun);
+    given = ap arguments_in (scan_call (state_of before) (frame_in (called.kind, a)) texts.without.frames refl begun);
+  })
 
 -- ---- the parts as a machine holds them
 
-pub same_parts : (called : Called) (a : Arguments) (p : Parts) (text : Ends ℕ) (ms : Ends Mark) (store : Stored) (meta : ℕ) (output : Window ℕ) →
-    text ≡ before_call called.scanned called.value (all_texts a) (ends_in p) →
-    ms.left ≡ p.marks ++ function_marks (length (without_value called.scanned called.value (ends_in p)).left) called.kind (map length a.finished) →
-    ms.capacity ≡ p.mark_room → store.known ≡ p.known → meta ≡ unwrap_or called.meta p.meta → output.items ≡ take (length p.output - called.printed) p.output →
-    output.capacity ≡ p.output_room →
-    parts_of text ms store meta called.trace (p.position - called.read) output ≡ parts_before called a p (storage_in store) store.spare
-same_parts called a p text ms store meta output text_is marks_are mark_room known meta_is items output_room i =
-    record (parts_before called a p (storage_in store) store.spare) {
+pub before_capacity : (scanned : Bool) (n : ℕ) (arguments : List (List ℕ)) (e : Ends ℕ) → (before_call scanned n arguments e).capacity ≡ e.capacity
+before_capacity true n arguments e = refl
+before_capacity false n arguments e = refl
+
+pub same_parts : (called : Called) (a : Arguments) (old text : Ends ℕ) (old_marks ms : Ends Mark) (store : Stored) (old_meta meta : ℕ) (trace : Bool) (position : ℕ) (printed output : Window ℕ) →
+    text ≡ before_call called.scanned called.value (all_texts a) old →
+    ms.left ≡ old_marks.left ++ function_marks (length (without_value called.scanned called.value old).left) called.kind (map length a.finished) →
+    ms.capacity ≡ old_marks.capacity → meta ≡ unwrap_or called.meta old_meta → output ≡ record printed { items = take (length printed.items - called.printed) printed.items } →
+    parts_of text ms store meta called.trace (position - called.read) output ≡ parts_before called a (parts_of old old_marks store old_meta trace position printed)
+same_parts called a old text old_marks ms store old_meta meta trace position printed output text_is marks_are mark_room meta_is output_is i =
+    record (parts_before called a (parts_of old old_marks store old_meta trace position printed)) {
       active = (text_is i).right;
       text = (text_is i).left;
       marks = marks_are i;
       meta = meta_is i;
-      output = items i;
+      output = (output_is i).items;
       text_room = room i;
       mark_room = mark_room i;
-      output_room = output_room i;
-      known = known i;
+      output_room = (output_is i).capacity;
     }
   where
-    room : text.capacity ≡ p.text_room
-    room = ap (λ (e : Ends ℕ). e.capacity) text_is ∙ kept called.scanned
-      where
-        kept : (scanned : Bool) → (without_value scanned called.value (ends_in p)).capacity ≡ p.text_room
-        kept true = refl
-        kept false = refl
+    room : text.capacity ≡ old.capacity
+    room = ap (λ (e : Ends ℕ). e.capacity) text_is ∙ before_capacity called.scanned called.value (all_texts a) old
+
+-- ---- forms and blocks are got back after all else
+
+-- limits on texts see no forms and blocks
+texts_fit_too : (texts : Texts) (storage other : Storage) (rest : Rest) → texts_fit (rules.state_of texts storage rest) ≡ texts_fit (rules.state_of texts other rest)
+unfolding texts_fit
+texts_fit_too texts storage other rest = refl
+
+module _ (called : Called) (texts : List (List ℕ)) (undone : Undone) (m : Shown) (proper : IsProper m.state) (room : HasRoom m m.state)
+    (h : CanShow m (restored_call (record_with called texts undone) m.state)) where
+  -- the same call, had it destroyed nothing of forms and blocks
+  abbrev harmless : CallRecord
+  harmless = record_with called texts Nothing
+
+  all_there : CanShowParts (record_with called texts undone) m m.state
+  all_there = can_show_parts (record_with called texts undone) m m.state h
+
+  pub can_begin : CanShow m (restored_call harmless m.state)
+  can_begin =
+      let t = all_there in
+      subst (CanShow m) (sym (λ i. put_together (t.texts_are i) (Some (storage_of m.state)) (t.rest_is i))) (
+        record { text = t.room.text; marks = t.room.marks; output = t.room.output; names = room.names },
+        record { texts = texts_fit_too t.texts (storage_of m.state) t.storage t.rest ∙ t.proper.texts; storage = proper.storage },
+      )
+
+  module _ (n : Shown) (begun : IsBegunAgain called texts m n) where
+    parts : (texts_before harmless (texts_in m.state) ≡ Some (texts_in n.state)) × (Some (storage_of m.state) ≡ Some (storage_of n.state)) × (rest_before harmless (rest_of m.state) ≡ Some (rest_of n.state))
+    parts = put_together_parts (texts_before harmless (texts_in m.state)) (Some (storage_of m.state)) (rest_before harmless (rest_of m.state)) n.state begun.state
+
+    kept : storage_of n.state ≡ storage_of m.state
+    kept = let both : Some (storage_of m.state) ≡ Some (storage_of n.state) = parts.1 in let same : storage_of n.state ≡ storage_of m.state = cc in same
+
+    storage_same : storage_before (arguments_in (scan n.state)) undone (storage_of n.state) ≡ storage_before texts undone (storage_of m.state)
+    storage_same i = storage_before (begun.given i) undone (kept i)
+
+    pub can_restore : CanRestore undone n
+    can_restore =
+        let t = all_there in
+        record {
+          front = begun.front;
+          inside = begun.inside;
+          there =
+              subst (λ (o : Option Storage). IsSomeAnd o (λ storage. KnowsAll n.known storage.forms × IsProperStorage storage)) (sym (storage_same ∙ t.storage_is))
+              (subst (λ (x : Shown). KnowsAll x.known t.storage.forms) (sym begun.others) t.room.names, t.proper.storage);
+        }
+
+    module _ (k : Shown) (is : IsRestored undone n k) where
+      pub all_back : restored_call (record_with called texts undone) m.state ≡ Some k.state
+      all_back = (λ i. put_together (parts.0 i) ((sym storage_same ∙ is.back) i) (parts.2 i)) ∙ ap (λ (x : Shown). Some x.state) (sym is.others)
+
+      pub no_less_back : IsNoLess m k
+      no_less_back =
+          subst (IsNoLess m) (sym (is.others ∙ ap (λ (x : Shown). let y : Shown = record x { state = with_storage (storage_of k.state) n.state; spare = k.spare } in y) begun.others))
+          (record { width = refl; text = omega arith; marks = omega arith; output = omega arith; names = λ name h. h })
 
 -- a text with its marks is the same where both are
 pub marked_same : (text other : List ℕ) (ms others : List Mark) → text ≡ other → ms ≡ others →

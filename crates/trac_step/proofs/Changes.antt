@@ -14,11 +14,13 @@ use Rattle.trac_rules.proofs.ProperStates.{initial_proper}
 use Rattle.trac_rules.specs.Matching.{match_of, protected, protected_up_to}
 use Rattle.trac_rules.specs.Scanning.{gather}
 use Rattle.trac_rules.specs.Limits.{marks}
-use Rattle.trac_prims.specs.declared.mark.Mark.{Mark}
+use Rattle.trac_text.specs.declared.mark.Mark.{Mark}
 use Rattle.trac_forms.specs.Stored.{Names, Stored, nothing_stored, storage_in}
 use Rattle.trac_step.specs.Layout.{Parts, parts_of, state_of, IsSound}
-use Rattle.trac_prims.proofs.Neutral.{AreMarks-longer}
-use Rattle.trac_step.specs.Calling.{mark_at, with_protected}
+use Rattle.trac_text.proofs.Neutral.{AreMarks-longer}
+use Rattle.trac_text.specs.Marks.{mark_at}
+use Rattle.trac_text.specs.Moving.{with_protected}
+use Rattle.trac_text.proofs.Protected.{protected_length}
 use Rattle.trac_step.proofs.Rules.{gathers, ordered_push, marks-parts}
 
 -- ---- a mark is put at the end of the text
@@ -62,14 +64,6 @@ gather_parts p active more sound = gathers (record p { active = active }) more s
 
 -- ---- what a `(` protects
 
--- what is protected and what stands after it are no longer than the text
-pub protected_length : (text : List ℕ) → length (protected text).rest + length (protected text).inner ≤ length text
-protected_length text = up_to (match_of text)
-  where
-    up_to : (o : Option ℕ) → length (protected_up_to o text).rest + length (protected_up_to o text).inner ≤ length text
-    up_to None = omega arith
-    up_to (Some k) = omega (arith, length-take k text, length-drop (k + 1) text)
-
 pub protect_parts : (p : Parts) → IsSound p → 0 < length p.active →
     IsSound (record p { active = (protected (drop 1 p.active)).rest; text = p.text ++ (protected (drop 1 p.active)).inner })
 protect_parts p sound some =
@@ -100,30 +94,6 @@ some_marks ms all b is unset same = some_by (length all) (sym unset ∙ is ∙ a
     some_by : (n : ℕ) → false ≡ (n == 0) → 0 < n
     some_by zero e = absurd (let unset : false ≡ true = e in cc)
     some_by (suc n) e = omega arith
-
--- ---- the texts after a protected one
-
-pub taken_matched : (old cut shifted last : Ends ℕ) (k : ℕ) → cut ≡ record old { right = drop 1 old.right } →
-    shifted ≡ record cut { left = cut.left ++ take k cut.right; right = drop k cut.right } → last ≡ record shifted { right = drop 1 shifted.right } →
-    match_of (drop 1 old.right) ≡ Some k → last ≡ with_protected (protected (drop 1 old.right)) old
-taken_matched old cut shifted last k c s l found =
-    l ∙ ap (λ (e : Ends ℕ). record e { right = drop 1 e.right }) s
-    ∙ ap (λ (e : Ends ℕ). record e { left = e.left ++ take k e.right; right = drop 1 (drop k e.right) }) c
-    ∙ ap (λ (rest : List ℕ). record old { left = old.left ++ take k (drop 1 old.right); right = rest }) (drop-drop 1 k (drop 1 old.right))
-    ∙ ap (λ (o : Option ℕ). with_protected (protected_up_to o (drop 1 old.right)) old) (sym found)
-
--- how long it is
-pub inner_length : (text : List ℕ) (k : ℕ) → match_of text ≡ Some k → k < length text → k ≡ length (protected text).inner
-inner_length text k found within = omega (arith, ap (λ (o : Option ℕ). length (protected_up_to o text).inner) found, length-take k text)
-
-pub taken_unmatched : (old cut last : Ends ℕ) (n : ℕ) → cut ≡ record old { right = drop 1 old.right } → n ≡ length cut.right →
-    last ≡ record cut { left = cut.left ++ take n cut.right; right = drop n cut.right } →
-    match_of (drop 1 old.right) ≡ None → last ≡ with_protected (protected (drop 1 old.right)) old
-taken_unmatched old cut last n c is l found =
-    l ∙ ap (λ (k : ℕ). record cut { left = cut.left ++ take k cut.right; right = drop k cut.right }) is
-    ∙ ap (λ (e : Ends ℕ). record e { left = e.left ++ take (length e.right) e.right; right = drop (length e.right) e.right }) c
-    ∙ (λ i. record old { left = old.left ++ take_all (length (drop 1 old.right)) (drop 1 old.right) (omega arith) i; right = drop_all (length (drop 1 old.right)) (drop 1 old.right) (omega arith) i })
-    ∙ ap (λ (o : Option ℕ). with_protected (protected_up_to o (drop 1 old.right)) old) (sym found)
 
 -- ---- other rooms
 
@@ -200,17 +170,3 @@ sound_at_start made reserved filled ms store output made_is left right room fill
     ap (λ (e : Ends ℕ). parts_of e ms store APOSTROPHE false 0 output) filled_is
     ∙ (λ i. record (parts_of (record { left = none_left i; right = idle_program ++ none_right i; capacity = reserved.capacity }) (ms_is i) (store_is i) APOSTROPHE false 0 output) { output = items i })
     )) (sound_first reserved.capacity output.capacity (omega (arith, room)))
-
--- ---- other items in the place of all
-
-pub refilled : {T : Type 0} (old a b c d : Ends T) (left right : List T) (n m : ℕ) → n ≡ length old.left → m ≡ length a.right → a ≡ record old { left = take (length old.left - n) old.left } →
-    b ≡ record a { right = drop m a.right } → c ≡ record b { left = b.left ++ left } → d ≡ record c { right = right ++ c.right } → d ≡ record old { left = left; right = right }
-refilled {T} old a b c d left right n m all rest cut gone put last =
-    let none : length old.left - n ≡ 0 = omega (arith, all) in
-    last
-    ∙ ap (λ (e : Ends T). record e { right = right ++ e.right }) put
-    ∙ ap (λ (e : Ends T). record e { left = e.left ++ left; right = right ++ e.right }) gone
-    ∙ ap (λ (xs : List T). record a { left = a.left ++ left; right = right ++ xs }) (drop_all m a.right (omega (arith, rest)))
-    ∙ ap (λ (e : Ends T). record e { left = e.left ++ left; right = right ++ [] }) cut
-    ∙ ap (λ (k : ℕ). record old { left = take k old.left ++ left; right = right ++ [] }) none
-    ∙ ap (λ (xs : List T). record old { left = left; right = xs }) (append-nil right)

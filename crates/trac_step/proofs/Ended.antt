@@ -1,27 +1,35 @@
--- The parts of a machine after a call with a known effect: they are sound, and show the state that the rules say.
-use Rattle.std.proofs.Common.{◌≡◌, ℕ, ◌+◌, ◌≤◌, List, [], ◌∷◌, ◌++◌, length, take, drop, reverse, refl, sym, ap, ◌∙◌, arith, true, false, Bool}
+-- The parts of a machine after a call that is planned: they are sound, and show the state that the rules say.
+use Rattle.std.proofs.Common.{◌≡◌, ℕ, ◌+◌, ◌≤◌, List, [], ◌∷◌, ◌++◌, length, take, drop, reverse, refl, sym, ap, ◌∙◌, subst, arith, true, false, Bool}
+use Rattle.std.specs.Option.{unwrap_or}
 use Rattle.std.proofs.lemmas.List.{length-take-le, length-drop, length-append}
 use Rattle.trac_gap.specs.Window.{Window}
 use Rattle.trac_gap.specs.Ends.{Ends, item_count}
 use Rattle.trac_rules.specs.declared.kind.Kind.{Kind}
 use Rattle.trac_rules.specs.declared.kind.Kind.TheVariants.{Active, Neutral}
 use Rattle.trac_rules.specs.declared.scan.Front.TheVariants.{Nothing, Closing}
+use Rattle.trac_rules.specs.declared.width.Width.{Width}
+use Rattle.trac_rules.specs.Limits.{text_bytes}
 use Rattle.trac_rules.specs.Performing.{placed}
 use Rattle.trac_rules.specs.Proper.{IsProper}
 use Rattle.trac_rules.specs.Scanning.{Calls, front_of, scan, deleted}
 use Rattle.trac_rules.specs.State.{Frame, State}
 use Rattle.trac_forms.specs.Stored.{Stored, storage_in}
-use Rattle.trac_prims.specs.declared.mark.Mark.{Mark}
-use Rattle.trac_prims.specs.declared.effect.Effect as code
-use Rattle.trac_prims.specs.Effects.{Planned, planned_on}
-use Rattle.trac_prims.specs.Frames.{all_arguments, IsInnermost}
-use Rattle.trac_prims.specs.Neutral.{AreMarks, cut_back, neutral_of}
-use Rattle.trac_prims.proofs.Neutral.{AreMarks-longer}
-use Rattle.trac_step.specs.Calling.{state_after, with_value}
-use Rattle.trac_step.specs.Layout.{Parts, marked_text, parts_of, state_of, IsSound}
+use Rattle.trac_text.specs.declared.mark.Mark.{Mark}
+use Rattle.trac_prims.specs.declared.effect.Made.{Made}
+use Rattle.trac_text.specs.Cuts.{cut}
+use Rattle.trac_prims.specs.Effects.{Planned}
+use Rattle.trac_text.specs.Frames.{IsInnermost}
+use Rattle.trac_text.specs.Neutral.{AreMarks, cut_back, neutral_of}
+use Rattle.trac_text.proofs.Neutral.{AreMarks-longer}
+use Rattle.trac_step.specs.declared.calling.Plan.{Plan}
+use Rattle.trac_step.specs.Calling.{state_ended}
+use Rattle.trac_text.specs.Moving.{with_value}
+use Rattle.trac_step.specs.Layout.{Parts, IsSound, Shown, marked_text, parts_of, shown_by, state_of}
+use Rattle.trac_step.specs.Ready.{CanEnd}
 use Rattle.trac_step.proofs.Calls.{call_of, scan_call}
+use Rattle.trac_step.proofs.Finishing.{begun_here}
 use Rattle.trac_step.proofs.Limited.{sound_if_proper}
-use Rattle.trac_step.proofs.Rules.{gathers}
+use Rattle.trac_step.proofs.Rules.{gathers, text_bytes-parts}
 
 -- ---- a value where it goes
 
@@ -55,7 +63,7 @@ value_placed Neutral false value p a = gathers p value a
 -- ---- a call
 
 -- the parts when the function at this mark is gone, and its `)` too
-abbrev pub parts_without : Parts → ℕ → ℕ → Parts
+abbrev parts_without : Parts → ℕ → ℕ → Parts
 parts_without p number place = record p { active = drop 1 p.active; text = take place p.text; marks = take number p.marks }
 
 -- the parts with all that is planned, but for the value
@@ -79,8 +87,20 @@ with_planned e s = record s {
   output = s.output ++ e.printed;
 }
 
+-- what is planned, as those parts see it whose forms and blocks are changed already
+abbrev planned_of : {A : Type 0} → Parts → Plan → Made A → Planned
+planned_of p plan made = record {
+  value = made.value.items;
+  forced = plan.forced;
+  printed = made.print.items;
+  position = p.position + plan.called.read;
+  meta = unwrap_or plan.meta p.meta;
+  trace = unwrap_or plan.trace p.trace;
+  storage = p.storage;
+}
+
 -- the parts after the call of the function at this mark
-abbrev pub ended_parts : Parts → ℕ → ℕ → Kind → Planned → Parts
+abbrev ended_parts : Parts → ℕ → ℕ → Kind → Planned → Parts
 ended_parts p number place kind e = parts_with kind e.forced e.value (parts_changed e (parts_without p number place))
 
 some_active : (active : List ℕ) → front_of active ≡ Closing → 1 ≤ length active
@@ -96,62 +116,85 @@ module _ (p : Parts) (number place : ℕ) (kind : Kind) (texts : List (List ℕ)
       let same = sym inner.base_is in
       λ i. record (state_of (parts_without p number place)) { base = same i }
 
-  pub scanned : scan (state_of p) ≡ Calls (call_of (state_of p) inner.frame rest)
+  scanned : scan (state_of p) ≡ Calls (call_of (state_of p) inner.frame rest)
   scanned = scan_call (state_of p) inner.frame rest front inner.frames_are
 
   -- the parts after the call show the state that the rules say
-  pub ended_shows : {A : Type 0} (e : code.Effect A) (arguments : List (List ℕ)) → arguments ≡ texts →
-      state_of (ended_parts p number place kind (planned_on arguments p.storage e)) ≡ state_after e (scan (state_of p))
-  ended_shows e arguments are =
-      let plan = planned_on (all_arguments inner.frame) p.storage e in
-      ap (λ (ts : List (List ℕ)). state_of (ended_parts p number place kind (planned_on ts p.storage e))) (are ∙ sym inner.arguments_are)
-      ∙ value_placed kind plan.forced plan.value (parts_changed plan (parts_without p number place)) inner.ordered
-      ∙ ap (λ (s : State). placed kind plan.forced plan.value (with_planned plan s)) without_shows
-      ∙ ap (λ (k : Kind). placed k plan.forced plan.value (with_planned plan (call_of (state_of p) inner.frame rest).state)) (sym inner.kind_is)
-      ∙ ap (state_after e) (sym scanned)
+  ended_shows : {A : Type 0} (plan : Plan) (made : Made A) → state_of (ended_parts p number place kind (planned_of p plan made)) ≡ state_ended plan made (scan (state_of p))
+  ended_shows plan made =
+      let e = planned_of p plan made in
+      value_placed kind e.forced e.value (parts_changed e (parts_without p number place)) inner.ordered
+      ∙ ap (λ (s : State). placed kind e.forced e.value (with_planned e s)) without_shows
+      ∙ ap (λ (k : Kind). placed k e.forced e.value (with_planned e (call_of (state_of p) inner.frame rest).state)) (sym inner.kind_is)
+      ∙ ap (state_ended plan made) (sym scanned)
 
   -- the places that the code cuts at are there
-  pub closing_there : 1 ≤ length p.active
+  closing_there : 1 ≤ length p.active
   closing_there = some_active p.active front
 
-  pub cut_length : length (take place p.text) + length (drop 1 p.active) ≤ length p.active + length p.text
+  cut_length : length (take place p.text) + length (drop 1 p.active) ≤ length p.active + length p.text
   cut_length = omega (arith, length-take-le place p.text inner.place_within, length-drop 1 p.active, inner.place_within)
 
   -- and they are sound, where the state is a proper one and there is room for the value
-  pub ended_sound : (e : Planned) (text_room output_room : ℕ) (known : _) (spare : ℕ) → IsSound p → IsProper (state_of (ended_parts p number place kind e)) →
-      length p.active + length p.text + length e.value ≤ text_room →
-      IsSound (record (ended_parts p number place kind e) { text_room = text_room; output_room = output_room; known = known; spare = spare })
-  ended_sound e text_room output_room known spare sound proper room =
+  ended_sound : (e : Planned) (text_room output_room : ℕ) → IsSound p → IsProper (state_of (ended_parts p number place kind e)) →
+      length p.active + length p.text + length e.value ≤ text_room → IsSound (record (ended_parts p number place kind e) { text_room = text_room; output_room = output_room })
+  ended_sound e text_room output_room sound proper room =
       let w : Ends ℕ = record { left = take place p.text; right = drop 1 p.active; capacity = p.text_room } in
-      sound_if_proper (record (ended_parts p number place kind e) { text_room = text_room; output_room = output_room; known = known; spare = spare })
+      sound_if_proper (record (ended_parts p number place kind e) { text_room = text_room; output_room = output_room })
       (value_ordered kind e.forced e.value w (reverse (take number p.marks)) inner.ordered)
       (omega (arith, value_length kind e.forced e.value w, cut_length, room))
       (omega (arith, length-take-le number p.marks (omega (arith, inner.within)), inner.within, sound.mark_room))
       proper
 
--- ---- the same, as the code has the parts
+-- ---- the call that a machine stands at
 
-pub finished_parts : (old cut put : Ends ℕ) (ms kept : Ends Mark) (store after : Stored) (meta : ℕ) (trace : Bool) (position : ℕ) (output printed : Window ℕ)
-    (number place : ℕ) (kind : Kind) (e : Planned) →
-    cut ≡ record old { left = take place old.left; right = drop 1 old.right } → put ≡ with_value kind e.forced e.value cut → kept ≡ record ms { left = take number ms.left } →
-    storage_in after ≡ e.storage → printed.items ≡ output.items ++ e.printed →
-    parts_of put kept after e.meta e.trace e.position printed
-    ≡ record (ended_parts (parts_of old ms store meta trace position output) number place kind e) { text_room = put.capacity; output_room = printed.capacity; known = after.known; spare = after.spare }
-finished_parts old cut put ms kept store after meta trace position output printed number place kind e cut_is put_is kept_is storage_is items =
-    let put_at : put ≡ with_value kind e.forced e.value (record { left = take place old.left; right = drop 1 old.right; capacity = old.capacity }) =
-    put_is ∙ ap (λ (x : Ends ℕ). with_value kind e.forced e.value x) cut_is in
-    λ i. record {
+-- parts are sound, and show a state
+pub record AreOf (q : Parts) (s : State) : Type 0 where
+  pub sound : IsSound q
+  pub state : state_of q ≡ s
+
+-- the function is cut off, its value is put where it goes, and what it prints is printed
+pub ended : {A : Type 0} {width : Width} (old cut_off put : Ends ℕ) (ms kept : Ends Mark) (store : Stored) (meta : ℕ) (trace : Bool) (position : ℕ) (output : Window ℕ) (meta_now : ℕ) (trace_now : Bool)
+    (printed : Window ℕ) (value print : List ℕ) (m : Shown) (plan : Plan) (made : Made A) →
+    IsSound (parts_of old ms store meta trace position output) → shown_by width (parts_of old ms store meta trace position output) ≡ m → CanEnd m made plan →
+    cut_off ≡ record old { left = take plan.beginning.place old.left; right = drop 1 old.right } → put ≡ with_value plan.beginning.kind plan.forced value cut_off →
+    kept ≡ record ms { left = take plan.beginning.number ms.left } → meta_now ≡ unwrap_or plan.meta meta → trace_now ≡ unwrap_or plan.trace trace →
+    printed.items ≡ output.items ++ print → value ≡ made.value.items → print ≡ made.print.items →
+    AreOf (parts_of put kept store meta_now trace_now plan.position printed) (state_ended plan made (scan m.state))
+ended old cut_off put ms kept store meta trace position output meta_now trace_now printed value print m plan made sound view can cut_is put_is kept_is meta_is trace_is items value_is print_is =
+    let p = parts_of old ms store meta trace position output in
+    let b = plan.beginning in
+    let e = planned_of p plan made in
+    let inner = (begun_here p m b sound view can.begins).innermost in
+    let texts = cut b.place (drop (b.number + 1) p.marks) p.text in
+    let front = ap (λ (n : Shown). front_of n.state.active) view ∙ can.front in
+    let shows : state_of (ended_parts p b.number b.place b.kind e) ≡ state_ended plan made (scan m.state) =
+    ended_shows p b.number b.place b.kind texts inner front plan made ∙ ap (λ (n : Shown). state_ended plan made (scan n.state)) view in
+    let put_at : put ≡ with_value b.kind plan.forced made.value.items (record { left = take b.place old.left; right = drop 1 old.right; capacity = old.capacity }) =
+    put_is ∙ (λ i. with_value b.kind plan.forced (value_is i) (cut_is i)) in
+    let printed_is = items ∙ ap (λ (text : List ℕ). output.items ++ text) print_is in
+    let position_is = can.position ∙ ap (λ (n : Shown). n.state.position + plan.called.read) (sym view) in
+    let q_is : parts_of put kept store meta_now trace_now plan.position printed ≡ record (ended_parts p b.number b.place b.kind e) { text_room = put.capacity; output_room = printed.capacity } =
+    (λ i. record {
       active = (put_at i).right;
       text = (put_at i).left;
       marks = (kept_is i).left;
-      storage = storage_is i;
-      meta = e.meta;
-      trace = e.trace;
-      position = e.position;
-      output = items i;
+      storage = storage_in store;
+      meta = meta_is i;
+      trace = trace_is i;
+      position = position_is i;
+      output = printed_is i;
       text_room = put.capacity;
       mark_room = (kept_is i).capacity;
       output_room = printed.capacity;
-      known = after.known;
-      spare = after.spare;
+      known = store.known;
+      spare = store.spare;
+    }) in
+    let room = ap (λ (x : Ends ℕ). x.capacity) put_at ∙ value_capacity b.kind plan.forced made.value.items (record { left = take b.place old.left; right = drop 1 old.right; capacity = old.capacity }) in
+    record {
+      sound =
+          subst IsSound (sym q_is)
+          (ended_sound p b.number b.place b.kind texts inner front e put.capacity printed.capacity sound (subst IsProper (sym shows) can.proper)
+          (omega (arith, can.text_room, ap (λ (n : Shown). n.text_room) view, ap (λ (n : Shown). text_bytes n.state) view, text_bytes-parts p sound.ordered, room)));
+      state = ap state_of q_is ∙ shows;
     }

@@ -21,7 +21,7 @@ use Rattle.trac_rules.proofs.Bounded.{loss_bounded}
 use Rattle.trac_rules.proofs.CallsBack.{record_leads_back}
 use Rattle.trac_rules.proofs.CallsWeighed.{record_within}
 use Rattle.trac_rules.proofs.Steps.{step_within}
-use Rattle.trac_prims.specs.Frames.{all_arguments}
+use Rattle.trac_text.specs.Frames.{all_arguments}
 use Rattle.trac_journal.specs.declared.called.Called as code
 use Rattle.trac_journal.specs.declared.called.Short.{Short}
 use Rattle.trac_journal.specs.declared.called.Short.TheVariants as short
@@ -30,8 +30,8 @@ use Rattle.trac_journal.specs.Told.{FitsEntry, record_with, said_by}
 use Rattle.trac_step.specs.Calling.{IsMove, arguments_in}
 use Rattle.trac_step.specs.Kept.{FitsJournal, IsAdded, IsKept}
 use Rattle.trac_step.proofs.CallsUndone.{then_is}
-use Rattle.trac_step.proofs.Functions.{sizes_of}
-use Rattle.trac_step.proofs.Limited.{limits_kept}
+use Rattle.trac_text.proofs.TakenOut.{sizes_of}
+use Rattle.trac_storage.proofs.Judged.{limits_kept}
 use Rattle.trac_step.proofs.Recorded.{call_parts, move_recorded, recorded_front}
 use Rattle.trac_step.proofs.Scans.{scan_front}
 

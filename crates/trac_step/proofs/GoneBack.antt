@@ -9,7 +9,7 @@ use Rattle.trac_journal.specs.declared.called.Short.{Short}
 use Rattle.trac_journal.specs.declared.told.Lost.{Lost}
 use Rattle.trac_journal.specs.declared.told.Newest.{Newest}
 use Rattle.trac_journal.specs.declared.told.Newest.TheVariants as newest
-use Rattle.trac_journal.specs.Pieces.{Arguments, all_texts}
+use Rattle.trac_text.specs.Pieces.{Arguments, all_texts}
 use Rattle.trac_journal.specs.Told.{IsLost, IsTold, record_with, said_by}
 use Rattle.trac_step.specs.Kept.{CanGoBack, HasCallOut, HasGoneBack, IsCallFirst, IsIdleFirst}
 use Rattle.trac_step.specs.Layout.{Shown}

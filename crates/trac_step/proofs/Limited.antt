@@ -1,28 +1,16 @@
 -- Limits on a state, and what is true of the parts of a machine, from one another.
-use Rattle.std.proofs.Common.{◌≡◌, ◌+◌, ◌<◌, ◌≤◌, length, reverse, refl, arith, true, false, ◌&&◌}
-use Rattle.std.specs.Prelude.{nat_le}
-use Rattle.std.proofs.lemmas.Bool.{and_parts, false_from_ne_true, le-leb, leb-true}
+use Rattle.std.proofs.Common.{◌≡◌, ◌+◌, ◌<◌, ◌≤◌, length, reverse, refl, arith, true, false}
+use Rattle.std.proofs.lemmas.Bool.{false_from_ne_true, le-leb}
 use Rattle.trac_rules.specs.declared.limit.TheConstants.{TEXT_LIMIT, MARK_LIMIT, OUTPUT_LIMIT}
 use Rattle.trac_rules.specs.State.{State}
 use Rattle.trac_rules.specs.Limits.{text_bytes, marks, texts_fit}
 use Rattle.trac_rules.specs.Proper.{IsProper}
-use Rattle.trac_prims.specs.Neutral.{AreMarks}
+use Rattle.trac_text.specs.Neutral.{AreMarks}
+use Rattle.trac_storage.proofs.Judged.{limits_kept}
 use Rattle.trac_step.specs.Layout.{Parts, state_of, IsSound}
 use Rattle.trac_step.proofs.Rules.{text_bytes-parts, marks-parts}
 
--- ---- the three limits
-
-pub record IsLimited (s : State) : Type 0 where
-  pub text : text_bytes s ≤ TEXT_LIMIT
-  pub marked : marks s.frames ≤ MARK_LIMIT
-  pub output : length s.output ≤ OUTPUT_LIMIT
-
-pub limits_kept : (s : State) → texts_fit s ≡ true → IsLimited s
-unfolding texts_fit
-limits_kept s e =
-    let parts = and_parts (nat_le (text_bytes s) TEXT_LIMIT && nat_le (marks s.frames) MARK_LIMIT) (nat_le (length s.output) OUTPUT_LIMIT) e in
-    let texts = and_parts (nat_le (text_bytes s) TEXT_LIMIT) (nat_le (marks s.frames) MARK_LIMIT) parts.0 in
-    record { text = leb-true _ _ texts.0; marked = leb-true _ _ texts.1; output = leb-true _ _ parts.1 }
+-- ---- the limits
 
 -- one more mark than there may be
 pub beyond_limits_of_marks : (s : State) → MARK_LIMIT < marks s.frames → texts_fit s ≡ false

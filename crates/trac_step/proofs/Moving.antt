@@ -15,14 +15,18 @@ use Rattle.trac_rules.specs.State.{Frame, State}
 use Rattle.trac_rules.specs.Matching.{protected}
 use Rattle.trac_rules.specs.Scanning.{Moves, front_of, scan, scan_at, protect, deleted, begun, comma_in, closing_in, gather_first}
 use Rattle.trac_rules.specs.Limits.{texts_fit, marks}
-use Rattle.trac_prims.specs.declared.mark.Mark.{Mark}
-use Rattle.trac_prims.specs.Neutral.{neutral}
+use Rattle.trac_text.specs.declared.mark.Mark.{Mark}
+use Rattle.trac_text.specs.Neutral.{neutral}
 use Rattle.trac_step.specs.Layout.{Parts, state_of, IsSound}
-use Rattle.trac_step.specs.Calling.{IfMoves, IsMove, adds_mark, mark_at}
+use Rattle.trac_step.specs.Calling.{IfMoves, IsMove}
+use Rattle.trac_text.specs.Moving.{adds_mark}
+use Rattle.trac_text.specs.Marks.{mark_at}
 use Rattle.trac_step.proofs.Rules.{begins, next_argument, ordered_push, marks-parts}
-use Rattle.trac_step.proofs.Limited.{beyond_limits_of_marks, limits_kept, within_limits}
+use Rattle.trac_step.proofs.Limited.{beyond_limits_of_marks, within_limits}
+use Rattle.trac_storage.proofs.Judged.{limits_kept}
 use Rattle.trac_step.proofs.Scans.{scan_front}
-use Rattle.trac_step.proofs.Changes.{sound_push, sound_gather, gather_parts, protected_length}
+use Rattle.trac_step.proofs.Changes.{sound_push, sound_gather, gather_parts}
+use Rattle.trac_text.proofs.Protected.{protected_length}
 
 -- ---- each rule keeps the parts sound
 

@@ -9,7 +9,7 @@ use Rattle.trac_rules.specs.Goals.{IsCall, call_asked, next_call}
 use Rattle.trac_rules.specs.Scanning.{Call, Scanned, Moves, Calls, front_of, scan}
 use Rattle.trac_rules.specs.State.{Frame, State}
 use Rattle.trac_rules.specs.Stepping.{call_at, name_called}
-use Rattle.trac_prims.specs.Frames.{all_arguments}
+use Rattle.trac_text.specs.Frames.{all_arguments}
 use Rattle.trac_step.proofs.Calls.{scan_call}
 
 -- a front that is no other one is a `)`

@@ -1,5 +1,5 @@
 -- The outcome of a step, from what scanning asks for and what is performed.
-use Rattle.std.proofs.Common.{◌≡◌, refl, sym, ap, ◌∙◌, subst, true, false, Bool, ⊎_elim}
+use Rattle.std.proofs.Common.{◌≡◌, sym, ap, ◌∙◌, subst, true, false}
 use Rattle.std.specs.Prelude.{Option, Some, Result, Ok, Err, IfErr, IfOk, IsOkUnless, OnErr, OnOk}
 use Rattle.trac_rules.specs.declared.refusal.Refusal.{Refusal}
 use Rattle.trac_rules.specs.declared.refusal.Refusal.TheVariants.{Memory, TooLong}
@@ -9,13 +9,10 @@ use Rattle.trac_rules.specs.Scanning.{Scanned, Moves, scan}
 use Rattle.trac_rules.specs.Limits.{texts_fit}
 use Rattle.trac_rules.specs.Outcomes.{limited, MayLackMemory, MayRefuse}
 use Rattle.trac_rules.specs.Stepping.{step, carried_out}
-use Rattle.trac_rules.proofs.Outcomes.{limited_Err, limited_beyond, limited_within}
+use Rattle.trac_rules.proofs.Outcomes.{limited_beyond, limited_within}
+use Rattle.trac_storage.proofs.Outcomes.{lacks_limited}
 use Rattle.trac_step.specs.Calling.{IfMoves, IsMove}
 use Rattle.trac_step.proofs.Scans.{moves_of}
-
--- memory, where it may be refused
-pub refuses_memory : {T : Type 0} (outcome : Result T Refusal) (e : Refusal) → e ≡ Memory → MayLackMemory outcome → MayRefuse outcome e
-refuses_memory outcome e is lacks = subst (MayRefuse outcome) (sym is) lacks
 
 -- a call that answers memory alone, where nothing has changed
 pub refused_for_memory : {R P : Type 0} (r : Result R Refusal) (Q : Refusal → Type 0) → OnErr r P → IsOkUnless r Memory → (P → Q Memory) → IfErr r Q
@@ -48,26 +45,6 @@ taken_lacks outcome t is = subst MayLackMemory (sym is) tt
 pub step_as : (environment : Environment) (s : State) (scanned : Scanned) → scan s ≡ scanned → step environment s ≡ limited texts_fit (carried_out environment scanned)
 unfolding step
 step_as environment s scanned e = ap (λ x. limited texts_fit (carried_out environment x)) e
-
--- where something is judged by a test alone, memory may be refused in either case
-pub lacks_limited : {T : Type 0} (fits : T → Bool) (t : T) → MayLackMemory (limited fits (Ok t))
-lacks_limited fits t = lacks_by (fits t) refl
-  where
-    lacks_by : (b : Bool) → b ≡ fits t → MayLackMemory (limited fits (Ok t))
-    lacks_by true e = subst MayLackMemory (sym (limited_within fits t (sym e))) tt
-    lacks_by false e = subst MayLackMemory (sym (limited_beyond fits t (sym e))) tt
-
--- what is refused for a test is refused for another one that fails with it
-pub refuses_with : {T U : Type 0} (fits : T → Bool) (t : T) (fits_too : U → Bool) (u : U) (e : Refusal) → (fits t ≡ false → fits_too u ≡ false) →
-    MayRefuse (limited fits (Ok t)) e → MayRefuse (limited fits_too (Ok u)) e
-refuses_with fits t fits_too u Memory fails refused = lacks_limited fits_too u
-refuses_with fits t fits_too u TooLong fails refused = limited_beyond fits_too u (fails (beyond (fits t) refl))
-  where
-    beyond : (b : Bool) → b ≡ fits t → fits t ≡ false
-    beyond true e = absurd (let none : Ok t ≡ Err TooLong = sym (limited_within fits t (sym e)) ∙ refused in cc)
-    beyond false e = sym e
-refuses_with fits t fits_too u e fails refused =
-    ⊎_elim (λ (is : e ≡ TooLong). absurd (cc)) (λ (is : Ok t ≡ Err e). absurd (cc)) (limited_Err fits (Ok t) e refused)
 
 -- ---- scanning moves on
 

@@ -1,6 +1,5 @@
 -- What has to be known of a call before it is planned.
 use Rattle.std.proofs.Common.{◌≡◌, ℕ, ◌+◌, ◌-◌, ◌≤◌, List, [], ◌∷◌, length, sym, ap, ◌∙◌, subst, arith}
-use Rattle.std.specs.List.{concat}
 use Rattle.std.proofs.lemmas.List.{length-append, length-drop}
 use Rattle.trac_rules.specs.declared.kind.Kind.{Kind}
 use Rattle.trac_rules.specs.declared.limit.TheConstants.{MARK_LIMIT, TEXT_LIMIT}
@@ -10,12 +9,11 @@ use Rattle.trac_rules.specs.State.{Frame, State, storage_of}
 use Rattle.trac_forms.specs.Stored.{Stored, storage_in}
 use Rattle.trac_prims.specs.declared.effect.Now.{Now}
 use Rattle.trac_prims.specs.Plans.{IsGiven}
-use Rattle.trac_prims.specs.Frames.{IsInnermost, all_arguments}
-use Rattle.trac_prims.specs.Neutral.{MarkedText, Neutral, cut_back, neutral_of}
+use Rattle.trac_text.specs.Frames.{IsInnermost, all_arguments}
+use Rattle.trac_text.specs.Neutral.{MarkedText, Neutral, cut_back, neutral_of}
 use Rattle.trac_step.proofs.Beginnings.{bytes_before}
 use Rattle.trac_step.proofs.Calls.{call_of}
-use Rattle.trac_step.proofs.Functions.{sizes_of}
-use Rattle.trac_step.proofs.Limited.{limits_kept}
+use Rattle.trac_storage.proofs.Judged.{limits_kept}
 
 module _ (s : State) (m : MarkedText) (number place : ℕ) (kind : Kind) (texts : List (List ℕ)) (proper : IsProper s) (same : neutral_of m ≡ record { base = s.base; frames = s.frames })
     (inner : IsInnermost m number place kind texts) where
@@ -44,15 +42,6 @@ module _ (s : State) (m : MarkedText) (number place : ℕ) (kind : Kind) (texts 
 
   pub count_within : length texts ≤ MARK_LIMIT
   count_within = let kept = limits_kept s proper.texts in omega (arith, kept.marked, all_marks, ap (λ (ts : List (List ℕ)). length ts) inner.arguments_are)
-
-  -- an argument is there, and all are bytes of the text
-  pub some_argument : 1 ≤ length texts
-  some_argument = (sizes_of inner.frame texts inner.arguments_are).0
-
-  pub bytes_within : length (concat texts) ≤ TEXT_LIMIT
-  bytes_within =
-      let kept = limits_kept s proper.texts in
-      omega (arith, kept.text, (sizes_of inner.frame texts inner.arguments_are).1, ap argument_bytes frames_of)
 
   -- the call that scanning asks for is the one that is planned
   pub given_call : (store : Stored) (now : Now) → storage_of s ≡ storage_in store → s.meta ≡ now.meta → s.trace ≡ now.trace → s.position ≡ now.position → length s.output ≡ now.output →

@@ -1,20 +1,21 @@
 -- What a step of scanning keeps, and when it lacks room.
 use Rattle.std.proofs.Common.{◌≡◌, ◌+◌, ◌<◌, ◌≤◌, List, [], ◌∷◌, length, get_or, refl, sym, ap, subst, ◌∙◌, arith}
 use Rattle.std.proofs.lemmas.List.{length-append}
-use Rattle.std.specs.Prelude.{Option, None, Some, Result, Ok, Err, IfOk, OnOk}
+use Rattle.std.specs.Prelude.{Some, Result, Ok, Err, IfOk, OnOk}
 use Rattle.trac_rules.specs.declared.refusal.Refusal.{Refusal}
 use Rattle.trac_rules.specs.declared.scan.Front.{Front}
 use Rattle.trac_rules.specs.declared.scan.Front.TheVariants as front
 use Rattle.trac_rules.specs.Limits.{marks}
-use Rattle.trac_rules.specs.Records.{CallRecord, Record, Called, Deleted, Rest, Texts, put_together, record_in, record_of, recorded, recorded_at, rest_before, rest_of, state_before, state_of, texts_before, texts_in}
+use Rattle.trac_rules.specs.Records.{CallRecord, Record, Called, Deleted, record_in, record_of, recorded, recorded_at, rest_before, rest_of, state_before, texts_before, texts_in}
 use Rattle.trac_rules.specs.Scanning.{Scanned, Calls, Moves, closing_in, comma_in, deleted, front_of, scan}
-use Rattle.trac_rules.specs.State.{Environment, Frame, State, Storage, storage_of}
+use Rattle.trac_rules.specs.State.{Environment, Frame, State, storage_of}
 use Rattle.trac_rules.specs.Stepping.{step}
 use Rattle.trac_rules.specs.Proper.{IsProper}
 use Rattle.trac_rules.specs.Undone.{storage_before}
 use Rattle.trac_rules.specs.Weights.{loss, weight}
 use Rattle.trac_rules.proofs.CallsBack.{record_leads_back, record_restores}
 use Rattle.trac_rules.proofs.CallsWeighed.{record_within}
+use Rattle.trac_rules.proofs.FurtherOn.{put_together_parts}
 use Rattle.trac_step.specs.Calling.{IfMoves, IsMove}
 use Rattle.trac_step.specs.Layout.{Shown}
 use Rattle.trac_step.specs.Room.{HasRoom, LacksRoomAhead}
@@ -51,16 +52,6 @@ weighs_within (Err refusal) read e s is = tt
 
 -- ---- the three parts of the state before a call
 
--- parts that are together a state are each that of the state
-parts_of_state : (texts : Option Texts) (storage : Option Storage) (rest : Option Rest) (s : State) → put_together texts storage rest ≡ Some s →
-    (texts ≡ Some (texts_in s)) × (storage ≡ Some (storage_of s)) × (rest ≡ Some (rest_of s))
-parts_of_state (Some texts) (Some storage) (Some rest) s is =
-    let same : state_of texts storage rest ≡ s = cc in
-    (ap (λ (t : State). Some (texts_in t)) same, ap (λ (t : State). Some (storage_of t)) same, ap (λ (t : State). Some (rest_of t)) same)
-parts_of_state (Some texts) (Some storage) None s is = absurd (cc)
-parts_of_state (Some texts) None rest s is = absurd (cc)
-parts_of_state None storage rest s is = absurd (cc)
-
 abbrev pub AreBack : CallRecord → State → State → Type 0
 AreBack c s t =
     (texts_before c (texts_in t) ≡ Some (texts_in s)) × (storage_before c.arguments c.undone (storage_of t) ≡ Some (storage_of s)) × (rest_before c (rest_of t) ≡ Some (rest_of s))
@@ -68,7 +59,7 @@ AreBack c s t =
 -- where a call was performed, each is got back from its record and the state after
 pub call_parts : (e : Environment) (s t : State) (r : Record) (c : CallRecord) → step e s ≡ Ok t → record_of e s ≡ Some r → r ≡ Called c → AreBack c s t
 call_parts e s t r c taken is called =
-    parts_of_state (texts_before c (texts_in t)) (storage_before c.arguments c.undone (storage_of t)) (rest_before c (rest_of t)) s
+    put_together_parts (texts_before c (texts_in t)) (storage_before c.arguments c.undone (storage_of t)) (rest_before c (rest_of t)) s
     (record_restores e s t (Called c) taken (is ∙ ap Some called))
 
 module _ {R : Type 0} (read : R → Record) (e : Environment) (s t : State) where

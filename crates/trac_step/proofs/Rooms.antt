@@ -1,18 +1,15 @@
 -- The room of a machine, which holds its own state.
 use Rattle.std.proofs.Common.{◌≡◌, ℕ, ◌+◌, ◌≤◌, List, [], ◌∷◌, length, take, drop, refl, sym, ap, ◌∙◌, subst, arith}
 use Rattle.std.proofs.lemmas.List.{length-append, take-append-drop}
-use Rattle.std.proofs.lemmas.Bool.{or_right}
-use Rattle.std.specs.Cmp.Lexicographic.{slice_cmp, nat_list_cmp_total}
-use Rattle.std.specs.FinSet as set
-use Rattle.std.specs.Ordering.{nat_cmp, eq_by_cmp}
 use Rattle.trac_rules.specs.declared.width.Width.{Width}
-use Rattle.trac_forms.specs.Stored.{KnowsAll, Names}
+use Rattle.trac_forms.specs.Stored.{KnowsAll}
 use Rattle.trac_rules.specs.Limits.{marks}
 use Rattle.trac_rules.specs.PlainRuns.{moved_on}
 use Rattle.trac_rules.specs.Scanning.{gathered_in}
 use Rattle.trac_rules.specs.State.{Frame, State}
 use Rattle.trac_step.specs.Layout.{Parts, IsSound, Shown, shown_by}
-use Rattle.trac_step.specs.Room.{AreAmong, HasRoom, IsNoLess}
+use Rattle.trac_storage.specs.Changing.{AreAmong}
+use Rattle.trac_step.specs.Room.{HasRoom, IsNoLess}
 use Rattle.trac_step.proofs.Rules.{text_bytes-parts, marks-parts}
 
 -- ---- no less room
@@ -71,10 +68,3 @@ HasRoom-parts {width} p m sound view output names = subst (λ (n : Shown). HasRo
 pub IsNoLess-parts : {width : Width} (p q : Parts) (m : Shown) → shown_by width p ≡ m → p.text_room ≤ q.text_room → p.mark_room ≤ q.mark_room → p.output_room ≤ q.output_room → AreAmong p.known q.known →
     IsNoLess m (shown_by width q)
 IsNoLess-parts {width} p q m view text marks output names = subst (λ (n : Shown). IsNoLess n (shown_by width q)) view (record { width = refl; text = text; marks = marks; output = output; names = names })
-
--- ---- names
-
--- one more name
-pub among_more : (known more : Names) (name : List ℕ) → more ≡ set.insert known name → AreAmong known more
-among_more known more name is = λ q h.
-    ap (λ (names : Names). set.contains names q) is ∙ set.contains-insert nat_list_cmp_total known name q ∙ or_right (eq_by_cmp (slice_cmp nat_cmp) q name) (set.contains known q) h

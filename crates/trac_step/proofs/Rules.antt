@@ -1,15 +1,17 @@
 -- The rules of scanning on the parts of a machine.
 use Rattle.std.proofs.Common.{◌≡◌, ℕ, ◌+◌, ◌<◌, List, [], ◌∷◌, ◌++◌, length, reverse, refl, sym, ap, ◌∙◌, arith}
 use Rattle.std.specs.Prelude.{Option, Some, None}
-use Rattle.std.proofs.lemmas.List.{reverse-append, length-reverse}
+use Rattle.std.proofs.lemmas.List.{length-reverse}
 use Rattle.trac_rules.specs.declared.kind.Kind.{Kind}
 use Rattle.trac_rules.specs.State.{Frame, State}
 use Rattle.trac_rules.specs.Scanning.{gather, begun, comma_in}
 use Rattle.trac_rules.specs.Limits.{text_bytes, marks}
-use Rattle.trac_prims.specs.declared.mark.Mark.{Mark}
-use Rattle.trac_prims.specs.Neutral.{Neutral, marked, neutral, AreMarks}
-use Rattle.trac_prims.proofs.Neutral.{bytes-neutral, marks-neutral, longer, neutral-append, neutral-mark, has_frames}
-use Rattle.trac_step.specs.Calling.{mark_at, with_mark}
+use Rattle.trac_text.specs.declared.mark.Mark.{Mark}
+use Rattle.trac_text.specs.Neutral.{Neutral, marked, neutral, AreMarks}
+use Rattle.trac_text.proofs.Neutral.{bytes-neutral, marks-neutral, longer, neutral-append, has_frames}
+use Rattle.trac_text.proofs.Marking.{neutral-push, reverse_push}
+use Rattle.trac_step.specs.Calling.{with_mark}
+use Rattle.trac_text.specs.Marks.{mark_at}
 use Rattle.trac_step.specs.Layout.{Parts, state_of}
 
 -- ---- sizes
@@ -34,15 +36,9 @@ gathers p more a =
 
 -- ---- marks at the end of the text
 
-pub reverse_push : {X : Type 0} (xs : List X) (x : X) → reverse (xs ++ x ∷ []) ≡ x ∷ reverse xs
-reverse_push xs x = reverse-append xs (x ∷ [])
-
 -- the state of the parts with this base text and these frames
 abbrev pub with_neutral : Parts → Neutral → State
 with_neutral p n = record (state_of p) { base = n.base; frames = n.frames }
-
-pub neutral-push : (text : List ℕ) (marks : List Mark) (o : Option Kind) → neutral text (reverse (marks ++ mark_at (length text) o ∷ [])) ≡ marked o [] (neutral text (reverse marks))
-neutral-push text marks o = ap (neutral text) (reverse_push marks (mark_at (length text) o)) ∙ neutral-mark text o (reverse marks)
 
 pub begins : (p : Parts) (kind : Kind) → state_of (record p { marks = p.marks ++ mark_at (length p.text) (Some kind) ∷ [] }) ≡ begun kind (state_of p)
 begins p kind = ap (with_neutral p) (neutral-push p.text p.marks (Some kind))

@@ -12,12 +12,13 @@ use Rattle.trac_rules.specs.Records.{Record, Begun, Comma, Deleted, Quoted, endi
 use Rattle.trac_rules.specs.Scanning.{gather}
 use Rattle.trac_rules.specs.State.{Frame, State}
 use Rattle.trac_rules.proofs.Restored.{frame_of-last, moved_back-gather, restored_of_before}
-use Rattle.trac_prims.specs.declared.mark.Mark.{Mark}
-use Rattle.trac_prims.specs.Neutral.{AreMarks, Neutral, marked, neutral}
-use Rattle.trac_prims.proofs.Neutral.{has_frames}
+use Rattle.trac_text.specs.declared.mark.Mark.{Mark}
+use Rattle.trac_text.specs.Neutral.{AreMarks, Neutral, marked, neutral}
+use Rattle.trac_text.proofs.Neutral.{has_frames}
 use Rattle.trac_step.specs.Layout.{Parts, IsSound, Shown, shown_by, state_of}
 use Rattle.trac_step.specs.Room.{HasRoom}
-use Rattle.trac_step.specs.Undoing.{CanShow, beginning_by, last_begun}
+use Rattle.trac_step.specs.Undoing.{CanShow}
+use Rattle.trac_text.specs.MovingBack.{beginning_by, last_begun}
 use Rattle.trac_step.proofs.Limited.{sound_if_proper}
 use Rattle.trac_step.proofs.Rules.{gathers, marks-parts, text_bytes-parts}
 

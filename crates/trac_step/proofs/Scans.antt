@@ -1,5 +1,5 @@
 -- What scanning says of a state, from what its active text begins with.
-use Rattle.std.proofs.Common.{◌≡◌, ◌<◌, List, [], ◌∷◌, length, refl, sym, ap, ◌∙◌, subst, arith, true, Bool}
+use Rattle.std.proofs.Common.{◌≡◌, ◌<◌, List, [], ◌∷◌, length, refl, sym, ap, ◌∙◌, subst, arith, true, false, not, Bool}
 use Rattle.std.proofs.lemmas.Bool.{eqb-true}
 use Rattle.std.specs.Prelude.{◌==◌, None}
 use Rattle.trac_rules.specs.declared.scan.Front.{Front}
@@ -35,6 +35,11 @@ is_move s front at none = subst IsMove (sym (scan_front s front (sym at))) (move
 pub no_frames : (fs : List Frame) (b : Bool) → b ≡ (length fs == 0) → b ≡ true → fs ≡ []
 no_frames [] b is h = refl
 no_frames (f ∷ fs) b is h = absurd (let some : 0 < length (f ∷ fs) = omega arith in let none : length (f ∷ fs) ≡ 0 = eqb-true (length (f ∷ fs)) 0 (sym is ∙ h) in omega (arith, some, none))
+
+-- and where there are some, one is
+pub some_frames : (fs : List Frame) (b : Bool) → b ≡ (length fs == 0) → not b ≡ true → 0 < length fs
+some_frames [] b is h = absurd (let none : not b ≡ false = ap not is in cc)
+some_frames (f ∷ fs) b is h = omega arith
 
 -- ---- the call at which a state stands
 

@@ -3,7 +3,7 @@ use Rattle.std.proofs.Common.{◌≡◌, ℕ, ◌-◌, List, [], ◌∷◌, leng
 use Rattle.std.specs.List.{concat}
 use Rattle.std.proofs.lemmas.List.{length-append}
 use Rattle.trac_rules.specs.Limits.{total_length}
-use Rattle.trac_journal.specs.Pieces.{Arguments, all_texts}
+use Rattle.trac_text.specs.Pieces.{Arguments, all_texts}
 
 -- ---- the arguments of a call
 -- their bytes one after another

@@ -1,20 +1,25 @@
 -- The parts of a step: where scanning moves on, and what a call whose effect is known leads to.
-use Rattle.std.specs.Prelude.{◌≡◌, ℕ, ◌+◌, ◌≤◌, List, [], ◌∷◌, ◌++◌, length, Bool, true, false, nat_lt, Option, Some, None}
+use Rattle.std.specs.Prelude.{◌≡◌, ℕ, ◌+◌, ◌≤◌, List, [], ◌∷◌, ◌++◌, drop, length, Bool, true, false, nat_lt, Option, Some, None}
 use Rattle.trac_gap.specs.Ends.{Ends}
 use Rattle.trac_rules.specs.declared.kind.Kind.{Kind}
 use Rattle.trac_rules.specs.declared.kind.Kind.TheVariants.{Active, Neutral}
 use Rattle.trac_rules.specs.declared.scan.Front.{Front}
 use Rattle.trac_rules.specs.declared.scan.Front.TheVariants.{Comma, ActiveCall, NeutralCall}
 use Rattle.trac_rules.specs.Matching.{Protected}
-use Rattle.trac_rules.specs.State.{Frame, State, storage_of}
+use Rattle.trac_rules.specs.State.{Frame, State, Storage, storage_of}
+use Rattle.trac_rules.specs.Effect.{Effect}
 use Rattle.trac_rules.specs.Limits.{argument_bytes, marks, text_bytes}
+use Rattle.trac_rules.specs.Performing.{after_call}
 use Rattle.trac_rules.specs.Scanning.{Scanned, Moves, Calls, begun, comma_in}
-use Rattle.trac_prims.specs.declared.effect.Effect as code
-use Rattle.trac_prims.specs.declared.mark.Mark.{Mark}
-use Rattle.trac_prims.specs.Effects.{planned_on}
-use Rattle.trac_prims.specs.Plans.{after_planned}
-use Rattle.trac_step.specs.declared.calling.Beginning.{Beginning}
-use Rattle.trac_step.specs.Changing.{HasPlaceFor}
+use Rattle.trac_change.specs.declared.change.Change.{Change}
+use Rattle.trac_prims.specs.declared.effect.Made.{Made}
+use Rattle.trac_text.specs.declared.mark.Mark.{Mark}
+use Rattle.trac_text.specs.Cuts.{AreCuts, cut}
+use Rattle.trac_change.specs.Changed.{changed}
+use Rattle.trac_text.specs.Frames.{IsInnermost}
+use Rattle.trac_text.specs.Neutral.{MarkedText}
+use Rattle.trac_text.specs.declared.calls.Beginning.{Beginning}
+use Rattle.trac_step.specs.declared.calling.Plan.{Plan}
 use Rattle.trac_step.specs.Layout.{Shown}
 
 -- ---- scanning moves on
@@ -29,32 +34,38 @@ abbrev pub IsMove : Scanned → Type 0
 IsMove (Moves t) = Unit {0}
 IsMove (Calls call) = ⊥
 
--- whether the rule for this front makes a mark, where there are so many marks
-abbrev pub adds_mark : Front → ℕ → Bool
-adds_mark ActiveCall marks = true
-adds_mark NeutralCall marks = true
-adds_mark Comma marks = nat_lt 0 marks
-adds_mark front marks = false
-
 -- the state with a function of this kind begun, or, where none is named, with a further argument of the innermost one
 abbrev pub with_mark : Option Kind → State → State
 with_mark (Some kind) s = begun kind s
 with_mark None s = comma_in s.frames s
 
--- the mark of a function of this kind at a place, or, where none is named, of a further argument
-abbrev pub mark_at : ℕ → Option Kind → Mark
-mark_at place o = record { place = place; frame = o }
-
--- the texts with what is protected at the end of the one on the left, and what stands after it on the right
-abbrev pub with_protected : Protected → Ends ℕ → Ends ℕ
-with_protected p e = record e { left = e.left ++ p.inner; right = p.rest }
-
 -- ---- scanning asks for a call
 
+-- the state with other forms and blocks
+abbrev pub with_storage : Storage → State → State
+with_storage storage s = record s { forms = storage.forms; blocks = storage.blocks }
+
+-- what a planned call does where these texts are made for it, and forms and blocks are these after it
+abbrev pub effect_with : {A : Type 0} → Plan → Made A → Storage → Effect
+effect_with plan made storage = record {
+  value = made.value.items;
+  forced = plan.forced;
+  printed = made.print.items;
+  read = plan.called.read;
+  meta = plan.meta;
+  trace = plan.trace;
+  storage = storage;
+}
+
 -- the state after the call that scanning asks for, where this is planned
-abbrev pub state_after : {A : Type 0} → code.Effect A → Scanned → State
-state_after e (Moves t) = t
-state_after e (Calls call) = after_planned call (planned_on call.arguments (storage_of call.state) e)
+abbrev pub state_after : {A : Type 0} → Plan → Made A → Change A → Scanned → State
+state_after plan made change (Moves t) = t
+state_after plan made change (Calls call) = after_call call (effect_with plan made (changed call.arguments change (storage_of call.state)))
+
+-- the same where forms and blocks are changed already
+abbrev pub state_ended : {A : Type 0} → Plan → Made A → Scanned → State
+state_ended plan made (Moves t) = t
+state_ended plan made (Calls call) = after_call call (effect_with plan made (storage_of call.state))
 
 -- the arguments of the call that scanning asks for
 abbrev pub arguments_in : Scanned → List (List ℕ)
@@ -70,14 +81,12 @@ BeginsFirst (f ∷ fs) base b = (b.kind ≡ f.kind) × (b.number ≡ marks fs) �
 abbrev pub BeginsInnermost : State → Beginning → Type 0
 BeginsInnermost s b = BeginsFirst s.frames s.base b
 
--- a machine needs no more memory for what a call with this effect adds
-pub record HasRoomFor {A : Type 0} (e : code.Effect A) (m : Shown) : Type 0 where
-  pub text : text_bytes m.state + length e.value.items ≤ m.text_room
-  pub output : length m.state.output + length e.print.items ≤ m.output_room
-  pub names : HasPlaceFor e.change m.known m.spare
+-- a function begins here, the innermost of a text with its marks, and its arguments are cut from there on
+pub record IsBegun (m : MarkedText) (b : Beginning) : Type 0 where
+  pub cuts : AreCuts b.place (drop (b.number + 1) m.marks) (length m.text)
+  pub innermost : IsInnermost m b.number b.place b.kind (cut b.place (drop (b.number + 1) m.marks) m.text)
 
--- the texts with a value where it goes: after the neutral text for a neutral function, where it is not forced, else before the active text
-abbrev pub with_value : Kind → Bool → List ℕ → Ends ℕ → Ends ℕ
-with_value Active forced value e = record e { right = value ++ e.right }
-with_value Neutral true value e = record e { right = value ++ e.right }
-with_value Neutral false value e = record e { left = e.left ++ value }
+-- a machine needs no more memory for the texts that a call makes
+pub record HasRoomFor {A : Type 0} (made : Made A) (m : Shown) : Type 0 where
+  pub text : text_bytes m.state + length made.value.items ≤ m.text_room
+  pub output : length m.state.output + length made.print.items ≤ m.output_room

@@ -10,8 +10,8 @@ use Rattle.trac_rules.specs.State.{State, Storage}
 use Rattle.trac_rules.specs.Proper.{IsProperStorage}
 use Rattle.trac_rules.specs.Codes.{state_code, text_code, width_code}
 use Rattle.trac_forms.specs.Stored.{Names, Stored, storage_in}
-use Rattle.trac_prims.specs.declared.mark.Mark.{Mark}
-use Rattle.trac_prims.specs.Neutral.{MarkedText, IsOrdered, neutral_of}
+use Rattle.trac_text.specs.declared.mark.Mark.{Mark}
+use Rattle.trac_text.specs.Neutral.{MarkedText, IsOrdered, neutral_of}
 
 -- ---- the state
 

@@ -2,8 +2,8 @@
 use Rattle.std.specs.Prelude.{Option}
 use Rattle.trac_rules.specs.Records as rules
 use Rattle.trac_rules.specs.State.{State}
-use Rattle.trac_journal.specs.Pieces.{all_texts, frames_in}
-use Rattle.trac_journal.specs.Undone.{undone_in}
+use Rattle.trac_text.specs.Pieces.{all_texts, frames_in}
+use Rattle.trac_change.specs.Undone.{undone_in}
 use Rattle.trac_step.specs.declared.record.Record.{Record}
 use Rattle.trac_step.specs.declared.record.Record.TheVariants.{Moved, Comma, Begun, Quoted, Deleted, Idle, Call}
 

@@ -1,17 +1,13 @@
 -- The room of a machine.
-use Rattle.std.specs.Prelude.{◌≡◌, ◌≢◌, ℕ, ◌≤◌, List, length, IsTrue}
-use Rattle.std.specs.FinSet as set
-use Rattle.trac_forms.specs.Stored.{KnowsAll, Names}
+use Rattle.std.specs.Prelude.{◌≡◌, ◌≢◌, ◌≤◌, length}
+use Rattle.trac_forms.specs.Stored.{KnowsAll}
 use Rattle.trac_rules.specs.declared.scan.Front.TheVariants as front
 use Rattle.trac_rules.specs.Limits.{marks, text_bytes}
 use Rattle.trac_rules.specs.Scanning.{front_of, scan}
 use Rattle.trac_rules.specs.State.{State}
+use Rattle.trac_storage.specs.Changing.{AreAmong}
 use Rattle.trac_step.specs.Calling.{IfMoves}
 use Rattle.trac_step.specs.Layout.{Shown}
-
--- each name of the first set is in the second
-abbrev pub AreAmong : Names → Names → Type 0
-AreAmong names others = (name : List ℕ) → IsTrue (set.contains names name) → IsTrue (set.contains others name)
 
 -- a machine can hold this state without more memory
 pub record HasRoom (m : Shown) (s : State) : Type 0 where

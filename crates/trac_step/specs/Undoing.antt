@@ -1,12 +1,20 @@
 -- Going back over a step of scanning.
-use Rattle.std.specs.Prelude.{ℕ, ◌-◌, ◌++◌, List, [], ◌∷◌, length, take, drop, Bool, Option, None, Some, IsSomeAnd, codes}
+use Rattle.std.specs.Prelude.{◌≡◌, ℕ, ◌-◌, ◌<◌, ◌++◌, List, [], ◌∷◌, length, take, drop, Bool, Option, None, Some, IsSomeAnd, codes}
 use Rattle.trac_gap.specs.Ends.{Ends}
 use Rattle.trac_rules.specs.declared.kind.Kind.{Kind}
 use Rattle.trac_rules.specs.Performing.{beginning_of}
-use Rattle.trac_rules.specs.Proper.{IsProper}
-use Rattle.trac_rules.specs.Records.{ending_of}
-use Rattle.trac_rules.specs.State.{State}
-use Rattle.trac_prims.specs.declared.mark.Mark.{Mark}
+use Rattle.trac_rules.specs.Proper.{IsProper, IsProperStorage}
+use Rattle.trac_rules.specs.declared.scan.Front.TheVariants.{Closing}
+use Rattle.trac_rules.specs.Records.{ending_of, restored}
+use Rattle.trac_rules.specs.Records.{Called as CallOf}
+use Rattle.trac_rules.specs.Scanning.{front_of, scan}
+use Rattle.trac_rules.specs.State.{State, storage_of}
+use Rattle.trac_rules.specs.Undone.{Nothing, Undone, storage_before}
+use Rattle.trac_journal.specs.declared.called.Called.{Called}
+use Rattle.trac_journal.specs.Told.{record_with}
+use Rattle.trac_forms.specs.Stored.{KnowsAll}
+use Rattle.trac_text.specs.declared.mark.Mark.{Mark}
+use Rattle.trac_step.specs.Calling.{arguments_in, with_storage}
 use Rattle.trac_step.specs.Layout.{Shown}
 use Rattle.trac_step.specs.Room.{HasRoom}
 
@@ -14,24 +22,21 @@ use Rattle.trac_step.specs.Room.{HasRoom}
 abbrev pub CanShow : Shown → Option State → Type 0
 CanShow m o = IsSomeAnd o (λ s. HasRoom m s × IsProper s)
 
--- the texts with the last n bytes on the left before those on the right
-abbrev pub with_last_before : ℕ → Ends ℕ → Ends ℕ
-with_last_before n e = record e { left = take (length e.left - n) e.left; right = drop (length e.left - n) e.left ++ e.right }
+-- a machine has gone back over a call of these arguments but for what it destroyed of forms and blocks, and stands at that call
+pub record IsBegunAgain (called : Called) (arguments : List (List ℕ)) (old new : Shown) : Type 0 where
+  pub state : restored (CallOf (record_with called arguments Nothing)) old.state ≡ Some new.state
+  pub others : new ≡ record old { state = new.state }
+  pub front : front_of new.state.active ≡ Closing
+  pub inside : 0 < length new.state.frames
+  pub given : arguments_in (scan new.state) ≡ arguments
 
--- the texts with a protected text of this length, which is at the end of the one on the left, before the one on the right, with its `(`
--- and, where it had one, its match
-abbrev pub without_protected : ℕ → Bool → Ends ℕ → Ends ℕ
-without_protected inner closed e =
-    let moved = with_last_before inner (record e { right = ending_of closed ++ e.right }) in
-    record moved { right = codes "(" ++ moved.right }
+-- what the call at which a machine stands destroyed of forms and blocks can be put back
+pub record CanRestore (undone : Undone) (m : Shown) : Type 0 where
+  pub front : front_of m.state.active ≡ Closing
+  pub inside : 0 < length m.state.frames
+  pub there : IsSomeAnd (storage_before (arguments_in (scan m.state)) undone (storage_of m.state)) (λ storage. KnowsAll m.known storage.forms × IsProperStorage storage)
 
--- the kind of the function that the last mark begins, the marks being given from the last one on; none where it ends an argument, and
--- where there is no mark
-abbrev pub last_begun : List Mark → Option Kind
-last_begun [] = None
-last_begun (m ∷ marks) = m.frame
-
--- how a function of this kind begins; empty where none is named
-abbrev pub beginning_by : Option Kind → List ℕ
-beginning_by None = []
-beginning_by (Some kind) = beginning_of kind
+-- it shows forms and blocks as they were before the call at which it stands, and all else as it was
+pub record IsRestored (undone : Undone) (old new : Shown) : Type 0 where
+  pub back : storage_before (arguments_in (scan old.state)) undone (storage_of old.state) ≡ Some (storage_of new.state)
+  pub others : new ≡ record old { state = with_storage (storage_of new.state) old.state; spare = new.spare }

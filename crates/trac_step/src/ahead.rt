@@ -3,11 +3,11 @@ ghost use Rattle.std.specs.Prelude.{◌≡◌, None, MatchOption};
 ghost use Rattle.trac_rules.specs.Goals.{IsCall, next_call};
 
 use crate::engine::Core;
-use crate::front::front_at;
 use std::alloc::Allocator;
 use trac_gap::TwoEnds;
-use trac_prims::{Args, Kind, Mark};
 use trac_rules::scan::Front;
+use trac_text::front::front_at;
+use trac_text::{Args, Kind, Mark};
 
 impl<E: TwoEnds<u8, A>, M: TwoEnds<Mark, A>, A: Allocator + Copy> Core<E, M, A> {
     /// The call that the next step would perform: its kind, and all its arguments, its name first; none where it would

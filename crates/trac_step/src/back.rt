@@ -1,20 +1,17 @@
 //! The way back over the newest record of a journal.
 ghost use Rattle.std.specs.Prelude.{◌≡◌, ◌∷◌, [], false, IsSomeAnd, IsTrue, Some};
 ghost use Rattle.trac_rules.specs.Records.{Idle, state_before};
-ghost use Rattle.trac_journal.specs.Pieces.{frames_in};
+ghost use Rattle.trac_text.specs.Pieces.{frames_in};
 ghost use Rattle.trac_journal.specs.Told.{said_by};
-ghost use Rattle.trac_journal.specs.Undone.{undone_in};
+ghost use Rattle.trac_change.specs.Undone.{undone_in};
 ghost use Rattle.trac_step.specs.Kept.{CanGoBack, HasCallOut, HasGoneBack, IsCallFirst, IsIdleFirst};
 ghost use Rattle.trac_step.specs.Room.{HasRoom, IsNoLess};
 
-use crate::calls_back::put_call;
 use crate::engine::Core;
-use crate::storage_back::put_storage;
-use crate::undoing::meta_before;
 use std::alloc::Allocator;
 use trac_gap::TwoEnds;
 use trac_journal::{Emptied, Journal, Lost, Newest, Short, Undone};
-use trac_prims::{Mark, NeutralText};
+use trac_text::Mark;
 
 // Takes out the newest record, which is of a call, and returns what it destroyed of forms and blocks.
 fn pop_undone<A: Allocator + Copy>(journal: &mut Journal<A>) -> Undone<A>
@@ -64,6 +61,7 @@ impl<E: TwoEnds<u8, A>, M: TwoEnds<Mark, A>, A: Allocator + Copy> Core<E, M, A> 
         ensures none { result ≡ false → (journal.old.records ≡ []) × ((journal.new.records ≡ []) × (self.new ≡ self.old)) }
         ensures room { IsNoLess self.old self.new }
     {
+        self.is_in_its_room();
         match journal.newest() {
             None => false,
             Some(Newest::Short(short)) => {
@@ -78,24 +76,9 @@ impl<E: TwoEnds<u8, A>, M: TwoEnds<Mark, A>, A: Allocator + Copy> Core<E, M, A> 
                 true
             }
             Some(Newest::Call { called, arguments }) => {
-                put_call(
-                    &mut self.text,
-                    &mut self.marks,
-                    called.kind,
-                    &arguments,
-                    called.scanned,
-                    called.value,
-                );
-                let change = pop_undone(journal);
-                let text = NeutralText::new(self.text.left(), self.marks.left());
-                let Some(function) = text.innermost() else {
-                    unreachable!()
-                };
-                put_storage(&mut self.store, &function.arguments, change);
-                self.output.truncate(self.output.len() - called.printed);
-                self.position -= called.read;
-                self.meta = meta_before(called, self.meta);
-                self.trace = called.trace;
+                self.begin_again(called, &arguments);
+                let undone = pop_undone(journal);
+                self.restore_storage(undone);
                 true
             }
         }

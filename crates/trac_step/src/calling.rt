@@ -3,137 +3,120 @@ ghost use Rattle.std.specs.Prelude.{◌≡◌, ◌<◌, ◌≤◌, ◌+◌, ◌-
 ghost use Rattle.std.specs.List.{concat};
 ghost use Rattle.trac_gap.specs.Ends.{item_count};
 ghost use Rattle.trac_rules.specs.declared.limit.TheConstants.{JOURNAL_LIMIT};
-ghost use Rattle.trac_rules.specs.Outcomes.{MayAnswer, MayRefuse};
+ghost use Rattle.trac_rules.specs.Outcomes.{MayRefuse};
 ghost use Rattle.trac_rules.specs.Proper.{IsProper};
-ghost use Rattle.trac_rules.specs.Effect as acting;
-ghost use Rattle.trac_rules.specs.Effect.{argument};
-ghost use Rattle.trac_rules.specs.Performing.{effect_of, primitive_of};
 ghost use Rattle.trac_rules.specs.Records as rules;
 ghost use Rattle.trac_rules.specs.Records.{is_scanned, record_of};
-ghost use Rattle.trac_rules.specs.State.{Environment, State, storage_of};
+ghost use Rattle.trac_rules.specs.State.{storage_of};
 ghost use Rattle.trac_rules.specs.Scanning.{front_of, scan};
 ghost use Rattle.trac_rules.specs.Stepping.{step};
+ghost use Rattle.trac_text.specs.Cuts.{cut};
+ghost use Rattle.trac_change.specs.Changed.{changed};
 ghost use Rattle.trac_prims.specs.Tape.{environment_of};
-ghost use Rattle.trac_prims.specs.Changes.{NamesGiven, undone_of};
-ghost use Rattle.trac_step.specs.Changing.{AreMadeFor};
-ghost use Rattle.trac_step.specs.Calling.{BeginsInnermost, HasRoomFor, arguments_in, state_after, with_value};
-ghost use Rattle.trac_journal.specs.Pieces.{all_texts};
+ghost use Rattle.trac_change.specs.Changes.{undone_of};
+ghost use Rattle.trac_text.specs.Pieces.{all_texts};
 ghost use Rattle.trac_journal.specs.Journaled.{HasPlaceForCall};
-ghost use Rattle.trac_step.specs.Kept.{FitsJournal, IsAdded};
-ghost use Rattle.trac_step.specs.Record.{recorded_by};
 ghost use Rattle.trac_journal.specs.Told.{record_with};
+ghost use Rattle.trac_change.specs.Undone.{undone_in};
+ghost use Rattle.trac_storage.specs.Changing.{AreMadeFor, HasPlaceFor};
+ghost use Rattle.trac_step.specs.Calling.{BeginsInnermost, HasRoomFor, IsBegun, arguments_in, state_after, state_ended, with_storage};
+ghost use Rattle.trac_text.specs.Moving.{with_value};
+ghost use Rattle.trac_step.specs.Kept.{FitsJournal, IsAdded};
+ghost use Rattle.trac_step.specs.Ready.{CanChange, CanEnd, IsPlanned, IsReady, recorded_after};
+ghost use Rattle.trac_step.specs.Record.{recorded_by};
 ghost use Rattle.trac_step.specs.Room.{IsNoLess, LacksRoomAhead};
-ghost use Rattle.trac_journal.specs.Undone.{undone_in};
 
-use crate::changing::change_forms;
-use crate::ends;
 use crate::engine::Core;
-use crate::places::{Places, make_place, places_for};
 use crate::record::Record;
 use std::alloc::Allocator;
+use std::mem;
 use trac_gap::TwoEnds;
-use trac_journal::{Called, Journal, Pieces, Undone};
-use trac_prims::{Args, Effect, Kind, Mark, NeutralText, Now, Refusal, Tape, plan, sets_meta};
+use trac_journal::{Called, Journal, Undone};
+use trac_prims::{Change, Deed, Made, Now, Tape, plan_into};
 use trac_rules::scan::Front;
+use trac_storage::{Places, change_forms, make_place, places_for};
+use trac_text::calls::{cut_function, put_value};
+use trac_text::{Args, Beginning, Kind, Mark, Pieces, Refusal, ends};
 
-// Where a begun function begins.
-#[derive(Clone, Copy)]
-pub(crate) struct Beginning {
-    // the number of its mark
-    pub(crate) number: usize,
-    // how many bytes of the neutral text stand before it
-    pub(crate) place: usize,
-    pub(crate) kind: Kind,
-}
-
-// Where the function of a planned call begins, what the call's record says beside its arguments, and what was destroyed of
-// forms and blocks, and how much room its arguments take there.
+// What is known of a call that may be performed, beside the texts that it makes, and what becomes of forms and blocks.
 #[derive(Clone, Copy)]
 pub(crate) struct Plan {
+    // where its function begins
     pub(crate) beginning: Beginning,
+    // what its record says
     pub(crate) called: Called,
-    // how many bytes the arguments have together
+    // how many bytes its arguments have together
     pub(crate) bytes: usize,
     // how many commas stand between them
     pub(crate) commas: usize,
+    // whether its value is scanned, though the function may be neutral
+    pub(crate) forced: bool,
+    // how many bytes of the tape are read then
+    pub(crate) position: usize,
+    // the meta character, where it is set
+    pub(crate) meta: Option<u8>,
+    // the trace, where it is set
+    pub(crate) trace: Option<bool>,
 }
 
 // What the record of a call says beside its arguments, and what was destroyed of forms and blocks.
-fn called_by<A: Allocator + Copy>(
-    kind: Kind,
-    arguments: &Args<'_>,
-    now: Now,
-    effect: &Effect<A>,
-) -> Called
-    requires { now.position ≤ effect.now.position }
+fn called_by<A: Allocator + Copy>(kind: Kind, now: Now, made: &Made<A>, deed: &Deed<A>) -> Called
     ensures kind { result.kind ≡ kind }
-    ensures value { result.value ≡ length effect.now.value.items }
-    ensures scanned { result.scanned ≡ is_scanned kind effect.now.forced }
-    ensures printed { result.printed ≡ length effect.now.print.items }
-    ensures read { result.read ≡ effect.now.position - now.position }
-    ensures meta { (environment : Environment) (s : State) (e : acting.Effect) → effect_of (primitive_of (argument 0 arguments.now)) environment arguments.now s ≡ Ok e → result.meta ≡ option_map (λ _. now.meta) e.meta }
+    ensures value { result.value ≡ length made.now.value.items }
+    ensures scanned { result.scanned ≡ is_scanned kind deed.now.forced }
+    ensures printed { result.printed ≡ length made.now.print.items }
+    ensures read { result.read ≡ deed.now.read }
+    ensures meta { result.meta ≡ option_map (λ _. now.meta) deed.now.meta }
     ensures trace { result.trace ≡ now.trace }
 {
     Called {
         kind,
-        value: effect.value.len(),
-        scanned: effect.forced | (kind == Kind::Active),
-        printed: effect.print.len(),
-        read: effect.position - now.position,
-        meta: sets_meta(arguments).then_some(now.meta),
+        value: made.value.len(),
+        scanned: deed.forced | (kind == Kind::Active),
+        printed: made.print.len(),
+        read: deed.read,
+        meta: deed.meta.and(Some(now.meta)),
         trace: now.trace,
     }
 }
 
-// Cuts off the function that begins here, and its `)`.
-fn cut_function<E: TwoEnds<u8, A>, M: TwoEnds<Mark, A>, A: Allocator + Copy>(
-    text: &mut E,
-    marks: &mut M,
+// The arguments of the innermost function, which begins here, in texts with these marks.
+fn arguments_at<'a, E: TwoEnds<u8, A>, M: TwoEnds<Mark, A>, A: Allocator + Copy>(
+    text: &'a E,
+    marks: &'a M,
     beginning: Beginning,
-)
-    requires closing { 1 ≤ length (E.ends text.old).right }
-    requires place { beginning.place ≤ length (E.ends text.old).left }
-    requires number { beginning.number ≤ length (M.ends marks.old).left }
-    ensures text { E.ends text.new ≡ record (E.ends text.old) { left = take beginning.place (E.ends text.old).left; right = drop 1 (E.ends text.old).right } }
-    ensures marks { M.ends marks.new ≡ record (M.ends marks.old) { left = take beginning.number (M.ends marks.old).left } }
+) -> Args<'a>
+    requires { IsBegun (record { text = (E.ends text.now).left; marks = (M.ends marks.now).left }) beginning }
+    ensures { result ≡ cut beginning.place (drop (beginning.number + 1) (M.ends marks.now).left) (E.ends text.now).left }
 {
-    text.cut_right(1);
-    text.cut_left(text.left().len() - beginning.place);
-    marks.cut_left(marks.left().len() - beginning.number);
-}
-
-// Puts a value where it goes: after the neutral text for a neutral function, where it is not
-// forced, else before the active text.
-fn put_value<E: TwoEnds<u8, A>, A: Allocator + Copy>(
-    text: &mut E,
-    kind: Kind,
-    forced: bool,
-    value: &[u8],
-)
-    requires { item_count (E.ends text.old) + length value.now ≤ (E.ends text.old).capacity }
-    ensures { E.ends text.new ≡ with_value kind forced value.now (E.ends text.old) }
-{
-    match kind {
-        Kind::Neutral if !forced => text.put_left(value),
-        Kind::Neutral | Kind::Active => text.put_right(value),
-    }
+    let further = marks.left().split_at(beginning.number + 1).1;
+    Args::new(text.left(), further, beginning.place)
 }
 
 impl<E: TwoEnds<u8, A>, M: TwoEnds<Mark, A>, A: Allocator + Copy> Core<E, M, A> {
-    // What the call will do that the next step performs, where its function begins, and what its record says; or why it is
-    // refused.
-    fn planned(&self, tape: Tape<'_>) -> Result<(Plan, Effect<A>), Refusal>
+    // The buffers in which calls make their texts, and the machine without them.
+    fn take_made(&mut self) -> Made<A>
+        ensures { self.new ≡ self.old }
+    {
+        let alloc = *self.output.allocator();
+        mem::replace(&mut self.made, Made::new(alloc))
+    }
+
+    // Keeps buffers for the calls to come.
+    fn put_made(&mut self, made: Made<A>)
+        ensures { self.new ≡ self.old }
+    {
+        self.made = made;
+    }
+
+    // Plans the call that the next step performs: its texts are made, and what becomes of forms and blocks is ready. Or why
+    // it is refused.
+    fn planned(&self, tape: Tape<'_>, made: &mut Made<A>) -> Result<(Plan, Change<A>), Refusal>
         requires front { front_of self.now.state.active ≡ Front.Closing }
         requires inside { 0 < length self.now.state.frames }
         requires within { self.now.state.position ≤ length tape.bytes.now }
-        ensures outcome { MayAnswer (λ r. state_after r.1 (scan self.now.state)) (step (environment_of self.now.width tape.entry) self.now.state) result }
-        ensures beginning { IfOk result (λ r. BeginsInnermost self.now.state r.0.beginning) }
-        ensures recorded { IfOk result (λ r. record_of (environment_of self.now.width tape.entry) self.now.state
-            ≡ Some (rules.Called (record_with r.0.called (arguments_in (scan self.now.state)) (undone_of r.1.change (storage_of self.now.state))))) }
-        ensures given { IfOk result (λ r. NamesGiven (arguments_in (scan self.now.state)) (storage_of self.now.state) r.1.change) }
-        ensures proper { IfOk result (λ r. IsProper (state_after r.1 (scan self.now.state))) }
-        ensures bytes { IfOk result (λ r. r.0.bytes ≡ length (concat (arguments_in (scan self.now.state)))) }
-        ensures commas { IfOk result (λ r. r.0.commas + 1 ≡ length (arguments_in (scan self.now.state))) }
+        ensures planned { IfOk result (λ r. IsPlanned (environment_of self.now.width tape.entry) self.now.state made.new r.0 r.1) }
+        ensures refused { IfErr result (MayRefuse (step (environment_of self.now.width tape.entry) self.now.state)) }
     {
         let Some(function) = self.neutral().innermost() else {
             unreachable!()
@@ -146,146 +129,155 @@ impl<E: TwoEnds<u8, A>, M: TwoEnds<Mark, A>, A: Allocator + Copy> Core<E, M, A> 
             text: self.text.right().len() - 1 + function.place,
             width: self.width,
         };
-        let effect = plan(
+        let deed = plan_into(
             *self.output.allocator(),
             &function.arguments,
             function.kind,
             &self.store,
             tape,
             now,
+            made,
         )?;
-        let beginning = Beginning {
-            number: function.number,
-            place: function.place,
-            kind: function.kind,
-        };
-        let called = called_by(function.kind, &function.arguments, now, &effect);
         let plan = Plan {
-            beginning,
-            called,
+            beginning: Beginning {
+                number: function.number,
+                place: function.place,
+                kind: function.kind,
+            },
+            called: called_by(function.kind, now, made, &deed),
             bytes: function.arguments.joined().len(),
             commas: function.arguments.comma_count(),
+            forced: deed.forced,
+            position: now.position + deed.read,
+            meta: deed.meta,
+            trace: deed.trace,
         };
-        Ok((plan, effect))
+        Ok((plan, deed.change))
     }
 
-    // A copy of the arguments of the call that the next step performs.
-    fn copied_arguments(&self) -> Result<Pieces<A>, Refusal>
+    // The arguments of the call that the next step performs, whose function begins here.
+    fn arguments(&self, beginning: Beginning) -> Args<'_>
         requires front { front_of self.now.state.active ≡ Front.Closing }
-        requires inside { 0 < length self.now.state.frames }
+        requires begins { BeginsInnermost self.now.state beginning }
+        ensures { result ≡ arguments_in (scan self.now.state) }
+    {
+        arguments_at(&self.text, &self.marks, beginning)
+    }
+
+    // Makes room for the texts that the call adds, so that ending it needs no memory. The state stays.
+    fn make_room(&mut self, made: &Made<A>) -> Result<(), Refusal>
+        ensures ok { OnOk result (HasRoomFor made.now self.new) }
+        ensures state { self.new.state ≡ self.old.state }
+        ensures room { IsNoLess self.old self.new }
+        ensures err { IsOkUnless result Refusal.Memory }
+    {
+        ends::reserve(&mut self.text, made.value.len())?;
+        self.output.reserve(made.print.len())?;
+        Ok(())
+    }
+
+    // Makes places for what a change of forms and blocks puts. The state stays.
+    fn make_places(&mut self, change: &Change<A>) -> Result<(), Refusal>
+        ensures place { OnOk result (HasPlaceFor change.now self.new.known self.new.spare) }
+        ensures state { self.new.state ≡ self.old.state }
+        ensures room { IsNoLess self.old self.new }
+        ensures err { IsOkUnless result Refusal.Memory }
+    {
+        make_place(&mut self.store, change)
+    }
+
+    // Changes forms and blocks as the call planned it, while its arguments still stand in the neutral text. Returns what was
+    // destroyed. It takes no memory.
+    fn put_change(
+        &mut self,
+        beginning: Beginning,
+        change: Change<A>,
+        places: Places<A>,
+    ) -> Undone<A>
+        requires can { CanChange self.old.state beginning change }
+        requires place { HasPlaceFor change self.old.known self.old.spare }
+        requires made { AreMadeFor change self.old.state.forms places }
+        ensures changed { self.new ≡ record self.old { state = with_storage (changed (arguments_in (scan self.old.state)) change (storage_of self.old.state)) self.old.state; spare = self.new.spare } }
+        ensures undone { undone_in result ≡ undone_of change (storage_of self.old.state) }
+    {
+        let arguments = arguments_at(&self.text, &self.marks, beginning);
+        change_forms(&mut self.store, &arguments, change, places)
+    }
+
+    // The same, with the memory for it taken first. It is refused memory alone, and then the state stays. Most calls change
+    // nothing of forms and blocks, and need nothing for that.
+    fn change_storage(
+        &mut self,
+        beginning: Beginning,
+        change: Change<A>,
+    ) -> Result<Undone<A>, Refusal>
+        requires { CanChange self.old.state beginning change }
+        ensures changed { OnOk result (self.new.state ≡ with_storage (changed (arguments_in (scan self.old.state)) change (storage_of self.old.state)) self.old.state) }
+        ensures undone { IfOk result (λ undone. undone_in undone ≡ undone_of change (storage_of self.old.state)) }
+        ensures unchanged { OnErr result (self.new.state ≡ self.old.state) }
+        ensures room { IsNoLess self.old self.new }
+        ensures err { IsOkUnless result Refusal.Memory }
+    {
+        if let Change::Keep = change {
+            return Ok(Undone::Nothing);
+        }
+        let places = places_for(*self.output.allocator(), &self.store, &change)?;
+        self.make_places(&change)?;
+        Ok(self.put_change(beginning, change, places))
+    }
+
+    // Ends the call whose change of forms and blocks is made: its function is gone, what it prints is printed, and its value
+    // is where it goes. It takes no memory.
+    fn end_call(&mut self, plan: Plan, made: &Made<A>)
+        requires { CanEnd self.old made.now plan }
+        ensures state { self.new.state ≡ state_ended plan made.now (scan self.old.state) }
+        ensures room { IsNoLess self.old self.new }
+    {
+        cut_function(&mut self.text, &mut self.marks, plan.beginning);
+        put_value(
+            &mut self.text,
+            plan.beginning.kind,
+            plan.forced,
+            made.value.as_slice(),
+        );
+        self.output.put(made.print.as_slice());
+        let meta = plan.meta.unwrap_or(self.meta);
+        let trace = plan.trace.unwrap_or(self.trace);
+        self.meta = meta;
+        self.trace = trace;
+        self.position = plan.position;
+    }
+
+    // A copy of the arguments of the call that the next step performs, whose function begins here.
+    fn copied_arguments(&self, beginning: Beginning) -> Result<Pieces<A>, Refusal>
+        requires front { front_of self.now.state.active ≡ Front.Closing }
+        requires begins { BeginsInnermost self.now.state beginning }
         ensures same { IfOk result (λ p. all_texts p ≡ arguments_in (scan self.now.state)) }
         ensures err { IsOkUnless result Refusal.Memory }
     {
-        let Some(function) = self.neutral().innermost() else {
-            unreachable!()
-        };
-        let arguments = function.arguments;
-        Pieces::of(*self.output.allocator(), &arguments, arguments.joined())
-    }
-
-    // Makes room for what the call adds, so that finishing it needs no memory. The state stays.
-    fn make_room(&mut self, effect: &Effect<A>) -> Result<(), Refusal>
-        ensures ok { OnOk result (HasRoomFor effect.now self.new) }
-        ensures state { self.new.state ≡ self.old.state }
-        ensures room { IsNoLess self.old self.new }
-        ensures err { IsOkUnless result Refusal.Memory }
-    {
-        ends::reserve(&mut self.text, effect.value.len())?;
-        self.output.reserve(effect.print.len())?;
-        make_place(&mut self.store, &effect.change)
-    }
-
-    // What is made for the change of forms and blocks that a call planned.
-    fn places(&self, effect: &Effect<A>) -> Result<Places<A>, Refusal>
-        ensures made { IfOk result (AreMadeFor effect.now.change self.now.state.forms) }
-        ensures err { IsOkUnless result Refusal.Memory }
-    {
-        places_for(*self.output.allocator(), &self.store, &effect.change)
-    }
-
-    // Takes the memory that the call still needs: for what leaves forms and blocks, and room for
-    // what it adds. The state stays.
-    fn made_ready(&mut self, effect: &Effect<A>) -> Result<Places<A>, Refusal>
-        ensures room_for { OnOk result (HasRoomFor effect.now self.new) }
-        ensures made { IfOk result (AreMadeFor effect.now.change self.old.state.forms) }
-        ensures state { self.new.state ≡ self.old.state }
-        ensures room { IsNoLess self.old self.new }
-        ensures err { IsOkUnless result Refusal.Memory }
-    {
-        let places = self.places(effect)?;
-        self.make_room(effect)?;
-        Ok(places)
-    }
-
-    // Performs the call: forms and blocks change, the function is gone, what it prints is printed, and its value is where it
-    // goes. Returns what was destroyed of forms and blocks. It takes no memory.
-    fn finish_call(
-        &mut self,
-        beginning: Beginning,
-        effect: Effect<A>,
-        places: Places<A>,
-    ) -> Undone<A>
-        requires front { front_of self.old.state.active ≡ Front.Closing }
-        requires beginning { BeginsInnermost self.old.state beginning }
-        requires room { HasRoomFor effect self.old }
-        requires made { AreMadeFor effect.change self.old.state.forms places }
-        requires given { NamesGiven (arguments_in (scan self.old.state)) (storage_of self.old.state) effect.change }
-        requires proper { IsProper (state_after effect (scan self.old.state)) }
-        ensures state { self.new.state ≡ state_after effect (scan self.old.state) }
-        ensures undone { undone_in result ≡ undone_of effect.change (storage_of self.old.state) }
-        ensures room { IsNoLess self.old self.new }
-    {
-        let text = NeutralText::new(self.text.left(), self.marks.left());
-        let Some(function) = text.innermost() else {
-            unreachable!()
-        };
-        let change = change_forms(&mut self.store, &function.arguments, effect.change, places);
-        cut_function(&mut self.text, &mut self.marks, beginning);
-        put_value(
-            &mut self.text,
-            beginning.kind,
-            effect.forced,
-            effect.value.as_slice(),
-        );
-        self.output.put(effect.print.as_slice());
-        self.meta = effect.meta;
-        self.trace = effect.trace;
-        self.position = effect.position;
-        change
+        let arguments = self.arguments(beginning);
+        Pieces::of(*self.output.allocator(), &arguments)
     }
 
     // Performs the call that is planned, and returns its record. It is refused memory alone, and then the state stays.
-    fn carry_out(
+    fn perform(
         &mut self,
         plan: Plan,
-        effect: Effect<A>,
-        arguments: Pieces<A>,
+        made: &Made<A>,
+        change: Change<A>,
     ) -> Result<Record<A>, Refusal>
-        requires front { front_of self.old.state.active ≡ Front.Closing }
-        requires arguments { all_texts arguments ≡ arguments_in (scan self.old.state) }
-        requires beginning { BeginsInnermost self.old.state plan.beginning }
-        requires given { NamesGiven (arguments_in (scan self.old.state)) (storage_of self.old.state) effect.change }
-        requires proper { IsProper (state_after effect (scan self.old.state)) }
-        ensures done { OnOk result (self.new.state ≡ state_after effect (scan self.old.state)) }
-        ensures recorded { IfOk result (λ r. recorded_by r ≡ rules.Called (record_with plan.called (arguments_in (scan self.old.state)) (undone_of effect.change (storage_of self.old.state)))) }
+        requires { IsReady self.old.state made.now plan change }
+        ensures done { OnOk result (self.new.state ≡ state_after plan made.now change (scan self.old.state)) }
+        ensures recorded { IfOk result (λ r. recorded_by r ≡ recorded_after plan change self.old.state) }
         ensures unchanged { OnErr result (self.new.state ≡ self.old.state) }
         ensures err { IsOkUnless result Refusal.Memory }
         ensures room { IsNoLess self.old self.new }
     {
-        let places = self.made_ready(&effect)?;
-        let change = self.finish_call(plan.beginning, effect, places);
-        let called = plan.called;
-        Ok(Record::Call {
-            kind: called.kind,
-            arguments,
-            value: called.value,
-            scanned: called.scanned,
-            printed: called.printed,
-            read: called.read,
-            meta: called.meta,
-            trace: called.trace,
-            change,
-        })
+        let arguments = self.copied_arguments(plan.beginning)?;
+        self.make_room(made)?;
+        let undone = self.change_storage(plan.beginning, change)?;
+        self.end_call(plan, made);
+        Ok(Record::of_call(plan.called, arguments, undone))
     }
 
     // The next step, where it performs a function.
@@ -299,80 +291,72 @@ impl<E: TwoEnds<u8, A>, M: TwoEnds<Mark, A>, A: Allocator + Copy> Core<E, M, A> 
         ensures lacking { LacksRoomAhead self.old }
         ensures room { IsNoLess self.old self.new }
     {
-        let (plan, effect) = self.planned(tape)?;
-        let arguments = self.copied_arguments()?;
-        self.carry_out(plan, effect, arguments)
+        let mut made = Made::new(*self.output.allocator());
+        let (plan, change) = self.planned(tape, &mut made)?;
+        self.perform(plan, &made, change)
     }
 
-    // Performs the call, as `finish_call` does, and keeps its record in the journal, which has room for it: its arguments are
-    // copied into the journal while they still stand in the neutral text.
-    fn finish_call_into(
-        &mut self,
-        journal: &mut Journal<A>,
-        plan: Plan,
-        effect: Effect<A>,
-        places: Places<A>,
-    )
-        requires front { front_of self.old.state.active ≡ Front.Closing }
-        requires beginning { BeginsInnermost self.old.state plan.beginning }
-        requires room { HasRoomFor effect self.old }
-        requires made { AreMadeFor effect.change self.old.state.forms places }
-        requires given { NamesGiven (arguments_in (scan self.old.state)) (storage_of self.old.state) effect.change }
-        requires proper { IsProper (state_after effect (scan self.old.state)) }
+    // Keeps the record of the call that the next step performs in the journal, which has room for it: its arguments are copied
+    // there. This is what it destroyed of forms and blocks.
+    fn keep_call(&self, journal: &mut Journal<A>, plan: Plan, undone: Undone<A>)
+        requires front { front_of self.now.state.active ≡ Front.Closing }
+        requires begins { BeginsInnermost self.now.state plan.beginning }
         requires not_full { length journal.old.records < JOURNAL_LIMIT }
-        requires place { HasPlaceForCall (length (concat (arguments_in (scan self.old.state)))) (length (arguments_in (scan self.old.state)) - 1) journal.old }
-        requires fits { FitsJournal plan.called (arguments_in (scan self.old.state)) (undone_of effect.change (storage_of self.old.state)) }
-        ensures state { self.new.state ≡ state_after effect (scan self.old.state) }
-        ensures kept { journal.new.records ≡ rules.Called (record_with plan.called (arguments_in (scan self.old.state)) (undone_of effect.change (storage_of self.old.state))) ∷ journal.old.records }
-        ensures room { IsNoLess self.old self.new }
+        requires place { HasPlaceForCall (length (concat (arguments_in (scan self.now.state)))) (length (arguments_in (scan self.now.state)) - 1) journal.old }
+        requires fits { FitsJournal plan.called (arguments_in (scan self.now.state)) (undone_in undone) }
+        ensures { journal.new.records ≡ rules.Called (record_with plan.called (arguments_in (scan self.now.state)) (undone_in undone)) ∷ journal.old.records }
     {
-        let text = NeutralText::new(self.text.left(), self.marks.left());
-        let Some(function) = text.innermost() else {
-            unreachable!()
-        };
-        let arguments = function.arguments;
-        let undone = change_forms(&mut self.store, &arguments, effect.change, places);
-        journal.push_call(plan.called, &arguments, arguments.joined(), undone);
-        let beginning = plan.beginning;
-        cut_function(&mut self.text, &mut self.marks, beginning);
-        put_value(
-            &mut self.text,
-            beginning.kind,
-            effect.forced,
-            effect.value.as_slice(),
-        );
-        self.output.put(effect.print.as_slice());
-        self.meta = effect.meta;
-        self.trace = effect.trace;
-        self.position = effect.position;
+        let arguments = self.arguments(plan.beginning);
+        journal.push_call(plan.called, &arguments, undone);
     }
 
     // Performs the call that is planned, and keeps its record. It is refused memory alone, and then the state and the records
     // stay.
-    fn carry_out_into(
+    fn perform_into(
         &mut self,
         journal: &mut Journal<A>,
         plan: Plan,
-        effect: Effect<A>,
+        made: &Made<A>,
+        change: Change<A>,
     ) -> Result<(), Refusal>
-        requires front { front_of self.old.state.active ≡ Front.Closing }
-        requires beginning { BeginsInnermost self.old.state plan.beginning }
-        requires given { NamesGiven (arguments_in (scan self.old.state)) (storage_of self.old.state) effect.change }
-        requires proper { IsProper (state_after effect (scan self.old.state)) }
-        requires bytes { plan.bytes ≡ length (concat (arguments_in (scan self.old.state))) }
-        requires commas { plan.commas + 1 ≡ length (arguments_in (scan self.old.state)) }
+        requires ready { IsReady self.old.state made.now plan change }
         requires not_full { length journal.old.records < JOURNAL_LIMIT }
-        requires fits { FitsJournal plan.called (arguments_in (scan self.old.state)) (undone_of effect.change (storage_of self.old.state)) }
-        ensures done { OnOk result (self.new.state ≡ state_after effect (scan self.old.state)) }
-        ensures kept { OnOk result (journal.new.records ≡ rules.Called (record_with plan.called (arguments_in (scan self.old.state)) (undone_of effect.change (storage_of self.old.state))) ∷ journal.old.records) }
+        requires fits { FitsJournal plan.called (arguments_in (scan self.old.state)) (undone_of change (storage_of self.old.state)) }
+        ensures done { OnOk result (self.new.state ≡ state_after plan made.now change (scan self.old.state)) }
+        ensures kept { OnOk result (journal.new.records ≡ recorded_after plan change self.old.state ∷ journal.old.records) }
         ensures unchanged { OnErr result ((self.new.state ≡ self.old.state) × (journal.new.records ≡ journal.old.records)) }
         ensures err { IsOkUnless result Refusal.Memory }
         ensures room { IsNoLess self.old self.new }
     {
         journal.reserve_call(plan.bytes, plan.commas)?;
-        let places = self.made_ready(&effect)?;
-        self.finish_call_into(journal, plan, effect, places);
+        self.make_room(made)?;
+        let undone = self.change_storage(plan.beginning, change)?;
+        self.keep_call(journal, plan, undone);
+        self.end_call(plan, made);
         Ok(())
+    }
+
+    // The next step, where it performs a function, and its record is kept. Its texts are made in these buffers.
+    fn call_step_in(
+        &mut self,
+        journal: &mut Journal<A>,
+        tape: Tape<'_>,
+        made: &mut Made<A>,
+    ) -> Result<(), Refusal>
+        requires front { front_of self.old.state.active ≡ Front.Closing }
+        requires inside { 0 < length self.old.state.frames }
+        requires within { self.old.state.position ≤ length tape.bytes.now }
+        requires short { length tape.bytes.now < 2 ^ 32 }
+        requires proper { IsProper self.old.state }
+        requires not_full { length journal.old.records < JOURNAL_LIMIT }
+        ensures taken { OnOk result (step (environment_of self.old.width tape.entry) self.old.state ≡ Ok self.new.state) }
+        ensures kept { OnOk result (IsAdded (record_of (environment_of self.old.width tape.entry) self.old.state) journal.old.records journal.new.records) }
+        ensures refused { IfErr result (MayRefuse (step (environment_of self.old.width tape.entry) self.old.state)) }
+        ensures unchanged { OnErr result ((self.new.state ≡ self.old.state) × (journal.new.records ≡ journal.old.records)) }
+        ensures room { IsNoLess self.old self.new }
+    {
+        let (plan, change) = self.planned(tape, made)?;
+        self.perform_into(journal, plan, made, change)
     }
 
     // The next step, where it performs a function, and its record is kept.
@@ -394,7 +378,9 @@ impl<E: TwoEnds<u8, A>, M: TwoEnds<Mark, A>, A: Allocator + Copy> Core<E, M, A> 
         ensures lacking { LacksRoomAhead self.old }
         ensures room { IsNoLess self.old self.new }
     {
-        let (plan, effect) = self.planned(tape)?;
-        self.carry_out_into(journal, plan, effect)
+        let mut made = self.take_made();
+        let taken = self.call_step_in(journal, tape, &mut made);
+        self.put_made(made);
+        taken
     }
 }

@@ -5,18 +5,16 @@ ghost use Rattle.trac_rules.specs.Listing.{names_of};
 ghost use Rattle.trac_rules.specs.State.{initial};
 ghost use Rattle.trac_rules.specs.Session.{released, settled};
 
-use crate::ends;
 use std::alloc::{Allocator, Global};
 use std::marker::Model;
 use trac_forms::Store;
 use trac_gap::{GapBuf, SlidingBuf, TwoEnds};
-use trac_prims::Mark;
+use trac_prims::Made;
 use trac_rules::byte;
 use trac_rules::refusal::Refusal;
 use trac_rules::width::Width;
-
-/// What a processor with nothing to do runs: it reads a text of the input and prints its value.
-pub(crate) const IDLE_PROGRAM: &[u8; 11] = b"#(ps,#(rs))";
+use trac_text::texts::IDLE_PROGRAM;
+use trac_text::{Mark, ends};
 
 /// A machine over lists with two ends: its neutral text stands on the left of the one pair of lists, its active text on the
 /// right; its marks stand on the left of the other. It is seen as the state that it shows, which is always a proper one; how
@@ -34,6 +32,8 @@ pub struct Core<E: TwoEnds<u8, A>, M: TwoEnds<Mark, A>, A: Allocator + Copy> {
     pub(crate) position: usize,
     pub(crate) output: SlidingBuf<u8, A>,
     pub(crate) width: Width,
+    // the buffers in which calls make their texts, one after another: no part of the state
+    pub(crate) made: Made<A>,
 }
 
 /// The machine: its texts in one block of memory, with the gap between neutral and active text, and its marks in another.
@@ -72,6 +72,7 @@ impl<E: TwoEnds<u8, A>, M: TwoEnds<Mark, A>, A: Allocator + Copy> Core<E, M, A> 
             position: 0,
             output: SlidingBuf::new(alloc),
             width,
+            made: Made::new(alloc),
         })
     }
 

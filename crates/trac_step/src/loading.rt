@@ -1,177 +1,20 @@
 //! Loading: a machine made from the parts of a state.
-ghost use Rattle.std.specs.Prelude.{◌≡◌, ◌≤◌, ◌&&◌, length, nat_le, IfOk, IsOkUnless, IsTrue};
-ghost use Rattle.std.specs.List.{All};
-ghost use Rattle.trac_rules.specs.Limits.{texts_fit};
+ghost use Rattle.std.specs.Prelude.{◌≡◌, ◌≤◌, length, IfOk, IsOkUnless};
 ghost use Rattle.trac_rules.specs.Outcomes.{MayAnswer};
-ghost use Rattle.trac_rules.specs.Proper.{IsProperForm};
-ghost use Rattle.trac_prims.specs.Effects.{named_forms, texts_of};
-ghost use Rattle.trac_step.specs.Loading.{AreProperEntries, EachGathers, HasAsked, IsProperList, block_entries_fit, blocks_fit, entries_fit, lengths_fit, loaded, names_fit, rooms_fit, state_in};
+ghost use Rattle.trac_text.specs.Framing.{EachGathers};
+ghost use Rattle.trac_storage.specs.Loading.{loaded};
+ghost use Rattle.trac_step.specs.Loading.{HasAsked};
 ghost use Rattle.trac_step.specs.Room.{HasRoom};
 
 use crate::engine::Core;
-use crate::framing::{mark_count, text_len, texts_and_marks};
-use crate::storing::stored;
-use std::alloc::{Allocator, Global};
-use trac_forms::Form;
+use std::alloc::Allocator;
 use trac_gap::{SlidingBuf, TwoEnds};
-use trac_prims::{Kind, Mark, Refusal};
-use trac_rules::limit::{BLOCK_LIMIT, MARK_LIMIT, NAME_LIMIT, OUTPUT_LIMIT, TEXT_LIMIT};
+use trac_prims::Made;
 use trac_rules::width::Width;
-
-/// A form with its name.
-type Named<A> = (Vec<u8, A>, Form<A>);
-
-/// The parts of a state, from which a machine is made that shows it, and the room that the machine is to have
-/// (this project's profile). Texts and names are any bytes.
-#[derive(Drop)]
-pub struct Parts<A: Allocator + Copy = Global> {
-    /// What is not scanned yet.
-    pub active: Vec<u8, A>,
-    /// The neutral text outside all begun functions.
-    pub base: Vec<u8, A>,
-    /// The begun functions, from the outermost on: the kind of each, and its arguments, of which the last is being gathered.
-    pub frames: Vec<(Kind, Vec<Vec<u8, A>, A>), A>,
-    /// The forms with their names. Where a name stands again, the later form replaces the earlier one.
-    pub forms: Vec<(Vec<u8, A>, Form<A>), A>,
-    /// The blocks in the order of their numbers, from 0 on; an erased one is none. Where a name stands again in a block, the
-    /// later form stands in the place of the earlier one.
-    pub blocks: Vec<Option<Vec<(Vec<u8, A>, Form<A>), A>>, A>,
-    /// The byte that ends a text of the input.
-    pub meta: u8,
-    /// Whether each call is printed.
-    pub trace: bool,
-    /// How many bytes of the tape are read.
-    pub position: usize,
-    /// What is printed and not released yet.
-    pub output: Vec<u8, A>,
-    /// For how many bytes of active text, base text and arguments the machine is to have room, at least.
-    pub text_room: usize,
-    /// For how many marks, at least: one for each begun function, and one for each of its finished arguments.
-    pub mark_room: usize,
-    /// For how many bytes of output, at least.
-    pub output_room: usize,
-    /// The names that the machine is to know beside those of the forms.
-    pub names: Vec<Vec<u8, A>, A>,
-}
-
-impl<A: Allocator + Copy> Parts<A> {
-    /// Whether each begun function has an argument, as loading asks (this project's profile). It takes no memory.
-    pub fn each_gathers(&self) -> bool
-        ensures yes { IsTrue result → EachGathers self.now.frames.items }
-        ensures no { EachGathers self.now.frames.items → IsTrue result }
-    {
-        for (_, arguments) in &self.frames {
-            if arguments.len() < 1 {
-                return false;
-            }
-        }
-        true
-    }
-}
-
-// Whether so many bytes of texts, so many marks and so many bytes of output are within the limits.
-fn are_within(text: usize, marks: usize, output: usize) -> bool
-    ensures { result ≡ (nat_le text TEXT_LIMIT && nat_le marks MARK_LIMIT && nat_le output OUTPUT_LIMIT) }
-{
-    text <= TEXT_LIMIT && marks <= MARK_LIMIT && output <= OUTPUT_LIMIT
-}
-
-// Whether texts, marks and output of parts are.
-fn texts_within<A: Allocator + Copy>(parts: &Parts<A>) -> bool
-    requires { EachGathers parts.now.frames.items }
-    ensures { result ≡ texts_fit (state_in parts.now) }
-{
-    are_within(
-        text_len(parts),
-        mark_count(parts.frames.as_slice()),
-        parts.output.len(),
-    )
-}
-
-// Whether the rooms are that they ask for.
-fn rooms_within<A: Allocator + Copy>(parts: &Parts<A>) -> bool
-    ensures { result ≡ rooms_fit parts.now }
-{
-    are_within(parts.text_room, parts.mark_room, parts.output_room)
-}
-
-// Whether names are.
-fn names_within<A: Allocator + Copy>(names: &[Vec<u8, A>]) -> bool
-    ensures { result ≡ names_fit (texts_of names.now) }
-{
-    for name in names {
-        if name.len() > NAME_LIMIT {
-            return false;
-        }
-    }
-    true
-}
-
-// Whether the name of a form is. The form itself always is.
-fn entry_within<A: Allocator + Copy>(name: &[u8], form: &Form<A>) -> bool
-    ensures fits { result ≡ nat_le (length name.now) NAME_LIMIT }
-    ensures proper { IsTrue result → IsProperForm name.now form.now }
-{
-    // For the clause `proper`: what is true of the items of every form.
-    let _items = form.len();
-    name.len() <= NAME_LIMIT
-}
-
-// Whether the names of forms are.
-fn entries_within<A: Allocator + Copy>(forms: &[Named<A>]) -> bool
-    ensures fits { result ≡ entries_fit (named_forms forms.now) }
-    ensures proper { IsTrue result → AreProperEntries (named_forms forms.now) }
-{
-    for (name, form) in forms {
-        if !entry_within(name.as_slice(), form) {
-            return false;
-        }
-    }
-    true
-}
-
-// Whether the names of the forms of a block are.
-fn block_within<A: Allocator + Copy>(block: &Option<Vec<Named<A>, A>>) -> bool
-    ensures fits { result ≡ block_entries_fit block.now }
-    ensures proper { IsTrue result → IsProperList block.now }
-{
-    match block {
-        Some(forms) => entries_within(forms.as_slice()),
-        None => true,
-    }
-}
-
-// Whether blocks are: their number, and the names of the forms of each.
-fn blocks_within<A: Allocator + Copy>(blocks: &[Option<Vec<Named<A>, A>>]) -> bool
-    ensures fits { result ≡ blocks_fit blocks.now }
-    ensures proper { IsTrue result → All IsProperList blocks.now }
-{
-    if blocks.len() > BLOCK_LIMIT {
-        return false;
-    }
-    for block in blocks {
-        if !block_within(block) {
-            return false;
-        }
-    }
-    true
-}
-
-// Whether all is within the limits but the number of forms, and that of the forms of a block, since only a store tells
-// how many of them replace others.
-fn lengths_within<A: Allocator + Copy>(parts: &Parts<A>) -> bool
-    requires { EachGathers parts.now.frames.items }
-    ensures fits { result ≡ lengths_fit parts.now }
-    ensures forms { IsTrue result → AreProperEntries (named_forms parts.now.forms.items) }
-    ensures blocks { IsTrue result → All IsProperList parts.now.blocks.items }
-{
-    let texts = texts_within(parts);
-    let rooms = rooms_within(parts);
-    let names = names_within(parts.names.as_slice());
-    let forms = entries_within(parts.forms.as_slice());
-    let blocks = blocks_within(parts.blocks.as_slice());
-    texts & rooms & names & forms & blocks
-}
+pub use trac_storage::Parts;
+use trac_storage::{lengths_within, stored};
+use trac_text::framing::texts_and_marks;
+use trac_text::{Mark, Refusal};
 
 // The output of parts, with no less room than is asked for.
 fn output_of<A: Allocator + Copy>(alloc: A, parts: &Parts<A>) -> Result<SlidingBuf<u8, A>, Refusal>
@@ -208,7 +51,14 @@ impl<E: TwoEnds<u8, A>, M: TwoEnds<Mark, A>, A: Allocator + Copy> Core<E, M, A> 
             return Err(Refusal::TooLong);
         }
         let store = stored(alloc, parts)?;
-        let (text, marks) = texts_and_marks(alloc, parts)?;
+        let (text, marks) = texts_and_marks(
+            alloc,
+            parts.active.as_slice(),
+            parts.base.as_slice(),
+            parts.frames.as_slice(),
+            parts.text_room,
+            parts.mark_room,
+        )?;
         let output = output_of(alloc, parts)?;
         Ok(Core {
             text,
@@ -219,6 +69,7 @@ impl<E: TwoEnds<u8, A>, M: TwoEnds<Mark, A>, A: Allocator + Copy> Core<E, M, A> 
             position: parts.position,
             output,
             width,
+            made: Made::new(alloc),
         })
     }
 }

@@ -7,7 +7,8 @@ ghost use Rattle.trac_rules.specs.Outcomes.{MayRefuse};
 ghost use Rattle.trac_rules.specs.Proper.{IsProper};
 ghost use Rattle.trac_rules.specs.Records.{recorded};
 ghost use Rattle.trac_rules.specs.Stepping.{step};
-ghost use Rattle.trac_step.specs.Calling.{IfMoves, IsMove, adds_mark};
+ghost use Rattle.trac_step.specs.Calling.{IfMoves, IsMove};
+ghost use Rattle.trac_text.specs.Moving.{adds_mark};
 ghost use Rattle.trac_step.specs.Record.{recorded_by};
 ghost use Rattle.trac_journal.specs.Told.{said_by};
 ghost use Rattle.trac_step.specs.Room.{IsNoLess, LacksRoomAhead};
@@ -17,25 +18,10 @@ use crate::record::Record;
 use std::alloc::Allocator;
 use trac_gap::TwoEnds;
 use trac_journal::{Emptied, Journal, Short};
-use trac_prims::{Kind, Mark, Refusal};
 use trac_rules::limit::MARK_LIMIT;
 use trac_rules::scan::Front;
-
-// Whether the rule for this front makes a mark, where there are so many marks.
-fn makes_mark(front: Front, marks: usize) -> bool
-    ensures { result ≡ adds_mark front marks }
-{
-    match front {
-        Front::ActiveCall | Front::NeutralCall => true,
-        Front::Comma => marks > 0,
-        Front::Nothing
-        | Front::Opening
-        | Front::Layout
-        | Front::Sharp
-        | Front::Closing
-        | Front::Plain => false,
-    }
-}
+use trac_text::front::makes_mark;
+use trac_text::{Kind, Mark, Refusal};
 
 impl<E: TwoEnds<u8, A>, M: TwoEnds<Mark, A>, A: Allocator + Copy> Core<E, M, A> {
     // Whether the state that scanning moves on to is within the limits: only a further mark can be one too many.

@@ -1,16 +1,16 @@
 //! The readers of a machine's state.
 ghost use Rattle.std.specs.Prelude.{◌≡◌, ◌≤◌, length, reverse, slice_get, None, Some, MatchOption};
-ghost use Rattle.trac_prims.specs.Frames.{IsFrame};
-ghost use Rattle.trac_prims.specs.Neutral.{neutral_of};
+ghost use Rattle.trac_text.specs.Frames.{IsFrame};
+ghost use Rattle.trac_text.specs.Neutral.{neutral_of};
 ghost use Rattle.trac_rules.specs.Stepping.{call_at};
 
 use crate::engine::Core;
-use crate::front::front_at;
 use std::alloc::Allocator;
 use trac_forms::Store;
 use trac_gap::TwoEnds;
-use trac_prims::{Args, BegunFunctions, Kind, Mark, NeutralText};
 use trac_rules::scan::Front;
+use trac_text::front::front_at;
+use trac_text::{Args, BegunFunctions, Kind, Mark, NeutralText};
 
 impl<E: TwoEnds<u8, A>, M: TwoEnds<Mark, A>, A: Allocator + Copy> Core<E, M, A> {
     /// What is not scanned yet: the active string of T-64.

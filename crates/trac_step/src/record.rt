@@ -1,18 +1,19 @@
 //! What a step leaves for the way back, and going back.
 ghost use Rattle.std.specs.Prelude.{◌≡◌, ◌+◌, ◌-◌, ◌<◌, ◌^◌, length, IsSomeAnd, Some};
 ghost use Rattle.trac_rules.specs.Limits.{total_length};
+ghost use Rattle.trac_rules.specs.Records as rules;
 ghost use Rattle.trac_rules.specs.Weights.{meta_weight, undone_weight, weight};
-ghost use Rattle.trac_journal.specs.Pieces.{all_texts};
-ghost use Rattle.trac_journal.specs.Told.{said_by};
-ghost use Rattle.trac_journal.specs.Undone.{undone_in};
+ghost use Rattle.trac_text.specs.Pieces.{all_texts};
+ghost use Rattle.trac_journal.specs.Told.{record_with, said_by};
+ghost use Rattle.trac_change.specs.Undone.{undone_in};
 ghost use Rattle.trac_step.specs.Record.{before, recorded_by};
 ghost use Rattle.trac_step.specs.Room.{HasRoom, IsNoLess};
 
 use crate::engine::Core;
 use std::alloc::{Allocator, Global};
 use trac_gap::TwoEnds;
-use trac_journal::{Called, Pieces, PiecesRef, Short, Undone, weigh_functions};
-use trac_prims::{Kind, Mark};
+use trac_journal::{Called, Short, Undone, weigh_functions};
+use trac_text::{Kind, Mark, Pieces, PiecesRef};
 
 /// What one step of a machine destroyed, by which any machine that shows the state after it can go back. What a
 /// step only moved is not kept: a record says how much it was, counted from the end of the text to which it
@@ -76,6 +77,23 @@ impl<A: Allocator + Copy> Record<A> {
             Short::Begun => Record::Begun,
             Short::Quoted { inner, closed } => Record::Quoted { inner, closed },
             Short::Deleted(byte) => Record::Deleted(byte),
+        }
+    }
+
+    // The record of a call, from what it says beside its arguments, these, and what the call destroyed of forms and blocks.
+    pub(crate) fn of_call(called: Called, arguments: Pieces<A>, change: Undone<A>) -> Self
+        ensures { recorded_by result ≡ rules.Called (record_with called (all_texts arguments) (undone_in change)) }
+    {
+        Record::Call {
+            kind: called.kind,
+            arguments,
+            value: called.value,
+            scanned: called.scanned,
+            printed: called.printed,
+            read: called.read,
+            meta: called.meta,
+            trace: called.trace,
+            change,
         }
     }
 
@@ -164,7 +182,9 @@ impl<E: TwoEnds<u8, A>, M: TwoEnds<Mark, A>, A: Allocator + Copy> Core<E, M, A> 
                     meta,
                     trace,
                 };
-                self.uncall(called, &arguments.lend(), change);
+                self.is_in_its_room();
+                self.begin_again(called, &arguments.lend());
+                self.restore_storage(change);
             }
         }
     }

@@ -11,15 +11,15 @@ ghost use Rattle.trac_journal.specs.Told.{said_by};
 ghost use Rattle.trac_step.specs.Room.{HasRoom, IsNoLess};
 
 use crate::engine::Core;
-use crate::front::plain_front;
-use crate::texts::{push_mark, take_first, take_protected};
 use std::alloc::Allocator;
 use trac_gap::TwoEnds;
 use trac_journal::Short;
-use trac_prims::Mark;
 use trac_rules::kind::Kind;
 use trac_rules::limit::MARK_LIMIT;
 use trac_rules::refusal::Refusal;
+use trac_text::Mark;
+use trac_text::front::plain_front;
+use trac_text::texts::{push_mark, take_first, take_protected};
 
 impl<E: TwoEnds<u8, A>, M: TwoEnds<Mark, A>, A: Allocator + Copy> Core<E, M, A> {
     // A `(`: what it protects goes to the current text. Returns how many bytes that is, and whether there was a match.

@@ -1,26 +1,29 @@
 //! One step of the machine.
-ghost use Rattle.std.specs.Prelude.{◌≡◌, ◌<◌, ◌≤◌, ◌^◌, length, IfOk, IfErr, OnErr, OnOk, Ok, Some};
+ghost use Rattle.std.specs.Prelude.{◌≡◌, ◌<◌, ◌≤◌, ◌^◌, false, length, IfOk, IfErr, IsTrue, OnErr, OnOk, Ok, Some};
 ghost use Rattle.trac_rules.specs.declared.limit.TheConstants.{JOURNAL_LIMIT};
 ghost use Rattle.trac_rules.specs.Outcomes.{MayRefuse};
 ghost use Rattle.trac_rules.specs.Proper.{IsProper};
 ghost use Rattle.trac_rules.specs.Records.{CallRecord, Called, record_of, rest_before, rest_of, texts_before, texts_in};
+ghost use Rattle.trac_rules.specs.Scanning.{front_of, scan};
 ghost use Rattle.trac_rules.specs.State.{storage_of};
 ghost use Rattle.trac_rules.specs.Stepping.{step};
 ghost use Rattle.trac_rules.specs.Undone.{storage_before};
 ghost use Rattle.trac_rules.specs.Weights.{loss, weight};
 ghost use Rattle.trac_prims.specs.Tape.{environment_of};
+ghost use Rattle.trac_step.specs.Calling.{IsMove};
 ghost use Rattle.trac_step.specs.Kept.{IsAdded, IsKept};
 ghost use Rattle.trac_step.specs.Record.{before, recorded_by};
 ghost use Rattle.trac_step.specs.Room.{HasRoom, IsNoLess, LacksRoomAhead};
 
 use crate::engine::Core;
-use crate::front::front_at;
 use crate::record::Record;
 use std::alloc::Allocator;
 use trac_gap::TwoEnds;
 use trac_journal::Journal;
-use trac_prims::{Mark, Refusal, Tape};
+use trac_prims::Tape;
 use trac_rules::scan::Front;
+use trac_text::front::front_at;
+use trac_text::{Mark, Refusal};
 
 impl<E: TwoEnds<u8, A>, M: TwoEnds<Mark, A>, A: Allocator + Copy> Core<E, M, A> {
     /// Takes the next step of T-64's rules over this tape, and gives what the way back needs: the record of what
@@ -88,7 +91,7 @@ impl<E: TwoEnds<u8, A>, M: TwoEnds<Mark, A>, A: Allocator + Copy> Core<E, M, A> 
         ensures room { IsNoLess self.old self.new }
     {
         let front = front_at(self.text.right());
-        if front == Front::Closing && !self.neutral().is_outside() {
+        if self.performs(front) {
             return self.call_step_into(journal, tape);
         }
         self.move_step_into(journal, front)
@@ -103,6 +106,19 @@ impl<E: TwoEnds<u8, A>, M: TwoEnds<Mark, A>, A: Allocator + Copy> Core<E, M, A> 
         self.store.knows_its_forms();
     }
 
+    // Whether the next step performs a function, where the active text has this front.
+    fn performs(&self, front: Front) -> bool
+        requires { front ≡ front_of self.now.state.active }
+        ensures closing { IsTrue result → front_of self.now.state.active ≡ Front.Closing }
+        ensures inside { IsTrue result → 0 < length self.now.state.frames }
+        ensures moves { result ≡ false → IsMove (scan self.now.state) }
+    {
+        if front != Front::Closing {
+            return false;
+        }
+        !self.neutral().is_outside()
+    }
+
     // The next step, by whether it performs a function.
     fn next_step(&mut self, tape: Tape<'_>) -> Result<Record<A>, Refusal>
         requires { self.old.state.position ≤ length tape.bytes.now }
@@ -113,7 +129,7 @@ impl<E: TwoEnds<u8, A>, M: TwoEnds<Mark, A>, A: Allocator + Copy> Core<E, M, A> 
         ensures room { IsNoLess self.old self.new }
     {
         let front = front_at(self.text.right());
-        if front == Front::Closing && !self.neutral().is_outside() {
+        if self.performs(front) {
             return self.call_step(tape);
         }
         self.move_step(front)

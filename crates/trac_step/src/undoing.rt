@@ -1,32 +1,21 @@
 //! The way back over the rules of scanning, each on the machine's own parts.
 ghost use Rattle.std.specs.Prelude.{◌≡◌, IsSome, Some};
-ghost use Rattle.std.specs.Option.{unwrap_or};
 ghost use Rattle.trac_rules.specs.Records as rules;
 ghost use Rattle.trac_rules.specs.Records.{Begun, Comma, Deleted, Quoted, moved_back, restored};
-ghost use Rattle.trac_journal.specs.Pieces.{all_texts};
+ghost use Rattle.trac_rules.specs.Undone.{Nothing};
+ghost use Rattle.trac_text.specs.Pieces.{all_texts};
 ghost use Rattle.trac_journal.specs.Told.{record_with};
-ghost use Rattle.trac_journal.specs.Undone.{undone_in};
-ghost use Rattle.trac_step.specs.Room.{IsNoLess};
-ghost use Rattle.trac_step.specs.Undoing.{CanShow};
+ghost use Rattle.trac_change.specs.Undone.{undone_in};
+ghost use Rattle.trac_step.specs.Undoing.{CanRestore, CanShow, IsBegunAgain, IsRestored};
 
-use crate::calls_back::put_call;
 use crate::engine::Core;
-use crate::storage_back::put_storage;
-use crate::texts_back::{give_protected_back, pop_beginning, pop_mark};
 use std::alloc::Allocator;
 use trac_gap::TwoEnds;
-use trac_journal::{Called, PiecesRef, Undone};
-use trac_prims::{Kind, Mark, NeutralText};
-
-// The meta character before a call, from the one after it.
-pub(crate) fn meta_before(called: Called, after: u8) -> u8
-    ensures { result ≡ unwrap_or called.meta after }
-{
-    match called.meta {
-        Some(before) => before,
-        None => after,
-    }
-}
+use trac_journal::{Called, Undone};
+use trac_storage::put_storage;
+use trac_text::calls_back::put_call;
+use trac_text::texts_back::{give_protected_back, pop_beginning, pop_mark};
+use trac_text::{Mark, NeutralText, PiecesRef};
 
 impl<E: TwoEnds<u8, A>, M: TwoEnds<Mark, A>, A: Allocator + Copy> Core<E, M, A> {
     /// Moves the last n bytes of the current text back before the active text, as going back over as many records `Moved`
@@ -75,12 +64,11 @@ impl<E: TwoEnds<u8, A>, M: TwoEnds<Mark, A>, A: Allocator + Copy> Core<E, M, A> 
         pop_beginning(&mut self.text, &mut self.marks);
     }
 
-    // The call is not performed: its function is begun again, and its `)` is back before the active text; forms, blocks
-    // and all else are as they were.
-    pub(crate) fn uncall(&mut self, called: Called, arguments: &PiecesRef<'_>, change: Undone<A>)
-        requires { CanShow self.old (restored (rules.Called (record_with called (all_texts arguments.now) (undone_in change))) self.old.state) }
-        ensures state { restored (rules.Called (record_with called (all_texts arguments.now) (undone_in change))) self.old.state ≡ Some self.new.state }
-        ensures room { IsNoLess self.old self.new }
+    // The function of a call is begun again, its value and what it printed are gone, and its `)` is back before the active text:
+    // all but forms and blocks is as it was.
+    pub(crate) fn begin_again(&mut self, called: Called, arguments: &PiecesRef<'_>)
+        requires { CanShow self.old (restored (rules.Called (record_with called (all_texts arguments.now) Nothing)) self.old.state) }
+        ensures { IsBegunAgain called (all_texts arguments.now) self.old self.new }
     {
         put_call(
             &mut self.text,
@@ -90,14 +78,22 @@ impl<E: TwoEnds<u8, A>, M: TwoEnds<Mark, A>, A: Allocator + Copy> Core<E, M, A> 
             called.scanned,
             called.value,
         );
+        let meta = called.meta.unwrap_or(self.meta);
+        self.output.truncate(self.output.len() - called.printed);
+        self.position -= called.read;
+        self.meta = meta;
+        self.trace = called.trace;
+    }
+
+    // Forms and blocks are as they were before the call at which the machine stands again.
+    pub(crate) fn restore_storage(&mut self, change: Undone<A>)
+        requires { CanRestore (undone_in change) self.old }
+        ensures { IsRestored (undone_in change) self.old self.new }
+    {
         let text = NeutralText::new(self.text.left(), self.marks.left());
         let Some(function) = text.innermost() else {
             unreachable!()
         };
         put_storage(&mut self.store, &function.arguments, change);
-        self.output.truncate(self.output.len() - called.printed);
-        self.position -= called.read;
-        self.meta = meta_before(called, self.meta);
-        self.trace = called.trace;
     }
 }

@@ -3,11 +3,11 @@ use Rattle.std.proofs.Common.{◌≡◌, ◌⊎◌, inl, inr, ℕ, ◌<◌, ◌�
 use Rattle.std.specs.Prelude.{Option, Result, Ok, Err, IfErr, ◌↔◌}
 use Rattle.std.specs.Io.KnownBytes.{Keeps}
 use Rattle.trac_rules.specs.declared.limit.TheConstants.{TAPE_LIMIT}
-use Rattle.trac_run.specs.declared.ending.Ending.{Ending}
-use Rattle.trac_run.specs.declared.ending.Ending.TheVariants.{Ended, Budget, Limit, Memory, Read, Write, NotUnderstood}
-use Rattle.trac_run.proofs.Known.{Appends-both, Appends-kept, Appends-nothing, Consumes-both, Consumes-nothing}
-use Rattle.trac_debug.specs.Pending.{Pending}
-use Rattle.trac_debug.specs.Reading.{Gathers, MayFail}
+use Rattle.trac_streams.specs.declared.ending.Ending.{Ending}
+use Rattle.trac_streams.specs.declared.ending.Ending.TheVariants.{Ended, Budget, Limit, Memory, Read, Write, NotUnderstood}
+use Rattle.trac_streams.proofs.Known.{Appends-both, Appends-kept, Appends-nothing, Consumes-both, Consumes-nothing}
+use Rattle.trac_streams.specs.Pending.{Pending}
+use Rattle.trac_streams.specs.Reading.{Gathers, MayFail}
 use Rattle.trac_walk.specs.Talks.{Gives, IsFault, IsStop, MayEnd, MayRefuseProgram, Takes}
 
 -- nothing is written

@@ -2,8 +2,8 @@
 use Rattle.std.specs.Prelude.{◌≡◌, ◌⊎◌, ℕ, ◌<◌, ◌≤◌, List, length, Option}
 use Rattle.std.specs.Io.KnownBytes.{Appends, Consumes}
 use Rattle.trac_rules.specs.declared.limit.TheConstants.{TAPE_LIMIT}
-use Rattle.trac_run.specs.declared.ending.Ending.{Ending}
-use Rattle.trac_run.specs.declared.ending.Ending.TheVariants.{Ended, Budget, Limit, Memory, Read, Write, NotUnderstood}
+use Rattle.trac_streams.specs.declared.ending.Ending.{Ending}
+use Rattle.trac_streams.specs.declared.ending.Ending.TheVariants.{Ended, Budget, Limit, Memory, Read, Write, NotUnderstood}
 
 -- some bytes were read, from the front of what there is
 pub record Takes (old new : Option (List ℕ)) : Type 0 where

@@ -4,15 +4,9 @@
 
 mod aim;
 mod call_list;
-mod form_list;
+mod dialogue;
 mod moving;
-mod notes;
-mod order;
-mod screen;
-mod screen_line;
-mod splitting;
-mod standing;
-mod terminal;
+mod replying;
 mod walker;
 
-pub use terminal::{Settings, walk};
+pub use dialogue::{Settings, walk};

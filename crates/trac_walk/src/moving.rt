@@ -1,37 +1,15 @@
 //! Moves, carried out.
 
 use crate::aim::Aim;
-use crate::order::Move;
 use crate::walker::Walker;
 use memchr::memmem;
 use std::alloc::Allocator;
-use trac_session::{Machine, Refusal};
+use trac_orders::Move;
+use trac_screen::{Glance, Stop};
+use trac_session::Refusal;
 
 /// A search forward stops after so many steps (this project's profile).
 pub const SEARCH_LIMIT: u64 = 10_000_000;
-
-/// Why a move stopped before its goal.
-#[derive(Clone, Copy, Debug, PartialEq, Eq)]
-pub enum Stop {
-    /// A step forward was refused so.
-    Refused(Refusal),
-    /// The steps of a search were spent.
-    Spent,
-    /// There is no step to go back over.
-    AtFirst,
-    /// What was looked for is not met on the way back.
-    NotMet,
-    /// No function is begun.
-    Outside,
-    /// The value of no function ends here.
-    NoValue,
-    /// The output has no such byte or text.
-    NotPrinted,
-    /// The output has no such text since the first step that one can go back to; what was printed before is not known.
-    NotPrintedSince,
-    /// The byte was printed before the first step that one can go back to.
-    PrintedEarlier,
-}
 
 /// Carries out a move, and says why it stopped before its goal, where it did. It takes no memory but for steps.
 pub fn carry_out<A: Allocator + Copy>(walker: &mut Walker<A>, way: Move<'_>) -> Option<Stop> {
@@ -43,9 +21,9 @@ pub fn carry_out<A: Allocator + Copy>(walker: &mut Walker<A>, way: Move<'_>) -> 
         Move::OverBack => over_back(walker),
         Move::Out => out(walker),
         Move::OutBack => out_back(walker),
-        Move::Until(call) => ahead(walker.forward_to(call_aim(call), SEARCH_LIMIT)),
+        Move::Until(call) => until(walker, call),
         Move::Return(call) => behind(walker.return_to(call_aim(call))),
-        Move::Changed(name) => behind(walker.return_to_change(name)),
+        Move::Changed(name) => to_change(walker, name),
         Move::Printed(number) => to_printed(walker, number),
         Move::PrintedText(text) => to_printed_text(walker, text),
     }
@@ -68,6 +46,14 @@ fn behind(why: Option<Refusal>) -> Option<Stop> {
     }
 }
 
+// Forward to a call.
+fn until<A: Allocator + Copy>(walker: &mut Walker<A>, call: &[&[u8]]) -> Option<Stop> {
+    match walker.forward_to(call_aim(call), SEARCH_LIMIT)? {
+        Refusal::NotMet => Some(Stop::Spent),
+        refusal => Some(Stop::Unmet(refusal)),
+    }
+}
+
 // What a walk to a call looks for.
 fn call_aim<'a>(call: &'a [&'a [u8]]) -> Aim<'a> {
     if call.is_empty() {
@@ -75,6 +61,15 @@ fn call_aim<'a>(call: &'a [&'a [u8]]) -> Aim<'a> {
     } else {
         Aim::Call(call)
     }
+}
+
+// Back to the call that changed the form of this name last.
+fn to_change<A: Allocator + Copy>(walker: &mut Walker<A>, name: &[u8]) -> Option<Stop> {
+    let stopped = behind(walker.return_to_change(name));
+    if matches!(stopped, Some(Stop::NotMet)) && walker.machine().store().get(name).is_none() {
+        return Some(Stop::NoForm);
+    }
+    stopped
 }
 
 fn go_to<A: Allocator + Copy>(walker: &mut Walker<A>, step: u64) -> Option<Stop> {
@@ -86,31 +81,14 @@ fn go_to<A: Allocator + Copy>(walker: &mut Walker<A>, step: u64) -> Option<Stop>
     }
 }
 
-// What the next step does with functions.
-#[derive(Clone, Copy, PartialEq, Eq)]
-enum Next {
-    Begins,
-    Performs,
-    Neither,
-}
-
-fn next_of<A: Allocator + Copy>(machine: &Machine<A>) -> Next {
-    if machine.at_call().is_some() {
-        return Next::Performs;
-    }
-    match machine.active() {
-        [b'#', b'(', ..] | [b'#', b'#', b'(', ..] => Next::Begins,
-        _ => Next::Neither,
-    }
-}
-
 // Over the function that begins or is performed next: until its value is scanned too.
 fn over<A: Allocator + Copy>(walker: &mut Walker<A>) -> Option<Stop> {
     if let Some(stop) = to_function(walker) {
         return Some(stop);
     }
-    if next_of(walker.machine()) == Next::Begins {
-        let inside = walker.machine().depth().saturating_add(1);
+    let here = walker.glance();
+    if here.begins {
+        let inside = here.depth.saturating_add(1);
         let ended = ahead(walker.forward_to(Aim::End(inside), SEARCH_LIMIT));
         if ended.is_some() {
             return ended;
@@ -122,7 +100,8 @@ fn over<A: Allocator + Copy>(walker: &mut Walker<A>) -> Option<Stop> {
 // Forward until a function begins or is performed next; that may be so already.
 fn to_function<A: Allocator + Copy>(walker: &mut Walker<A>) -> Option<Stop> {
     for _ in 0..SEARCH_LIMIT {
-        if next_of(walker.machine()) != Next::Neither {
+        let here = walker.glance();
+        if here.performs || here.begins {
             return None;
         }
         let stopped = ahead(walker.forward(1));
@@ -135,9 +114,9 @@ fn to_function<A: Allocator + Copy>(walker: &mut Walker<A>) -> Option<Stop> {
 
 // Over the call that is performed next, and its value.
 fn over_call<A: Allocator + Copy>(walker: &mut Walker<A>) -> Option<Stop> {
-    let rest = walker.machine().active().len().saturating_sub(1);
+    let rest = walker.glance().rest.saturating_sub(1);
     let stopped = ahead(walker.forward(1));
-    if stopped.is_some() || walker.machine().active().len() <= rest {
+    if stopped.is_some() || walker.glance().rest <= rest {
         return stopped;
     }
     ahead(walker.forward_to(Aim::Rest(rest), SEARCH_LIMIT))
@@ -156,7 +135,7 @@ fn over_back<A: Allocator + Copy>(walker: &mut Walker<A>) -> Option<Stop> {
 // Back to the beginning of a function whose value ends at this step, that of the earliest where there are several: what is left
 // to scan here was left after the `)` that ended it, and until here no less was left.
 fn to_beginning<A: Allocator + Copy>(walker: &mut Walker<A>, here: u64) -> Option<Stop> {
-    let rest = walker.machine().active().len();
+    let rest = walker.glance().rest;
     match walker.return_to(Aim::Rest(rest)) {
         None => {}
         Some(Refusal::NotMet) => {
@@ -165,9 +144,9 @@ fn to_beginning<A: Allocator + Copy>(walker: &mut Walker<A>, here: u64) -> Optio
         Some(refusal) => return Some(Stop::Refused(refusal)),
     }
     for _ in walker.step()..here {
-        if is_call_before(walker.machine(), rest) {
-            let inside = walker.machine().depth();
-            return behind(walker.return_to(Aim::Shallower(inside)));
+        let now = walker.glance();
+        if is_call_before(now, rest) {
+            return behind(walker.return_to(Aim::Shallower(now.depth)));
         }
         let stopped = ahead(walker.forward(1));
         if stopped.is_some() {
@@ -178,15 +157,14 @@ fn to_beginning<A: Allocator + Copy>(walker: &mut Walker<A>, here: u64) -> Optio
 }
 
 // Whether the next step performs a call, with so many bytes left after its `)`.
-fn is_call_before<A: Allocator + Copy>(machine: &Machine<A>, rest: usize) -> bool {
-    machine.at_call().is_some() && machine.active().len().saturating_sub(1) == rest
+fn is_call_before(now: Glance, rest: usize) -> bool {
+    now.performs && now.rest.saturating_sub(1) == rest
 }
 
 // To the end of the innermost begun function; from there to that of the one around it.
 fn out<A: Allocator + Copy>(walker: &mut Walker<A>) -> Option<Stop> {
-    let machine = walker.machine();
-    let ended = if machine.at_call().is_some() { 1 } else { 0 };
-    let inside = machine.depth().saturating_sub(ended);
+    let here = walker.glance();
+    let inside = here.depth.saturating_sub(usize::from(here.performs));
     if inside == 0 {
         return Some(Stop::Outside);
     }
@@ -195,7 +173,7 @@ fn out<A: Allocator + Copy>(walker: &mut Walker<A>) -> Option<Stop> {
 
 // To the beginning of the innermost begun function.
 fn out_back<A: Allocator + Copy>(walker: &mut Walker<A>) -> Option<Stop> {
-    let inside = walker.machine().depth();
+    let inside = walker.glance().depth;
     if inside == 0 {
         return Some(Stop::Outside);
     }
@@ -206,13 +184,13 @@ fn out_back<A: Allocator + Copy>(walker: &mut Walker<A>) -> Option<Stop> {
 fn to_printed<A: Allocator + Copy>(walker: &mut Walker<A>, number: u64) -> Option<Stop> {
     let before = walker.released();
     if number == 0 {
-        return Some(Stop::NotPrinted);
+        return Some(Stop::FromOne);
     }
     if number <= before {
         return Some(Stop::PrintedEarlier);
     }
     let place = number - before - 1;
-    if place >= walker.machine().output().len() as u64 {
+    if place >= walker.glance().unreleased as u64 {
         return Some(Stop::NotPrinted);
     }
     behind(walker.return_to(Aim::Unprinted(place as usize)))
@@ -232,7 +210,7 @@ fn to_printed_text<A: Allocator + Copy>(walker: &mut Walker<A>, text: &[u8]) -> 
     if text.is_empty() {
         return Some(Stop::NotPrinted);
     }
-    let Some(place) = memmem::rfind(walker.machine().output(), text) else {
+    let Some(place) = memmem::rfind(walker.pending(), text) else {
         return Some(not_printed(walker));
     };
     let last = place.saturating_add(text.len() - 1);

@@ -4,12 +4,13 @@ ghost use Rattle.trac_walk.specs.Talks.{MayRefuseProgram};
 
 use crate::aim::{Aim, goal_for};
 use std::alloc::{AllocError, Allocator};
-use trac_forms::{Form, FormError};
+use trac_forms::{Form, FormError, Store};
 use trac_rules::byte::LINE_FEED;
 use trac_rules::limit::{JOURNAL_LIMIT, TAPE_LIMIT};
 use trac_rules::width::Width;
-use trac_run::Ending;
-use trac_session::{Goal, Machine, Refusal, Return, Session};
+use trac_screen::{Glance, Reach, glance_at, store_of};
+use trac_session::{Goal, Machine, Refusal, Return, Session, Walk};
+use trac_streams::Ending;
 
 /// A session over a program, and how far it is from the start. Where the journal is full, the walker forgets its older half
 /// and goes on.
@@ -37,10 +38,7 @@ impl<A: Allocator + Copy> Walker<A> {
         if tape.len() > TAPE_LIMIT {
             return Err(Ending::Limit);
         }
-        let Ok(mut session) = Session::new(alloc, limit, width) else {
-            return Err(Ending::Memory);
-        };
-        let Ok(()) = session.feed(tape) else {
+        let Ok(session) = session_over(alloc, tape, limit, width) else {
             return Err(Ending::Memory);
         };
         Ok(Walker {
@@ -56,9 +54,24 @@ impl<A: Allocator + Copy> Walker<A> {
         self.session.machine()
     }
 
-    /// The session.
-    pub fn session(&self) -> &Session<A> {
-        &self.session
+    /// Where scanning stands.
+    pub fn glance(&self) -> Glance {
+        glance_at(self.session.machine())
+    }
+
+    /// The forms and blocks.
+    pub fn store(&self) -> &Store<A> {
+        store_of(self.session.machine())
+    }
+
+    /// What is printed and not released.
+    pub fn pending(&self) -> &[u8] {
+        self.session.pending()
+    }
+
+    /// How many steps one can go back over.
+    pub fn steps_back(&self) -> usize {
+        self.session.len()
     }
 
     /// The number of the step that comes next, counted from the start of the program.
@@ -74,6 +87,18 @@ impl<A: Allocator + Copy> Walker<A> {
     /// How many bytes of the output were printed before the first step that one can go back to.
     pub fn released(&self) -> u64 {
         self.released
+    }
+
+    /// How far it has come.
+    pub fn reach(&self) -> Reach {
+        Reach {
+            step: self.step(),
+            first_step: self.forgotten,
+            unread: self.session.unread().len() as u64,
+            printed: self
+                .released
+                .saturating_add(self.session.pending().len() as u64),
+        }
     }
 
     /// Adds a line to the input.
@@ -92,31 +117,30 @@ impl<A: Allocator + Copy> Walker<A> {
 
     /// Goes forward by so many steps, until one is refused, which is returned.
     pub fn forward(&mut self, most: u64) -> Option<Refusal> {
-        let mut left = most;
-        while left > 0 {
-            self.make_room();
-            let walk = self.session.forward(left);
-            if walk.done == 0 || walk.why != Some(Refusal::JournalFull) {
-                return walk.why;
-            }
-            left = left.saturating_sub(walk.done);
-        }
-        None
+        self.go(None, most)
     }
 
     /// Goes forward to a goal, by so many steps at most, until one is refused, which is returned; `NotMet` where the steps were
     /// taken and the goal was not met.
     pub fn forward_to(&mut self, aim: Aim<'_>, most: u64) -> Option<Refusal> {
+        self.go(Some(aim), most)
+    }
+
+    // Goes forward, to a goal where there is one, walk by walk: after each that the full journal ended it makes room.
+    fn go(&mut self, aim: Option<Aim<'_>>, most: u64) -> Option<Refusal> {
         let mut left = most;
         while left > 0 {
             self.make_room();
-            let walk = self.session.forward_to(goal_for(aim), left);
-            if walk.done == 0 || walk.why != Some(Refusal::JournalFull) {
+            let walk = walk_on(&mut self.session, aim, left);
+            if walk.done == 0 || !is_full(walk.why) {
                 return walk.why;
             }
             left = left.saturating_sub(walk.done);
         }
-        Some(Refusal::NotMet)
+        match aim {
+            Some(_) => Some(Refusal::NotMet),
+            None => None,
+        }
     }
 
     /// Goes back over so many steps, or all that there are; the refusal is `AtStart`.
@@ -133,18 +157,10 @@ impl<A: Allocator + Copy> Walker<A> {
     /// Goes back to the call that changed the form of this name last, as `return_to` does. `Memory` also where there is none
     /// for a copy of the form, and then it does not move.
     pub fn return_to_change(&mut self, name: &[u8]) -> Option<Refusal> {
-        let Ok(form) = self.form_of(name) else {
+        let Ok(form) = form_of(self.store(), name) else {
             return Some(Refusal::Memory);
         };
         refusal_of(self.session.return_to(other_form(name, &form)))
-    }
-
-    // A copy of the form of this name, where there is one. The error is that memory was refused.
-    fn form_of(&self, name: &[u8]) -> Result<Option<Form<A>>, FormError> {
-        match self.machine().store().get(name) {
-            Some(form) => Ok(Some(form.copy()?)),
-            None => Ok(None),
-        }
     }
 
     // Forgets the older half of the journal where it is full.
@@ -154,10 +170,66 @@ impl<A: Allocator + Copy> Walker<A> {
             return;
         }
         let keep = len / 2;
-        let released = self.session.pending_before(keep).len();
+        let released = forget_before(&mut self.session, keep);
         self.released = self.released.saturating_add(released as u64);
         self.forgotten = self.forgotten.saturating_add((len - keep) as u64);
-        self.session.commit(keep);
+    }
+}
+
+// The functions over a session here promise nothing of it, so that whoever calls them has none of its clauses in his proof.
+
+// A session over this tape. The error is that memory was refused.
+fn session_over<A: Allocator + Copy>(
+    alloc: A,
+    tape: &[u8],
+    limit: usize,
+    width: Width,
+) -> Result<Session<A>, Refusal>
+    requires some_records { 1 ≤ limit }
+    requires most_records { limit ≤ JOURNAL_LIMIT }
+{
+    fed(Session::new(alloc, limit, width)?, tape)
+}
+
+// A session with this tape.
+fn fed<A: Allocator + Copy>(mut session: Session<A>, tape: &[u8]) -> Result<Session<A>, Refusal> {
+    match session.feed(tape) {
+        Ok(()) => Ok(session),
+        Err(refusal) => Err(refusal),
+    }
+}
+
+// A walk forward by so many steps at most, to a goal where there is one.
+fn walk_on<A: Allocator + Copy>(session: &mut Session<A>, aim: Option<Aim<'_>>, most: u64) -> Walk {
+    match aim {
+        Some(aim) => session.forward_to(goal_for(aim), most),
+        None => session.forward(most),
+    }
+}
+
+// Keeps so many steps, and returns how many bytes of the output are forgotten with the others.
+fn forget_before<A: Allocator + Copy>(session: &mut Session<A>, keep: usize) -> usize {
+    let released = session.pending_before(keep).len();
+    session.commit(keep);
+    released
+}
+
+// Whether a walk was ended by the full journal.
+fn is_full(why: Option<Refusal>) -> bool {
+    match why {
+        Some(Refusal::JournalFull) => true,
+        _ => false,
+    }
+}
+
+// A copy of the form of this name, where there is one. The error is that memory was refused.
+fn form_of<A: Allocator + Copy>(
+    store: &Store<A>,
+    name: &[u8],
+) -> Result<Option<Form<A>>, FormError> {
+    match store.get(name) {
+        Some(form) => Ok(Some(form.copy()?)),
+        None => Ok(None),
     }
 }
 

@@ -4,8 +4,8 @@ use Rattle.std.specs.Str.{bytes_eq}
 use Rattle.trac_rules.specs.declared.limit.TheConstants.{JOURNAL_LIMIT}
 use Rattle.trac_rules.specs.declared.width.Width.{Width}
 use Rattle.trac_rules.specs.declared.width.Width.TheVariants.{W64, W128}
-use Rattle.trac_run.specs.declared.running.TheConstants.{BUDGET_LIMIT}
-use Rattle.trac_run.specs.declared.running.Options.{Options}
+use Rattle.trac_streams.specs.declared.options.TheConstants.{BUDGET_LIMIT}
+use Rattle.trac_streams.specs.declared.options.Options.{Options}
 use Rattle.trac_words.specs.declared.walk_words.WalkLine.{WalkLine}
 use Rattle.trac_words.specs.declared.walk_words.WalkLine.TheVariants as walks
 use Rattle.trac_words.specs.declared.words.Asked.{Asked}

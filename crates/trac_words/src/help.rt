@@ -1,10 +1,10 @@
 //! The texts of help: where a program comes from, the debugger's commands, what each exit status says, and tips for mistakes
 //! that are often made.
 
-/// What `--version` shows after the program's name: the program's version, and what `rt version` prints of the toolchain
-/// that proves and builds it. No crate can ask for that line, so it is written here, and `tests/launcher` compares the two:
-/// with another toolchain this text is changed too.
-pub const VERSION: &str = "0.1.0 (rattle-kit-13f logic dac8208d650f15bf)";
+/// What `--version` shows after the program's name: the program's version, and the logic in which it is proved, as the end of
+/// what `rt version` prints. No crate can ask for that line, so it is written here, and `tests/endings` compares the two: with
+/// another logic this text is changed too.
+pub const VERSION: &str = "0.1.0 (logic dac8208d650f15bf)";
 
 /// What stands at the end of the help of `trac`.
 pub const USE: &str = "\
@@ -68,9 +68,9 @@ readable, 7 write fault, 70 ./trac-walk of a checkout could not build the progra
 pub const RUN_TIP: &str =
     "\n  tip: to run the program in FILE, write: trac run < FILE; trac help and trac --version say more\n";
 
-/// The tip for an option that `trac debug` does not understand.
-pub const DEBUG_TIP: &str =
-    "\n  tip: a FILE whose name begins with - is written so: trac debug ./-FILE\n";
+/// The tip for a debugger that is given the option of `trac run`.
+pub const BUDGET_TIP: &str =
+    "--budget is an option of trac run; here each command says how many steps it takes";
 
 /// The text for a word that is not UTF-8.
 pub const NOT_TEXT: &str = "\

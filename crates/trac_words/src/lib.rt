@@ -2,5 +2,6 @@
 #![tactic(auto)]
 
 pub mod help;
+mod tips;
 pub mod walk_words;
 pub mod words;

@@ -3,11 +3,12 @@ ghost use Rattle.std.specs.Prelude.{IfOk};
 ghost use Rattle.trac_words.specs.Words.{IsWalkLine};
 
 use crate::help::{VERSION, WALK_USE};
+use crate::tips::with_file_tip;
 use crate::words::{Asked, decimals, file, journal, options_in, path_in};
 use clap::error::ErrorKind;
 use clap::{Arg, ArgAction, ArgMatches, Command, Error};
 use std::alloc::{AllocError, Global};
-use trac_run::{DEFAULT_BUDGET, Options};
+use trac_streams::{DEFAULT_BUDGET, Options};
 
 /// What a command line of `trac-walk` asks for.
 #[derive(Drop)]
@@ -27,7 +28,7 @@ pub fn read_walk_line(alloc: Global, words: &[&str]) -> Result<WalkLine, AllocEr
 {
     match walk_command(alloc)?.try_get_matches_from(words) {
         Ok(matches) => walk_line(alloc, &matches),
-        Err(error) => no_walk(alloc, &error),
+        Err(error) => no_walk(alloc, words, &error),
     }
 }
 
@@ -44,7 +45,7 @@ fn walk_line(alloc: Global, found: &ArgMatches<'_>) -> Result<WalkLine, AllocErr
 }
 
 // What is said where a command line asks for no walk.
-fn no_walk(alloc: Global, error: &Error) -> Result<WalkLine, AllocError>
+fn no_walk(alloc: Global, words: &[&str], error: &Error) -> Result<WalkLine, AllocError>
     ensures { IfOk result IsWalkLine }
 {
     let kind = error.kind();
@@ -54,6 +55,10 @@ fn no_walk(alloc: Global, error: &Error) -> Result<WalkLine, AllocError>
     let text = error.to_string(alloc)?;
     match kind {
         ErrorKind::DisplayHelp | ErrorKind::DisplayVersion => Ok(WalkLine::Help(text)),
+        ErrorKind::UnknownArgument => {
+            let said = with_file_tip(alloc, words, &text, "trac-walk")?;
+            Ok(WalkLine::Bad(said))
+        }
         _ => Ok(WalkLine::Bad(text)),
     }
 }

@@ -3,13 +3,14 @@ ghost use Rattle.std.specs.Prelude.{◌≡◌, ◌≤◌, IfOk, IfSome, MatchOpt
 ghost use Rattle.trac_rules.specs.declared.width.Width.TheVariants.{W128};
 ghost use Rattle.trac_words.specs.Words.{IsLine, IsWithin, width_of};
 
-use crate::help::{DEBUG_TIP, DEBUG_USE, RUN_TIP, RUN_USE, USE, VERSION};
+use crate::help::{DEBUG_USE, RUN_USE, USE, VERSION};
+use crate::tips::with_tip;
 use clap::error::ErrorKind;
 use clap::{Arg, ArgMatches, Command, Error};
 use std::alloc::{AllocError, Global};
 use trac_rules::limit::JOURNAL_LIMIT;
 use trac_rules::width::Width;
-use trac_run::{BUDGET_LIMIT, DEFAULT_BUDGET, Options};
+use trac_streams::{BUDGET_LIMIT, DEFAULT_BUDGET, Options};
 
 /// How many records a run's journal may hold where nothing else is said (this project's profile).
 pub const DEFAULT_JOURNAL: usize = 65_536;
@@ -46,25 +47,10 @@ fn line_without(alloc: Global, words: &[&str], error: &Error) -> Result<Line, Al
     if kind == ErrorKind::OutOfMemory {
         return Err(AllocError);
     }
-    let mut text = error.to_string(alloc)?;
+    let text = error.to_string(alloc)?;
     match kind {
         ErrorKind::DisplayHelp | ErrorKind::DisplayVersion => Ok(Line::Help(text)),
-        _ => {
-            let tip = tip_for(words.get(1).copied().unwrap_or(""), kind, text.as_str());
-            text.push_str(tip)?;
-            Ok(Line::Bad(text))
-        }
-    }
-}
-
-// What may help after this text of clap, by the first word of the command line.
-fn tip_for(first: &str, kind: ErrorKind, text: &str) -> &'static str {
-    let is_option = text.contains("argument '-") && !text.contains("argument '-' ");
-    match (kind, first) {
-        (ErrorKind::InvalidSubcommand, _) => RUN_TIP,
-        (ErrorKind::UnknownArgument, "run") if !is_option => RUN_TIP,
-        (ErrorKind::UnknownArgument, "debug") if is_option => DEBUG_TIP,
-        _ => "",
+        _ => Ok(Line::Bad(with_tip(alloc, words, kind, text)?)),
     }
 }
 

@@ -1,7 +1,7 @@
 use Rattle.std.proofs.Common.{subst, ◌∙◌}
 use Rattle.std.proofs.lemmas.Result.{err_from_is_err_and}
 use Rattle.std.specs.Io.KnownBytes.{Appends}
-use Rattle.trac_run.specs.Written.{WritesFront}
+use Rattle.trac_streams.specs.Written.{WritesFront}
 use Rattle.trac_debug.specs.Views.{command_seen}
 use Rattle.trac_debug.proofs.Debugged.{not_made, not_written, not_flushed}
 use Rattle.trac_debug.proofs.debugging.reply.Goals as goal

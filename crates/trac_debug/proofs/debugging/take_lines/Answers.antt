@@ -1,5 +1,5 @@
 use Rattle.std.proofs.Common.{length, arith}
-use Rattle.trac_run.specs.declared.ending.Ending.TheVariants.{Ended, Budget}
+use Rattle.trac_streams.specs.declared.ending.Ending.TheVariants.{Ended, Budget}
 use Rattle.trac_debug.proofs.Debugged.{debugged, halts_at_end, halts_before, halts_late, halts_unread, none_of_more, so_far_more, so_far_none, some_of_more}
 use Rattle.trac_debug.proofs.debugging.take_lines.Goals as goal
 

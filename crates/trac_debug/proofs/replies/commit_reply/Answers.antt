@@ -1,7 +1,7 @@
 use Rattle.std.proofs.Common.{◌≡◌, List, ℕ, [], ◌++◌, ap, ◌∙◌}
 use Rattle.std.specs.Prelude.{codes}
 use Rattle.trac_rules.specs.Session.{first_kept}
-use Rattle.trac_debug.specs.Texts.{text_line}
+use Rattle.trac_streams.specs.Escapes.{text_line}
 use Rattle.trac_debug.proofs.replies.commit_reply.Goals as goal
 
 -- what is put at the end of nothing is the whole

@@ -2,7 +2,7 @@ use Rattle.std.proofs.Common.{◌≡◌, ap, false, not, sym, true, ◌∙◌}
 use Rattle.std.specs.Prelude.{bytes_eq, is_some}
 use Rattle.std.specs.FinMap as finite
 use Rattle.std.specs.List.{list_any}
-use Rattle.trac_prims.specs.Effects.{texts_of}
+use Rattle.trac_text.specs.Framing.{texts_of}
 use Rattle.trac_prims.proofs.MovedOut.{name_added, name_again, name_missing, text_added}
 use Rattle.trac_prims.proofs.Putting.{there_behind}
 use Rattle.trac_prims.proofs.blocks.add_leaving.Goals as goal

@@ -1,6 +1,6 @@
 -- The forms that were copied so far.
 use Rattle.std.proofs.Common.{◌≡◌, take}
-use Rattle.trac_prims.specs.Effects.{named_forms}
+use Rattle.trac_change.specs.Changed.{named_forms}
 use Rattle.trac_prims.proofs.blocks.copies_of.Given as goal
 
 abbrev pub invariant-loop-i : goal.invariant-loop-i

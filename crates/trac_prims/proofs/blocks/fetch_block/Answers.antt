@@ -1,7 +1,7 @@
 use Rattle.std.proofs.Common.{sym}
 use Rattle.trac_forms.specs.Stored.{storage_in}
 use Rattle.trac_rules.specs.Blocks.{named_block_number}
-use Rattle.trac_prims.specs.Effects.{named_forms}
+use Rattle.trac_change.specs.Changed.{named_forms}
 use Rattle.trac_prims.proofs.BlockPlans.{fetched_so, named_so}
 use Rattle.trac_prims.proofs.Changes.{brings}
 use Rattle.trac_prims.proofs.blocks.fetch_block.Goals as goal

@@ -2,7 +2,7 @@
 use Rattle.std.proofs.Common.{◌≡◌, take}
 use Rattle.trac_rules.specs.Blocks.{moved_out}
 use Rattle.trac_rules.specs.Undone.{names_in}
-use Rattle.trac_prims.specs.Effects.{texts_of}
+use Rattle.trac_text.specs.Framing.{texts_of}
 use Rattle.trac_prims.proofs.blocks.leaving.Given as goal
 
 abbrev pub invariant-loop-i : goal.invariant-loop-i

@@ -4,7 +4,7 @@ use Rattle.std.specs.FinMap as finite
 use Rattle.std.proofs.lemmas.List.{length-map}
 use Rattle.trac_rules.specs.Form.{defined}
 use Rattle.trac_rules.specs.Handling.{without}
-use Rattle.trac_prims.specs.Effects.{texts_of}
+use Rattle.trac_text.specs.Framing.{texts_of}
 use Rattle.trac_prims.proofs.BlockPlans.{count_left, gone_under, none_under, number_sound, stays_under}
 use Rattle.trac_prims.proofs.Putting.{not_under_long, put_again, put_new, there_behind}
 use Rattle.trac_prims.proofs.blocks.may_stand.Goals as goal

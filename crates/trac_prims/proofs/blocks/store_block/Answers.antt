@@ -9,7 +9,7 @@ use Rattle.trac_rules.specs.Form.{defined}
 use Rattle.trac_rules.specs.Handling.{without}
 use Rattle.trac_rules.specs.Limits.{may_be_put}
 use Rattle.trac_rules.specs.Undone.{names_in}
-use Rattle.trac_prims.specs.Effects.{texts_of}
+use Rattle.trac_text.specs.Framing.{texts_of}
 use Rattle.trac_prims.proofs.BlockPlans.{stored_so}
 use Rattle.trac_prims.proofs.Changes.{moves_in}
 use Rattle.trac_prims.proofs.MovedOut.{fewer_held}
@@ -17,7 +17,7 @@ use Rattle.trac_prims.proofs.blocks.store_block.Goals as goal
 
 pub may_stand-requires : goal.may_stand-requires
 may_stand-requires g c =
-    fewer_held c.as_slice.result.now c.in_ok-held.held.items c.behind.result c.args.store.now.forms c.as_slice.ensures.value c.in_ok-held.ensures.made
+    fewer_held c.as_slice.result.now c.in_ok-held.held.items c.after.result c.args.store.now.forms c.as_slice.ensures.value c.in_ok-held.ensures.made
 
 pub returns-clause-outcome : goal.returns-clause-outcome
 returns-clause-outcome g c =
@@ -26,7 +26,7 @@ returns-clause-outcome g c =
     let names = drop 2 c.args.args.now in
     let blocks = c.args.store.now.blocks in
     let held : texts_of c.in_ok-held.held.items ≡ names_in (moved_out names storage.forms) =
-    c.in_ok-held.ensures.made ∙ ap (λ (ns : List (List ℕ)). names_in (moved_out ns storage.forms)) c.behind.ensures in
+    c.in_ok-held.ensures.made ∙ ap (λ (ns : List (List ℕ)). names_in (moved_out ns storage.forms)) c.after.ensures in
     let slice : texts_of c.as_slice.result.now ≡ names_in (moved_out names storage.forms) =
     ap (λ (ts : List (Vec ℕ _)). texts_of ts) c.as_slice.ensures.value ∙ held in
     let few : length (texts_of c.in_ok-held.held.items) ≤ FORM_COUNT_LIMIT =
@@ -42,5 +42,5 @@ pub returns-clause-change : goal.returns-clause-change
 returns-clause-change g c =
     let storage = storage_in c.args.store.now in
     let held : texts_of c.in_ok-held.held.items ≡ names_in (moved_out (drop 2 c.args.args.now) storage.forms) =
-    c.in_ok-held.ensures.made ∙ ap (λ (ns : List (List ℕ)). names_in (moved_out ns storage.forms)) c.behind.ensures in
+    c.in_ok-held.ensures.made ∙ ap (λ (ns : List (List ℕ)). names_in (moved_out ns storage.forms)) c.after.ensures in
     moves_in c.args.args.now storage c.in_ok-held.held c.in_ok-name.name c.in_ok-address.address (c.in_ok-name.ensures.items ∙ c.get-name.ensures) held

@@ -7,7 +7,7 @@ use Rattle.trac_rules.specs.Handling.{named_form, on_form}
 use Rattle.trac_rules.specs.Outcomes.{limited}
 use Rattle.trac_forms.specs.Stored.{storage_in}
 use Rattle.trac_prims.specs.Effects.{IsDone, pieces_fit}
-use Rattle.trac_prims.specs.declared.change.Change.TheVariants.{Keep}
+use Rattle.trac_change.specs.declared.change.Change.TheVariants.{Keep}
 use Rattle.trac_prims.proofs.Kept.{given, left_so, value_beyond}
 use Rattle.trac_prims.proofs.forms.call.Goals as goal
 
@@ -16,7 +16,7 @@ returns-in_default-call_len-clause-outcome g c = λ width.
     let storage = storage_in c.args.store.now in
     let held : named_form c.args.args.now storage ≡ Some c.in-Some.form.now = ap (finite.get storage.forms) (sym c.get.ensures) ∙ sym c.in-Some.ensures.value in
     let long : TEXT_LIMIT < length (called (drop 2 c.args.args.now) c.in-Some.form.now) =
-    subst (λ (texts : List (List ℕ)). TEXT_LIMIT < length (called texts c.in-Some.form.now)) c.behind-texts.ensures (omega (arith, c.in_default-call_len.ensures)) in
+    subst (λ (texts : List (List ℕ)). TEXT_LIMIT < length (called texts c.in-Some.form.now)) c.after-texts.ensures (omega (arith, c.in_default-call_len.ensures)) in
     ap (λ h. limited pieces_fit (on_form h (λ form. Ok (gives (called (drop 2 c.args.args.now) form) storage)) storage)) held
     ∙ value_beyond (called (drop 2 c.args.args.now) c.in-Some.form.now) storage long
 
@@ -35,8 +35,8 @@ returns-clause-outcome g c = λ width.
     let text = called (drop 2 c.args.args.now) c.in-Some.form.now in
     let added : c.call_into.new.out.items ≡ c.args.made.now.value.items ++ text =
     c.in_ok-call_into.ensures.ok
-    ∙ ap (λ (before : List ℕ). before ++ called c.behind-texts.result c.in-Some.form.now) c.in_ok-reserve.ensures.items
-    ∙ ap (λ (texts : List (List ℕ)). c.args.made.now.value.items ++ called texts c.in-Some.form.now) c.behind-texts.ensures in
+    ∙ ap (λ (before : List ℕ). before ++ called c.after-texts.result c.in-Some.form.now) c.in_ok-reserve.ensures.items
+    ∙ ap (λ (texts : List (List ℕ)). c.args.made.now.value.items ++ called texts c.in-Some.form.now) c.after-texts.ensures in
     let new = record c.args.made.now { value = c.call_into.new.out } in
     subst (λ o. IsDone c.args.args.now storage o c.args.made.now new (Ok c.changing-2.result))
     (sym (ap (λ h. on_form h (λ form. Ok (gives (called (drop 2 c.args.args.now) form) storage)) storage) held))

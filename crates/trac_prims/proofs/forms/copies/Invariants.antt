@@ -1,6 +1,6 @@
 -- The texts that were copied so far.
 use Rattle.std.proofs.Common.{◌≡◌, take}
-use Rattle.trac_prims.specs.Effects.{texts_of}
+use Rattle.trac_text.specs.Framing.{texts_of}
 use Rattle.trac_prims.proofs.forms.copies.Given as goal
 
 abbrev pub invariant-loop-i : goal.invariant-loop-i

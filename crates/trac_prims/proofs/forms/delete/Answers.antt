@@ -6,7 +6,7 @@ use Rattle.trac_prims.proofs.forms.delete.Goals as goal
 
 pub returns-clause-outcome : goal.returns-clause-outcome
 returns-clause-outcome g c = λ width storage.
-    ap (λ (names : List (List ℕ)). Ok (leaves (keeping (without names storage.forms) storage))) (sym (c.in_ok-names.ensures.made ∙ c.behind.ensures))
+    ap (λ (names : List (List ℕ)). Ok (leaves (keeping (without names storage.forms) storage))) (sym (c.in_ok-names.ensures.made ∙ c.after.ensures))
 
 pub returns-clause-change : goal.returns-clause-change
-returns-clause-change g c = λ storage. removes c.args.args.now storage c.in_ok-names.names (c.in_ok-names.ensures.made ∙ c.behind.ensures)
+returns-clause-change g c = λ storage. removes c.args.args.now storage c.in_ok-names.names (c.in_ok-names.ensures.made ∙ c.after.ensures)

@@ -3,7 +3,7 @@ use Rattle.std.specs.FinMap as finite
 use Rattle.trac_rules.specs.Effect.{argument, leaves}
 use Rattle.trac_rules.specs.Handling.{named_form}
 use Rattle.trac_forms.specs.Stored.{storage_in}
-use Rattle.trac_prims.specs.Effects.{pointed}
+use Rattle.trac_change.specs.Changed.{pointed}
 use Rattle.trac_prims.proofs.Changes.{restores}
 use Rattle.trac_prims.proofs.Held.{restored}
 use Rattle.trac_prims.proofs.forms.restore.Goals as goal

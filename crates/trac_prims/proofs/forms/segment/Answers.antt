@@ -6,7 +6,7 @@ use Rattle.trac_rules.specs.Effect.{argument, leaves}
 use Rattle.trac_rules.specs.Handling.{named_form}
 use Rattle.trac_rules.specs.Limits.{may_be_put}
 use Rattle.trac_rules.specs.Segmenting.{segmented}
-use Rattle.trac_prims.specs.Effects.{cut_in}
+use Rattle.trac_change.specs.Changed.{cut_in}
 use Rattle.trac_prims.proofs.Changes.{cuts}
 use Rattle.trac_prims.proofs.Held.{is_segmented, not_segmented}
 use Rattle.trac_prims.proofs.Putting.{sound_segmented}
@@ -40,4 +40,4 @@ returns-clause-change g c =
     let storage = storage_in c.args.store.now in
     let held : named_form arguments storage ≡ Some c.in-Some.form.now = ap (finite.get storage.forms) (sym c.get-name.ensures) ∙ sym c.in-Some.ensures.value in
     cuts arguments storage c.in_ok-name.name (c.in_ok-name.ensures.items ∙ c.get-name.ensures) c.in-Some.form.now c.in_ok-cut.cut held
-    (c.in_ok-cut.ensures.cut ∙ ap (λ (texts : List (List ℕ)). cut_of texts c.in-Some.form.now) c.behind.ensures)
+    (c.in_ok-cut.ensures.cut ∙ ap (λ (texts : List (List ℕ)). cut_of texts c.in-Some.form.now) c.after.ensures)

@@ -8,10 +8,10 @@ use Rattle.trac_rules.specs.Effect.{leaves}
 use Rattle.trac_rules.specs.Handling.{handled, keeping}
 use Rattle.trac_rules.specs.declared.refusal.Refusal.{Refusal}
 use Rattle.trac_rules.specs.State.{Storage}
-use Rattle.trac_prims.specs.declared.change.Change.{Change}
-use Rattle.trac_prims.specs.declared.change.Change.TheVariants.{Clear}
+use Rattle.trac_change.specs.declared.change.Change.{Change}
+use Rattle.trac_change.specs.declared.change.Change.TheVariants.{Clear}
 use Rattle.trac_prims.specs.declared.effect.Deed.{Deed}
-use Rattle.trac_prims.specs.Changes.{IsChangeOf}
+use Rattle.trac_change.specs.Changes.{IsChangeOf}
 use Rattle.trac_prims.proofs.Kept.{changed_so, keeps_so, left_so, of_change}
 use Rattle.trac_prims.proofs.planning.handle.Goals as goal
 

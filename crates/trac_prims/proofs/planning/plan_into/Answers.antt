@@ -6,7 +6,7 @@ use Rattle.trac_rules.specs.Outcomes.{MayRefuse, limited}
 use Rattle.trac_rules.specs.Performing.{performed, primitive_of, trace_line}
 use Rattle.trac_rules.specs.declared.primitive.Primitive.{Primitive}
 use Rattle.trac_forms.specs.Stored.{storage_in}
-use Rattle.trac_prims.specs.Changes.{IsChangeOf}
+use Rattle.trac_change.specs.Changes.{IsChangeOf}
 use Rattle.trac_prims.specs.Plans.{fits_after}
 use Rattle.trac_prims.specs.Tape.{environment_of}
 use Rattle.trac_prims.proofs.Planned.{beyond, lacks, unplanned, within}

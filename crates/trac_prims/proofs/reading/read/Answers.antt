@@ -5,7 +5,7 @@ use Rattle.trac_forms.specs.Stored.{storage_in}
 use Rattle.trac_forms.specs.Taken.{taken}
 use Rattle.trac_rules.specs.Effect.{forces, leaves}
 use Rattle.trac_rules.specs.Handling.{default_argument, form_read, gives_piece, named_form, on_form}
-use Rattle.trac_prims.specs.declared.change.Change.TheVariants.{Keep}
+use Rattle.trac_change.specs.declared.change.Change.TheVariants.{Keep}
 use Rattle.trac_prims.specs.Effects.{IsDone}
 use Rattle.trac_prims.proofs.Kept.{left_so}
 use Rattle.trac_prims.proofs.Given.{form_is_read}

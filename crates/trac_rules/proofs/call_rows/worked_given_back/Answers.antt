@@ -91,6 +91,9 @@ returns-clause-deleted_form_there c = no_restore (texts_of (codes "dd,a")) ((cod
 pub returns-clause-deleted_name_there : goal.returns-clause-deleted_name_there
 returns-clause-deleted_name_there c = no_restore (texts_of (codes "dd,a,b")) ((codes "b", defined (codes "2")) ∷ []) [] ((codes "a", defined (codes "1")) ∷ []) refl
 
+pub returns-clause-deleted_all_but_one : goal.returns-clause-deleted_all_but_one
+returns-clause-deleted_all_but_one c = no_restore (texts_of (codes "da")) ((codes "zz", defined (codes "2")) ∷ []) [] ((codes "a", defined (codes "1")) ∷ []) refl
+
 pub returns-clause-no_address_of_the_block : goal.returns-clause-no_address_of_the_block
 returns-clause-no_address_of_the_block c = no_move_out (texts_of (codes "sb,G,A")) [] (Some ((codes "A", defined (codes "1")) ∷ []) ∷ []) None _ refl refl
 

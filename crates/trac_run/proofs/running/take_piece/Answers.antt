@@ -2,9 +2,9 @@ use Rattle.std.proofs.Common.{◌+◌, ◌∙◌, subst}
 use Rattle.std.proofs.lemmas.Result.{err_from_is_err_and}
 use Rattle.std.specs.Io.KnownBytes.{Appends}
 use Rattle.trac_rules.proofs.Waiting.{Commit_waits}
-use Rattle.trac_run.specs.Written.{WritesFront, Closes}
+use Rattle.trac_streams.specs.Written.{WritesFront, Closes}
 use Rattle.trac_run.specs.Runs.{TakesNone}
-use Rattle.trac_run.proofs.Known.{Appends-kept}
+use Rattle.trac_streams.proofs.Known.{Appends-kept}
 use Rattle.trac_run.proofs.Taken.{wanted_open_after, taken_on, taken_fresh, taken_fewer, unwritten_finish, unflushed_finish, unfed_finish, unfed_closed}
 use Rattle.trac_run.proofs.running.take_piece.Goals as goal
 

@@ -1,7 +1,7 @@
 use Rattle.std.proofs.Common.{◌≡◌, ◌-◌, arith, ⊎_elim}
 use Rattle.std.specs.Prelude.{◌⊎◌}
 use Rattle.trac_rules.specs.declared.refusal.Refusal.TheVariants as refusals
-use Rattle.trac_run.specs.declared.ending.Ending.TheVariants.{Ended, Budget, Limit, Memory}
+use Rattle.trac_streams.specs.declared.ending.Ending.TheVariants.{Ended, Budget, Limit, Memory}
 use Rattle.trac_run.proofs.Turned.{AfterWalk, after_walk, stopped_for, taken_when_heavy, closed_run, shows_spent, shows_ended, shows_limit, nothing_pending_unmoved, taken_of_test, none_taken_of_test, released_on, released_failed, released_fresh, released_fewer, taken_when_full, walked_on, walked_finish_one, walked_fewer, refused_for_none}
 use Rattle.trac_run.proofs.running.take_turn.Goals as goal
 

@@ -1,5 +1,5 @@
 -- In each case some of the oldest records are dropped.
-use Rattle.std.proofs.Common.{◌≡◌, ◌+◌, ◌≤◌, ◌^◌, ◌-◌, ℕ, List, [], ◌∷◌, length, refl, sym, ap, subst, ◌∙◌, arith}
+use Rattle.std.proofs.Common.{◌≡◌, ◌+◌, ◌-◌, List, [], ◌∷◌, length, refl, sym, ap, subst, ◌∙◌, arith}
 use Rattle.std.specs.Prelude.{replicate, reverse}
 use Rattle.std.proofs.lemmas.List.{nil_from_length}
 use Rattle.trac_rules.specs.Records.{Record, Moved}

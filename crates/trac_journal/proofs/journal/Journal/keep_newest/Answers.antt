@@ -1,4 +1,4 @@
-use Rattle.std.proofs.Common.{ap, length, subst, sym, ◌∙◌, arith}
+use Rattle.std.proofs.Common.{arith}
 use Rattle.trac_journal.specs.Told.{printed_by, read_by}
 use Rattle.trac_journal.proofs.Dropped.{all_kept, fewer_kept, kept_fits, last_kept}
 use Rattle.trac_journal.proofs.journal.Journal.keep_newest.Goals as goal

@@ -1,7 +1,7 @@
-use Rattle.std.proofs.Common.{◌≡◌, ℕ, ◌+◌, ◌-◌, List, ◌∷◌, length, take, refl, sym, ap, ◌∙◌, arith}
+use Rattle.std.proofs.Common.{◌≡◌, ℕ, ◌+◌, ◌-◌, ◌∷◌, length, take, refl, sym, ap, ◌∙◌, arith}
 use Rattle.std.specs.Prelude.{reverse}
 use Rattle.std.specs.VecDeque.{deque_len}
-use Rattle.trac_rules.specs.Records.{Record, Moved}
+use Rattle.trac_rules.specs.Records.{Moved}
 use Rattle.trac_journal.specs.Journaled.{unpacked, Journaled}
 use Rattle.trac_journal.specs.Listed.{newest_in, older_in}
 use Rattle.trac_journal.specs.declared.entry.Entry.{Entry}

@@ -1,9 +1,8 @@
-use Rattle.std.proofs.Common.{◌≡◌, ◌<◌, ◌-◌, ap, sym, ◌∙◌, arith}
+use Rattle.std.proofs.Common.{ap, sym, ◌∙◌, arith}
 use Rattle.std.specs.Prelude.{reverse}
 use Rattle.std.proofs.lemmas.List.{reverse-reverse}
 use Rattle.trac_journal.specs.Dropped.{printed_first}
 use Rattle.trac_journal.specs.Journaled.{Journaled}
-use Rattle.trac_journal.specs.Told.{printed_by, sum_by}
 use Rattle.trac_journal.proofs.Printed.{printed_all}
 use Rattle.trac_journal.proofs.journal.Journal.printed_before.Goals as goal
 

@@ -2,7 +2,7 @@ use Rattle.std.proofs.Common.{length, ap, refl, arith}
 use Rattle.std.specs.Prelude.{reverse}
 use Rattle.trac_rules.specs.Records.{Idle}
 use Rattle.trac_journal.specs.Journaled.{unpacked, Journaled}
-use Rattle.trac_journal.specs.Pieces.{frames_in}
+use Rattle.trac_text.specs.Pieces.{frames_in}
 use Rattle.trac_journal.specs.declared.entry.Entry.{Entry}
 use Rattle.trac_journal.specs.declared.entry.Kept.TheVariants as kept
 use Rattle.trac_journal.proofs.Counted.{moved_within, one_more, weight_bounded}

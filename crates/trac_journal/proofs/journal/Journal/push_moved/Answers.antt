@@ -1,8 +1,8 @@
-use Rattle.std.proofs.Common.{◌+◌, ◌-◌, ◌++◌, length, ap, ◌∙◌, arith}
+use Rattle.std.proofs.Common.{◌-◌, ◌++◌, length, ap, ◌∙◌, arith}
 use Rattle.std.specs.Prelude.{replicate, reverse}
 use Rattle.std.specs.VecDeque.{deque_capacity, deque_len}
 use Rattle.trac_rules.specs.Records.{Moved}
-use Rattle.trac_journal.specs.Journaled.{unpacked, Journaled}
+use Rattle.trac_journal.specs.Journaled.{Journaled}
 use Rattle.trac_journal.proofs.Counted.{more_moved, moved_more, moved_within}
 use Rattle.trac_journal.proofs.journal.Journal.push_moved.Goals as goal
 

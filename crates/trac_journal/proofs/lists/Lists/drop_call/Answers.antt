@@ -1,5 +1,5 @@
 -- The first call of the list is the last of those that are seen.
-use Rattle.std.proofs.Common.{◌≡◌, ℕ, ◌+◌, List, ◌∷◌, drop, length, sym, ap, ◌∙◌, arith}
+use Rattle.std.proofs.Common.{ℕ, ◌+◌, drop, length, sym, ap, ◌∙◌, arith}
 use Rattle.trac_gap.specs.Window.{Window}
 use Rattle.trac_rules.specs.Weights.{meta_weight}
 use Rattle.trac_journal.specs.Journaled.{Lists}

@@ -1,10 +1,10 @@
 -- The first of the list is the last of what is seen.
-use Rattle.std.proofs.Common.{◌≡◌, ℕ, List, sym, ap, subst, ◌<◌, ◌^◌, ◌∙◌}
+use Rattle.std.proofs.Common.{ℕ, List, sym, ap, subst, ◌<◌, ◌^◌, ◌∙◌}
 use Rattle.trac_rules.specs.Records.{Idle}
 use Rattle.trac_rules.specs.State.{Frame}
 use Rattle.trac_rules.specs.Weights.{weight}
 use Rattle.trac_journal.specs.Journaled.{Lists}
-use Rattle.trac_journal.specs.Undone.{texts_in}
+use Rattle.trac_journal.specs.Emptied.{texts_in}
 use Rattle.trac_journal.proofs.Dropped.{first_of}
 use Rattle.trac_journal.proofs.lists.Lists.drop_emptied.Goals as goal
 

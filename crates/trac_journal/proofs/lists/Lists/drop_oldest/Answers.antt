@@ -1,5 +1,5 @@
 -- By what the oldest entry keeps.
-use Rattle.std.proofs.Common.{◌≡◌, ◌+◌, ap, refl, subst, sym, ◌∙◌, arith}
+use Rattle.std.proofs.Common.{◌+◌, ap, refl, subst, sym, ◌∙◌, arith}
 use Rattle.trac_rules.specs.Weights.{weight}
 use Rattle.trac_journal.specs.Listed.{Listed, newest_in, nothing_listed, IsBrief}
 use Rattle.trac_journal.specs.declared.entry.Kept.{Kept}

@@ -1,9 +1,9 @@
 -- The first of the list is the last of what is seen.
-use Rattle.std.proofs.Common.{◌≡◌, List, sym, ap, subst, ◌<◌, ◌^◌, ◌∙◌}
+use Rattle.std.proofs.Common.{sym, ap, subst, ◌<◌, ◌^◌, ◌∙◌}
 use Rattle.trac_rules.specs.Undone.{Undone}
 use Rattle.trac_rules.specs.Weights.{undone_weight}
 use Rattle.trac_journal.specs.Journaled.{Lists}
-use Rattle.trac_journal.specs.Undone.{undone_in}
+use Rattle.trac_change.specs.Undone.{undone_in}
 use Rattle.trac_journal.proofs.Dropped.{first_of}
 use Rattle.trac_journal.proofs.lists.Lists.drop_undone.Goals as goal
 

@@ -1,12 +1,12 @@
 -- The last of the calls, with the last of the bytes and of the lengths.
-use Rattle.std.proofs.Common.{◌≡◌, ℕ, ◌+◌, ◌-◌, List, ◌∷◌, length, take, refl, ap, sym, ◌∙◌, arith}
+use Rattle.std.proofs.Common.{◌≡◌, ℕ, ◌+◌, ◌-◌, ◌∷◌, length, take, refl, ap, sym, ◌∙◌, arith}
 use Rattle.std.specs.Prelude.{reverse}
 use Rattle.std.specs.VecDeque.{deque_len}
 use Rattle.trac_rules.specs.Records.{last_of}
 use Rattle.trac_journal.specs.Journaled.{Lists}
 use Rattle.trac_journal.specs.Listed.{Listed, listed_by}
-use Rattle.trac_journal.specs.Pieces.{cut_at}
-use Rattle.trac_journal.proofs.Calls.{call_told, newest_call, pieces_within}
+use Rattle.trac_text.specs.Pieces.{cut_at}
+use Rattle.trac_journal.proofs.Calls.{call_told}
 use Rattle.trac_journal.proofs.Ends.{last_first}
 use Rattle.trac_journal.proofs.lists.Lists.newest_call.Goals as goal
 

@@ -6,7 +6,7 @@ use Rattle.trac_rules.specs.declared.scan.Front.{Front}
 use Rattle.trac_rules.specs.declared.scan.Front.TheVariants.{Closing}
 use Rattle.trac_rules.specs.Scanning.{front_of}
 use Rattle.trac_rules.specs.Effect.{argument}
-use Rattle.trac_prims.specs.Neutral.{Neutral, cut_back, neutral_of}
+use Rattle.trac_text.specs.Neutral.{Neutral, cut_back, neutral_of}
 use Rattle.trac_step.proofs.Calls.{call_at_first}
 use Rattle.trac_step.proofs.NextCalls.{closing_unless_other}
 use Rattle.trac_step.proofs.Scans.{no_call_before, no_call_outside}

@@ -3,7 +3,7 @@ use Rattle.trac_rules.specs.declared.scan.Front.TheVariants.{Nothing}
 use Rattle.trac_rules.specs.Records.{Idle}
 use Rattle.trac_rules.specs.Scanning.{Moves}
 use Rattle.trac_journal.specs.Journaled.{IsLight}
-use Rattle.trac_journal.specs.Pieces.{frames_in}
+use Rattle.trac_text.specs.Pieces.{frames_in}
 use Rattle.trac_step.proofs.Fitting.{idle_light}
 use Rattle.trac_step.proofs.Recorded.{recorded_front}
 use Rattle.trac_step.proofs.Scans.{scan_front}

@@ -2,9 +2,10 @@ use Rattle.std.proofs.Common.{◌≡◌, List, length, sym, ap, ◌∙◌, subst
 use Rattle.std.specs.Prelude.{nat_lt}
 use Rattle.trac_rules.specs.Scanning.{scan}
 use Rattle.trac_rules.specs.Limits.{texts_fit}
-use Rattle.trac_prims.specs.declared.mark.Mark.{Mark}
+use Rattle.trac_text.specs.declared.mark.Mark.{Mark}
 use Rattle.trac_step.specs.Layout.{parts_of, Shown}
-use Rattle.trac_step.specs.Calling.{IfMoves, adds_mark}
+use Rattle.trac_step.specs.Calling.{IfMoves}
+use Rattle.trac_text.specs.Moving.{adds_mark}
 use Rattle.trac_step.proofs.Moving.{move_without_mark, move_with_mark}
 use Rattle.trac_step.proofs.engine.Core.move_fits.Goals as goal
 

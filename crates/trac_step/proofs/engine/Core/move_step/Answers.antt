@@ -5,7 +5,8 @@ use Rattle.trac_rules.specs.Outcomes.{MayRefuse}
 use Rattle.trac_rules.specs.State.{Environment}
 use Rattle.trac_rules.specs.Stepping.{step}
 use Rattle.trac_step.specs.Layout.{Shown}
-use Rattle.trac_step.proofs.Outcomes.{move_beyond, move_lacks, move_taken, refused_for_memory, refuses_memory}
+use Rattle.trac_step.proofs.Outcomes.{move_beyond, move_lacks, move_taken, refused_for_memory}
+use Rattle.trac_storage.proofs.Outcomes.{refuses_memory}
 use Rattle.trac_step.proofs.Rooms.{no_less}
 use Rattle.trac_step.proofs.engine.Core.move_step.Goals as goal
 

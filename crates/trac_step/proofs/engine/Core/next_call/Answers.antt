@@ -6,7 +6,7 @@ use Rattle.trac_rules.specs.declared.scan.Front.{Front}
 use Rattle.trac_rules.specs.declared.scan.Front.TheVariants.{Closing}
 use Rattle.trac_rules.specs.Goals.{IsCall, next_call}
 use Rattle.trac_rules.specs.Scanning.{front_of}
-use Rattle.trac_prims.specs.Neutral.{Neutral, cut_back, neutral_of}
+use Rattle.trac_text.specs.Neutral.{Neutral, cut_back, neutral_of}
 use Rattle.trac_step.proofs.NextCalls.{closing_unless_other, innermost_ahead, none_ahead}
 use Rattle.trac_step.proofs.Scans.{no_call_before, no_call_outside}
 use Rattle.trac_step.proofs.engine.Core.next_call.Goals as goal

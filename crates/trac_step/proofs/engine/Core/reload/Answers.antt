@@ -1,9 +1,10 @@
 use Rattle.std.proofs.Common.{ap, subst, arith}
 use Rattle.trac_rules.specs.Limits.{argument_bytes}
 use Rattle.trac_rules.specs.Proper.{IsProper}
-use Rattle.trac_prims.specs.Neutral.{Neutral}
+use Rattle.trac_text.specs.Neutral.{Neutral}
 use Rattle.trac_step.specs.Layout.{parts_of, Shown}
-use Rattle.trac_step.proofs.Limited.{limits_kept, proper_of_sound}
+use Rattle.trac_storage.proofs.Judged.{limits_kept}
+use Rattle.trac_step.proofs.Limited.{proper_of_sound}
 use Rattle.trac_step.proofs.engine.Core.reload.Goals as goal
 
 pub kept_of-requires : goal.kept_of-requires

@@ -2,7 +2,7 @@ use Rattle.std.proofs.Common.{ℕ, sym, ap, ◌∙◌, subst, arith}
 use Rattle.std.specs.Prelude.{Some}
 use Rattle.trac_gap.specs.Ends.{Ends}
 use Rattle.trac_rules.specs.Records.{Begun, restored}
-use Rattle.trac_prims.specs.declared.mark.Mark.{Mark}
+use Rattle.trac_text.specs.declared.mark.Mark.{Mark}
 use Rattle.trac_step.specs.Layout.{parts_of, state_of, IsSound, Shown}
 use Rattle.trac_step.proofs.ScanningBack.{takes_beginning_back}
 use Rattle.trac_step.proofs.engine.Core.take_beginning_back.Goals as goal

@@ -4,12 +4,13 @@ use Rattle.trac_rules.specs.Records.{Record, Moved, Comma, Begun, Quoted, Delete
 use Rattle.trac_rules.specs.State.{State}
 use Rattle.trac_journal.specs.declared.called.Called as code
 use Rattle.trac_step.specs.Layout.{Shown}
-use Rattle.trac_journal.specs.Pieces.{Arguments, all_texts, frames_in}
+use Rattle.trac_text.specs.Pieces.{Arguments, all_texts, frames_in}
 use Rattle.trac_step.specs.Record.{recorded_by}
 use Rattle.trac_journal.specs.Told.{record_with}
-use Rattle.trac_journal.specs.Undone.{undone_in}
+use Rattle.trac_change.specs.Undone.{undone_in}
 use Rattle.trac_step.specs.Room.{HasRoom}
 use Rattle.trac_step.specs.Undoing.{CanShow}
+use Rattle.trac_step.proofs.CallsUndone.{all_back, can_begin, can_restore, no_less_back}
 use Rattle.trac_step.proofs.ScanningBack.{before_is_restored, can_show_before, shown_is_some}
 use Rattle.trac_step.proofs.engine.Core.undo.Goals as goal
 
@@ -65,8 +66,9 @@ returns-in-Idle-clause-state g c =
     goes_back (recorded_by c.args.taken) (Idle c.as_slice.result.now (frames_in c.in-Idle.frames.items)) c.args.self.now c.args.self.now.state
     (ap (λ x. recorded_by x) c.in-Idle.is ∙ ap (λ base. Idle base (frames_in c.in-Idle.frames.items)) (sym c.as_slice.ensures.value)) c.requires c.unload.new.self.state c.unload.ensures.state
 
-pub uncall-requires : goal.uncall-requires
-uncall-requires g c =
+pub begin_again-requires : goal.begin_again-requires
+begin_again-requires g c =
+    let m = c.args.self.now in
     let told : code.Called = record {
       kind = c.in-Call.kind;
       value = c.in-Call.value;
@@ -76,10 +78,33 @@ uncall-requires g c =
       meta = c.in-Call.meta;
       trace = c.in-Call.trace;
     } in
-    can_show (recorded_by c.args.taken) (Called (record_with told (all_texts c.lend.result) (undone_in c.in-Call.change))) c.args.self.now c.args.self.now.state (ap (λ x. recorded_by x) c.in-Call.is ∙ ap (λ (a : Arguments). Called (record_with told (all_texts a) (undone_in c.in-Call.change))) (sym c.lend.ensures)) c.requires
+    let texts = all_texts c.lend.result in
+    let undone = undone_in c.in-Call.change in
+    let is = ap (λ x. recorded_by x) c.in-Call.is ∙ ap (λ (a : Arguments). Called (record_with told (all_texts a) undone)) (sym c.lend.ensures) in
+    let h = can_show (recorded_by c.args.taken) (Called (record_with told texts undone)) m m.state is c.requires in
+    can_begin told texts undone m c.is_in_its_room.ensures.proper c.is_in_its_room.ensures.room h
+
+pub restore_storage-requires : goal.restore_storage-requires
+restore_storage-requires g c =
+    let m = c.args.self.now in
+    let told : code.Called = record {
+      kind = c.in-Call.kind;
+      value = c.in-Call.value;
+      scanned = c.in-Call.scanned;
+      printed = c.in-Call.printed;
+      read = c.in-Call.read;
+      meta = c.in-Call.meta;
+      trace = c.in-Call.trace;
+    } in
+    let texts = all_texts c.lend.result in
+    let undone = undone_in c.in-Call.change in
+    let is = ap (λ x. recorded_by x) c.in-Call.is ∙ ap (λ (a : Arguments). Called (record_with told (all_texts a) undone)) (sym c.lend.ensures) in
+    let h = can_show (recorded_by c.args.taken) (Called (record_with told texts undone)) m m.state is c.requires in
+    can_restore told texts undone m c.is_in_its_room.ensures.proper c.is_in_its_room.ensures.room h c.begin_again.new.self c.begin_again.ensures
 
 pub returns-in-Call-clause-state : goal.returns-in-Call-clause-state
 returns-in-Call-clause-state g c =
+    let m = c.args.self.now in
     let told : code.Called = record {
       kind = c.in-Call.kind;
       value = c.in-Call.value;
@@ -89,5 +114,27 @@ returns-in-Call-clause-state g c =
       meta = c.in-Call.meta;
       trace = c.in-Call.trace;
     } in
-    goes_back (recorded_by c.args.taken) (Called (record_with told (all_texts c.lend.result) (undone_in c.in-Call.change))) c.args.self.now c.args.self.now.state (ap (λ x. recorded_by x) c.in-Call.is ∙ ap (λ (a : Arguments). Called (record_with told (all_texts a) (undone_in c.in-Call.change))) (sym c.lend.ensures)) c.requires
-    c.uncall.new.self.state c.uncall.ensures.state
+    let texts = all_texts c.lend.result in
+    let undone = undone_in c.in-Call.change in
+    let is = ap (λ x. recorded_by x) c.in-Call.is ∙ ap (λ (a : Arguments). Called (record_with told (all_texts a) undone)) (sym c.lend.ensures) in
+    let h = can_show (recorded_by c.args.taken) (Called (record_with told texts undone)) m m.state is c.requires in
+    goes_back (recorded_by c.args.taken) (Called (record_with told texts undone)) m m.state is c.requires c.restore_storage.new.self.state
+    (all_back told texts undone m c.is_in_its_room.ensures.proper c.is_in_its_room.ensures.room h c.begin_again.new.self c.begin_again.ensures c.restore_storage.new.self c.restore_storage.ensures)
+
+pub returns-in-Call-clause-room : goal.returns-in-Call-clause-room
+returns-in-Call-clause-room g c =
+    let m = c.args.self.now in
+    let told : code.Called = record {
+      kind = c.in-Call.kind;
+      value = c.in-Call.value;
+      scanned = c.in-Call.scanned;
+      printed = c.in-Call.printed;
+      read = c.in-Call.read;
+      meta = c.in-Call.meta;
+      trace = c.in-Call.trace;
+    } in
+    let texts = all_texts c.lend.result in
+    let undone = undone_in c.in-Call.change in
+    let is = ap (λ x. recorded_by x) c.in-Call.is ∙ ap (λ (a : Arguments). Called (record_with told (all_texts a) undone)) (sym c.lend.ensures) in
+    let h = can_show (recorded_by c.args.taken) (Called (record_with told texts undone)) m m.state is c.requires in
+    no_less_back told texts undone m c.is_in_its_room.ensures.proper c.is_in_its_room.ensures.room h c.begin_again.new.self c.begin_again.ensures c.restore_storage.new.self c.restore_storage.ensures

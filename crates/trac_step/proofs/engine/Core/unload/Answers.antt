@@ -1,8 +1,8 @@
 use Rattle.std.proofs.Common.{◌≡◌, sym, ap, ◌∙◌, subst, arith, refl}
 use Rattle.std.specs.Prelude.{Some}
 use Rattle.trac_step.specs.Layout.{Shown}
-use Rattle.trac_journal.specs.Pieces.{frames_in}
-use Rattle.trac_step.proofs.NeutralAgain.{back_shows, back_sound, can_leave}
+use Rattle.trac_text.specs.Pieces.{frames_in}
+use Rattle.trac_step.proofs.IdleBack.{back_shows, back_sound, can_leave}
 use Rattle.trac_step.proofs.engine.Core.unload.Goals as goal
 
 pub put_functions-requires : goal.put_functions-requires

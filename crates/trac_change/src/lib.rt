@@ -1,0 +1,12 @@
+//! What a call changes of forms and blocks, as data: what it will change, as it is planned, with the arguments that this names,
+//! and what it destroyed, by which that can be got back.
+#![tactic(auto)]
+
+pub mod change;
+pub mod later;
+pub mod undone;
+mod weighing;
+
+pub use change::Change;
+pub use later::{Behind, after};
+pub use undone::Undone;

@@ -1,7 +1,0 @@
-use Rattle.std.proofs.Common.{◌≡◌, ◌++◌, take}
-use Rattle.trac_debug.specs.Texts.{escaped}
-use Rattle.trac_debug.proofs.texts.escaped_into.Given as goal
-
--- what is shown so far
-abbrev pub invariant-loop-byte : goal.invariant-loop-byte
-invariant-loop-byte g l = l.out.items ≡ l.fn.out.items ++ escaped (take l.byte-index l.text)

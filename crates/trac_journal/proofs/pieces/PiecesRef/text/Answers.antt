@@ -1,9 +1,0 @@
-use Rattle.std.proofs.Common.{ap, ◌∙◌, sym}
-use Rattle.std.specs.List.{concat}
-use Rattle.trac_journal.specs.Pieces.{Arguments, all_texts}
-use Rattle.trac_journal.proofs.Texts.{joined-cut}
-use Rattle.trac_journal.proofs.pieces.PiecesRef.text.Goals as goal
-
-pub returns : goal.returns
-returns c =
-    sym (joined-cut c.self.inside.commas.now c.self.inside.text.now) ∙ ap (λ (a : Arguments). concat (all_texts a)) c.self.view_is

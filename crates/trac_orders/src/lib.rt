@@ -1,0 +1,8 @@
+//! What a person asks of a walk: a line, split into its words, and the order that these say.
+#![tactic(auto)]
+
+mod order;
+mod splitting;
+
+pub use order::{HELP, Move, NOT_UNDERSTOOD, Order, order_of};
+pub use splitting::{Word, is_second_quoted, texts_of, words_of};

@@ -1,0 +1,193 @@
+//! What the words of a line ask for.
+
+/// A count has at most so many digits (this project's profile).
+pub const DIGIT_LIMIT: usize = 12;
+
+/// How many calls are listed where no number is given.
+pub const CALL_COUNT: u64 = 10;
+
+/// What is said of a line that is not understood.
+pub const NOT_UNDERSTOOD: &[u8] = b"not understood; h lists the commands\n";
+
+/// The commands, on one screen.
+pub const HELP: &[u8] = b"\
+s [N]      N steps forward (1)           b [N]      N steps back (1)
+n          over the next function        N          back over it
+o          out of the function           O          back to where it began
+u CALL..   forward to a call             r CALL..   back to a call
+           (CALL..: its first arguments, as u cl hanoi; none: any call)
+w NAME     back to the call that changed the form NAME last
+w #K       back to the call that printed byte K of the output
+w \"TEXT\"   back to the call that printed the last TEXT
+g N        to step N
+i TEXT     a line of input               e          the input ends
+p          the state on one screen       p all      all of it
+f          the forms                     f NAME     one form
+t [N]      the last N calls (10)         q          the end
+An empty line repeats the last move. Quotes hold blanks, \\n and \\xHH.
+";
+
+/// A way to another state.
+#[derive(Clone, Copy)]
+pub enum Move<'a> {
+    /// Forward by so many steps.
+    Forward(u64),
+    /// Back over so many steps.
+    Back(u64),
+    /// Over the function that begins or is performed next.
+    Over,
+    /// Back to where the function began whose value ends here.
+    OverBack,
+    /// Forward to the end of the innermost begun function.
+    Out,
+    /// Back to where the innermost begun function was begun.
+    OutBack,
+    /// Forward to a call whose first arguments are these; without any, to a call of the program's own.
+    Until(&'a [&'a [u8]]),
+    /// The same back.
+    Return(&'a [&'a [u8]]),
+    /// Back to the call that changed the form of this name last.
+    Changed(&'a [u8]),
+    /// Back to the call that printed this byte of the output, the first being number 1.
+    Printed(u64),
+    /// Back to the call that printed the end of the last occurrence of this text in the output.
+    PrintedText(&'a [u8]),
+    /// To this step, counted from the start of the program.
+    To(u64),
+}
+
+/// What a person asks for.
+#[derive(Clone, Copy)]
+pub enum Order<'a> {
+    /// To move.
+    Go(Move<'a>),
+    /// To feed a line of input.
+    Feed(&'a [u8]),
+    /// To end the input.
+    EndInput,
+    /// To show the state on one screen.
+    Print,
+    /// To show all of the state.
+    PrintAll,
+    /// To list the forms.
+    Forms,
+    /// To show the form of this name.
+    Form(&'a [u8]),
+    /// To list the last calls, so many of them.
+    Calls(u64),
+    /// To list the commands.
+    Help,
+    /// To end.
+    Quit,
+}
+
+/// What the words of a line ask for, the first being the command; `quoted` says whether the second stood in quotes. None
+/// where they are not understood. It takes no memory.
+pub fn order_of<'a>(words: &'a [&'a [u8]], quoted: bool) -> Option<Order<'a>> {
+    let (command, rest) = words.split_first()?;
+    if let Some(way) = move_of(command, rest, quoted) {
+        return Some(Order::Go(way));
+    }
+    match *command {
+        b"i" => Some(Order::Feed(text_in(rest)?)),
+        b"p" => print_of(rest),
+        b"f" => forms_of(rest),
+        b"t" => Some(Order::Calls(count_in(rest, CALL_COUNT)?)),
+        b"e" => alone(rest, Order::EndInput),
+        b"h" => alone(rest, Order::Help),
+        b"q" => alone(rest, Order::Quit),
+        _ => None,
+    }
+}
+
+// The move that these words say, if they say one.
+fn move_of<'a>(command: &[u8], rest: &'a [&'a [u8]], quoted: bool) -> Option<Move<'a>> {
+    match command {
+        b"s" => Some(Move::Forward(count_in(rest, 1)?)),
+        b"b" => Some(Move::Back(count_in(rest, 1)?)),
+        b"n" => alone(rest, Move::Over),
+        b"N" => alone(rest, Move::OverBack),
+        b"o" => alone(rest, Move::Out),
+        b"O" => alone(rest, Move::OutBack),
+        b"u" => Some(Move::Until(rest)),
+        b"r" => Some(Move::Return(rest)),
+        b"w" => origin_of(rest, quoted),
+        b"g" => Some(Move::To(number(one_in(rest)?)?)),
+        _ => None,
+    }
+}
+
+// What `w` looks for: the origin of a form, of a byte or of a text.
+fn origin_of<'a>(rest: &[&'a [u8]], quoted: bool) -> Option<Move<'a>> {
+    let word = one_in(rest)?;
+    if quoted {
+        return Some(Move::PrintedText(word));
+    }
+    match word {
+        [b'#', digits @ ..] => Some(Move::Printed(number(digits)?)),
+        _ => Some(Move::Changed(word)),
+    }
+}
+
+fn print_of<'a>(rest: &[&[u8]]) -> Option<Order<'a>> {
+    if rest.is_empty() {
+        return Some(Order::Print);
+    }
+    match one_in(rest)? {
+        b"all" => Some(Order::PrintAll),
+        _ => None,
+    }
+}
+
+fn forms_of<'a>(rest: &[&'a [u8]]) -> Option<Order<'a>> {
+    if rest.is_empty() {
+        return Some(Order::Forms);
+    }
+    Some(Order::Form(one_in(rest)?))
+}
+
+// What a command asks for that stands alone.
+fn alone<T: Copy>(rest: &[&[u8]], asked: T) -> Option<T> {
+    if rest.is_empty() { Some(asked) } else { None }
+}
+
+// The only word.
+fn one_in<'a>(rest: &[&'a [u8]]) -> Option<&'a [u8]> {
+    match rest {
+        [only] => Some(*only),
+        _ => None,
+    }
+}
+
+// The only word, or an empty text where there is none.
+fn text_in<'a>(rest: &[&'a [u8]]) -> Option<&'a [u8]> {
+    if rest.is_empty() {
+        return Some(&[]);
+    }
+    one_in(rest)
+}
+
+// The number that the only word writes, or the default one where there is no word.
+fn count_in(rest: &[&[u8]], default: u64) -> Option<u64> {
+    if rest.is_empty() {
+        return Some(default);
+    }
+    number(one_in(rest)?)
+}
+
+// The number that a word of digits writes.
+fn number(word: &[u8]) -> Option<u64> {
+    if word.is_empty() || word.len() > DIGIT_LIMIT {
+        return None;
+    }
+    let mut number = 0_u64;
+    for byte in word {
+        if !byte.is_ascii_digit() {
+            return None;
+        }
+        number = number
+            .saturating_mul(10)
+            .saturating_add(u64::from(byte - b'0'));
+    }
+    Some(number)
+}

@@ -1,8 +1,0 @@
-use Rattle.std.proofs.Common.{ap, ◌∙◌, length}
-use Rattle.std.specs.Prelude.{◌==◌}
-use Rattle.trac_prims.specs.Neutral.{MarkedText, neutral_of}
-use Rattle.trac_prims.proofs.Neutral.{outside_by_marks}
-use Rattle.trac_prims.proofs.frames.NeutralText.is_outside.Goals as goal
-
-pub returns : goal.returns
-returns c = c.is_empty.ensures ∙ outside_by_marks _ c.self.invariant ∙ ap (λ (m : MarkedText). length (neutral_of m).frames == 0) c.self.view_is

@@ -1,0 +1,109 @@
+//! Each request for memory is refused in turn, in runs, in sessions of the debugger and in walks.
+use crate::faults::INPUT;
+use crate::faulty::NO_FAULT;
+use crate::programs::{DEBUG, Program, RUN, outcome};
+use std::process::Abort;
+use trac_faults::Refusing;
+use trac_rules::width::Width;
+use trac_run::Ending;
+use trac_session_tests::programs::EACH_PRIMITIVE;
+
+const TAPE: &[u8] = b"#(ds,A,(x,y))'#(ss,A,x)'#(ps,##(cl,A,1))'";
+
+const ORDERS: &[u8] =
+    b"s 90\np\nb 3\nn\nN\nO\no\nu ps\nr\nw #1\nw \"1\"\nw A\ng 60\nf\nf A\nt 3\np all\ni \"a'\"\n\nh\nx\ne\n";
+
+// A program, its input with its output, and the text of a line that says that memory was refused, where the program goes on
+// then. There the output is left open: it is whole lines.
+type Row = (
+    Program<'static>,
+    (&'static [u8], &'static [u8]),
+    Option<&'static [u8]>,
+);
+
+// Runs with each width of numbers, with a journal that fills and with the one of a run where nothing else is said; a session
+// with each kind of command, and a walk with each kind of line.
+const ROWS: &[Row] = &[
+    (RUN, (INPUT, b"AB"), None),
+    (Program::Run(65_536, Width::W128), (INPUT, b"AB"), None),
+    (RUN, EACH_PRIMITIVE, None),
+    (Program::Run(64, Width::W64), EACH_PRIMITIVE, None),
+    (Program::Run(65_536, Width::W128), EACH_PRIMITIVE, None),
+    (Program::Run(65_536, Width::W64), EACH_PRIMITIVE, None),
+    (
+        DEBUG,
+        (b"s 11\nb 1\nb 99\nu ps 99\np\nc\n", b""),
+        Some(b" Memory\n"),
+    ),
+    (
+        Program::Walk(TAPE, false),
+        (ORDERS, b""),
+        Some(b"there is no memory for this"),
+    ),
+];
+
+// Whether a text stands in another one.
+fn contains(text: &[u8], wanted: &[u8]) -> bool {
+    for at in 0..text.len() {
+        if text.split_at(at).1.starts_with(wanted) {
+            return true;
+        }
+    }
+    false
+}
+
+// Whether whole lines are written, and the last line of a debugger's state where its first one is.
+fn is_whole(written: &[u8]) -> bool {
+    (written.is_empty() || written.last() == Some(&b'\n'))
+        && contains(written, b"active [") == contains(written, b"journal ")
+}
+
+// Whether this may be written where a request is refused, or none.
+fn may_write(row: &Row, written: &[u8], is_refused: bool) -> bool {
+    let output = row.1.1;
+    if row.2.is_some() {
+        return is_whole(written);
+    }
+    output.starts_with(written) && (is_refused || written.len() == output.len())
+}
+
+// Whether a program may end so.
+fn may_end(row: &Row, ending: Ending, written: &[u8], is_refused: bool) -> bool {
+    if !is_refused {
+        return ending == Ending::Ended;
+    }
+    match row.2 {
+        Some(said) => ending == Ending::Memory || contains(written, said),
+        None => ending == Ending::Memory,
+    }
+}
+
+// A program with this request refused: whether a request was refused.
+fn expect_row(rt: &(impl Abort + AllocGlobal), row: &Row, nth: u64) -> bool {
+    let memory = Refusing::new(rt.alloc());
+    memory.refuse_nth(nth);
+    let (ending, written) = outcome(rt, rt.alloc(), &memory, row.0, row.1.0, 4096, NO_FAULT);
+    let is_refused = memory.refusals() > 0;
+    let is_met = may_write(row, written.as_slice(), is_refused)
+        && may_end(row, ending, written.as_slice(), is_refused);
+    assert!(rt; is_met, "request {nth} over {:?}", row.1.0);
+    is_refused
+}
+
+// How many requests the program makes.
+fn requests_of(rt: &(impl Abort + AllocGlobal), row: &Row) -> u64 {
+    for nth in 1..10_000 {
+        if !expect_row(rt, row, nth) {
+            return nth - 1;
+        }
+    }
+    panic!(rt; "too few runs");
+}
+
+#[test]
+fn each_request(rt: HostRuntime) {
+    for row in ROWS.iter() {
+        let requests = requests_of(&rt, row);
+        assert!(rt; requests > 18, "{requests} requests");
+    }
+}

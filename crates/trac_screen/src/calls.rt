@@ -1,0 +1,88 @@
+//! A call with its value, in one line.
+
+use crate::notes::refused;
+use crate::screen_line::ScreenLine;
+use crate::standing::{call_into, innermost};
+use std::alloc::{AllocError, Allocator};
+use trac_rules::refusal::Refusal;
+use trac_step::Machine;
+
+// So many columns a call takes at most, with its number, so that its value is seen.
+const CALL_WIDTH: usize = 56;
+
+/// The beginning of a line for the call that is performed next, by the step of this number. The error is that memory was
+/// refused, here and below.
+pub fn call_line<A: Allocator + Copy>(
+    alloc: A,
+    step: u64,
+    machine: &Machine<A>,
+) -> Result<ScreenLine<A>, AllocError> {
+    let mut line = ScreenLine::new(alloc);
+    line.count(step)?;
+    line.say(b"  ")?;
+    if let Some((kind, arguments)) = innermost(machine) {
+        call_into(kind, &arguments, &mut line)?;
+    }
+    line.cut(CALL_WIDTH)?;
+    Ok(line)
+}
+
+/// Puts what the call gave at the end of its line: its value, or why it was refused.
+pub fn outcome_into<A: Allocator + Copy>(
+    before: Lengths,
+    why: Option<Refusal>,
+    machine: &Machine<A>,
+    line: &mut ScreenLine<A>,
+) -> Result<(), AllocError> {
+    match why {
+        None => {
+            line.say(b" gives ")?;
+            line.show(before.value(machine))
+        }
+        Some(refusal) => {
+            line.say(b": ")?;
+            line.say(refused(refusal))
+        }
+    }
+}
+
+/// How long the texts are before a call that its value may be added to.
+#[derive(Clone, Copy)]
+pub struct Lengths {
+    // the active text without the `)` that ends the call
+    active: usize,
+    // the text that the call stands in
+    around: usize,
+}
+
+impl Lengths {
+    /// Before a call.
+    pub fn of<A: Allocator + Copy>(machine: &Machine<A>) -> Lengths {
+        let depth = machine.depth().saturating_sub(1);
+        Lengths {
+            active: machine.active().len().saturating_sub(1),
+            around: current_at(machine, depth).len(),
+        }
+    }
+
+    // The value, after the call: what was added to the front of the active text, or to the end of the text around.
+    fn value<'m, A: Allocator + Copy>(&self, machine: &'m Machine<A>) -> &'m [u8] {
+        let active = machine.active();
+        if active.len() > self.active {
+            return active.split_at(active.len() - self.active).0;
+        }
+        let around = current_at(machine, machine.depth());
+        around.split_at(around.len().min(self.around)).1
+    }
+}
+
+// The text that is gathered at this depth.
+fn current_at<A: Allocator + Copy>(machine: &Machine<A>, depth: usize) -> &[u8] {
+    if depth == 0 {
+        return machine.base();
+    }
+    match machine.frame(depth - 1) {
+        Some((_, arguments)) => arguments.get(arguments.count().saturating_sub(1)),
+        None => &[],
+    }
+}

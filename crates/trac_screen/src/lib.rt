@@ -1,0 +1,18 @@
+//! What a person is shown of a machine: the step that comes next, calls with their values, forms, and all of it on one screen.
+#![tactic(auto)]
+
+mod calls;
+mod form_list;
+mod glance;
+mod notes;
+mod screen;
+mod screen_line;
+mod standing;
+
+pub use calls::{Lengths, call_line, outcome_into};
+pub use form_list::{form_into, list_into};
+pub use glance::{Glance, glance_at, store_of};
+pub use notes::{Stop, refused, stop_into, window_into};
+pub use screen::{Reach, screen_into};
+pub use screen_line::ScreenLine;
+pub use standing::standing_into;

@@ -1,0 +1,113 @@
+//! What is said of a move that stopped before its goal, and other notes.
+
+use crate::screen_line::ScreenLine;
+use std::alloc::{AllocError, Allocator};
+use trac_rules::refusal::Refusal;
+
+/// Why a move stopped before its goal.
+#[derive(Clone, Copy)]
+pub enum Stop {
+    /// A step forward was refused so.
+    Refused(Refusal),
+    /// A step forward was refused so before the call was met that was looked for.
+    Unmet(Refusal),
+    /// The steps of a search were spent.
+    Spent,
+    /// There is no step to go back over.
+    AtFirst,
+    /// What was looked for is not met on the way back.
+    NotMet,
+    /// No change of the form of this name is met on the way back, and there is no form of this name.
+    NoForm,
+    /// No function is begun.
+    Outside,
+    /// The value of no function ends here.
+    NoValue,
+    /// Byte 0 of the output was asked for; the first is number 1.
+    FromOne,
+    /// The output has no such byte or text.
+    NotPrinted,
+    /// The output has no such text since the first step that one can go back to; what was printed before is not known.
+    NotPrintedSince,
+    /// The byte was printed before the first step that one can go back to.
+    PrintedEarlier,
+}
+
+// What may have been meant where there is no form of a name.
+const NO_FORM: &[u8] =
+    b"there is no form of this name; printed text stands in quotes: w \"TEXT\"\n";
+
+/// Puts a line at the end of a text that says why a move stopped, where one can go back to this step. The error is that memory
+/// was refused, here and below.
+pub fn stop_into<A: Allocator + Copy>(
+    alloc: A,
+    first_step: u64,
+    stop: Stop,
+    out: &mut Vec<u8, A>,
+) -> Result<(), AllocError> {
+    let mut line = ScreenLine::new(alloc);
+    if matches!(stop, Stop::Unmet(_)) {
+        line.say(b"not met; ")?;
+    }
+    line.say(reason(stop))?;
+    if is_about_reach(stop) {
+        line.count(first_step)?;
+    }
+    line.end_into(out)?;
+    match stop {
+        Stop::NoForm => out.extend_from_slice(NO_FORM),
+        _ => Ok(()),
+    }
+}
+
+// Whether the reason ends with the first step that one can go back to.
+fn is_about_reach(stop: Stop) -> bool {
+    match stop {
+        Stop::AtFirst | Stop::NotMet | Stop::NoForm => true,
+        Stop::NotPrintedSince | Stop::PrintedEarlier => true,
+        _ => false,
+    }
+}
+
+// Why a move stopped, in words.
+fn reason(stop: Stop) -> &'static [u8] {
+    match stop {
+        Stop::Refused(refusal) | Stop::Unmet(refusal) => refused(refusal),
+        Stop::Spent => b"not met in 10000000 steps; an empty line goes on",
+        Stop::AtFirst => b"the way back ends here, at step ",
+        Stop::NotMet | Stop::NoForm => b"not met on the way back, which ends at step ",
+        Stop::Outside => b"there is no function to go out of",
+        Stop::NoValue => b"the value of no function ends here",
+        Stop::FromOne => b"bytes of the output are counted from 1",
+        Stop::NotPrinted => b"that was not printed",
+        Stop::NotPrintedSince => b"that was not printed since the way back begins, at step ",
+        Stop::PrintedEarlier => b"that was printed before the way back begins, at step ",
+    }
+}
+
+/// Why a step forward or more input was refused, in words.
+pub fn refused(refusal: Refusal) -> &'static [u8] {
+    match refusal {
+        Refusal::NeedInput => b"the program waits for input: i TEXT feeds a line, e ends the input",
+        Refusal::Ended => b"the program has ended",
+        Refusal::TooLong => b"the limit on its length is passed",
+        Refusal::Memory => b"there is no memory for this",
+        Refusal::Closed => b"the input has ended",
+        Refusal::JournalFull => b"the way back is full",
+        Refusal::AtStart => b"the way back ends here",
+        Refusal::NotMet => b"not met",
+    }
+}
+
+/// Puts a line at the end of a text that says that the way back goes to this step from now on.
+pub fn window_into<A: Allocator + Copy>(
+    alloc: A,
+    first_step: u64,
+    out: &mut Vec<u8, A>,
+) -> Result<(), AllocError> {
+    let mut line = ScreenLine::new(alloc);
+    line.say(b"steps before ")?;
+    line.count(first_step)?;
+    line.say(b" are forgotten; --journal keeps more")?;
+    line.end_into(out)
+}

@@ -1,0 +1,269 @@
+//! The state on one screen.
+ghost use Rattle.std.specs.Prelude.{◌≤◌, length};
+
+use crate::screen_line::{ScreenLine, shown_tail, tail};
+use crate::standing::{begun_into, sharps};
+use std::alloc::{AllocError, Allocator};
+use trac_rules::byte::LINE_FEED;
+use trac_step::Machine;
+use trac_streams::escaped_into;
+
+// So many begun functions are shown at most: the outermost and the innermost of them.
+const OUTER_ROWS: usize = 3;
+
+const INNER_ROWS: usize = 8;
+
+// So many columns of scanned text stand left of the mark at most. A function that is begun takes two of them at least, so the
+// innermost of so many fill them.
+const SCANNED: usize = 34;
+
+const SCANNED_ROWS: usize = SCANNED / 2 + 1;
+
+// So many lines of the output are shown at most, of so many bytes together, and of each so many columns.
+const OUTPUT_ROWS: usize = 4;
+
+const OUTPUT_BYTES: usize = 320;
+
+const OUTPUT_WIDTH: usize = 70;
+
+/// How far a walk has come.
+#[derive(Clone, Copy)]
+pub struct Reach {
+    /// The number of the next step.
+    pub step: u64,
+    /// The first step that one can go back to.
+    pub first_step: u64,
+    /// How many bytes of the input are not read.
+    pub unread: u64,
+    /// How many bytes are printed.
+    pub printed: u64,
+}
+
+/// Puts the state at the end of a text, in at most 20 lines of 80 columns: the begun functions, the text with a mark between
+/// what is scanned and what is not yet, and the end of the output. It takes no more time for a long text, a large form or
+/// many forms than for small ones. The error is that memory was refused, here and below.
+pub fn screen_into<A: Allocator + Copy>(
+    alloc: A,
+    machine: &Machine<A>,
+    reach: Reach,
+    out: &mut Vec<u8, A>,
+) -> Result<(), AllocError> {
+    functions_into(alloc, machine, out)?;
+    text_into(alloc, machine, out)?;
+    output_into(alloc, machine.output(), out)?;
+    storage_into(alloc, machine, out)?;
+    reach_into(alloc, reach, out)
+}
+
+// A line that begins with a word.
+fn labelled<A: Allocator + Copy>(alloc: A, label: &[u8]) -> Result<ScreenLine<A>, AllocError> {
+    let mut line = ScreenLine::new(alloc);
+    line.say(label)?;
+    Ok(line)
+}
+
+// The begun functions, one a line: the outermost first, and of many those in the middle left out.
+fn functions_into<A: Allocator + Copy>(
+    alloc: A,
+    machine: &Machine<A>,
+    out: &mut Vec<u8, A>,
+) -> Result<(), AllocError> {
+    let depth = machine.depth();
+    if depth <= OUTER_ROWS + INNER_ROWS {
+        return rows_into(alloc, machine, 0, depth, out);
+    }
+    rows_into(alloc, machine, 0, OUTER_ROWS, out)?;
+    let mut line = labelled(alloc, b"begun   .. ")?;
+    line.count((depth - OUTER_ROWS - INNER_ROWS) as u64)?;
+    line.say(b" more ..")?;
+    line.end_into(out)?;
+    rows_into(alloc, machine, depth - INNER_ROWS, depth, out)
+}
+
+// The begun functions from one number up to another.
+fn rows_into<A: Allocator + Copy>(
+    alloc: A,
+    machine: &Machine<A>,
+    from: usize,
+    to: usize,
+    out: &mut Vec<u8, A>,
+) -> Result<(), AllocError> {
+    for i in from..to {
+        let mut line = labelled(alloc, b"begun   ")?;
+        if let Some((kind, arguments)) = machine.frame(i) {
+            begun_into(kind, &arguments, &mut line)?;
+        }
+        line.end_into(out)?;
+    }
+    Ok(())
+}
+
+// The text around the place that scanning has reached.
+fn text_into<A: Allocator + Copy>(
+    alloc: A,
+    machine: &Machine<A>,
+    out: &mut Vec<u8, A>,
+) -> Result<(), AllocError> {
+    let scanned = scanned_end(alloc, machine)?;
+    let mut line = labelled(alloc, b"text    ")?;
+    end_of_into(scanned.as_slice(), SCANNED, false, &mut line)?;
+    line.say(b"[|]")?;
+    line.show(machine.active())?;
+    line.end_into(out)
+}
+
+// The end of a shown text, of so many columns at most, after `..` where something stands before it.
+fn end_of_into<A: Allocator + Copy>(
+    shown: &[u8],
+    columns: usize,
+    is_cut: bool,
+    line: &mut ScreenLine<A>,
+) -> Result<(), AllocError> {
+    if is_cut || shown.len() > columns {
+        line.say(b"..")?;
+    }
+    line.say(shown_tail(shown, columns))
+}
+
+// The end of the scanned text in reading order, shown, so that the columns that are wanted of it are there.
+fn scanned_end<A: Allocator + Copy>(
+    alloc: A,
+    machine: &Machine<A>,
+) -> Result<Vec<u8, A>, AllocError> {
+    let mut shown = Vec::new(alloc);
+    let depth = machine.depth();
+    if depth <= SCANNED_ROWS {
+        escaped_into(tail(machine.base(), SCANNED + 1), &mut shown)?;
+    }
+    for i in depth.saturating_sub(SCANNED_ROWS)..depth {
+        frame_end_into(machine, i, &mut shown)?;
+    }
+    Ok(shown)
+}
+
+// The end of a begun function, as it was written.
+fn frame_end_into<A: Allocator + Copy>(
+    machine: &Machine<A>,
+    i: usize,
+    shown: &mut Vec<u8, A>,
+) -> Result<(), AllocError> {
+    let Some((kind, arguments)) = machine.frame(i) else {
+        return Ok(());
+    };
+    shown.extend_from_slice(sharps(kind))?;
+    let count = arguments.count();
+    for number in count.saturating_sub(SCANNED + 1)..count {
+        if number > 0 {
+            shown.extend_from_slice(b",")?;
+        }
+        escaped_into(tail(arguments.get(number), SCANNED + 1), shown)?;
+    }
+    Ok(())
+}
+
+// The last lines of the output.
+fn output_into<A: Allocator + Copy>(
+    alloc: A,
+    output: &[u8],
+    out: &mut Vec<u8, A>,
+) -> Result<(), AllocError> {
+    let mut rest = last_lines(tail(output, OUTPUT_BYTES));
+    let is_cut = begins_within_line(output, rest.len());
+    for row in 0..OUTPUT_ROWS {
+        let label: &[u8] = if row == 0 { b"output  " } else { b"        " };
+        let len = line_len(rest);
+        let mut shown = Vec::new(alloc);
+        escaped_into(rest.split_at(len).0, &mut shown)?;
+        let mut line = labelled(alloc, label)?;
+        end_of_into(
+            shown.as_slice(),
+            OUTPUT_WIDTH,
+            row == 0 && is_cut,
+            &mut line,
+        )?;
+        line.end_into(out)?;
+        if len == rest.len() {
+            return Ok(());
+        }
+        rest = rest.split_at(len).1;
+    }
+    Ok(())
+}
+
+// Whether the last bytes of a text, so many, begin within a line.
+fn begins_within_line(text: &[u8], count: usize) -> bool {
+    let before = text.split_at(text.len() - text.len().min(count)).0;
+    before.last().is_some_and(|byte| *byte != LINE_FEED)
+}
+
+// How long the first line of a text is, with its line feed.
+fn line_len(text: &[u8]) -> usize
+    ensures { result ≤ length text.now }
+{
+    for (place, byte) in text.iter().enumerate() {
+        if *byte == LINE_FEED {
+            return place + 1;
+        }
+    }
+    text.len()
+}
+
+// The last lines of a text, as many as are shown.
+fn last_lines(text: &[u8]) -> &[u8] {
+    let mut rows = 0_usize;
+    for back in 1..text.len() {
+        let place = text.len() - back;
+        if text[place - 1] == LINE_FEED {
+            rows = rows.saturating_add(1);
+        }
+        if rows == OUTPUT_ROWS {
+            return text.split_at(place).1;
+        }
+    }
+    text
+}
+
+// How many forms and blocks there are.
+fn storage_into<A: Allocator + Copy>(
+    alloc: A,
+    machine: &Machine<A>,
+    out: &mut Vec<u8, A>,
+) -> Result<(), AllocError> {
+    let store = machine.store();
+    let mut line = labelled(alloc, b"forms   ")?;
+    line.count(store.form_count() as u64)?;
+    line.say(b" (f lists them), blocks ")?;
+    line.count(store.block_count() as u64)?;
+    line.say(b", meta ")?;
+    line.show(&[machine.meta()])?;
+    line.say(if machine.trace() {
+        b", trace on"
+    } else {
+        b", trace off"
+    })?;
+    line.end_into(out)
+}
+
+// How far one can go back, and what is read and printed.
+fn reach_into<A: Allocator + Copy>(
+    alloc: A,
+    reach: Reach,
+    out: &mut Vec<u8, A>,
+) -> Result<(), AllocError> {
+    let mut line = labelled(alloc, b"step    ")?;
+    line.count(reach.step)?;
+    line.say(b", back to ")?;
+    line.count(reach.first_step)?;
+    line.say(b"; ")?;
+    bytes_into(reach.unread, &mut line)?;
+    line.say(b" of input not read, ")?;
+    bytes_into(reach.printed, &mut line)?;
+    line.say(b" printed")?;
+    line.end_into(out)
+}
+
+// How many bytes, in words.
+fn bytes_into<A: Allocator + Copy>(count: u64, line: &mut ScreenLine<A>) -> Result<(), AllocError> {
+    line.count(count)?;
+    line.say(if count == 1 { b" byte" } else { b" bytes" })
+}

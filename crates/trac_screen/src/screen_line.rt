@@ -1,0 +1,109 @@
+//! Lines that fit the screen.
+ghost use Rattle.std.specs.Prelude.{◌≤◌, length};
+
+use std::alloc::{AllocError, Allocator};
+use trac_rules::byte::LINE_FEED;
+use trac_streams::{escaped_into, number_into};
+
+/// How many columns a screen has (this project's profile).
+pub const WIDTH: usize = 80;
+
+// What stands at the end of a line where more does not fit.
+const CUT: &[u8] = b"..";
+
+/// A line that is being written. What does not fit the screen is not kept, so that to show a little of a long text takes the
+/// same time as to show a short one.
+#[derive(Drop)]
+pub struct ScreenLine<A: Allocator + Copy> {
+    bytes: Vec<u8, A>,
+    width: usize,
+}
+
+impl<A: Allocator + Copy> ScreenLine<A> {
+    /// An empty line. It takes no memory.
+    pub fn new(alloc: A) -> Self {
+        ScreenLine {
+            bytes: Vec::new(alloc),
+            width: WIDTH,
+        }
+    }
+
+    /// Whether what comes next would not be seen.
+    pub fn is_full(&self) -> bool {
+        self.bytes.len() > self.width
+    }
+
+    /// Puts words at the end, which are printable. The error is that memory was refused, here and below.
+    pub fn say(&mut self, words: &[u8]) -> Result<(), AllocError> {
+        if self.is_full() {
+            return Ok(());
+        }
+        self.bytes.extend_from_slice(words)
+    }
+
+    /// Puts a number at the end.
+    pub fn count(&mut self, number: u64) -> Result<(), AllocError> {
+        if self.is_full() {
+            return Ok(());
+        }
+        number_into(number, &mut self.bytes)
+    }
+
+    /// Puts a text at the end, its bytes shown as `trac debug` shows them.
+    pub fn show(&mut self, text: &[u8]) -> Result<(), AllocError> {
+        if self.is_full() {
+            return Ok(());
+        }
+        escaped_into(front(text, WIDTH + 1), &mut self.bytes)
+    }
+
+    /// Cuts the line where it has more columns than these.
+    pub fn cut(&mut self, columns: usize) -> Result<(), AllocError> {
+        if self.bytes.len() <= columns {
+            return Ok(());
+        }
+        let place = cut_place(&self.bytes, columns.saturating_sub(CUT.len()));
+        self.bytes.truncate(place);
+        self.bytes.extend_from_slice(CUT)
+    }
+
+    /// Cuts the line to the screen, and puts it at the end of a text.
+    pub fn end_into(mut self, out: &mut Vec<u8, A>) -> Result<(), AllocError> {
+        self.cut(WIDTH)?;
+        out.extend_from_slice(self.bytes.as_slice())?;
+        Ok(out.push(LINE_FEED)?)
+    }
+}
+
+/// The first bytes of a text, so many at most.
+pub fn front(text: &[u8], most: usize) -> &[u8]
+    ensures { length result.now ≤ most }
+{
+    text.split_at(text.len().min(most)).0
+}
+
+/// The last bytes of a text, so many at most.
+pub fn tail(text: &[u8], most: usize) -> &[u8] {
+    text.split_at(text.len() - text.len().min(most)).1
+}
+
+/// The end of a text of shown bytes, of so many columns at most, where no byte is cut that is shown by four.
+pub fn shown_tail(shown: &[u8], most: usize) -> &[u8] {
+    let place = shown.len() - shown.len().min(most);
+    for back in 1..4 {
+        if back <= place && shown[place - back] == b'\\' {
+            return shown.split_at(shown.len().min(place - back + 4)).1;
+        }
+    }
+    shown.split_at(place).1
+}
+
+// Where a line of shown bytes can be cut, at this place at the latest: not within a byte that is shown by four.
+fn cut_place<A: Allocator>(bytes: &Vec<u8, A>, most: usize) -> usize {
+    for back in 1..4 {
+        if back <= most && bytes.as_slice().get(most - back) == Some(&b'\\') {
+            return most - back;
+        }
+    }
+    most
+}

@@ -1,0 +1,139 @@
+//! Where a walk stands, in one line.
+
+use crate::screen_line::ScreenLine;
+use std::alloc::{AllocError, Allocator};
+use trac_step::{Args, Kind, Machine};
+
+/// Puts a line at the end of a text: the number of the next step, which is this, and what that step does. The error is that
+/// memory was refused, here and below.
+pub fn standing_into<A: Allocator + Copy>(
+    alloc: A,
+    step: u64,
+    machine: &Machine<A>,
+    out: &mut Vec<u8, A>,
+) -> Result<(), AllocError> {
+    let mut line = ScreenLine::new(alloc);
+    line.count(step)?;
+    line.say(b"  ")?;
+    next_into(machine, &mut line)?;
+    line.end_into(out)
+}
+
+// What the next step does: the call that it performs, or the rule of scanning that it follows.
+fn next_into<A: Allocator + Copy>(
+    machine: &Machine<A>,
+    line: &mut ScreenLine<A>,
+) -> Result<(), AllocError> {
+    match innermost(machine) {
+        Some((kind, arguments)) => inside_into(machine, kind, &arguments, line),
+        None => outside_into(machine.active(), line),
+    }
+}
+
+/// The innermost begun function: its kind and its arguments.
+pub fn innermost<A: Allocator + Copy>(machine: &Machine<A>) -> Option<(Kind, Args<'_>)> {
+    let depth = machine.depth();
+    if depth == 0 {
+        return None;
+    }
+    machine.frame(depth - 1)
+}
+
+// What the next step does inside a function.
+fn inside_into<A: Allocator + Copy>(
+    machine: &Machine<A>,
+    kind: Kind,
+    arguments: &Args<'_>,
+    line: &mut ScreenLine<A>,
+) -> Result<(), AllocError> {
+    match machine.active() {
+        [b')', ..] => call_into(kind, arguments, line),
+        [b',', ..] => {
+            line.say(b"\",\" ends an argument of ")?;
+            begun_into(kind, arguments, line)
+        }
+        active => anywhere_into(active, line),
+    }
+}
+
+// What the next step does outside all functions.
+fn outside_into<A: Allocator + Copy>(
+    active: &[u8],
+    line: &mut ScreenLine<A>,
+) -> Result<(), AllocError> {
+    match active {
+        [b')', ..] => line.say(b"\")\" outside any function is deleted"),
+        [b',', ..] => line.say(b"\",\" outside any function is deleted"),
+        active => anywhere_into(active, line),
+    }
+}
+
+// What the next step does wherever it is.
+fn anywhere_into<A: Allocator + Copy>(
+    active: &[u8],
+    line: &mut ScreenLine<A>,
+) -> Result<(), AllocError> {
+    match active {
+        [] => line.say(b"nothing is left: the idle program is loaded"),
+        [b'(', ..] => quoted_into(
+            b"\"(\" protects what stands up to its \")\": ",
+            active,
+            line,
+        ),
+        [b'#', b'(', ..] => quoted_into(b"\"#(\" begins a function: ", active, line),
+        [b'#', b'#', b'(', ..] => quoted_into(b"\"##(\" begins a function: ", active, line),
+        [b'\r' | b'\n' | b'\t', rest @ ..] => quoted_into(
+            b"layout is deleted, before: ",
+            rest,
+            line,
+        ),
+        active => quoted_into(b"text is taken as it is: ", active, line),
+    }
+}
+
+// Words, and what the active text goes on with.
+fn quoted_into<A: Allocator + Copy>(
+    words: &[u8],
+    text: &[u8],
+    line: &mut ScreenLine<A>,
+) -> Result<(), AllocError> {
+    line.say(words)?;
+    line.show(text)
+}
+
+/// Puts a call with its arguments at the end of a line.
+pub fn call_into<A: Allocator + Copy>(
+    kind: Kind,
+    arguments: &Args<'_>,
+    line: &mut ScreenLine<A>,
+) -> Result<(), AllocError> {
+    begun_into(kind, arguments, line)?;
+    line.say(b")")
+}
+
+/// Puts a function with its arguments so far at the end of a line.
+pub fn begun_into<A: Allocator + Copy>(
+    kind: Kind,
+    arguments: &Args<'_>,
+    line: &mut ScreenLine<A>,
+) -> Result<(), AllocError> {
+    line.say(sharps(kind))?;
+    for i in 0..arguments.count() {
+        if line.is_full() {
+            return Ok(());
+        }
+        if i > 0 {
+            line.say(b",")?;
+        }
+        line.show(arguments.get(i))?;
+    }
+    Ok(())
+}
+
+/// How a function of this kind begins.
+pub fn sharps(kind: Kind) -> &'static [u8] {
+    match kind {
+        Kind::Active => b"#(",
+        Kind::Neutral => b"##(",
+    }
+}

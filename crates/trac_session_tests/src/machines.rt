@@ -1,0 +1,227 @@
+//! A machine itself, on both representations of its lists: each step is tried with each request for memory refused in turn,
+//! undone while all are refused, and taken again.
+//!
+//! Helpers are over any two lists: a proof for certain ones shows anew, at each call of the machine, that they are such lists.
+use crate::programs::PROGRAMS;
+use crate::shown::shown_after;
+use std::alloc::{Allocator, Global};
+use std::process::Abort;
+use trac_faults::Refusing;
+use trac_gap::{GapBuf, PlainEnds, TwoEnds};
+use trac_rules::refusal::Refusal;
+use trac_rules::width::Width;
+use trac_step::{Core, Mark, Record, Tape};
+
+/// Memory of which a request may be refused.
+pub(crate) type Memory<'a> = &'a Refusing<Global>;
+
+/// How many requests a call may make at most.
+const MOST_REQUESTS: u64 = 1_000;
+
+// A machine in the state in which a processor begins.
+pub(crate) fn made<E: TwoEnds<u8, A>, M: TwoEnds<Mark, A>, A: Allocator + Copy>(
+    alloc: A,
+) -> Result<Core<E, M, A>, Refusal> {
+    Core::new(alloc, Width::W128)
+}
+
+/// Lets a machine go. A function that owns one ends with this call, since its own proof would else carry all that is freed.
+pub(crate) fn let_go<E: TwoEnds<u8, A>, M: TwoEnds<Mark, A>, A: Allocator + Copy>(
+    machine: Core<E, M, A>,
+) {
+    let _last = machine;
+}
+
+/// What a machine shows.
+pub(crate) fn shown_by<E: TwoEnds<u8, A>, M: TwoEnds<Mark, A>, A: Allocator + Copy>(
+    rt: &impl Abort,
+    plain: Global,
+    machine: &Core<E, M, A>,
+) -> Vec<u8> {
+    shown_after(rt, plain, machine, b"", 0)
+}
+
+/// The text is this one.
+pub(crate) fn expect_text(rt: &impl Abort, text: &[u8], wanted: &[u8]) {
+    assert_eq!(rt; text, wanted);
+}
+
+/// A machine shows this.
+pub(crate) fn expect_shown<E: TwoEnds<u8, A>, M: TwoEnds<Mark, A>, A: Allocator + Copy>(
+    rt: &impl Abort,
+    plain: Global,
+    machine: &Core<E, M, A>,
+    wanted: &[u8],
+) {
+    expect_text(rt, shown_by(rt, plain, machine).as_slice(), wanted);
+}
+
+// The next step over this whole input.
+fn step<E: TwoEnds<u8, A>, M: TwoEnds<Mark, A>, A: Allocator + Copy>(
+    rt: &impl Abort,
+    machine: &mut Core<E, M, A>,
+    input: &[u8],
+) -> Result<Record<A>, Refusal> {
+    assert!(rt; machine.position() <= input.len());
+    machine.step(Tape {
+        bytes: input,
+        ended: true,
+    })
+}
+
+// The next step, whose record is let go. It owns the record, since the proof of each caller would else carry all that is freed.
+fn take_step<E: TwoEnds<u8, A>, M: TwoEnds<Mark, A>, A: Allocator + Copy>(
+    rt: &impl Abort,
+    machine: &mut Core<E, M, A>,
+    input: &[u8],
+) {
+    let _taken = step(rt, machine, input).expect(rt, "the step was refused");
+}
+
+// A step that is undone while every request for memory is refused, or why it is refused.
+fn step_and_undo<E: TwoEnds<u8, A>, M: TwoEnds<Mark, A>, A: Allocator + Copy>(
+    rt: &impl Abort,
+    memory: Memory<'_>,
+    machine: &mut Core<E, M, A>,
+    input: &[u8],
+) -> Option<Refusal> {
+    assert!(rt; machine.position() <= input.len());
+    let tape = Tape {
+        bytes: input,
+        ended: true,
+    };
+    match machine.step(tape) {
+        Ok(taken) => {
+            let requests = memory.requests();
+            memory.refuse_all();
+            machine.undo(taken);
+            assert!(rt; memory.requests() == requests);
+            None
+        }
+        Err(refusal) => Some(refusal),
+    }
+}
+
+// The next step, with each request for memory refused in turn: whether it is refused or undone, the machine shows the same as
+// before. The answer is why the step is refused with ample memory.
+fn try_step<E: TwoEnds<u8, A>, M: TwoEnds<Mark, A>, A: Allocator + Copy>(
+    rt: &impl Abort,
+    plain: Global,
+    memory: Memory<'_>,
+    machine: &mut Core<E, M, A>,
+    input: &[u8],
+) -> Option<Refusal> {
+    let before = shown_by(rt, plain, machine);
+    for nth in 1..MOST_REQUESTS {
+        let refusals = memory.refusals();
+        memory.refuse_nth(nth);
+        let refused = step_and_undo(rt, memory, machine, input);
+        memory.accept_all();
+        expect_shown(rt, plain, machine, before.as_slice());
+        if memory.refusals() == refusals {
+            return refused;
+        }
+        assert!(rt; refused.is_none() || refused == Some(Refusal::Memory));
+    }
+    Some(Refusal::Memory)
+}
+
+// A whole run, step by step.
+fn walk<E: TwoEnds<u8, A>, M: TwoEnds<Mark, A>, A: Allocator + Copy>(
+    rt: &impl Abort,
+    plain: Global,
+    memory: Memory<'_>,
+    machine: &mut Core<E, M, A>,
+    input: &[u8],
+) {
+    for _ in 0..5_000 {
+        if let Some(refusal) = try_step(rt, plain, memory, machine, input) {
+            assert!(rt; refusal == Refusal::Ended);
+            return;
+        }
+        take_step(rt, machine, input);
+    }
+    panic!(rt; "too few steps");
+}
+
+// A whole run of each program on a new machine.
+fn run_each<E: TwoEnds<u8, A>, M: TwoEnds<Mark, A>, A: Allocator + Copy>(
+    rt: &impl Abort,
+    plain: Global,
+    memory: Memory<'_>,
+    alloc: A,
+) {
+    for (input, output) in PROGRAMS.iter() {
+        let mut machine = made::<E, M, A>(alloc).expect(rt, "there was no memory");
+        walk(rt, plain, memory, &mut machine, input);
+        expect_text(rt, machine.output(), output);
+        let_go(machine);
+    }
+}
+
+#[test]
+fn both_representations(rt: HostRuntime) {
+    let memory = Refusing::new(rt.alloc());
+    run_each::<GapBuf<u8, Memory<'_>>, GapBuf<Mark, Memory<'_>>, Memory<'_>>(
+        &rt,
+        rt.alloc(),
+        &memory,
+        &memory,
+    );
+    run_each::<PlainEnds<u8, Memory<'_>>, PlainEnds<Mark, Memory<'_>>, Memory<'_>>(
+        &rt,
+        rt.alloc(),
+        &memory,
+        &memory,
+    );
+}
+
+// Whole inputs, the number of the step that empties all texts, and what its record keeps: the base text, and how many begun
+// functions.
+const EMPTIED: &[(&[u8], u64, &[u8], usize)] = &[
+    (b"AB'", 12, b"", 0),
+    // A stray `)` ends the idle program's `ps`: what is read after it goes to the base text.
+    (b"a)b,c'", 15, b"bc", 0),
+    (b"x(A#(B'", 11, b"", 1),
+    (b"x)y#(a,b,c##(d,e#(f'", 25, b"y", 2),
+];
+
+// Whether a record keeps this base text and so many begun functions. It is let go.
+fn empties<A: Allocator + Copy>(record: Record<A>, base: &[u8], functions: usize) -> bool {
+    match record {
+        Record::Idle { base: kept, frames } => {
+            kept.as_slice() == base && frames.len() == functions
+        }
+        _ => false,
+    }
+}
+
+// After so many steps but one the next empties all texts, and its record keeps these.
+fn expect_emptied<E: TwoEnds<u8, A>, M: TwoEnds<Mark, A>, A: Allocator + Copy>(
+    rt: &impl Abort,
+    machine: &mut Core<E, M, A>,
+    (input, number, base, functions): (&[u8], u64, &[u8], usize),
+) {
+    for _ in 1..number {
+        take_step(rt, machine, input);
+    }
+    let record = step(rt, machine, input).expect(rt, "the step was refused");
+    assert!(rt; empties(record, base, functions));
+}
+
+// That is so of each row, on a new machine.
+fn expect_each_emptied<E: TwoEnds<u8, A>, M: TwoEnds<Mark, A>, A: Allocator + Copy>(
+    rt: &impl Abort,
+    alloc: A,
+) {
+    for row in EMPTIED.iter() {
+        let mut machine = made::<E, M, A>(alloc).expect(rt, "there was no memory");
+        expect_emptied(rt, &mut machine, *row);
+        let_go(machine);
+    }
+}
+
+#[test]
+fn emptied_texts_are_kept(rt: HostRuntime) {
+    expect_each_emptied::<GapBuf<u8>, GapBuf<Mark>, Global>(&rt, rt.alloc());
+}

@@ -1,0 +1,2 @@
+-- How a state is shown.
+pub mod StateLines

@@ -1,0 +1,66 @@
+-- A call that is ready is performed: its memory is taken, then forms and blocks are changed, and then it is ended.
+use Rattle.std.proofs.Common.{◌≡◌, ◌+◌, length, sym, ap, ◌∙◌, subst, arith}
+use Rattle.trac_rules.specs.declared.scan.Front.TheVariants.{Closing}
+use Rattle.trac_rules.specs.Limits.{text_bytes}
+use Rattle.trac_rules.specs.Proper.{IsProper}
+use Rattle.trac_rules.specs.Scanning.{front_of, scan}
+use Rattle.trac_rules.specs.State.{State, storage_of}
+use Rattle.trac_change.specs.declared.change.Change.{Change}
+use Rattle.trac_prims.specs.declared.effect.Made.{Made}
+use Rattle.trac_change.specs.Changed.{changed}
+use Rattle.trac_text.specs.declared.calls.Beginning.{Beginning}
+use Rattle.trac_step.specs.declared.calling.Plan.{Plan}
+use Rattle.trac_step.specs.Calling.{BeginsInnermost, HasRoomFor, arguments_in, state_after, state_ended, with_storage}
+use Rattle.trac_step.specs.Layout.{Shown}
+use Rattle.trac_step.specs.Ready.{CanChange, CanEnd, IsReady}
+use Rattle.trac_step.specs.Room.{IsNoLess}
+use Rattle.trac_step.proofs.Storages.{arguments_stay, ended_is, storage_proper}
+
+-- the call that is ready can change forms and blocks as it is planned
+pub can_change : {A : Type 0} (s t : State) (plan : Plan) (made : Made A) (change : Change A) → IsReady s made plan change → t ≡ s → CanChange t plan.beginning change
+can_change s t plan made change ready same =
+    subst (λ (x : State). CanChange x plan.beginning change) (sym same) (record {
+      front = ready.front;
+      begins = ready.begins;
+      given = ready.given;
+      proper = storage_proper s ready.front plan.beginning ready.begins plan made change ready.proper;
+    })
+
+-- the machine with its memory taken, and then with its forms and blocks changed
+module _ {A : Type 0} (s : State) (m n : Shown) (plan : Plan) (made : Made A) (change : Change A) (ready : IsReady s made plan change) (same : m.state ≡ s)
+    (is : n.state ≡ with_storage (changed (arguments_in (scan m.state)) change (storage_of m.state)) m.state) where
+  ready_still : IsReady m.state made plan change
+  ready_still = subst (λ (t : State). IsReady t made plan change) (sym same) ready
+
+  -- the call stands there still, with its arguments
+  pub front_then : front_of n.state.active ≡ Closing
+  front_then = ap (λ (t : State). front_of t.active) is ∙ ready_still.front
+
+  pub begins_then : BeginsInnermost n.state plan.beginning
+  begins_then = subst (λ (t : State). BeginsInnermost t plan.beginning) (sym is) ready_still.begins
+
+  pub given_then : arguments_in (scan n.state) ≡ arguments_in (scan s)
+  given_then =
+      ap (λ (t : State). arguments_in (scan t)) is
+      ∙ arguments_stay m.state ready_still.front (changed (arguments_in (scan m.state)) change (storage_of m.state))
+      ∙ ap (λ (t : State). arguments_in (scan t)) same
+
+  -- and what is left of it leads to the state after it
+  pub ended_then : state_ended plan made (scan n.state) ≡ state_after plan made change (scan s)
+  ended_then =
+      ap (λ (t : State). state_ended plan made (scan t)) is
+      ∙ ended_is m.state ready_still.front plan.beginning ready_still.begins plan made change
+      ∙ ap (λ (t : State). state_after plan made change (scan t)) same
+
+  pub can_end : HasRoomFor made m → IsNoLess m n → CanEnd n made plan
+  can_end room more =
+      let texts : text_bytes n.state ≡ text_bytes m.state = ap (λ (t : State). text_bytes t) is in
+      let printed : length n.state.output ≡ length m.state.output = ap (λ (t : State). length t.output) is in
+      record {
+        front = front_then;
+        begins = begins_then;
+        position = ready_still.position ∙ ap (λ (t : State). t.position + plan.called.read) (sym is);
+        text_room = omega (arith, room.text, more.text, texts);
+        output_room = omega (arith, room.output, more.output, printed);
+        proper = subst IsProper (sym ended_then) ready.proper;
+      }

@@ -1,0 +1,145 @@
+-- Machines of which forms and blocks alone are changed, and the call at which they stand.
+use Rattle.std.proofs.Common.{◌≡◌, ℕ, List, [], ◌∷◌, refl, sym, ap, ◌∙◌, subst, arith, true, false, Bool}
+use Rattle.std.specs.Prelude.{Option, None, Some, IsSomeAnd}
+use Rattle.trac_gap.specs.Ends.{Ends}
+use Rattle.trac_gap.specs.Window.{Window}
+use Rattle.trac_rules.specs.declared.kind.Kind.{Kind}
+use Rattle.trac_rules.specs.declared.kind.Kind.TheVariants.{Active, Neutral}
+use Rattle.trac_rules.specs.declared.scan.Front.TheVariants.{Closing}
+use Rattle.trac_rules.specs.declared.width.Width.{Width}
+use Rattle.trac_rules.specs.Performing.{changed_by, placed}
+use Rattle.trac_rules.specs.Proper.{IsProper, IsProperStorage}
+use Rattle.trac_rules.specs.Scanning.{Scanned, closing_in, deleted, front_of, gathered_in, scan}
+use Rattle.trac_rules.specs.State.{Frame, State, Storage, storage_of}
+use Rattle.trac_rules.specs.Undone.{Nothing}
+use Rattle.trac_forms.specs.Stored.{KnowsAll, Names, Stored, storage_in}
+use Rattle.trac_change.specs.declared.change.Change.{Change}
+use Rattle.trac_change.specs.declared.change.Change.TheVariants.{Keep}
+use Rattle.trac_prims.specs.declared.effect.Made.{Made}
+use Rattle.trac_text.specs.declared.mark.Mark.{Mark}
+use Rattle.trac_change.specs.Changes.{undone_of}
+use Rattle.trac_change.specs.Changed.{changed}
+use Rattle.trac_text.specs.declared.calls.Beginning.{Beginning}
+use Rattle.trac_step.specs.declared.calling.Plan.{Plan}
+use Rattle.trac_step.specs.Calling.{BeginsFirst, BeginsInnermost, arguments_in, effect_with, state_after, state_ended, with_storage}
+use Rattle.trac_step.specs.Layout.{Parts, IsSound, Shown, parts_of, shown_by, state_of}
+use Rattle.trac_step.specs.Ready.{CanChange}
+use Rattle.trac_storage.specs.Returning.{KnowsBefore}
+use Rattle.trac_step.specs.Room.{IsNoLess}
+use Rattle.trac_step.proofs.Scans.{scan_front}
+
+-- ---- the parts of a machine
+
+-- they show the same but for forms and blocks
+pub stored_shows : {width : Width} (text : Ends ℕ) (ms : Ends Mark) (store after : Stored) (meta : ℕ) (trace : Bool) (position : ℕ) (output : Window ℕ) (m : Shown) (storage : Storage) →
+    shown_by width (parts_of text ms store meta trace position output) ≡ m → storage_in after ≡ storage → after.known ≡ store.known →
+    shown_by width (parts_of text ms after meta trace position output) ≡ record m { state = with_storage storage m.state; spare = after.spare }
+stored_shows {width} text ms store after meta trace position output m storage view is known =
+    (λ i. record (shown_by width (parts_of text ms after meta trace position output)) { state = with_storage (is i) (state_of (parts_of text ms store meta trace position output)); known = known i })
+    ∙ ap (λ (n : Shown). let other : Shown = record n { state = with_storage storage n.state; spare = after.spare } in other) view
+
+-- and are sound, where these are proper
+pub stored_sound : (p : Parts) (storage : Storage) (known : Names) (spare : ℕ) → IsSound p → IsProperStorage storage → IsSound (record p { storage = storage; known = known; spare = spare })
+stored_sound p storage known spare sound proper = record {
+  ordered = sound.ordered;
+  text_limit = sound.text_limit;
+  mark_limit = sound.mark_limit;
+  output_limit = sound.output_limit;
+  text_room = sound.text_room;
+  mark_room = sound.mark_room;
+  storage = proper;
+}
+
+-- ---- forms and blocks are changed
+
+-- where the change is none
+pub nothing_changed : {A : Type 0} (change : Change A) (s : State) → change ≡ Keep → s ≡ with_storage (changed (arguments_in (scan s)) change (storage_of s)) s
+nothing_changed {A} change s is = subst (λ (x : Change A). s ≡ with_storage (changed (arguments_in (scan s)) x (storage_of s)) s) (sym is) refl
+
+pub nothing_undone : {A : Type 0} (change : Change A) (storage : Storage) → change ≡ Keep → Nothing ≡ undone_of change storage
+nothing_undone {A} change storage is = ap (λ (x : Change A). undone_of x storage) (sym is)
+
+-- a machine that shows the same state can change them so, too
+pub can_change_still : {A : Type 0} (s t : State) (b : Beginning) (change : Change A) → t ≡ s → CanChange s b change → CanChange t b change
+can_change_still s t b change same can = subst (λ (x : State). CanChange x b change) (sym same) can
+
+module _ {A : Type 0} (s : State) (m n : Shown) (change : Change A) (same : m.state ≡ s)
+    (is : n ≡ record m { state = with_storage (changed (arguments_in (scan m.state)) change (storage_of m.state)) m.state; spare = n.spare }) where
+  pub changed_then : n.state ≡ with_storage (changed (arguments_in (scan s)) change (storage_of s)) s
+  changed_then = ap (λ (x : Shown). x.state) is ∙ ap (λ (t : State). with_storage (changed (arguments_in (scan t)) change (storage_of t)) t) same
+
+pub no_less_changed : {A : Type 0} (m n : Shown) (change : Change A) →
+    n ≡ record m { state = with_storage (changed (arguments_in (scan m.state)) change (storage_of m.state)) m.state; spare = n.spare } → IsNoLess m n
+no_less_changed m n change is =
+    subst (λ (x : Shown). IsNoLess m x) (sym is)
+    (record { width = refl; text = omega arith; marks = omega arith; output = omega arith; names = λ name h. h })
+
+-- ---- forms and blocks before
+
+-- their names are known
+pub known_before : (known : Names) (o before : Option Storage) → o ≡ before → IsSomeAnd before (λ storage. KnowsAll known storage.forms × IsProperStorage storage) → KnowsBefore known o
+known_before known o before is h = subst (KnowsBefore known) (sym is) (by_option before h)
+  where
+    by_option : (before : Option Storage) → IsSomeAnd before (λ storage. KnowsAll known storage.forms × IsProperStorage storage) → KnowsBefore known before
+    by_option None h = h
+    by_option (Some storage) h = h.0
+
+-- and they are proper
+pub proper_before : (known : Names) (before : Option Storage) (storage : Storage) → before ≡ Some storage →
+    IsSomeAnd before (λ storage. KnowsAll known storage.forms × IsProperStorage storage) → IsProperStorage storage
+proper_before known before storage is h = (subst (λ (o : Option Storage). IsSomeAnd o (λ storage. KnowsAll known storage.forms × IsProperStorage storage)) is h).1
+
+-- ---- the call at which they stand
+
+-- a value changes no storage
+storage_placed : (kind : Kind) (forced : Bool) (value : List ℕ) (s : State) → storage_of (placed kind forced value s) ≡ storage_of s
+storage_placed Active forced value s = refl
+storage_placed Neutral true value s = refl
+storage_placed Neutral false value s = by_frames s.frames
+  where
+    by_frames : (fs : List Frame) → storage_of (gathered_in fs value s) ≡ storage_of s
+    by_frames [] = refl
+    by_frames (f ∷ fs) = refl
+
+module _ (s : State) (front : front_of s.active ≡ Closing) where
+  scanned : scan s ≡ closing_in s.frames (deleted 1 s)
+  scanned = scan_front s Closing front
+
+  -- its arguments are the same
+  pub arguments_stay : (storage : Storage) → arguments_in (scan (with_storage storage s)) ≡ arguments_in (scan s)
+  arguments_stay storage = ap arguments_in (scan_front (with_storage storage s) Closing front) ∙ by_frames s.frames ∙ ap arguments_in (sym scanned)
+    where
+      by_frames : (fs : List Frame) → arguments_in (closing_in fs (deleted 1 (with_storage storage s))) ≡ arguments_in (closing_in fs (deleted 1 s))
+      by_frames [] = refl
+      by_frames (f ∷ fs) = refl
+
+  module _ (b : Beginning) (begins : BeginsInnermost s b) {A : Type 0} (plan : Plan) (made : Made A) (change : Change A) where
+    -- forms and blocks are those after it
+    storage_after : storage_of (state_after plan made change (scan s)) ≡ changed (arguments_in (scan s)) change (storage_of s)
+    storage_after =
+        ap (λ (x : Scanned). storage_of (state_after plan made change x)) scanned ∙ by_frames s.frames begins
+        ∙ ap (λ (x : Scanned). changed (arguments_in x) change (storage_of s)) (sym scanned)
+      where
+        by_frames : (fs : List Frame) → BeginsFirst fs s.base b →
+            storage_of (state_after plan made change (closing_in fs (deleted 1 s))) ≡ changed (arguments_in (closing_in fs (deleted 1 s))) change (storage_of s)
+        by_frames [] h = absurd h
+        by_frames (f ∷ fs) h =
+            let e = effect_with plan made (changed (arguments_in (closing_in (f ∷ fs) (deleted 1 s))) change (storage_of s)) in
+            storage_placed f.kind e.forced e.value (changed_by e (record (deleted 1 s) { frames = fs }))
+
+    pub storage_proper : IsProper (state_after plan made change (scan s)) → IsProperStorage (changed (arguments_in (scan s)) change (storage_of s))
+    storage_proper proper = subst IsProperStorage storage_after proper.storage
+
+    -- and the rest of it leads to the state after it
+    pub ended_is : state_ended plan made (scan (with_storage (changed (arguments_in (scan s)) change (storage_of s)) s)) ≡ state_after plan made change (scan s)
+    ended_is =
+        ap (λ (x : Scanned). state_ended plan made (scan (with_storage (changed (arguments_in x) change (storage_of s)) s))) scanned
+        ∙ ap (state_ended plan made) (scan_front (with_storage (changed (arguments_in (closing_in s.frames (deleted 1 s))) change (storage_of s)) s) Closing front)
+        ∙ by_frames s.frames begins
+        ∙ ap (state_after plan made change) (sym scanned)
+      where
+        by_frames : (fs : List Frame) → BeginsFirst fs s.base b →
+            state_ended plan made (closing_in fs (deleted 1 (with_storage (changed (arguments_in (closing_in fs (deleted 1 s))) change (storage_of s)) s)))
+            ≡ state_after plan made change (closing_in fs (deleted 1 s))
+        by_frames [] h = absurd h
+        by_frames (f ∷ fs) h = refl

@@ -1,0 +1,71 @@
+use Rattle.std.proofs.Common.{◌≡◌, List, length, refl, reverse, sym, ap, ◌∙◌, subst, arith}
+use Rattle.std.specs.Prelude.{IsSomeAnd}
+use Rattle.trac_rules.specs.Proper.{IsProperStorage}
+use Rattle.trac_rules.specs.Scanning.{scan}
+use Rattle.trac_rules.specs.State.{State, Frame, storage_of}
+use Rattle.trac_rules.specs.Undone.{storage_before}
+use Rattle.trac_forms.specs.Stored.{KnowsAll, storage_in}
+use Rattle.trac_text.specs.Neutral.{AreMarks, MarkedText, Neutral, neutral_of}
+use Rattle.trac_change.specs.Undone.{undone_in}
+use Rattle.trac_step.specs.Calling.{arguments_in}
+use Rattle.trac_step.specs.Layout.{parts_of, Shown}
+use Rattle.trac_step.proofs.CallsPlanned.{arguments_found}
+use Rattle.trac_step.proofs.CallsUndone.{marked_same}
+use Rattle.trac_step.proofs.Storages.{known_before, proper_before, stored_shows, stored_sound}
+use Rattle.trac_step.proofs.engine.Core.restore_storage.Goals as goal
+
+pub new-text-requires : goal.new-text-requires
+new-text-requires g c =
+    subst (λ (m : MarkedText). AreMarks (length m.text) (reverse m.marks)) (sym (marked_same _ _ _ _ c.left.ensures.left c.left-2.ensures.left)) c.self.invariant.ordered
+
+pub unreachable-requires : goal.unreachable-requires
+unreachable-requires g c =
+    let s = c.args.self.now.state in
+    let i = c.self.inside in
+    let state_is = ap (λ (m : Shown). m.state) c.self.view_is in
+    let read = ap neutral_of (c.new-text.ensures ∙ marked_same _ _ _ _ c.left.ensures.left c.left-2.ensures.left) ∙ ap (λ (t : State). let n : Neutral = record { base = t.base; frames = t.frames } in n) state_is in
+    absurd (omega (arith, c.requires.inside, ap (λ (n : Neutral). length n.frames) read, ap (λ (fs : List Frame). length fs) c.in_default.ensures))
+
+pub put_storage-requires : goal.put_storage-requires
+put_storage-requires g c =
+    let s = c.args.self.now.state in
+    let i = c.self.inside in
+    let state_is = ap (λ (m : Shown). m.state) c.self.view_is in
+    let read = ap neutral_of (c.new-text.ensures ∙ marked_same _ _ _ _ c.left.ensures.left c.left-2.ensures.left) ∙ ap (λ (t : State). let n : Neutral = record { base = t.base; frames = t.frames } in n) state_is in
+    let f = c.in-Some.function in
+    let given = arguments_found s c.new-text.result f.number f.place f.kind f.arguments c.requires.front read c.in-Some.ensures in
+    let same : storage_before f.arguments (undone_in c.args.change) (storage_in i.store) ≡ storage_before (arguments_in (scan s)) (undone_in c.args.change) (storage_of s) =
+    λ j. storage_before (given j) (undone_in c.args.change) (storage_of (state_is j)) in
+    known_before i.store.known _ _ same
+    (subst (λ (m : Shown). IsSomeAnd (storage_before (arguments_in (scan s)) (undone_in c.args.change) (storage_of s)) (λ storage. KnowsAll m.known storage.forms × IsProperStorage storage)) (sym c.self.view_is) c.requires.there)
+
+pub invariant_of-self : goal.invariant_of-self
+invariant_of-self g c =
+    let s = c.args.self.now.state in
+    let i = c.self.inside in
+    let state_is = ap (λ (m : Shown). m.state) c.self.view_is in
+    let read = ap neutral_of (c.new-text.ensures ∙ marked_same _ _ _ _ c.left.ensures.left c.left-2.ensures.left) ∙ ap (λ (t : State). let n : Neutral = record { base = t.base; frames = t.frames } in n) state_is in
+    let f = c.in-Some.function in
+    let given = arguments_found s c.new-text.result f.number f.place f.kind f.arguments c.requires.front read c.in-Some.ensures in
+    let same : storage_before f.arguments (undone_in c.args.change) (storage_in i.store) ≡ storage_before (arguments_in (scan s)) (undone_in c.args.change) (storage_of s) =
+    λ j. storage_before (given j) (undone_in c.args.change) (storage_of (state_is j)) in
+    let after = c.put_storage.new.store in
+    stored_sound (parts_of (g.E.TwoEnds.ends c.self.inside.text) (g.M.TwoEnds.ends c.self.inside.marks) c.self.inside.store c.self.inside.meta c.self.inside.trace c.self.inside.position c.self.inside.output) (storage_in after) after.known after.spare c.self.invariant
+    (proper_before c.args.self.now.known _ (storage_in after) (sym same ∙ c.put_storage.ensures.storage) c.requires.there)
+
+pub returns : goal.returns
+returns g c =
+    let s = c.args.self.now.state in
+    let i = c.self.inside in
+    let state_is = ap (λ (m : Shown). m.state) c.self.view_is in
+    let read = ap neutral_of (c.new-text.ensures ∙ marked_same _ _ _ _ c.left.ensures.left c.left-2.ensures.left) ∙ ap (λ (t : State). let n : Neutral = record { base = t.base; frames = t.frames } in n) state_is in
+    let f = c.in-Some.function in
+    let given = arguments_found s c.new-text.result f.number f.place f.kind f.arguments c.requires.front read c.in-Some.ensures in
+    let same : storage_before f.arguments (undone_in c.args.change) (storage_in i.store) ≡ storage_before (arguments_in (scan s)) (undone_in c.args.change) (storage_of s) =
+    λ j. storage_before (given j) (undone_in c.args.change) (storage_of (state_is j)) in
+    record {
+      back = sym same ∙ c.put_storage.ensures.storage;
+      others =
+          stored_shows (g.E.TwoEnds.ends i.text) (g.M.TwoEnds.ends i.marks) i.store c.put_storage.new.store i.meta i.trace i.position i.output c.args.self.now (storage_in c.put_storage.new.store) c.self.view_is refl
+          c.put_storage.ensures.names;
+    }

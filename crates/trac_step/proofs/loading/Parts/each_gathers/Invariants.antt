@@ -1,7 +1,0 @@
--- The functions so far have arguments.
-use Rattle.std.proofs.Common.{take}
-use Rattle.trac_step.specs.Loading.{EachGathers}
-use Rattle.trac_step.proofs.loading.Parts.each_gathers.Given as goal
-
-abbrev pub invariant-loop-arguments : goal.invariant-loop-arguments
-invariant-loop-arguments g l = EachGathers (take l.arguments-index l.self.frames.items)

@@ -1,5 +1,0 @@
-use Rattle.trac_step.proofs.Depth.{IsOpen}
-use Rattle.trac_step.proofs.matching.match_in.Given as goal
-
-abbrev pub invariant-loop-i : goal.invariant-loop-i
-invariant-loop-i l = IsOpen l.text l.i l.depth

@@ -1,8 +1,0 @@
--- The names so far.
-use Rattle.std.proofs.Common.{◌≡◌, take}
-use Rattle.trac_rules.specs.Undone.{names_in}
-use Rattle.trac_prims.specs.Effects.{named_forms, texts_of}
-use Rattle.trac_step.proofs.storing.names_of.Given as goal
-
-abbrev pub invariant-loop-name : goal.invariant-loop-name
-invariant-loop-name g l = texts_of l.names.items ≡ names_in (named_forms (take l.name-index l.forms))

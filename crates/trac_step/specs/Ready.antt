@@ -1,0 +1,55 @@
+-- A call that is planned, and may be performed.
+use Rattle.std.specs.Prelude.{◌≡◌, ◌+◌, ◌≤◌, length, Some, Ok}
+use Rattle.std.specs.List.{concat}
+use Rattle.trac_rules.specs.declared.scan.Front.TheVariants.{Closing}
+use Rattle.trac_rules.specs.Limits.{text_bytes}
+use Rattle.trac_rules.specs.Proper.{IsProper, IsProperStorage}
+use Rattle.trac_rules.specs.Records.{Called, Record, record_of}
+use Rattle.trac_rules.specs.Scanning.{front_of, scan}
+use Rattle.trac_rules.specs.State.{Environment, State, storage_of}
+use Rattle.trac_rules.specs.Stepping.{step}
+use Rattle.trac_change.specs.declared.change.Change.{Change}
+use Rattle.trac_prims.specs.declared.effect.Made.{Made}
+use Rattle.trac_change.specs.Changes.{NamesGiven, undone_of}
+use Rattle.trac_change.specs.Changed.{changed}
+use Rattle.trac_journal.specs.Told.{record_with}
+use Rattle.trac_text.specs.declared.calls.Beginning.{Beginning}
+use Rattle.trac_step.specs.declared.calling.Plan.{Plan}
+use Rattle.trac_step.specs.Calling.{BeginsInnermost, arguments_in, state_after, state_ended}
+use Rattle.trac_step.specs.Layout.{Shown}
+
+-- the record of the call at which a state stands, where it is planned so
+abbrev pub recorded_after : {A : Type 0} → Plan → Change A → State → Record
+recorded_after plan change s = Called (record_with plan.called (arguments_in (scan s)) (undone_of change (storage_of s)))
+
+-- a state stands at a call, of which this is planned: it may be performed
+pub record IsReady {A : Type 0} (s : State) (made : Made A) (plan : Plan) (change : Change A) : Type 0 where
+  pub front : front_of s.active ≡ Closing
+  pub begins : BeginsInnermost s plan.beginning
+  pub position : plan.position ≡ s.position + plan.called.read
+  pub bytes : plan.bytes ≡ length (concat (arguments_in (scan s)))
+  pub commas : plan.commas + 1 ≡ length (arguments_in (scan s))
+  pub given : NamesGiven (arguments_in (scan s)) (storage_of s) change
+  pub proper : IsProper (state_after plan made change (scan s))
+
+-- and then the step leads where the rules say, and its record is that of the rules
+pub record IsPlanned {A : Type 0} (environment : Environment) (s : State) (made : Made A) (plan : Plan) (change : Change A) : Type 0 where
+  pub ready : IsReady s made plan change
+  pub taken : step environment s ≡ Ok (state_after plan made change (scan s))
+  pub recorded : record_of environment s ≡ Some (recorded_after plan change s)
+
+-- forms and blocks can be changed so, by the call at which a state stands, whose function begins here
+pub record CanChange {A : Type 0} (s : State) (beginning : Beginning) (change : Change A) : Type 0 where
+  pub front : front_of s.active ≡ Closing
+  pub begins : BeginsInnermost s beginning
+  pub given : NamesGiven (arguments_in (scan s)) (storage_of s) change
+  pub proper : IsProperStorage (changed (arguments_in (scan s)) change (storage_of s))
+
+-- the call of which this is planned can be ended, its change of forms and blocks being made
+pub record CanEnd {A : Type 0} (m : Shown) (made : Made A) (plan : Plan) : Type 0 where
+  pub front : front_of m.state.active ≡ Closing
+  pub begins : BeginsInnermost m.state plan.beginning
+  pub position : plan.position ≡ m.state.position + plan.called.read
+  pub text_room : text_bytes m.state + length made.value.items ≤ m.text_room
+  pub output_room : length m.state.output + length made.print.items ≤ m.output_room
+  pub proper : IsProper (state_ended plan made (scan m.state))

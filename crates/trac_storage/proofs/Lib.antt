@@ -1,0 +1,12 @@
+pub mod Known
+pub mod Emptied
+pub mod Outcomes
+pub mod Pointers
+pub mod MovedForms
+pub mod Replacing
+pub mod Clearing
+pub mod StorageBack
+pub mod Entries
+pub mod Filling
+pub mod Judged
+pub mod Loaded

@@ -1,0 +1,123 @@
+-- Forms that are moved into a block one after another, and names that are known for forms to come.
+use Rattle.std.proofs.Common.{◌≡◌, ℕ, ◌+◌, ◌<◌, Bool, true, false, cond, ◌||◌, List, [], ◌∷◌, ◌++◌, length, take, get_or, refl, sym, ap, subst, ◌∙◌, ⊎_elim, IsTrue}
+use Rattle.std.specs.Prelude.{None, Some, bytes_eq, Vec}
+use Rattle.std.specs.FinMap as finite
+use Rattle.std.specs.FinSet as set
+use Rattle.std.specs.List.{list_any}
+use Rattle.std.proofs.lemmas.Bool.{cases_Bool}
+use Rattle.std.proofs.lemmas.List.{append_assoc, map-append, take_more}
+use Rattle.std.proofs.lemmas.List.Folds.{list_any-append}
+use Rattle.trac_forms.specs.Stored.{Names, Stored}
+use Rattle.trac_change.specs.Changed.{named_forms}
+use Rattle.trac_text.specs.Framing.{texts_of}
+use Rattle.trac_rules.specs.Blocks.{moved_out, with_name}
+use Rattle.trac_rules.specs.Form.{Form}
+use Rattle.trac_rules.specs.Handling.{without}
+use Rattle.trac_rules.specs.State.{Forms, Held}
+use Rattle.trac_change.proofs.Found.{taken_get}
+use Rattle.trac_storage.specs.Changing.{AreAmong, KnowsNamed}
+
+-- ---- forms that leave
+
+-- a form of this name is held
+abbrev pub holds : List ℕ → Held → Bool
+holds name held = list_any (λ entry. bytes_eq name entry.0) held
+
+-- no name of a form that is held has a form
+abbrev pub HaveLeft : Held → Forms → Type 0
+HaveLeft held forms = (q : List ℕ) → holds q held ≡ true → finite.get forms q ≡ None
+
+-- nothing held comes back where a form is taken
+pub still_left : (held : Held) (forms : Forms) (name : List ℕ) → HaveLeft held forms → HaveLeft held (finite.remove forms name)
+still_left held forms name left q t = taken_get forms name q ∙ either (bytes_eq q name)
+  where
+    either : (b : Bool) → cond b None (finite.get forms q) ≡ None
+    either true = refl
+    either false = left q t
+
+-- one of two is so, and it is not the second
+first_of_two : (a b : Bool) → (a || (b || false)) ≡ true → b ≡ false → a ≡ true
+first_of_two true b e unset = refl
+first_of_two false false e unset = e
+first_of_two false true e unset = sym unset
+
+-- and the form that is taken may be held
+pub left_too : (held : Held) (forms : Forms) (name : List ℕ) (form : Form) → HaveLeft held forms → HaveLeft (held ++ (name, form) ∷ []) (finite.remove forms name)
+left_too held forms name form left q t =
+    taken_get forms name q
+    ∙ ⊎_elim
+    (λ (same : bytes_eq q name ≡ true). rw same refl)
+    (λ (other : bytes_eq q name ≡ false).
+    let either : (holds q held || (bytes_eq q name || false)) ≡ true = sym (list_any-append (λ (entry : List ℕ × Form). bytes_eq q entry.0) held ((name, form) ∷ [])) ∙ t in
+    rw other (left q (first_of_two (holds q held) (bytes_eq q name) either other)))
+    (cases_Bool (bytes_eq q name))
+
+-- a form that is taken is the next one that moves
+pub moves_next : (held : Held) (forms : Forms) (name : List ℕ) (form : Form) (names : List (List ℕ)) (all : Held) → Some form ≡ finite.get forms name →
+    held ++ moved_out (name ∷ names) forms ≡ all → (held ++ (name, form) ∷ []) ++ moved_out names (finite.remove forms name) ≡ all
+moves_next held forms name form names all there so_far =
+    append_assoc held ((name, form) ∷ []) (moved_out names (finite.remove forms name))
+    ∙ ap (λ found. held ++ (with_name name found ++ moved_out names (finite.remove forms name))) there
+    ∙ so_far
+
+-- a name without a form moves nothing
+pub moves_none : (held : Held) (forms : Forms) (name : List ℕ) (names : List (List ℕ)) (all : Held) → None ≡ finite.get forms name →
+    held ++ moved_out (name ∷ names) forms ≡ all → held ++ moved_out names (finite.remove forms name) ≡ all
+moves_none held forms name names all missing so_far =
+    ap (λ found. held ++ (with_name name found ++ moved_out names (finite.remove forms name))) missing ∙ so_far
+
+-- the next name's form is taken from a store
+module _ {A : Type 0} (store taken : Stored) (items rest : List (Vec ℕ A)) (name : Vec ℕ A) (now : List ℕ) (gone : taken ≡ record store { forms = finite.remove store.forms now })
+    (is : now ≡ name.items) (steps : items ≡ name ∷ rest) where
+  pub left_next : (all : Stored) → record store { forms = without (texts_of items) store.forms } ≡ all → record taken { forms = without (texts_of rest) taken.forms } ≡ all
+  left_next all so_far =
+      ap (λ (s : Stored). let kept : Stored = record s { forms = without (texts_of rest) s.forms } in kept) gone
+      ∙ ap (λ n. let kept : Stored = record store { forms = without (texts_of rest) (finite.remove store.forms n) } in kept) is
+      ∙ ap (λ (ns : List (Vec ℕ A)). let kept : Stored = record store { forms = without (texts_of ns) store.forms } in kept) (sym steps)
+      ∙ so_far
+
+  pub moved_next : (held put : Held) (form : Form) (all : Held) → Some form ≡ finite.get store.forms now → put ≡ held ++ (name.items, form) ∷ [] →
+      held ++ moved_out (texts_of items) store.forms ≡ all → put ++ moved_out (texts_of rest) taken.forms ≡ all
+  moved_next held put form all there put_is so_far =
+      ap (λ (hs : Held). hs ++ moved_out (texts_of rest) taken.forms) put_is
+      ∙ ap (λ (s : Stored). (held ++ (name.items, form) ∷ []) ++ moved_out (texts_of rest) s.forms) gone
+      ∙ ap (λ n. (held ++ (name.items, form) ∷ []) ++ moved_out (texts_of rest) (finite.remove store.forms n)) is
+      ∙ moves_next held store.forms name.items form (texts_of rest) all (there ∙ ap (finite.get store.forms) is)
+      (ap (λ (ns : List (Vec ℕ A)). held ++ moved_out (texts_of ns) store.forms) (sym steps) ∙ so_far)
+
+  pub none_next : (held all : Held) → None ≡ finite.get store.forms now → held ++ moved_out (texts_of items) store.forms ≡ all → held ++ moved_out (texts_of rest) taken.forms ≡ all
+  none_next held all missing so_far =
+      ap (λ (s : Stored). held ++ moved_out (texts_of rest) s.forms) gone
+      ∙ ap (λ n. held ++ moved_out (texts_of rest) (finite.remove store.forms n)) is
+      ∙ moves_none held store.forms name.items (texts_of rest) all (missing ∙ ap (finite.get store.forms) is)
+      (ap (λ (ns : List (Vec ℕ A)). held ++ moved_out (texts_of ns) store.forms) (sym steps) ∙ so_far)
+
+  pub left_still : (held : Held) → HaveLeft held store.forms → HaveLeft held taken.forms
+  left_still held left = subst (λ (s : Stored). HaveLeft held s.forms) (sym gone) (still_left held store.forms now left)
+
+  pub left_also : (held put : Held) (form : Form) → put ≡ held ++ (name.items, form) ∷ [] → HaveLeft held store.forms → HaveLeft put taken.forms
+  left_also held put form put_is left =
+      subst (λ (hs : Held). HaveLeft hs taken.forms) (sym put_is)
+      (subst (λ (s : Stored). HaveLeft (held ++ (name.items, form) ∷ []) s.forms) (sym gone)
+      (subst (λ n. HaveLeft (held ++ (n, form) ∷ []) (finite.remove store.forms now)) is (left_too held store.forms now form left)))
+
+-- ---- names that are known
+
+pub knows_still : (held : Held) (known more : Names) → AreAmong known more → KnowsNamed held known → KnowsNamed held more
+knows_still [] known more among knows = tt
+knows_still (entry ∷ held) known more among knows = (among entry.0 knows.0, knows_still held known more among knows.1)
+
+knows_more : (held : Held) (known : Names) (entry : List ℕ × Form) → KnowsNamed held known → IsTrue (set.contains known entry.0) → KnowsNamed (held ++ entry ∷ []) known
+knows_more [] known entry knows here = (here, tt)
+knows_more (first ∷ held) known entry knows here = (knows.0, knows_more held known entry knows.1 here)
+
+-- one more name is known
+pub knows_next : {A : Type 0} (all : List (Vec ℕ A × Form)) (i : ℕ) (entry : Vec ℕ A × Form) (known more : Names) → i < length all → entry ≡ get_or all i entry → AreAmong known more →
+    IsTrue (set.contains more entry.0.items) → KnowsNamed (named_forms (take i all)) known → KnowsNamed (named_forms (take (i + 1) all)) more
+knows_next {A} all i entry known more within is among here knows =
+    subst (λ (held : Held). KnowsNamed held more)
+    (sym (
+    ap named_forms (take_more all i entry within ∙ ap (λ (e : Vec ℕ A × Form). take i all ++ e ∷ []) (sym is))
+    ∙ map-append (λ (e : Vec ℕ A × Form). (e.0.items, e.1)) (take i all) (entry ∷ [])
+    ))
+    (knows_more (named_forms (take i all)) more (entry.0.items, entry.1) (knows_still (named_forms (take i all)) known more among knows) here)

@@ -1,0 +1,19 @@
+use Rattle.std.proofs.Common.{List, ℕ, ap, ◌∙◌, arith}
+use Rattle.std.specs.Prelude.{Vec}
+use Rattle.std.proofs.lemmas.List.{take_all}
+use Rattle.trac_rules.specs.Form.{Form}
+use Rattle.trac_change.specs.Changed.{named_forms}
+use Rattle.trac_rules.specs.Undone.{names_in}
+use Rattle.trac_storage.proofs.Entries.{names_next}
+use Rattle.trac_storage.proofs.storing.names_of.Goals as goal
+
+pub loop-name-preserved : goal.loop-name-preserved
+loop-name-preserved g c =
+    let at = c.loop-name in
+    names_next at.names.items c.push.new.self.items c.in_ok-from_slice.field-0 c.args.forms.now at.name-index c.loop-name-item.result (omega (arith, c.loop-name-test.true)) c.loop-name-item.is
+    c.in_ok-push.ensures.items (c.in_ok-from_slice.ensures.items ∙ c.as_slice.ensures.value) at.invariant
+
+pub returns-clause-names : goal.returns-clause-names
+returns-clause-names g c =
+    c.loop-name.invariant
+    ∙ ap (λ (forms : List (Vec ℕ g.row.A.Denot × Form)). names_in (named_forms forms)) (take_all c.loop-name.name-index c.args.forms.now c.loop-name-test.false)

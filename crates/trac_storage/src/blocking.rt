@@ -1,0 +1,59 @@
+//! Moving forms into a block, and bringing copies of them back, as a call planned it.
+ghost use Rattle.std.specs.Prelude.{◌≡◌, ◌≤◌, [], length, IsOkUnless, OnOk};
+ghost use Rattle.trac_rules.specs.Blocks.{moved_out, with_all};
+ghost use Rattle.trac_rules.specs.Handling.{without};
+ghost use Rattle.trac_forms.specs.Stored.{storage_in};
+ghost use Rattle.trac_change.specs.Changed.{named_forms};
+ghost use Rattle.trac_text.specs.Framing.{texts_of};
+ghost use Rattle.trac_storage.specs.Changing.{AreAmong, KnowsNamed};
+
+use std::alloc::Allocator;
+use trac_forms::{Block, Form, FormError, Store};
+
+/// A form with its name.
+pub(crate) type Named<A> = (Vec<u8, A>, Form<A>);
+
+// Makes a place for each of these forms. The forms of the store stay as they are.
+pub(crate) fn know_each<A: Allocator + Copy>(
+    store: &mut Store<A>,
+    forms: &[Named<A>],
+) -> Result<(), FormError>
+    ensures known { OnOk result (KnowsNamed (named_forms forms.now) store.new.known) }
+    ensures kept { storage_in store.new ≡ storage_in store.old }
+    ensures names { AreAmong store.old.known store.new.known }
+    ensures err { IsOkUnless result FormError.Memory }
+{
+    for (name, _form) in forms {
+        store.know(name.as_slice())?;
+    }
+    Ok(())
+}
+
+// Moves the forms of these names out of the store into a block that has places for them and holds none; a name
+// without a form is passed over.
+pub(crate) fn move_into<A: Allocator + Copy>(
+    store: &mut Store<A>,
+    names: Vec<Vec<u8, A>, A>,
+    block: &mut Block<A>,
+)
+    requires none { block.old.held ≡ [] }
+    requires room { length names.items ≤ block.old.room }
+    ensures store { store.new ≡ record store.old { forms = without (texts_of names.items) store.old.forms } }
+    ensures block { block.new.held ≡ moved_out (texts_of names.items) store.old.forms }
+{
+    for name in names {
+        if let Some(form) = store.take(name.as_slice()) {
+            block.push(name, form);
+        }
+    }
+}
+
+// Puts forms under their names, which are known.
+pub(crate) fn put_each<A: Allocator + Copy>(store: &mut Store<A>, forms: Vec<Named<A>, A>)
+    requires { KnowsNamed (named_forms forms.items) store.old.known }
+    ensures { store.new ≡ record store.old { forms = with_all (named_forms forms.items) store.old.forms } }
+{
+    for (name, form) in forms {
+        store.put(name.as_slice(), form);
+    }
+}

@@ -1,0 +1,130 @@
+//! The way back over a call, on forms and blocks.
+ghost use Rattle.std.specs.Prelude.{◌≡◌, None, Some};
+ghost use Rattle.trac_rules.specs.Blocks.{with_all};
+ghost use Rattle.trac_rules.specs.Handling.{keeping, without};
+ghost use Rattle.trac_rules.specs.Undone.{MoveOut, names_in, storage_before, swapped_back, unbrought, unerased};
+ghost use Rattle.trac_forms.specs.Stored.{storage_in};
+ghost use Rattle.trac_change.specs.Changed.{named_forms};
+ghost use Rattle.trac_storage.specs.Changing.{KnowsNamed};
+ghost use Rattle.trac_storage.specs.Returning.{KnowsBefore};
+ghost use Rattle.trac_change.specs.Undone.{undone_in};
+
+use crate::blocking::put_each;
+use std::alloc::Allocator;
+use trac_change::{Undone, after};
+use trac_forms::{Block, Form, Store};
+use trac_text::Args;
+
+/// Puts back what a call of these arguments destroyed of forms and blocks. It takes no memory, and forgets no name; the names
+/// of the forms before have to be known (this project's profile: T-64 says nothing of ways back).
+pub fn put_storage<A: Allocator + Copy>(
+    store: &mut Store<A>,
+    arguments: &Args<'_>,
+    change: Undone<A>,
+)
+    requires { KnowsBefore store.old.known (storage_before arguments.now (undone_in change) (storage_in store.old)) }
+    ensures storage { storage_before arguments.now (undone_in change) (storage_in store.old) ≡ Some (storage_in store.new) }
+    ensures names { store.new.known ≡ store.old.known }
+{
+    let name = arguments.get(1);
+    match change {
+        Undone::Nothing => {}
+        Undone::Point(place) => {
+            store.set_pointer(name, place);
+        }
+        Undone::Join { cut, pointer } => store.unsegment(name, cut, &after(arguments, 2), pointer),
+        Undone::Swap(old) => swap(store, name, old),
+        Undone::Restore(forms) => put_each(store, forms),
+        Undone::MoveOut(old) => move_out(store, arguments, old),
+        Undone::Unbring { number, replaced } => unbring(store, number, replaced),
+        Undone::Unerase {
+            number,
+            block,
+            address,
+        } => unerase(store, name, number, block, address),
+    }
+}
+
+// Puts a form under a name again, or takes away the one that is there.
+fn swap<A: Allocator + Copy>(store: &mut Store<A>, name: &[u8], old: Option<Form<A>>)
+    requires { KnowsBefore store.old.known (Some (keeping (swapped_back name.now old store.old.forms) (storage_in store.old))) }
+    ensures { store.new ≡ record store.old { forms = swapped_back name.now old store.old.forms } }
+{
+    match old {
+        Some(form) => store.put(name, form),
+        None => store.take(name),
+    };
+}
+
+// Takes the last block off the list, puts a form again under the name that the arguments give, or takes it away, and then
+// puts back what the block holds.
+fn move_out<A: Allocator + Copy>(store: &mut Store<A>, arguments: &Args<'_>, old: Option<Form<A>>)
+    requires { KnowsBefore store.old.known (storage_before arguments.now (MoveOut old) (storage_in store.old)) }
+    ensures storage { storage_before arguments.now (MoveOut old) (storage_in store.old) ≡ Some (storage_in store.new) }
+    ensures names { store.new.known ≡ store.old.known }
+{
+    let name = arguments.get(1);
+    let Some(block) = store.pop_block() else {
+        unreachable!()
+    };
+    swap(store, name, old);
+    put_held(store, block);
+}
+
+// Puts what a block holds among the forms.
+fn put_held<A: Allocator + Copy>(store: &mut Store<A>, mut block: Block<A>)
+    requires { KnowsNamed block.held store.old.known }
+    ensures { store.new ≡ record store.old { forms = with_all block.held store.old.forms } }
+{
+    // `len` is called for its clause that no name stands twice: so they may come from the last one on.
+    let _len = block.len();
+    while let Some((name, form)) = block.pop() {
+        store.put(name.as_slice(), form);
+    }
+}
+
+// Takes away the forms of all names in the block of this number, and puts back those that they replaced.
+fn unbring<A: Allocator + Copy>(
+    store: &mut Store<A>,
+    number: usize,
+    replaced: Vec<(Vec<u8, A>, Form<A>), A>,
+)
+    requires { KnowsBefore store.old.known (unbrought number (named_forms replaced.items) (storage_in store.old)) }
+    ensures storage { unbrought number (named_forms replaced.items) (storage_in store.old) ≡ Some (storage_in store.new) }
+    ensures names { store.new.known ≡ store.old.known }
+{
+    let Some(block) = store.take_block(number) else {
+        unreachable!()
+    };
+    take_named(store, &block);
+    store.set_block(number, block);
+    put_each(store, replaced);
+}
+
+// Takes away the forms of all names in a block.
+fn take_named<A: Allocator + Copy>(store: &mut Store<A>, block: &Block<A>)
+    ensures { store.new ≡ record store.old { forms = without (names_in block.now.held) store.old.forms } }
+{
+    for i in 0..block.len() {
+        let Some((name, _form)) = block.get(i) else {
+            unreachable!()
+        };
+        store.take(name);
+    }
+}
+
+// Puts a block in the place of the erased one of this number, and its address under a name.
+fn unerase<A: Allocator + Copy>(
+    store: &mut Store<A>,
+    name: &[u8],
+    number: usize,
+    block: Block<A>,
+    address: Form<A>,
+)
+    requires { KnowsBefore store.old.known (unerased number block.held name.now address (storage_in store.old)) }
+    ensures storage { unerased number block.held name.now address (storage_in store.old) ≡ Some (storage_in store.new) }
+    ensures names { store.new.known ≡ store.old.known }
+{
+    store.set_block(number, block);
+    store.put(name, address);
+}

@@ -1,0 +1,5 @@
+pub mod Known
+pub mod Splitting
+pub mod Gathered
+pub mod Taped
+pub mod ShownLists

@@ -1,0 +1,22 @@
+//! What a run, the debugger and a walk have in common: options, tapes and lines from a reader, whole texts to a writer, bytes and
+//! numbers as they are shown, and how it ended.
+#![tactic(auto)]
+
+mod ending;
+mod escaping;
+mod finding;
+mod input;
+mod lines;
+mod options;
+mod system;
+pub mod writing;
+
+pub use ending::Ending;
+pub use escaping::{
+    byte_into, escaped_into, lead_into, number_into, number_line_into, text_into, text_line_into,
+};
+pub use finding::place_of;
+pub use input::{READ_SIZE, read_tape};
+pub use lines::{Front, LINE_COUNT_LIMIT, LINE_LIMIT, Lines};
+pub use options::{BUDGET_LIMIT, DEFAULT_BUDGET, Options, budget_of};
+pub use system::{say, tape_in};

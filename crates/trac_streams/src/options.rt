@@ -1,0 +1,34 @@
+//! What a run may be asked for.
+ghost use Rattle.std.specs.Prelude.{◌≡◌, ◌≤◌, MatchOption};
+
+use trac_rules::width::Width;
+
+/// The most steps that a run may be allowed (this project's profile).
+pub const BUDGET_LIMIT: u64 = 1_000_000_000_000;
+
+/// How many steps a run may take where nothing else is said (this project's profile).
+pub const DEFAULT_BUDGET: u64 = 1_000_000_000;
+
+/// The options of a run.
+#[derive(Clone, Copy, Debug, PartialEq, Eq)]
+pub struct Options {
+    /// How many steps it may take: 1 to 1,000,000,000,000.
+    pub budget: u64,
+    /// How many records its journal may hold: 1 to 1,048,576.
+    pub journal: usize,
+    /// How wide its numbers are.
+    pub decimals: Width,
+}
+
+/// How many steps a run may take where so many are asked for: as many, within the range, or the default number where none is
+/// said (this project's profile).
+pub fn budget_of(asked: Option<u64>) -> u64
+    ensures some { 1 ≤ result }
+    ensures most { result ≤ BUDGET_LIMIT }
+    ensures asked { MatchOption asked (result ≡ DEFAULT_BUDGET) (λ budget. 1 ≤ budget → budget ≤ BUDGET_LIMIT → result ≡ budget) }
+{
+    match asked {
+        Some(budget) => budget.clamp(1, BUDGET_LIMIT),
+        None => DEFAULT_BUDGET,
+    }
+}

@@ -1,0 +1,12 @@
+pub mod Cutting
+pub mod Neutral
+pub mod Ending
+pub mod Peeling
+pub mod Walking
+pub mod Depth
+pub mod Protected
+pub mod Marking
+pub mod Framed
+pub mod Joined
+pub mod NeutralAgain
+pub mod TakenOut

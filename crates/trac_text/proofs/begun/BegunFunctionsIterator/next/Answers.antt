@@ -1,0 +1,46 @@
+-- The next function is the innermost of the front that ends where the one after it begins.
+use Rattle.std.proofs.Common.{◌≡◌, ◌+◌, ◌<◌, List, [], drop, length, sym, ap, ◌∙◌, subst, take, arith, rules}
+use Rattle.std.specs.Prelude.{slice_get}
+use Rattle.trac_rules.specs.State.{Frame}
+use Rattle.trac_text.specs.Cuts.{function_count}
+use Rattle.trac_text.specs.Frames.{IsFrame}
+use Rattle.trac_text.specs.Neutral.{MarkedText}
+use Rattle.trac_text.proofs.Walking.{front_has_frames, function_counts, gives_frame, none_left, one_less, others_left}
+use Rattle.trac_text.proofs.begun.BegunFunctionsIterator.next.Goals as goal
+
+pub returns-then-self-clause-steps : goal.returns-then-self-clause-steps
+returns-then-self-clause-steps c =
+    let m : MarkedText = record { text = c.self.inside.text.now; marks = c.self.inside.marks.now } in
+    let none : c.args.self.now ≡ [] = sym c.self.view_is ∙ none_left m c.self.inside.next (omega (arith, c.if-self.true)) in
+    (none, none)
+
+pub returns-in_err-innermost-clause-steps : goal.returns-in_err-innermost-clause-steps
+returns-in_err-innermost-clause-steps c =
+    let m : MarkedText = record { text = c.self.inside.text.now; marks = c.self.inside.marks.now } in
+    let inside : c.self.inside.next < length m.marks = omega (arith, c.self.invariant.1.within, c.if-self.false) in
+    let one_more : function_count (take c.next_function-self-inside.result m.marks) ≡ function_count (take c.self.inside.next m.marks) + 1 =
+    c.next_function-self-inside.ensures.count ∙ function_counts m.marks c.self.inside.next c.self.invariant.1 inside in
+    absurd (front_has_frames m c.front_of-front.result c.self.inside.next c.next_function-self-inside.result c.front_of-front.ensures one_more c.in_err-innermost.ensures)
+
+pub returns-clause-steps : goal.returns-clause-steps
+returns-clause-steps c =
+    let m : MarkedText = record { text = c.self.inside.text.now; marks = c.self.inside.marks.now } in
+    let inside : c.self.inside.next < length m.marks = omega (arith, c.self.invariant.1.within, c.if-self.false) in
+    let one_more : function_count (take c.next_function-self-inside.result m.marks) ≡ function_count (take c.self.inside.next m.marks) + 1 =
+    c.next_function-self-inside.ensures.count ∙ function_counts m.marks c.self.inside.next c.self.invariant.1 inside in
+    let inner = c.in_ok-innermost.innermost in (
+      subst (λ (fs : List Frame). IsFrame (slice_get fs 0) inner.kind inner.arguments) c.self.view_is
+          (gives_frame m c.front_of-front.result c.self.inside.next c.next_function-self-inside.result c.front_of-front.ensures one_more
+          inner.number inner.place inner.kind inner.arguments c.in_ok-innermost.ensures),
+      others_left m c.front_of-front.result c.self.inside.next c.next_function-self-inside.result c.front_of-front.ensures one_more
+          ∙ ap (λ (fs : List Frame). drop 1 fs) c.self.view_is,
+    )
+
+pub returns-clause-goes : goal.returns-clause-goes
+returns-clause-goes c =
+    let m : MarkedText = record { text = c.self.inside.text.now; marks = c.self.inside.marks.now } in
+    let inside : c.self.inside.next < length m.marks = omega (arith, c.self.invariant.1.within, c.if-self.false) in
+    let one_more : function_count (take c.next_function-self-inside.result m.marks) ≡ function_count (take c.self.inside.next m.marks) + 1 =
+    c.next_function-self-inside.ensures.count ∙ function_counts m.marks c.self.inside.next c.self.invariant.1 inside in
+    let shorter = one_less m c.front_of-front.result c.self.inside.next c.next_function-self-inside.result c.front_of-front.ensures one_more ∙ ap length c.self.view_is in
+    search rules

@@ -1,0 +1,94 @@
+//! The arguments of a function, borrowed from the neutral text.
+ghost use Rattle.std.specs.Prelude.{◌≡◌, ◌≤◌, ◌+◌, ◌-◌, [], length, get_or, take, drop};
+ghost use Rattle.std.specs.List.{concat};
+ghost use Rattle.trac_text.specs.Cuts.{AreCuts, cut, start_of, end_of};
+
+use crate::mark::Mark;
+use std::marker::Model;
+
+/// Arguments that lie one after another in a text: seen as the list of these texts.
+#[derive(Drop)]
+pub struct Args<'a> {
+    text: &'a [u8],
+    marks: &'a [Mark],
+    from: usize,
+}
+
+impl<'a> Model for Args<'a> {
+    ghost use Rattle.std.specs.Prelude.{ℕ, List, length};
+    ghost use Rattle.trac_text.specs.Cuts.{AreCuts, cut};
+
+    ghost Value = { List (List ℕ) };
+
+    ghost view = { λ a. cut a.from a.marks.now a.text.now };
+
+    ghost invariant = { λ a. AreCuts a.from a.marks.now (length a.text.now) };
+}
+
+impl<'a> Args<'a> {
+    /// The text from the place `from` on, cut at the places of the marks: one argument more than there are marks.
+    /// Places count bytes. They may not fall, nor pass the end of the text. Nothing is copied (this project's profile).
+    pub fn new(text: &'a [u8], marks: &'a [Mark], from: usize) -> Args<'a>
+        requires { AreCuts from marks.now (length text.now) }
+        ensures { result ≡ cut from marks.now text.now }
+    {
+        Args { text, marks, from }
+    }
+
+    /// How many arguments there are, at least one: as T-64 has it, a call without text has one empty argument.
+    pub fn count(&self) -> usize
+        ensures { result ≡ length self.now }
+    {
+        self.marks.len() + 1
+    }
+
+    /// How many commas stand between the arguments: one less than there are arguments.
+    pub fn comma_count(&self) -> usize
+        ensures { result + 1 ≡ length self.now }
+    {
+        self.marks.len()
+    }
+
+    /// The argument of this number, from 0 on; empty past the last, as T-64 has it.
+    pub fn get(&self, i: usize) -> &'a [u8]
+        ensures { result.now ≡ get_or self.now i [] }
+    {
+        if i > self.marks.len() {
+            return &[];
+        }
+        let start = start_at(self.from, self.marks, i);
+        let end = end_at(self.text.len(), self.marks, i);
+        part(self.text, start, end)
+    }
+
+    /// The bytes of all arguments, one after another. Nothing is copied (this project's profile).
+    pub fn joined(&self) -> &'a [u8]
+        ensures { result.now ≡ concat self.now }
+    {
+        self.text.split_at(self.from).1
+    }
+}
+
+// Where the argument of this number starts.
+fn start_at(from: usize, marks: &[Mark], i: usize) -> usize
+    requires { i ≤ length marks.now }
+    ensures { result ≡ start_of from marks.now i }
+{
+    if i == 0 { from } else { marks[i - 1].place }
+}
+
+// Where the argument of this number ends, in a text of this length.
+pub(crate) fn end_at(end: usize, marks: &[Mark], i: usize) -> usize
+    ensures { result ≡ end_of end marks.now i }
+{
+    if i < marks.len() { marks[i].place } else { end }
+}
+
+// The text from one place up to another.
+fn part(text: &[u8], start: usize, end: usize) -> &[u8]
+    requires rising { start ≤ end }
+    requires within { end ≤ length text.now }
+    ensures { result.now ≡ take (end - start) (drop start text.now) }
+{
+    &text[start..end]
+}

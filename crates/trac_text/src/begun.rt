@@ -1,0 +1,101 @@
+//! The begun functions of a neutral text, one after another from the outermost on.
+ghost use Rattle.std.specs.Prelude.{◌≡◌, ◌+◌, ◌<◌, length, take, reverse};
+ghost use Rattle.trac_text.specs.Begun.{IsFront, IsNextFunction};
+ghost use Rattle.trac_text.specs.Cuts.{function_count};
+ghost use Rattle.trac_text.specs.Neutral.{AreMarks, IsOrdered, neutral_of};
+
+use crate::args::{Args, end_at};
+use crate::frames::NeutralText;
+use crate::mark::Mark;
+use std::marker::Model;
+use trac_rules::kind::Kind;
+
+/// The begun functions of a neutral text that are still to come, from the outermost on: each its kind, and all its arguments,
+/// of which the last of the innermost is being gathered. Each takes time for its own marks alone. That they are counted from
+/// outside is this project's profile.
+#[derive(Drop)]
+pub struct BegunFunctions<'a> {
+    text: &'a [u8],
+    marks: &'a [Mark],
+    // the number of the mark at which the next one begins, or how many marks there are
+    next: usize,
+}
+
+impl<'a> Model for BegunFunctions<'a> {
+    ghost use Rattle.std.specs.Prelude.{List};
+    ghost use Rattle.std.specs.Coded.{coded_list};
+    ghost use Rattle.trac_rules.specs.Codes.{frame_code};
+    ghost use Rattle.trac_rules.specs.State.{Frame};
+    ghost use Rattle.trac_text.specs.Begun.{IsNextFunction, frames_from};
+    ghost use Rattle.trac_text.specs.Neutral.{IsOrdered};
+
+    ghost Value = { List Frame };
+
+    ghost coded = { coded_list frame_code };
+
+    ghost view = { λ b. frames_from b.next (record { text = b.text.now; marks = b.marks.now }) };
+
+    ghost invariant = { λ b. (IsOrdered (record { text = b.text.now; marks = b.marks.now })) × (IsNextFunction b.marks.now b.next) };
+}
+
+impl<'a> BegunFunctions<'a> {
+    /// Those of this text with these marks, as `NeutralText::new` asks for them. Nothing is copied (this project's profile).
+    pub fn new(text: &'a [u8], marks: &'a [Mark]) -> BegunFunctions<'a>
+        requires { AreMarks (length text.now) (reverse marks.now) }
+        ensures { result ≡ reverse (neutral_of (record { text = text.now; marks = marks.now })).frames }
+    {
+        BegunFunctions {
+            text,
+            marks,
+            next: 0,
+        }
+    }
+}
+
+impl<'a> Iterator for BegunFunctions<'a> {
+    ghost use Rattle.std.specs.Iterator.{item_count};
+    ghost use Rattle.trac_text.specs.Begun.{GivesFrame};
+
+    type Item = (Kind, Args<'a>);
+
+    ghost next_gives = { GivesFrame };
+
+    ghost remaining = { item_count (λ b. b) };
+
+    fn next(&mut self) -> Option<(Kind, Args<'a>)> {
+        if self.next == self.marks.len() {
+            return None;
+        }
+        self.next = next_function(self.marks, self.next);
+        let front = front_of(self.text, self.marks, self.next);
+        let innermost = front.innermost()?;
+        Some((innermost.kind, innermost.arguments))
+    }
+}
+
+// The number of the first mark after this one that begins a function, or how many marks there are.
+#[tactic(auto, using(crate::proofs::Walking::argument_counts))]
+fn next_function(marks: &[Mark], from: usize) -> usize
+    requires { from < length marks.now }
+    ensures next { IsNextFunction marks.now result }
+    ensures count { function_count (take result marks.now) ≡ function_count (take (from + 1) marks.now) }
+{
+    let mut place = from + 1;
+    while place < marks.len() {
+        if marks[place].frame.is_some() {
+            return place;
+        }
+        place += 1;
+    }
+    place
+}
+
+// The text before the mark of this number, which begins a function, with its marks; all of it where there is no such mark.
+fn front_of<'a>(text: &'a [u8], marks: &'a [Mark], number: usize) -> NeutralText<'a>
+    requires ordered { IsOrdered (record { text = text.now; marks = marks.now }) }
+    requires next { IsNextFunction marks.now number }
+    ensures { IsFront (record { text = text.now; marks = marks.now }) number result }
+{
+    let place = end_at(text.len(), marks, number);
+    NeutralText::new(text.split_at(place).0, marks.split_at(number).0)
+}

@@ -1,0 +1,55 @@
+//! What a call makes of the lists: the texts, and the marks.
+ghost use Rattle.std.specs.Prelude.{◌≡◌, ◌+◌, ◌≤◌, length, take, drop};
+ghost use Rattle.trac_gap.specs.Ends.{item_count};
+ghost use Rattle.trac_text.specs.Moving.{with_value};
+
+use crate::mark::Mark;
+use std::alloc::Allocator;
+use trac_gap::TwoEnds;
+use trac_rules::kind::Kind;
+
+/// Where a begun function begins.
+#[derive(Clone, Copy)]
+pub struct Beginning {
+    /// The number of its mark, the first mark being number 0.
+    pub number: usize,
+    /// How many bytes of the neutral text stand before it.
+    pub place: usize,
+    /// Its kind.
+    pub kind: Kind,
+}
+
+/// Cuts off the function that begins here, at the end of the text on the left, with its marks, and its `)`, the first byte on
+/// the right. It takes no memory.
+pub fn cut_function<E: TwoEnds<u8, A>, M: TwoEnds<Mark, A>, A: Allocator + Copy>(
+    text: &mut E,
+    marks: &mut M,
+    beginning: Beginning,
+)
+    requires closing { 1 ≤ length (E.ends text.old).right }
+    requires place { beginning.place ≤ length (E.ends text.old).left }
+    requires number { beginning.number ≤ length (M.ends marks.old).left }
+    ensures text { E.ends text.new ≡ record (E.ends text.old) { left = take beginning.place (E.ends text.old).left; right = drop 1 (E.ends text.old).right } }
+    ensures marks { M.ends marks.new ≡ record (M.ends marks.old) { left = take beginning.number (M.ends marks.old).left } }
+{
+    text.cut_right(1);
+    text.cut_left(text.left().len() - beginning.place);
+    marks.cut_left(marks.left().len() - beginning.number);
+}
+
+/// Puts a value where it goes by T-64's rule: at the end of the text on the left for a neutral function, where it is not
+/// forced, else before the text on the right. There has to be room for it. It takes no memory.
+pub fn put_value<E: TwoEnds<u8, A>, A: Allocator + Copy>(
+    text: &mut E,
+    kind: Kind,
+    forced: bool,
+    value: &[u8],
+)
+    requires { item_count (E.ends text.old) + length value.now ≤ (E.ends text.old).capacity }
+    ensures { E.ends text.new ≡ with_value kind forced value.now (E.ends text.old) }
+{
+    match kind {
+        Kind::Neutral if !forced => text.put_left(value),
+        Kind::Neutral | Kind::Active => text.put_right(value),
+    }
+}

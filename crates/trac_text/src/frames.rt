@@ -1,0 +1,155 @@
+//! The neutral text with its marks, read as the text outside all functions and the begun functions.
+ghost use Rattle.std.specs.Prelude.{◌≡◌, ◌==◌, ◌≤◌, [], length, reverse, slice_get, MatchOption};
+ghost use Rattle.trac_text.specs.Cuts.{AreArguments, BeginsFunction, function_count};
+ghost use Rattle.trac_text.specs.Frames.{IsFrame, IsInnermost};
+ghost use Rattle.trac_text.specs.Neutral.{AreMarks, cut_back, neutral_of};
+
+use crate::args::Args;
+use crate::begun::BegunFunctions;
+use crate::mark::Mark;
+use std::marker::Model;
+use trac_rules::kind::Kind;
+
+/// A neutral text with its marks, borrowed: the marks are in order, and the first of them begins a function.
+/// Base text and begun functions are read from it.
+#[derive(Drop)]
+pub struct NeutralText<'a> {
+    text: &'a [u8],
+    marks: &'a [Mark],
+}
+
+impl<'a> Model for NeutralText<'a> {
+    ghost use Rattle.trac_text.specs.Neutral.{IsOrdered, MarkedText, marked_text_code};
+
+    ghost Value = { MarkedText };
+
+    ghost coded = { marked_text_code };
+
+    ghost view = { λ n. record { text = n.text.now; marks = n.marks.now } };
+
+    ghost invariant = { λ n. IsOrdered (record { text = n.text.now; marks = n.marks.now }) };
+}
+
+/// The innermost begun function.
+#[derive(Drop)]
+pub struct Innermost<'a> {
+    /// The number of the mark at which it begins, the first mark being number 0.
+    pub number: usize,
+    /// How many bytes of the neutral text stand before it.
+    pub place: usize,
+    /// Its kind.
+    pub kind: Kind,
+    /// All its arguments, of which the last is being gathered.
+    pub arguments: Args<'a>,
+}
+
+impl<'a> NeutralText<'a> {
+    /// This text with these marks. No place of a mark may be less than that of a mark before it, or pass the end of the
+    /// text, and the first of the marks has to begin a function. Nothing is copied (this project's profile).
+    pub fn new(text: &'a [u8], marks: &'a [Mark]) -> NeutralText<'a>
+        requires { AreMarks (length text.now) (reverse marks.now) }
+        ensures { result ≡ record { text = text.now; marks = marks.now } }
+    {
+        NeutralText { text, marks }
+    }
+
+    /// Whether no function is begun, by T-64's rules of scanning. It takes the same time however long the text is.
+    pub fn is_outside(&self) -> bool
+        ensures { result ≡ (length (neutral_of self.now).frames == 0) }
+    {
+        self.marks.is_empty()
+    }
+
+    /// The text outside all begun functions, a front of T-64's neutral string.
+    pub fn base(&self) -> &'a [u8]
+        ensures { result.now ≡ (neutral_of self.now).base }
+    {
+        if self.marks.is_empty() {
+            return self.text;
+        }
+        self.text.split_at(self.marks[0].place).0
+    }
+
+    /// How many functions are begun, by T-64's rules of scanning, and not ended.
+    pub fn depth(&self) -> usize
+        ensures { result ≡ length (neutral_of self.now).frames }
+    {
+        frame_count(self.marks)
+    }
+
+    /// The innermost begun function, which the next `)` ends by T-64's rule; none where no function is begun.
+    pub fn innermost(&self) -> Option<Innermost<'a>>
+        ensures { MatchOption result ((neutral_of self.now).frames ≡ []) (λ f. IsInnermost self.now f.number f.place f.kind f.arguments) }
+    {
+        let (number, kind) = last_function(self.marks)?;
+        let place = self.marks[number].place;
+        Some(Innermost {
+            number,
+            place,
+            kind,
+            arguments: Args::new(self.text, self.marks.split_at(number + 1).1, place),
+        })
+    }
+
+    /// The text before its innermost function, which this one has to be. Nothing is copied (this project's profile).
+    pub fn before(&self, innermost: &Innermost<'a>) -> NeutralText<'a>
+        requires { IsInnermost self.now innermost.now.number innermost.now.place innermost.now.kind innermost.now.arguments }
+        ensures { result ≡ cut_back innermost.now.number innermost.now.place self.now }
+    {
+        NeutralText {
+            text: self.text.split_at(innermost.place).0,
+            marks: self.marks.split_at(innermost.number).0,
+        }
+    }
+
+    /// The begun function of this number, the outermost being number 0: its kind, and all its arguments, of which the
+    /// last is being gathered. None past the innermost. That they are counted from outside is this project's profile.
+    pub fn frame(&self, i: usize) -> Option<(Kind, Args<'a>)>
+        ensures { MatchOption result (length (neutral_of self.now).frames ≤ i) (λ r. IsFrame (slice_get (reverse (neutral_of self.now).frames) i) r.0 r.1) }
+    {
+        let mut inside = self.depth();
+        if i >= inside {
+            return None;
+        }
+        let mut rest = NeutralText {
+            text: self.text,
+            marks: self.marks,
+        };
+        while let Some(innermost) = rest.innermost() {
+            inside -= 1;
+            if inside == i {
+                return Some((innermost.kind, innermost.arguments));
+            }
+            rest = rest.before(&innermost);
+        }
+        None
+    }
+
+    /// The begun functions, one after another from the outermost on. Nothing is copied (this project's profile).
+    pub fn begun_functions(&self) -> BegunFunctions<'a>
+        ensures { result ≡ reverse (neutral_of self.now).frames }
+    {
+        BegunFunctions::new(self.text, self.marks)
+    }
+}
+
+// The last of the marks that begins a function, and its kind: after it only arguments begin.
+fn last_function(marks: &[Mark]) -> Option<(usize, Kind)>
+    ensures { MatchOption result (AreArguments marks.now) (λ r. BeginsFunction marks.now r.0 r.1) }
+{
+    let mut i = marks.len();
+    while i > 0 {
+        i -= 1;
+        if let Some(kind) = marks[i].frame {
+            return Some((i, kind));
+        }
+    }
+    None
+}
+
+// How many of the marks begin functions.
+fn frame_count(marks: &[Mark]) -> usize
+    ensures { result ≡ function_count marks.now }
+{
+    marks.iter().filter(|mark| mark.frame.is_some()).count()
+}

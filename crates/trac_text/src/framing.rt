@@ -1,0 +1,207 @@
+//! Texts and marks from active text, base text and begun functions.
+ghost use Rattle.std.specs.Prelude.{◌≡◌, ◌+◌, ◌-◌, ◌≤◌, ◌<◌, ◌^◌, ◌++◌, ◌∷◌, [], length, min, IfOk, IsOkUnless, IsTrue};
+ghost use Rattle.trac_gap.specs.Ends.{item_count};
+ghost use Rattle.trac_rules.specs.declared.limit.TheConstants.{MARK_LIMIT, TEXT_LIMIT};
+ghost use Rattle.trac_rules.specs.Limits.{total_length};
+ghost use Rattle.trac_text.specs.Framing.{EachGathers, HasGrown, argument_count, frames_of, function_bytes, functions_of, marked_in, texts_of, with_function, with_functions};
+ghost use Rattle.trac_text.specs.Marks.{mark_at};
+ghost use Rattle.trac_text.specs.Neutral.{IsOrdered, neutral_of};
+
+use crate::ends;
+use crate::mark::Mark;
+use std::alloc::Allocator;
+use trac_gap::TwoEnds;
+use trac_rules::kind::Kind;
+use trac_rules::refusal::Refusal;
+
+/// A begun function: its kind, and its arguments, of which the last is being gathered.
+type Function<A> = (Kind, Vec<Vec<u8, A>, A>);
+
+// How many bytes texts hold together; `usize::MAX` where there are more.
+fn total_len<A: Allocator + Copy>(texts: &[Vec<u8, A>]) -> usize
+    ensures { result ≡ min (total_length (texts_of texts.now)) (2 ^ 64 - 1) }
+{
+    let mut total: usize = 0;
+    for text in texts {
+        total = total.saturating_add(text.len());
+    }
+    total
+}
+
+// The same of the arguments of begun functions.
+fn argument_len<A: Allocator + Copy>(functions: &[Function<A>]) -> usize
+    ensures { result ≡ min (function_bytes (functions_of functions.now)) (2 ^ 64 - 1) }
+{
+    let mut total: usize = 0;
+    for (_, arguments) in functions {
+        total = total.saturating_add(total_len(arguments.as_slice()));
+    }
+    total
+}
+
+/// How many bytes active text, base text and the arguments of begun functions hold together; `usize::MAX` where there are more.
+pub fn text_len<A: Allocator + Copy>(active: &[u8], base: &[u8], functions: &[Function<A>]) -> usize
+    ensures { result ≡ min (length active.now + length base.now + function_bytes (functions_of functions.now)) (2 ^ 64 - 1) }
+{
+    active
+        .len()
+        .saturating_add(base.len())
+        .saturating_add(argument_len(functions))
+}
+
+/// How many marks begun functions have, as many as arguments; `usize::MAX` where there are more.
+pub fn mark_count<A: Allocator + Copy>(functions: &[Function<A>]) -> usize
+    ensures { result ≡ min (argument_count (functions_of functions.now)) (2 ^ 64 - 1) }
+{
+    let mut total: usize = 0;
+    for (_, arguments) in functions {
+        total = total.saturating_add(arguments.len());
+    }
+    total
+}
+
+// Puts a mark at the end of the text on the left, and an argument after it: of a function of this kind, which is begun, or,
+// where none is named, a further one of the innermost.
+fn put_argument<A: Allocator + Copy, E: TwoEnds<u8, A>, M: TwoEnds<Mark, A>>(
+    text: &mut E,
+    marks: &mut M,
+    frame: Option<Kind>,
+    argument: &[u8],
+)
+    requires text { item_count (E.ends text.old) + length argument.now ≤ (E.ends text.old).capacity }
+    requires marks { item_count (M.ends marks.old) < (M.ends marks.old).capacity }
+    ensures text { E.ends text.new ≡ record (E.ends text.old) { left = (E.ends text.old).left ++ argument.now } }
+    ensures marks { M.ends marks.new ≡ record (M.ends marks.old) { left = (M.ends marks.old).left ++ mark_at (length (E.ends text.old).left) frame ∷ [] } }
+{
+    marks.push_left(Mark {
+        place: text.left().len(),
+        frame,
+    });
+    text.put_left(argument);
+}
+
+// Begins a function of this kind with these arguments.
+fn put_function<A: Allocator + Copy, E: TwoEnds<u8, A>, M: TwoEnds<Mark, A>>(
+    text: &mut E,
+    marks: &mut M,
+    kind: Kind,
+    arguments: &[Vec<u8, A>],
+)
+    requires some { 1 ≤ length arguments.now }
+    requires ordered { IsOrdered (marked_in (E.ends text.old) (M.ends marks.old)) }
+    requires text { item_count (E.ends text.old) + total_length (texts_of arguments.now) ≤ (E.ends text.old).capacity }
+    requires marks { item_count (M.ends marks.old) + length arguments.now ≤ (M.ends marks.old).capacity }
+    ensures neutral { neutral_of (marked_in (E.ends text.new) (M.ends marks.new)) ≡ with_function (kind, texts_of arguments.now) (neutral_of (marked_in (E.ends text.old) (M.ends marks.old))) }
+    ensures ordered { IsOrdered (marked_in (E.ends text.new) (M.ends marks.new)) }
+    ensures text { HasGrown (total_length (texts_of arguments.now)) (E.ends text.old) (E.ends text.new) }
+    ensures marks { HasGrown (length arguments.now) (M.ends marks.old) (M.ends marks.new) }
+{
+    let mut frame = Some(kind);
+    for argument in arguments {
+        put_argument(text, marks, frame, argument.as_slice());
+        frame = None;
+    }
+}
+
+// Begins functions, from the outermost on.
+fn put_functions<A: Allocator + Copy, E: TwoEnds<u8, A>, M: TwoEnds<Mark, A>>(
+    text: &mut E,
+    marks: &mut M,
+    functions: &[Function<A>],
+)
+    requires some { EachGathers functions.now }
+    requires ordered { IsOrdered (marked_in (E.ends text.old) (M.ends marks.old)) }
+    requires text { item_count (E.ends text.old) + function_bytes (functions_of functions.now) ≤ (E.ends text.old).capacity }
+    requires marks { item_count (M.ends marks.old) + argument_count (functions_of functions.now) ≤ (M.ends marks.old).capacity }
+    ensures neutral { neutral_of (marked_in (E.ends text.new) (M.ends marks.new)) ≡ with_functions (functions_of functions.now) (neutral_of (marked_in (E.ends text.old) (M.ends marks.old))) }
+    ensures ordered { IsOrdered (marked_in (E.ends text.new) (M.ends marks.new)) }
+    ensures text { HasGrown (function_bytes (functions_of functions.now)) (E.ends text.old) (E.ends text.new) }
+    ensures marks { HasGrown (argument_count (functions_of functions.now)) (M.ends marks.old) (M.ends marks.new) }
+{
+    for (kind, arguments) in functions {
+        put_function(text, marks, *kind, arguments.as_slice());
+    }
+}
+
+// Lists with the active text on the right, the base text on the left, and room for these and the arguments of the functions, and
+// for no less than is asked for.
+fn text_of<A: Allocator + Copy, E: TwoEnds<u8, A>>(
+    alloc: A,
+    active: &[u8],
+    base: &[u8],
+    functions: &[Function<A>],
+    room: usize,
+) -> Result<E, Refusal>
+    requires { length active.now + length base.now + function_bytes (functions_of functions.now) ≤ TEXT_LIMIT }
+    ensures left { IfOk result (λ text. (E.ends text).left ≡ base.now) }
+    ensures right { IfOk result (λ text. (E.ends text).right ≡ active.now) }
+    ensures holds { IfOk result (λ text. item_count (E.ends text) + function_bytes (functions_of functions.now) ≤ (E.ends text).capacity) }
+    ensures room { IfOk result (λ text. room ≤ (E.ends text).capacity) }
+    ensures err { IsOkUnless result Refusal.Memory }
+{
+    let mut text = E::new(alloc);
+    ends::reserve(&mut text, text_len(active, base, functions).max(room))?;
+    text.put_right(active);
+    text.put_left(base);
+    Ok(text)
+}
+
+// Lists with room for all marks of the functions, and for no less than is asked for.
+fn marks_of<A: Allocator + Copy, M: TwoEnds<Mark, A>>(
+    alloc: A,
+    functions: &[Function<A>],
+    room: usize,
+) -> Result<M, Refusal>
+    requires { argument_count (functions_of functions.now) ≤ MARK_LIMIT }
+    ensures left { IfOk result (λ marks. (M.ends marks).left ≡ []) }
+    ensures right { IfOk result (λ marks. (M.ends marks).right ≡ []) }
+    ensures holds { IfOk result (λ marks. argument_count (functions_of functions.now) ≤ (M.ends marks).capacity) }
+    ensures room { IfOk result (λ marks. room ≤ (M.ends marks).capacity) }
+    ensures err { IsOkUnless result Refusal.Memory }
+{
+    let mut marks = M::new(alloc);
+    ends::reserve(&mut marks, mark_count(functions).max(room))?;
+    Ok(marks)
+}
+
+/// Lists that hold these texts and begun functions, from the outermost on: active text, base text and arguments, and the marks;
+/// with room for at least so many bytes and marks. Each function has to have an argument, the one that is being gathered, and
+/// texts and marks may not pass the limits. Refused with `Memory` where the allocator refuses (this project's profile).
+pub fn texts_and_marks<A: Allocator + Copy, E: TwoEnds<u8, A>, M: TwoEnds<Mark, A>>(
+    alloc: A,
+    active: &[u8],
+    base: &[u8],
+    functions: &[Function<A>],
+    text_room: usize,
+    mark_room: usize,
+) -> Result<(E, M), Refusal>
+    requires some { EachGathers functions.now }
+    requires text { length active.now + length base.now + function_bytes (functions_of functions.now) ≤ TEXT_LIMIT }
+    requires marks { argument_count (functions_of functions.now) ≤ MARK_LIMIT }
+    ensures neutral { IfOk result (λ r. neutral_of (marked_in (E.ends r.0) (M.ends r.1)) ≡ record { base = base.now; frames = frames_of (functions_of functions.now) }) }
+    ensures active { IfOk result (λ r. (E.ends r.0).right ≡ active.now) }
+    ensures ordered { IfOk result (λ r. IsOrdered (marked_in (E.ends r.0) (M.ends r.1))) }
+    ensures holds { IfOk result (λ r. item_count (E.ends r.0) ≤ (E.ends r.0).capacity) }
+    ensures mark_holds { IfOk result (λ r. length (M.ends r.1).left ≤ (M.ends r.1).capacity) }
+    ensures room { IfOk result (λ r. text_room ≤ (E.ends r.0).capacity) }
+    ensures mark_room { IfOk result (λ r. mark_room ≤ (M.ends r.1).capacity) }
+    ensures err { IsOkUnless result Refusal.Memory }
+{
+    let mut text = text_of(alloc, active, base, functions, text_room)?;
+    let mut marks = marks_of(alloc, functions, mark_room)?;
+    put_functions(&mut text, &mut marks, functions);
+    Ok((text, marks))
+}
+
+/// Whether each begun function has an argument, the one that is being gathered. It takes no memory (this project's profile).
+pub fn each_gathers<A: Allocator + Copy>(functions: &[Function<A>]) -> bool
+    ensures yes { IsTrue result → EachGathers functions.now }
+    ensures no { EachGathers functions.now → IsTrue result }
+{
+    for (_, arguments) in functions {
+        if arguments.len() < 1 {
+            return false;
+        }
+    }
+    true
+}

@@ -1,0 +1,100 @@
+//! What the idle step empties, taken out of the neutral text beforehand, and put back.
+ghost use Rattle.std.specs.Prelude.{◌≡◌, ◌+◌, ◌<◌, ◌≤◌, ◌^◌, ◌++◌, [], length, map, IfOk, IsOkUnless};
+ghost use Rattle.std.specs.List.{concat};
+ghost use Rattle.trac_gap.specs.Ends.{item_count};
+ghost use Rattle.trac_rules.specs.Limits.{argument_bytes, marks as mark_count};
+ghost use Rattle.trac_text.specs.Marks.{function_marks};
+ghost use Rattle.trac_text.specs.Neutral.{IsOrdered, neutral_of};
+ghost use Rattle.trac_text.specs.Pieces.{all_texts, frames_in};
+
+use crate::ends::refill;
+use crate::frames::NeutralText;
+use crate::mark::Mark;
+use crate::pieces::{Functions, Pieces, PiecesRef};
+use std::alloc::Allocator;
+use trac_gap::TwoEnds;
+use trac_rules::kind::Kind;
+use trac_rules::refusal::Refusal;
+
+/// Copies of the base text and all begun functions of a neutral text, whose arguments have fewer than 2^32 bytes together.
+/// Refused with `Memory` where the allocator refuses (this project's profile).
+pub fn kept_of<A: Allocator + Copy>(
+    alloc: A,
+    text: NeutralText<'_>,
+) -> Result<(Vec<u8, A>, Functions<A>), Refusal>
+    requires short { argument_bytes (neutral_of text).frames < 2 ^ 32 }
+    ensures base { IfOk result (λ kept. kept.0.items ≡ (neutral_of text.entry).base) }
+    ensures functions { IfOk result (λ kept. frames_in kept.1.items ≡ (neutral_of text.entry).frames) }
+    ensures err { IsOkUnless result Refusal.Memory }
+{
+    let base = Vec::from_slice(alloc, text.base())?;
+    let functions = functions_of(alloc, text)?;
+    Ok((base, functions))
+}
+
+// Copies of all begun functions of a neutral text.
+fn functions_of<A: Allocator + Copy>(
+    alloc: A,
+    text: NeutralText<'_>,
+) -> Result<Functions<A>, Refusal>
+    requires short { argument_bytes (neutral_of text).frames < 2 ^ 32 }
+    ensures same { IfOk result (λ functions. frames_in functions.items ≡ (neutral_of text.entry).frames) }
+    ensures err { IsOkUnless result Refusal.Memory }
+{
+    let mut functions = Vec::with_capacity(alloc, text.depth())?;
+    let mut rest = text;
+    while let Some(innermost) = rest.innermost() {
+        let arguments = Pieces::of(alloc, &innermost.arguments)?;
+        functions.push_reserved((innermost.kind, arguments));
+        rest = rest.before(&innermost);
+    }
+    Ok(functions)
+}
+
+/// Puts a base text and begun functions in the place of all that the lists hold. There has to be room for these. It takes no
+/// memory.
+pub fn put_functions<A: Allocator + Copy, E: TwoEnds<u8, A>, M: TwoEnds<Mark, A>>(
+    text: &mut E,
+    marks: &mut M,
+    base: &[u8],
+    mut functions: Functions<A>,
+)
+    requires text_room { length base.now + argument_bytes (frames_in functions.items) ≤ (E.ends text.old).capacity }
+    requires mark_room { mark_count (frames_in functions.items) ≤ (M.ends marks.old).capacity }
+    ensures same { neutral_of (record { text = (E.ends text.new).left; marks = (M.ends marks.new).left }) ≡ record { base = base.now; frames = frames_in functions.items } }
+    ensures ordered { IsOrdered (record { text = (E.ends text.new).left; marks = (M.ends marks.new).left }) }
+    ensures right { (E.ends text.new).right ≡ [] }
+    ensures text_room { (E.ends text.new).capacity ≡ (E.ends text.old).capacity }
+    ensures mark_room { (M.ends marks.new).capacity ≡ (M.ends marks.old).capacity }
+{
+    refill(text, base, &[]);
+    refill(marks, &[], &[]);
+    while let Some((kind, arguments)) = functions.pop() {
+        put_function(text, marks, kind, &arguments.lend());
+    }
+}
+
+// Puts a begun function at the end of the text on the left: the mark at which it begins, its bytes, and a mark for each `,`.
+pub(crate) fn put_function<A: Allocator + Copy, E: TwoEnds<u8, A>, M: TwoEnds<Mark, A>>(
+    text: &mut E,
+    marks: &mut M,
+    kind: Kind,
+    arguments: &PiecesRef<'_>,
+)
+    requires text_room { item_count (E.ends text.old) + length (concat (all_texts arguments.now)) ≤ (E.ends text.old).capacity }
+    requires mark_room { item_count (M.ends marks.old) + 1 + length arguments.now.finished ≤ (M.ends marks.old).capacity }
+    ensures text { E.ends text.new ≡ record (E.ends text.old) { left = (E.ends text.old).left ++ concat (all_texts arguments.now) } }
+    ensures marks { M.ends marks.new ≡ record (M.ends marks.old) { left = (M.ends marks.old).left ++ function_marks (length (E.ends text.old).left) kind (map length arguments.now.finished) } }
+{
+    let bytes = arguments.text();
+    text.put_left(bytes);
+    let mut place = text.left().len() - bytes.len();
+    marks.push_left(Mark {
+        place,
+        frame: Some(kind),
+    });
+    for length in arguments.commas() {
+        place += *length as usize;
+        marks.push_left(Mark { place, frame: None });
+    }
+}

@@ -1,0 +1,27 @@
+//! Texts and marks, without forms: the neutral text with its marks, read as base text and begun functions, and what scanning,
+//! calls and the ways back make of the two lists that hold it and the active text.
+#![tactic(auto)]
+
+pub mod args;
+pub mod begun;
+pub mod calls;
+pub mod calls_back;
+pub mod ends;
+pub mod frames;
+pub mod framing;
+pub mod front;
+pub mod idle;
+pub mod mark;
+pub mod matching;
+pub mod pieces;
+pub mod texts;
+pub mod texts_back;
+
+pub use args::Args;
+pub use begun::BegunFunctions;
+pub use calls::Beginning;
+pub use frames::{Innermost, NeutralText};
+pub use mark::Mark;
+pub use pieces::{Functions, Pieces, PiecesRef};
+pub use trac_rules::kind::Kind;
+pub use trac_rules::refusal::Refusal;

@@ -1,0 +1,225 @@
+//! What a line asks for, done, and what is said of it.
+
+use crate::call_list::calls_into;
+use crate::moving::carry_out;
+use crate::walker::Walker;
+use std::alloc::{AllocError, Allocator};
+use trac_orders::{
+    HELP, Move, NOT_UNDERSTOOD, Order, Word, is_second_quoted, order_of, texts_of, words_of,
+};
+use trac_screen::{
+    Stop, form_into, list_into, refused, screen_into, standing_into, stop_into, window_into,
+};
+use trac_show::machine_lines;
+
+/// What is kept of the lines so far.
+#[derive(Drop)]
+pub struct Memo<A: Allocator + Copy> {
+    // the line of the last move; empty before the first
+    last: Vec<u8, A>,
+    // whether it was said that steps are forgotten
+    told: bool,
+}
+
+impl<A: Allocator + Copy> Memo<A> {
+    /// Before the first line. It takes no memory.
+    pub fn new(alloc: A) -> Self {
+        Memo {
+            last: Vec::new(alloc),
+            told: false,
+        }
+    }
+}
+
+/// Does what a line asks for, and puts what is to be said of it at the end of a text; whether the dialogue goes on. An empty
+/// line asks for the last move again. The error is that memory was refused, here and below.
+pub fn reply_into<A: Allocator + Copy>(
+    alloc: A,
+    walker: &mut Walker<A>,
+    memo: &mut Memo<A>,
+    line: &[u8],
+    out: &mut Vec<u8, A>,
+) -> Result<bool, AllocError> {
+    let Some(words) = words_of(alloc, line)? else {
+        out.extend_from_slice(NOT_UNDERSTOOD)?;
+        return Ok(true);
+    };
+    if words.is_empty() {
+        repeat(alloc, walker, memo, out)?;
+        return Ok(true);
+    }
+    obey_words(alloc, walker, memo, line, &words, out)
+}
+
+// Does what the line of the last move asks for again; before the first move it says where it stands.
+fn repeat<A: Allocator + Copy>(
+    alloc: A,
+    walker: &mut Walker<A>,
+    memo: &mut Memo<A>,
+    out: &mut Vec<u8, A>,
+) -> Result<(), AllocError> {
+    if memo.last.is_empty() {
+        return standing_into(alloc, walker.step(), walker.machine(), out);
+    }
+    let last = Vec::from_slice(alloc, memo.last.as_slice())?;
+    repeat_line(alloc, walker, memo, last.as_slice(), out)
+}
+
+// Does what the line of a move asks for.
+fn repeat_line<A: Allocator + Copy>(
+    alloc: A,
+    walker: &mut Walker<A>,
+    memo: &mut Memo<A>,
+    line: &[u8],
+    out: &mut Vec<u8, A>,
+) -> Result<(), AllocError> {
+    let Some(words) = words_of(alloc, line)? else {
+        return Ok(());
+    };
+    let _ = obey_words(alloc, walker, memo, line, &words, out)?;
+    Ok(())
+}
+
+// Does what the words of a line ask for; whether the dialogue goes on.
+fn obey_words<A: Allocator + Copy>(
+    alloc: A,
+    walker: &mut Walker<A>,
+    memo: &mut Memo<A>,
+    line: &[u8],
+    words: &Vec<Word<A>, A>,
+    out: &mut Vec<u8, A>,
+) -> Result<bool, AllocError> {
+    let texts = texts_of(alloc, words)?;
+    match order_of(texts.as_slice(), is_second_quoted(words)) {
+        Some(order) => obey(alloc, walker, memo, line, order, out),
+        None => not_understood(out),
+    }
+}
+
+// Says that a line is not understood. The dialogue goes on.
+fn not_understood<A: Allocator>(out: &mut Vec<u8, A>) -> Result<bool, AllocError> {
+    out.extend_from_slice(NOT_UNDERSTOOD)?;
+    Ok(true)
+}
+
+// Carries out an order, said by this line; whether the dialogue goes on.
+fn obey<A: Allocator + Copy>(
+    alloc: A,
+    walker: &mut Walker<A>,
+    memo: &mut Memo<A>,
+    line: &[u8],
+    order: Order<'_>,
+    out: &mut Vec<u8, A>,
+) -> Result<bool, AllocError> {
+    match order {
+        Order::Quit => return Ok(false),
+        Order::Go(way) => go(alloc, walker, memo, line, way, out)?,
+        order => serve(alloc, walker, order, out)?,
+    }
+    Ok(true)
+}
+
+// Carries out an order that is no move.
+fn serve<A: Allocator + Copy>(
+    alloc: A,
+    walker: &mut Walker<A>,
+    order: Order<'_>,
+    out: &mut Vec<u8, A>,
+) -> Result<(), AllocError> {
+    match order {
+        Order::Feed(text) => feed(alloc, walker, text, out),
+        Order::EndInput => end_input(alloc, walker, out),
+        Order::Calls(count) => list_calls(alloc, walker, count, out),
+        order => show(alloc, walker, order, out),
+    }
+}
+
+// Carries out the move that a line asks for, which is kept, and says where it has come to.
+fn go<A: Allocator + Copy>(
+    alloc: A,
+    walker: &mut Walker<A>,
+    memo: &mut Memo<A>,
+    line: &[u8],
+    way: Move<'_>,
+    out: &mut Vec<u8, A>,
+) -> Result<(), AllocError> {
+    memo.last = Vec::from_slice(alloc, line)?;
+    let stop = carry_out(walker, way);
+    tell(alloc, walker.first_step(), stop, &mut memo.told, out)?;
+    standing_into(alloc, walker.step(), walker.machine(), out)
+}
+
+// Says why a move stopped, where it did, and once that steps are forgotten, where they are: the way back ends at this step.
+fn tell<A: Allocator + Copy>(
+    alloc: A,
+    first_step: u64,
+    stop: Option<Stop>,
+    told: &mut bool,
+    out: &mut Vec<u8, A>,
+) -> Result<(), AllocError> {
+    if let Some(stop) = stop {
+        stop_into(alloc, first_step, stop, out)?;
+    }
+    if *told || first_step == 0 {
+        return Ok(());
+    }
+    *told = true;
+    window_into(alloc, first_step, out)
+}
+
+// Feeds a line, and says where it stands, or why the line was refused.
+fn feed<A: Allocator + Copy>(
+    alloc: A,
+    walker: &mut Walker<A>,
+    text: &[u8],
+    out: &mut Vec<u8, A>,
+) -> Result<(), AllocError> {
+    if let Err(refusal) = walker.feed(alloc, text) {
+        out.extend_from_slice(refused(refusal))?;
+        return out.extend_from_slice(b"\n");
+    }
+    standing_into(alloc, walker.step(), walker.machine(), out)
+}
+
+// Ends the input, and says where it stands.
+fn end_input<A: Allocator + Copy>(
+    alloc: A,
+    walker: &mut Walker<A>,
+    out: &mut Vec<u8, A>,
+) -> Result<(), AllocError> {
+    walker.end_input();
+    standing_into(alloc, walker.step(), walker.machine(), out)
+}
+
+// Lists the last calls, and says where it stands.
+fn list_calls<A: Allocator + Copy>(
+    alloc: A,
+    walker: &mut Walker<A>,
+    count: u64,
+    out: &mut Vec<u8, A>,
+) -> Result<(), AllocError> {
+    if let Some(refusal) = calls_into(alloc, walker, count, out)? {
+        stop_into(alloc, walker.first_step(), Stop::Refused(refusal), out)?;
+    }
+    standing_into(alloc, walker.step(), walker.machine(), out)
+}
+
+// Carries out an order that only shows something.
+fn show<A: Allocator + Copy>(
+    alloc: A,
+    walker: &Walker<A>,
+    order: Order<'_>,
+    out: &mut Vec<u8, A>,
+) -> Result<(), AllocError> {
+    match order {
+        Order::Print => screen_into(alloc, walker.machine(), walker.reach(), out),
+        Order::PrintAll => {
+            let lines = machine_lines(alloc, walker.machine(), walker.steps_back())?;
+            out.extend_from_slice(lines.as_slice())
+        }
+        Order::Forms => list_into(alloc, walker.store(), out),
+        Order::Form(name) => form_into(walker.store(), name, out),
+        Order::Help => out.extend_from_slice(HELP),
+        _ => Ok(()),
+    }
+}
