@@ -55,7 +55,7 @@ fn contains(text: &[u8], wanted: &[u8]) -> bool {
 // Whether whole lines are written, and the last line of a debugger's state where its first one is.
 fn is_whole(written: &[u8]) -> bool {
     (written.is_empty() || written.last() == Some(&b'\n'))
-        && contains(written, b"active [") == contains(written, b"journal ")
+        && contains(written, b"active [") == contains(written, b"\njournal ")
 }
 
 // Whether this may be written where a request is refused, or none.
