@@ -1,3 +1,2 @@
 mod Steps
 mod Asking
-mod Runs

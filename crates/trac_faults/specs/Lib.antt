@@ -4,5 +4,4 @@ pub mod Memory
 pub mod Reading
 pub mod Requests
 pub mod Schedule
-pub mod Trials
 pub mod Writing

@@ -4,7 +4,6 @@ use Rattle.std.specs.Borrow.{Bor}
 use Rattle.std.specs.declared.io.ErrorKind.{ErrorKind}
 use Rattle.std.specs.declared.io.ErrorKind.TheVariants.{Other}
 use Rattle.trac_faults.specs.declared.reading.FaultyReader.{FaultyReader}
-use Rattle.trac_faults.specs.declared.reading.RepeatingReader.{RepeatingReader}
 use Rattle.trac_faults.specs.Lines.{first_line_len}
 use Rattle.trac_faults.specs.Schedule.{counted, is_chosen}
 
@@ -68,14 +67,3 @@ pub record IsAfterRead (old new : FaultyReader) (room : ℕ) : Type 0 where
   pub fails_at : new.fails_at ≡ old.fails_at
   pub fails_at_end : new.fails_at_end ≡ (old.fails_at_end && (fails_by_number old || not (fails_by_end old room)))
   pub kind : new.kind ≡ old.kind
-
--- the bytes of one round of a reader that repeats them, and those that are left of the present round
-abbrev pub round : RepeatingReader → List ℕ
-round r = r.bytes.now
-
-abbrev pub round_left : RepeatingReader → List ℕ
-round_left r = r.rest.now
-
--- the bytes that come next: those that are left, or a new round where none is
-abbrev pub next_round : RepeatingReader → List ℕ
-next_round r = if length r.rest.now == 0 then r.bytes.now else r.rest.now

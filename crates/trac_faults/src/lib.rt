@@ -11,12 +11,19 @@
 //!     ..
 //! }
 //!
-//! // a test
-//! fn each_request_refused(rt: HostRuntime) -> Result<(), Fail> {
-//!     let memory = Refusing::new(rt.alloc());
-//!     let runs = memory.refuse_each(10_000, |_| run_once(&rt, &memory))?;
-//!     assert!(rt; runs > Some(1), "{runs:?} runs");
-//!     Ok(())
+//! // a test: request 1, 2, .. is refused, until a run makes none of that number
+//! fn each_request(rt: HostRuntime) {
+//!     for nth in 1..10_000 {
+//!         let memory = Refusing::new(rt.alloc());
+//!         memory.refuse_nth(nth);
+//!         let ended = run_once(&rt, &memory);
+//!         if memory.refusals() == 0 {
+//!             assert!(rt; nth > 1 && ended.is_ok());
+//!             return;
+//!         }
+//!         assert!(rt; ended.is_err());
+//!     }
+//!     panic!(rt; "too few runs");
 //! }
 //! ```
 //!
@@ -30,11 +37,9 @@ mod memory;
 mod reading;
 mod requests;
 mod schedule;
-mod trials;
 mod writing;
 
 pub use logging::{Call, CallLog, Logged};
 pub use memory::Refusing;
-pub use reading::{FaultyReader, RepeatingReader};
-pub use trials::each_fault;
+pub use reading::FaultyReader;
 pub use writing::FaultyWriter;

@@ -1,4 +1,4 @@
-//! Readers over bytes in memory: one that gives little at a time and fails when it is told to, and one that never ends.
+//! A reader over bytes in memory, which gives little at a time and fails when it is told to.
 ghost use Rattle.std.specs.Prelude.{◌≡◌, ◌↔◌, min, length, take, drop, position, true, Ok, IsErr, IfOk, IfErr, IfSome, None, Some, ◌<◌};
 ghost use Rattle.std.specs.Io.{ReadsAtMost};
 ghost use Rattle.std.specs.Io.KnownBytes.{ReadConsumes};
@@ -153,45 +153,4 @@ fn first_line_feed(bytes: &[u8]) -> Option<usize>
     ensures within { IfSome result (λ at. at < length bytes.now) }
 {
     bytes.iter().position(|byte| *byte == b'\n')
-}
-
-/// A reader that gives the same bytes again and again, with no end.
-///
-/// One call gives no more than what is left of the present round. Over no bytes at all it is at its end.
-#[derive(Drop)]
-pub struct RepeatingReader<'a> {
-    bytes: &'a [u8],
-    rest: &'a [u8],
-}
-
-impl<'a> RepeatingReader<'a> {
-    ghost use Rattle.trac_faults.specs.Reading.{round, round_left};
-
-    /// A reader that begins with the first of these bytes.
-    pub fn new(bytes: &'a [u8]) -> RepeatingReader<'a>
-        ensures round { round result ≡ bytes.entry.now }
-        ensures left { round_left result ≡ bytes.entry.now }
-    {
-        RepeatingReader { bytes, rest: bytes }
-    }
-}
-
-impl Read for RepeatingReader<'_> {
-    ghost use Rattle.trac_faults.specs.Reading.{round, round_left, next_round};
-
-    fn read(&mut self, buf: &mut [u8]) -> Result<usize>
-        ensures bound { ReadsAtMost result buf.new }
-        ensures bytes { ReadConsumes None None result buf.new }
-        ensures count { result ≡ Ok (min (length (next_round self.old)) (length buf.old)) }
-        ensures given { IfOk result (λ n. take n buf.new ≡ take n (next_round self.old)) }
-        ensures left { IfOk result (λ n. round_left self.new ≡ drop n (next_round self.old)) }
-        ensures round { round self.new ≡ round self.old }
-    {
-        if self.rest.is_empty() {
-            self.rest = self.bytes;
-        }
-        let n = give(self.rest, self.rest.len(), buf);
-        self.rest = &self.rest[n..];
-        Ok(n)
-    }
 }
