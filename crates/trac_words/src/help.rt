@@ -19,7 +19,7 @@ Exit status:
   0    the program or the commands have ended, or help or the version is shown
   2    the command line is not understood
   3    the budget of steps is spent, or the debugger was given too many lines
-  4    a limit is passed, as the length of a text, or of FILE
+  4    a limit is passed, such as how long a text or FILE may be
   5    there is no memory
   6    standard input or FILE cannot be read
   7    the output cannot be written
@@ -47,7 +47,8 @@ Exit status: 0 at the end; 2 the command line is not understood; 3 the budget of
 pub const DEBUG_USE: &str = "\
 This debugger is made for scripts; trac-walk FILE is the one for a terminal.
 
-FILE is the whole input of the program. Commands are read from standard input, one a line:
+FILE holds the program, and after it all that the program reads. Commands are read from standard
+input, one a line:
   s COUNT       COUNT steps forward
   b COUNT       COUNT steps back
   u NAME COUNT  forward to a call of NAME, by COUNT steps at most
@@ -90,7 +91,7 @@ pub const VERSION_TIP: &str = "the version is shown by: trac --version";
 
 /// The tip for a debugger that is given the option of `trac run`.
 pub const BUDGET_TIP: &str =
-    "--budget is an option of trac run; here each command says how many steps it takes";
+    "--budget is an option of trac run; here the commands say how far to go";
 
 /// The text for a word that is not UTF-8.
 pub const NOT_TEXT: &str = "\
