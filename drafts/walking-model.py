@@ -128,6 +128,10 @@ def tail_of(shown, w):
         if back <= p and shown[p - back] == "\\": p += 4 - back; break
     return (".." if len(shown) > w else "") + shown[p:]
 
+def given(value):
+    """Says what a call gave."""
+    return " gives " + esc(value) if value else " has an empty value"
+
 def function(f):
     kind, args, g = f
     return kind + "(" + ",".join(esc(a) for a in args + (g,))
@@ -352,7 +356,7 @@ def run(program, lines, limit):
             n = int(words[1]) if len(words) > 1 else 10
             at = [i for i in range(w.first, w.at) if own(w.states[i])][-n:] if n else []
             for i in at:
-                out.append(cut(cut("%d  %s)" % (i, function(w.states[i].frames[-1])), 56) + " gives " + esc(w.value_after(i))))
+                out.append(cut(cut("%d  %s)" % (i, function(w.states[i].frames[-1])), 56) + given(w.value_after(i))))
             if not at: out.append("no call is met on the way back")
             out.append(w.where())
         elif c == "h": out.append("HELP")
@@ -392,7 +396,7 @@ def run_each(program, lines, limit):
             n = int(words[1]) if len(words) > 1 else 10
             at = [i for i in range(w.first, w.at) if own(w.states[i])][-n:] if n else []
             for i in at:
-                out.append(cut(cut("%d  %s)" % (i, function(w.states[i].frames[-1])), 56) + " gives " + esc(w.value_after(i))))
+                out.append(cut(cut("%d  %s)" % (i, function(w.states[i].frames[-1])), 56) + given(w.value_after(i))))
             if not at: out.append("no call is met on the way back")
             out.append(w.where())
         elif c == "h": out.append("HELP")

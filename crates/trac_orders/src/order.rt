@@ -11,7 +11,7 @@ pub const NOT_UNDERSTOOD: &[u8] = b"not understood; h lists the commands\n";
 
 /// The commands, on one screen.
 pub const HELP: &[u8] = b"\
-s [N]      N steps forward (1)           b [N]      N steps back (1)
+s [N]      N steps forward, or 1         b [N]      N steps back, or 1
 n          over the next function        N          back over it
 o          out of the function           O          back to where it began
 u CALL..   forward to a call             r CALL..   back to a call
@@ -23,8 +23,10 @@ g N        to step N
 i TEXT     a line of input               e          the input ends
 p          the state on one screen       p all      all of it
 f          the forms                     f NAME     one form
-t [N]      the last N calls (10)         q          the end
-An empty line repeats the last move. Quotes hold blanks, \\n and \\xHH.
+t [N]      the last N calls, or 10, with their values
+h          this list; or help, ?         q          the end; or quit, exit
+An empty line repeats the last move. A word with blanks stands in quotes; in
+those \\n is a line feed, and \\xHH the byte of that hexadecimal number.
 ";
 
 /// A way to another state.
@@ -94,8 +96,8 @@ pub fn order_of<'a>(words: &'a [&'a [u8]], quoted: bool) -> Option<Order<'a>> {
         b"f" => forms_of(rest),
         b"t" => Some(Order::Calls(count_in(rest, CALL_COUNT)?)),
         b"e" => alone(rest, Order::EndInput),
-        b"h" => alone(rest, Order::Help),
-        b"q" => alone(rest, Order::Quit),
+        b"h" | b"help" | b"?" => alone(rest, Order::Help),
+        b"q" | b"quit" | b"exit" => alone(rest, Order::Quit),
         _ => None,
     }
 }

@@ -35,15 +35,24 @@ pub fn outcome_into<A: Allocator + Copy>(
     line: &mut ScreenLine<A>,
 ) -> Result<(), AllocError> {
     match why {
-        None => {
-            line.say(b" gives ")?;
-            line.show(before.value(machine))
-        }
+        None => value_into(before.value(machine), line),
         Some(refusal) => {
             line.say(b": ")?;
             line.say(refused(refusal))
         }
     }
+}
+
+// Puts a value at the end of the line of its call. That it is empty is said in words that no shown value can follow.
+fn value_into<A: Allocator + Copy>(
+    value: &[u8],
+    line: &mut ScreenLine<A>,
+) -> Result<(), AllocError> {
+    if value.is_empty() {
+        return line.say(b" has an empty value");
+    }
+    line.say(b" gives ")?;
+    line.show(value)
 }
 
 /// How long the texts are before a call that its value may be added to.

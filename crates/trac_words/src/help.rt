@@ -11,70 +11,92 @@ pub const USE: &str = "\
 Examples:
   trac run < FILE                   runs the program in FILE
   printf \"#(ps,Hello)'\" | trac run  runs a program that another command prints
-  trac debug FILE                   steps through the program in FILE, by commands
-  trac help run, trac help debug    say more
+  trac-walk FILE                    the debugger for a terminal, a program of its own
+  trac debug FILE                   the debugger for scripts
+  trac help run, trac help debug    say more; for trac-walk: trac-walk --help
 
 Exit status:
-  0    the input or the commands have ended, or help or the version is shown
+  0    the program or the commands have ended, or help or the version is shown
   2    the command line is not understood
-  3    the budget is spent
-  4    a limit is passed
+  3    the budget of steps is spent, or the debugger was given too many lines
+  4    a limit is passed, such as how long a text or FILE may be
   5    there is no memory
-  6    the input cannot be read
+  6    standard input or FILE cannot be read
   7    the output cannot be written
   8    a command of the debugger is not understood
   70   ./trac of a checkout could not build the program
   130  Ctrl-C was typed";
 
+/// How `trac run` is used, in one line.
+pub const RUN_USAGE: &str = "trac run [OPTIONS] < FILE";
+
 /// What stands at the end of the help of `trac run`.
 pub const RUN_USE: &str = "\
-The program is read from standard input, so a file is given by `<` and not named:
+The program is read from standard input: put < before the name of its file.
   trac run < FILE
   printf \"#(ps,Hello)'\" | trac run
 
-Each text of the program ends in '. At a terminal, type ' and then Enter; the end of the input
-(Ctrl-D) ends the run, and so does Ctrl-C (status 130).
+A program is one text or more, each ended by '. At a terminal a text is run once ' and Enter are
+typed. Enter and then Ctrl-D end the input, and with it the run; Ctrl-C ends the run at once.
 
-Exit status: 0 at the end; 2 command line, 3 budget spent, 4 limit passed, 5 no memory, 6 read fault,
-7 write fault. `trac help` lists all.";
+Exit status: 0 at the end; 2 the command line is not understood; 3 the budget of steps is spent;
+4 a limit is passed; 5 no memory; 6 the input cannot be read; 7 the output cannot be written;
+70 ./trac of a checkout could not build the program; 130 Ctrl-C was typed.";
 
 /// What stands at the end of the help of `trac debug`.
 pub const DEBUG_USE: &str = "\
-FILE is the whole input of the program. Commands are read from standard input, one a line:
+This debugger is made for scripts; trac-walk FILE is the one for a terminal.
+
+FILE holds the program, and after it all that the program reads. Commands are read from standard
+input, one a line:
   s COUNT       COUNT steps forward
   b COUNT       COUNT steps back
   u NAME COUNT  forward to a call of NAME, by COUNT steps at most
   r NAME        back to a call of NAME
   p             show the state
-  c             show what was printed, and forget the steps so far
-  c COUNT       keep the last COUNT steps, and show what was printed before them
+  c             show what was printed and no c has shown yet, and forget all steps so far
+  c COUNT       forget all steps but the last COUNT, and show what was printed before these
   q             end
 
-There is no prompt. NAME is a primitive or any other name that a call begins with; a form is met as
-a call of `cl`. To edit lines and get them back by arrow keys: rlwrap trac debug FILE
+There is no prompt. NAME is what stands first in the call: #(cl,F) is met as cl, and not as F.
 
-Exit status: 0 at the end; 2 command line, 3 too many lines, 4 FILE too long, 5 no memory, 6 FILE or
-commands not readable, 7 write fault, 8 a command is not understood. `trac help` lists all.";
+Exit status: 0 at the end; 2 the command line is not understood; 3 more than 1048576 lines;
+4 FILE is too long; 5 no memory; 6 FILE or the commands cannot be read; 7 the output cannot be
+written; 8 a command is not understood; 70 ./trac of a checkout could not build the program;
+130 Ctrl-C was typed.";
+
+/// How `trac-walk` is used, in one line.
+pub const WALK_USAGE: &str = "trac-walk [OPTIONS] <FILE>";
 
 /// What stands at the end of the help of `trac-walk`.
 pub const WALK_USE: &str = "\
-FILE is the input of the program so far. At a terminal, h lists the commands; q, or Ctrl-D, ends.
-Commands are read from standard input, one a line, and each gets its reply at once.
+FILE holds the program, and after it what the program reads; more can be typed in the walk.
+Commands are read from standard input, one a line, and each gets its reply at once: h lists them,
+and q, or Ctrl-D, ends.
 
-Exit status: 0 at the end; 2 command line, 4 FILE too long, 5 no memory, 6 FILE or commands not
-readable, 7 write fault, 70 ./trac-walk of a checkout could not build the program.";
+Exit status: 0 at the end; 2 the command line is not understood; 4 FILE is too long; 5 no memory;
+6 FILE or the commands cannot be read; 7 the output cannot be written; 70 ./trac-walk of a checkout
+could not build the program; 130 Ctrl-C was typed.";
 
 /// The tip for a word that `trac` or `trac run` does not understand: a file is often named there.
-pub const RUN_TIP: &str =
-    "\n  tip: to run the program in FILE, write: trac run < FILE; trac help and trac --version say more\n";
+pub const RUN_TIP: &str = "to run the program in FILE, put < before its name: trac run < FILE";
+
+/// The tips for words that stand where a subcommand should, and are none.
+pub const WALK_TIP: &str = "the debugger for a terminal is a program of its own: trac-walk FILE";
+
+pub const PAGE_TIP: &str =
+    "the page that plays a run is made by a program of its own: trac-page FILE > run.html";
+
+pub const VERSION_TIP: &str = "the version is shown by: trac --version";
 
 /// The tip for a debugger that is given the option of `trac run`.
 pub const BUDGET_TIP: &str =
-    "--budget is an option of trac run; here each command says how many steps it takes";
+    "--budget is an option of trac run; here the commands say how far to go";
 
 /// The text for a word that is not UTF-8.
 pub const NOT_TEXT: &str = "\
 error: invalid UTF-8 was detected in one or more arguments
 
-  tip: have the shell open such a file: trac run < FILE, or trac debug /dev/fd/3 3< FILE
+  tip: have the shell open such a file: trac run < FILE, trac debug /dev/fd/3 3< FILE, or
+       trac-walk /dev/fd/3 3< FILE
 ";

@@ -1,6 +1,6 @@
 //! Tips for mistakes that are often made, put into what clap says of a command line.
 
-use crate::help::{BUDGET_TIP, RUN_TIP};
+use crate::help::{BUDGET_TIP, PAGE_TIP, RUN_TIP, VERSION_TIP, WALK_TIP};
 use clap::error::ErrorKind;
 use std::alloc::{AllocError, Global};
 
@@ -17,11 +17,33 @@ pub(crate) fn with_tip(
     if is_unknown && first == "debug" {
         return with_file_tip(alloc, words, &text, "trac debug");
     }
-    let mut text = text;
     if kind == ErrorKind::InvalidSubcommand || is_unknown && first == "run" && !is_option(&text) {
-        text.push_str(RUN_TIP)?;
+        return with_first_tip(alloc, &text, tip_for(&text));
     }
     Ok(text)
+}
+
+// This text of clap with a tip after the line that says what is wrong, before clap's own tips.
+fn with_first_tip(alloc: Global, text: &str, tip: &str) -> Result<String, AllocError> {
+    let Some((wrong, rest)) = text.split_once("\n\n") else {
+        return String::from_str(alloc, text);
+    };
+    let gap = if rest.starts_with("  tip: ") {
+        ""
+    } else {
+        "\n"
+    };
+    format!(in alloc; "{wrong}\n\n  tip: {tip}\n{gap}{rest}")
+}
+
+// The tip for what clap says of a subcommand that is not there, or of a word after `run`.
+fn tip_for(text: &str) -> &'static str {
+    match named_after(text, "subcommand '") {
+        "walk" => WALK_TIP,
+        "page" => PAGE_TIP,
+        "version" => VERSION_TIP,
+        _ => RUN_TIP,
+    }
 }
 
 /// This text of clap, which says of a command that reads a FILE that it was given a word that it does not know, with a tip in
@@ -38,7 +60,7 @@ pub(crate) fn with_file_tip(
     let Some((_, after)) = tip.split_once('\n') else {
         return String::from_str(alloc, text);
     };
-    let named = named_in(before);
+    let named = named_after(before, "argument '");
     if named == "--budget" {
         return format!(in alloc; "{before}\n  tip: {BUDGET_TIP}\n{after}");
     }
@@ -53,14 +75,14 @@ pub(crate) fn with_file_tip(
 
 // Whether the word that clap names in this text is an option.
 fn is_option(text: &str) -> bool {
-    let named = named_in(text);
+    let named = named_after(text, "argument '");
     named.starts_with('-') && named != "-"
 }
 
-// The word that clap names in this text as one that it does not know: of one that begins with a single - only a letter. Empty
-// where it names none.
-fn named_in(text: &str) -> &str {
-    let Some((_, rest)) = text.split_once("argument '") else {
+// The word that clap names in this text after these words, as one that it does not know: of an argument that begins with a
+// single - only a letter. Empty where it names none.
+fn named_after<'a>(text: &'a str, words: &str) -> &'a str {
+    let Some((_, rest)) = text.split_once(words) else {
         return "";
     };
     match rest.split_once('\'') {

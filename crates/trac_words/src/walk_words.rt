@@ -2,7 +2,7 @@
 ghost use Rattle.std.specs.Prelude.{IfOk};
 ghost use Rattle.trac_words.specs.Words.{IsWalkLine};
 
-use crate::help::{VERSION, WALK_USE};
+use crate::help::{VERSION, WALK_USAGE, WALK_USE};
 use crate::tips::with_file_tip;
 use crate::words::{Asked, decimals, file, journal, options_in, path_in};
 use clap::error::ErrorKind;
@@ -69,6 +69,7 @@ fn walk_command<'a>(alloc: Global) -> Result<Command<'a>, AllocError> {
             "Walks through the TRAC T-64 program in FILE, forwards and backwards, for a person at a terminal",
         )
         .version(VERSION)
+        .override_usage(WALK_USAGE)
         .after_help(WALK_USE)
         .arg(file(alloc))?
         .arg(journal(
@@ -84,5 +85,5 @@ fn prompt<'a>(alloc: Global) -> Arg<'a> {
     Arg::new(alloc, "prompt")
         .long("prompt")
         .action(ArgAction::SetTrue)
-        .help("Write the number of the next step, and >, before each command is read")
+        .help("Prompt also where standard input is no terminal")
 }

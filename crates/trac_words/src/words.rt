@@ -3,7 +3,7 @@ ghost use Rattle.std.specs.Prelude.{◌≡◌, ◌≤◌, IfOk, IfSome, MatchOpt
 ghost use Rattle.trac_rules.specs.declared.width.Width.TheVariants.{W128};
 ghost use Rattle.trac_words.specs.Words.{IsLine, IsWithin, width_of};
 
-use crate::help::{DEBUG_USE, RUN_USE, USE, VERSION};
+use crate::help::{DEBUG_USE, RUN_USAGE, RUN_USE, USE, VERSION};
 use crate::tips::with_tip;
 use clap::error::ErrorKind;
 use clap::{Arg, ArgMatches, Command, Error};
@@ -223,6 +223,7 @@ fn run_command<'a>(alloc: Global) -> Result<Command<'a>, AllocError> {
     Command::new(alloc, "run")
         .display_name("trac")?
         .about("Runs the program on standard input")
+        .override_usage(RUN_USAGE)
         .after_help(RUN_USE)
         .arg(budget(alloc))?
         .arg(journal(
