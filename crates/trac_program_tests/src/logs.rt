@@ -1,11 +1,17 @@
 //! When something is written: the calls of a reader and a writer that share a log. What is pending is written and flushed
 //! before more is read.
 use crate::faults::INPUT;
-use crate::programs::{DEBUG, Program, RUN, ended};
-use std::alloc::Global;
+use crate::programs::{debug_over, walk_over};
 use std::process::Abort;
 use trac_faults::{Call, CallLog, FaultyReader, FaultyWriter, Logged};
-use trac_run::Ending;
+use trac_rules::width::Width;
+use trac_run::{Ending, Options, run};
+
+const OPTIONS: Options = Options {
+    budget: 1_000_000_000,
+    journal: 64,
+    decimals: Width::W128,
+};
 
 // The calls of a run over `INPUT`, one byte a read: the first line is whole with its eighth byte, and the second with the
 // tenth.
@@ -66,34 +72,53 @@ const IN_A_WALK: &[Call] = &[
     Call::Read(0),
 ];
 
-// A program, its input, of which a line comes at a time and at most so many bytes, and the calls.
-const LOGS: &[(Program<'static>, &[u8], usize, &[Call])] = &[
-    (RUN, INPUT, 1, IN_A_RUN),
-    (DEBUG, b"s 1\n\nb 1\n", 4096, IN_A_SESSION),
-    (Program::Walk(b"AB'", true), b"s 1\n\n", 4096, IN_A_WALK),
-];
-
-fn noted(
-    rt: &impl Abort,
-    plain: Global,
-    program: Program<'_>,
-    input: &[u8],
-    most: usize,
-) -> Option<Vec<Call>> {
-    let log = CallLog::new(plain);
-    let mut reader = Logged::new(FaultyReader::new(input).at_most(most).by_lines(), &log);
-    let mut writer = Logged::new(FaultyWriter::new(plain), &log);
-    let ending = ended(rt, plain, program, &mut reader, &mut writer);
+// The programs and their inputs are constants here: the borrow checker does not follow a call that is lent them beside two
+// readers and writers that share a log.
+fn noted_in_a_run(rt: &(impl Abort + AllocGlobal)) -> Option<Vec<Call>> {
+    let log = CallLog::new(rt.alloc());
+    let mut reader = Logged::new(FaultyReader::new(INPUT).at_most(1), &log);
+    let mut writer = Logged::new(FaultyWriter::new(rt.alloc()), &log);
+    let ending = run(rt.alloc(), &mut reader, &mut writer, OPTIONS);
     assert!(rt; ending == Ending::Ended);
     log.take_calls()
 }
 
+fn noted_in_a_session(rt: &(impl Abort + AllocGlobal)) -> Option<Vec<Call>> {
+    let log = CallLog::new(rt.alloc());
+    let mut reader = Logged::new(FaultyReader::new(b"s 1\n\nb 1\n").by_lines(), &log);
+    let mut writer = Logged::new(FaultyWriter::new(rt.alloc()), &log);
+    let ending = debug_over(rt.alloc(), b"AB'", &mut reader, &mut writer);
+    assert!(rt; ending == Ending::Ended);
+    log.take_calls()
+}
+
+fn noted_in_a_walk(rt: &(impl Abort + AllocGlobal)) -> Option<Vec<Call>> {
+    let log = CallLog::new(rt.alloc());
+    let mut reader = Logged::new(FaultyReader::new(b"s 1\n\n").by_lines(), &log);
+    let mut writer = Logged::new(FaultyWriter::new(rt.alloc()), &log);
+    let ending = walk_over(rt.alloc(), b"AB'", true, &mut reader, &mut writer);
+    assert!(rt; ending == Ending::Ended);
+    log.take_calls()
+}
+
+fn expect_calls(rt: &impl Abort, noted: Option<Vec<Call>>, wanted: &[Call]) {
+    let Some(calls) = noted else {
+        panic!(rt; "there was no memory")
+    };
+    assert!(rt; calls.as_slice() == wanted);
+}
+
 #[test]
-fn output_is_flushed_before_more_is_read(rt: HostRuntime) {
-    for (program, input, most, wanted) in LOGS.iter() {
-        let Some(calls) = noted(&rt, rt.alloc(), *program, input, *most) else {
-            panic!(rt; "there was memory")
-        };
-        assert!(rt; calls.as_slice() == *wanted);
-    }
+fn a_run_is_flushed_before_more_is_read(rt: HostRuntime) {
+    expect_calls(&rt, noted_in_a_run(&rt), IN_A_RUN);
+}
+
+#[test]
+fn a_session_is_flushed_before_more_is_read(rt: HostRuntime) {
+    expect_calls(&rt, noted_in_a_session(&rt), IN_A_SESSION);
+}
+
+#[test]
+fn a_walk_is_flushed_before_more_is_read(rt: HostRuntime) {
+    expect_calls(&rt, noted_in_a_walk(&rt), IN_A_WALK);
 }

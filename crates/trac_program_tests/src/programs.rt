@@ -55,7 +55,8 @@ fn run_over<R: Read, W: Write, A: Allocator + Copy>(
     run(alloc, reader, writer, options)
 }
 
-fn debug_over<R: Read, W: Write, A: Allocator + Copy>(
+/// A session of the debugger over this tape.
+pub(crate) fn debug_over<R: Read, W: Write, A: Allocator + Copy>(
     alloc: A,
     tape: &[u8],
     reader: &mut R,
@@ -69,7 +70,8 @@ fn debug_over<R: Read, W: Write, A: Allocator + Copy>(
     debug(alloc, tape, reader, writer, options)
 }
 
-fn walk_over<R: Read, W: Write, A: Allocator + Copy>(
+/// A walk over this tape.
+pub(crate) fn walk_over<R: Read, W: Write, A: Allocator + Copy>(
     alloc: A,
     tape: &[u8],
     prompt: bool,
@@ -84,8 +86,8 @@ fn walk_over<R: Read, W: Write, A: Allocator + Copy>(
     walk(alloc, tape, reader, writer, settings)
 }
 
-/// How a program ends.
-pub(crate) fn ended<R: Read, W: Write, A: Allocator + Copy>(
+// How a program ends.
+fn ended<R: Read, W: Write, A: Allocator + Copy>(
     rt: &impl Abort,
     alloc: A,
     program: Program<'_>,
