@@ -11,7 +11,7 @@
 //!     ..
 //! }
 //!
-//! // a test: request 1, 2, .. is refused, until a run makes none of that number
+//! // a test: each request is refused in turn, until a run makes none of that number
 //! fn each_request(rt: HostRuntime) {
 //!     for nth in 1..10_000 {
 //!         let memory = Refusing::new(rt.alloc());

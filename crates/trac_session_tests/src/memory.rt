@@ -6,12 +6,12 @@ use trac_faults::Refusing;
 /// Memory of which a request may be refused.
 pub(crate) type Memory<'a> = &'a Refusing<Global>;
 
-// What an allocator is told, or what is asked of it.
+// What an allocator is told, or what is wanted of it.
 enum Act {
     AcceptAll,
     RefuseAll,
     RefuseNth(u64),
-    /// A block is asked for, and given or not.
+    /// A block is requested, and given or not.
     Ask(bool),
     /// A number is put into a vector, which has room for two at first; it is taken or not.
     Push(u8, bool),

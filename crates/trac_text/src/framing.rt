@@ -124,7 +124,7 @@ fn put_functions<A: Allocator + Copy, E: TwoEnds<u8, A>, M: TwoEnds<Mark, A>>(
 }
 
 // Lists with the active text on the right, the base text on the left, and room for these and the arguments of the functions, and
-// for no less than is asked for.
+// for no less than is wanted.
 fn text_of<A: Allocator + Copy, E: TwoEnds<u8, A>>(
     alloc: A,
     active: &[u8],
@@ -146,7 +146,7 @@ fn text_of<A: Allocator + Copy, E: TwoEnds<u8, A>>(
     Ok(text)
 }
 
-// Lists with room for all marks of the functions, and for no less than is asked for.
+// Lists with room for all marks of the functions, and for no less than is wanted.
 fn marks_of<A: Allocator + Copy, M: TwoEnds<Mark, A>>(
     alloc: A,
     functions: &[Function<A>],
