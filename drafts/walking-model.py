@@ -146,7 +146,7 @@ def rule(s):
     if a[:2] == b"#(": return '"#(" begins a function: ' + esc(a)
     if a[:3] == b"##(": return '"##(" begins a function: ' + esc(a)
     if a[:1] in (b"\r", b"\n", b"\t"): return "layout is deleted, before: " + esc(a[1:])
-    return "text is taken as it is: " + esc(a)
+    return '"' + esc(a[:1]) + '" is taken as it is: ' + esc(a)
 
 # ---- calls
 

@@ -12,8 +12,8 @@ pub const NOT_UNDERSTOOD: &[u8] = b"not understood; h lists the commands\n";
 /// The commands, on one screen.
 pub const HELP: &[u8] = b"\
 s [N]      N steps forward, or 1         b [N]      N steps back, or 1
-n          over the next function        N          back over it
-o          out of the function           O          back to where it began
+n          over the next call            N          back over it
+o          out of the begun call         O          back to where it began
 u CALL..   forward to a call             r CALL..   back to a call
            (CALL..: its first arguments, as u cl hanoi; none: any call)
 w NAME     back to the call that changed the form NAME last
@@ -94,7 +94,7 @@ pub fn order_of<'a>(words: &'a [&'a [u8]], quoted: bool) -> Option<Order<'a>> {
         b"i" => Some(Order::Feed(text_in(rest)?)),
         b"p" => print_of(rest),
         b"f" => forms_of(rest),
-        b"t" => Some(Order::Calls(count_in(rest, CALL_COUNT)?)),
+        b"t" => calls_of(rest),
         b"e" => alone(rest, Order::EndInput),
         b"h" | b"help" | b"?" => alone(rest, Order::Help),
         b"q" | b"quit" | b"exit" => alone(rest, Order::Quit),
@@ -146,6 +146,14 @@ fn forms_of<'a>(rest: &[&'a [u8]]) -> Option<Order<'a>> {
         return Some(Order::Forms);
     }
     Some(Order::Form(one_in(rest)?))
+}
+
+// The last calls, one of them at least.
+fn calls_of<'a>(rest: &[&[u8]]) -> Option<Order<'a>> {
+    match count_in(rest, CALL_COUNT)? {
+        0 => None,
+        count => Some(Order::Calls(count)),
+    }
 }
 
 // What a command asks for that stands alone.

@@ -118,7 +118,7 @@ const IN_A_SESSION: &[Row] = &[
 // The same lines in a walk.
 const FIRST: &[u8] = b"3  \",\" ends an argument of #(ps\n";
 
-const BOTH: &[u8] = b"3  \",\" ends an argument of #(ps\n2  text is taken as it is: s,#(rs))\n";
+const BOTH: &[u8] = b"3  \",\" ends an argument of #(ps\n2  \"s\" is taken as it is: s,#(rs))\n";
 
 const IN_A_WALK: &[Row] = &[
     (Fault::None, BOTH, Ending::Ended),

@@ -37,6 +37,10 @@ pub enum Stop {
 const NO_FORM: &[u8] =
     b"there is no form of this name; printed text stands in quotes: w \"TEXT\"\n";
 
+/// What may have been meant where a call is not met whose first word is the name of no primitive.
+pub const NO_PRIMITIVE: &[u8] =
+    b"no primitive has this name; a form is met by its call: u cl NAME, r cl NAME\n";
+
 /// Puts a line at the end of a text that says why a move stopped, where one can go back to this step. The error is that memory
 /// was refused, here and below.
 pub fn stop_into<A: Allocator + Copy>(

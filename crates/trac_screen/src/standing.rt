@@ -1,6 +1,6 @@
 //! Where a walk stands, in one line.
 
-use crate::screen_line::ScreenLine;
+use crate::screen_line::{ScreenLine, front};
 use std::alloc::{AllocError, Allocator};
 use trac_step::{Args, Kind, Machine};
 
@@ -87,8 +87,18 @@ fn anywhere_into<A: Allocator + Copy>(
             rest,
             line,
         ),
-        active => quoted_into(b"text is taken as it is: ", active, line),
+        active => taken_into(active, line),
     }
+}
+
+// That the first byte of the active text is taken as it is.
+fn taken_into<A: Allocator + Copy>(
+    active: &[u8],
+    line: &mut ScreenLine<A>,
+) -> Result<(), AllocError> {
+    line.say(b"\"")?;
+    line.show(front(active, 1))?;
+    quoted_into(b"\" is taken as it is: ", active, line)
 }
 
 // Words, and what the active text goes on with.

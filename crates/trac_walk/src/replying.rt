@@ -7,8 +7,9 @@ use std::alloc::{AllocError, Allocator};
 use trac_orders::{
     HELP, Move, NOT_UNDERSTOOD, Order, Word, is_second_quoted, order_of, texts_of, words_of,
 };
+use trac_rules::primitive::NAMES;
 use trac_screen::{
-    Stop, form_into, list_into, refused, screen_into, standing_into, stop_into, window_into,
+    NO_PRIMITIVE, Stop, form_into, list_into, refused, screen_into, standing_into, stop_into, window_into,
 };
 use trac_show::machine_lines;
 
@@ -146,7 +147,34 @@ fn go<A: Allocator + Copy>(
     memo.last = Vec::from_slice(alloc, line)?;
     let stop = carry_out(walker, way);
     tell(alloc, walker.first_step(), stop, &mut memo.told, out)?;
+    if is_unmet(stop) && names_no_primitive(way) {
+        out.extend_from_slice(NO_PRIMITIVE)?;
+    }
     standing_into(alloc, walker.step(), walker.machine(), out)
+}
+
+// Whether a move stopped because what it looked for is not met.
+fn is_unmet(stop: Option<Stop>) -> bool {
+    matches!(stop, Some(Stop::Unmet(_) | Stop::NotMet | Stop::Spent))
+}
+
+// Whether a move looks for a call whose first word is the name of no primitive.
+fn names_no_primitive(way: Move<'_>) -> bool {
+    match way {
+        Move::Until([name, ..]) | Move::Return([name, ..]) => !is_primitive(*name),
+        _ => false,
+    }
+}
+
+// Whether a primitive has this name, each letter in either case.
+fn is_primitive(name: &[u8]) -> bool {
+    match name {
+        [first, second] => {
+            let letters = [first.to_ascii_lowercase(), second.to_ascii_lowercase()];
+            NAMES.iter().any(|entry| entry.letters == letters)
+        }
+        _ => false,
+    }
 }
 
 // Says why a move stopped, where it did, and once that steps are forgotten, where they are: the way back ends at this step.

@@ -82,6 +82,11 @@ fn walk_file(rt: &HostRuntime, path: &str, options: Options, prompt: bool) -> En
             &mut rt.stdout(),
             settings,
         ),
-        Err(ending) => ending,
+        Err(ending) => {
+            if ending == Ending::Read {
+                let _ = eprint!(rt; "trac-walk: {path} cannot be read\n");
+            }
+            ending
+        }
     }
 }

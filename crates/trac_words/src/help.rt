@@ -12,8 +12,9 @@ Examples:
   trac run < FILE                   runs the program in FILE
   printf \"#(ps,Hello)'\" | trac run  runs a program that another command prints
   trac-walk FILE                    the debugger for a terminal, a program of its own
+  trac-page FILE > run.html         makes a page that plays a run, a program of its own too
   trac debug FILE                   the debugger for scripts
-  trac help run, trac help debug    say more; for trac-walk: trac-walk --help
+  trac help run, trac help debug    say more; so do trac-walk --help and trac-page --help
 
 Exit status:
   0    the program or the commands have ended, or help or the version is shown

@@ -23,24 +23,34 @@ pub(crate) fn with_tip(
     Ok(text)
 }
 
-// This text of clap with a tip after the line that says what is wrong, before clap's own tips.
+// This text of clap with a tip after the line that says what is wrong: before clap's own one, but after that of a subcommand
+// with a similar name, unless a file is named.
 fn with_first_tip(alloc: Global, text: &str, tip: &str) -> Result<String, AllocError> {
     let Some((wrong, rest)) = text.split_once("\n\n") else {
         return String::from_str(alloc, text);
     };
-    let gap = if rest.starts_with("  tip: ") {
-        ""
-    } else {
-        "\n"
-    };
-    format!(in alloc; "{wrong}\n\n  tip: {tip}\n{gap}{rest}")
+    if !rest.starts_with("  tip: ") {
+        return format!(in alloc; "{wrong}\n\n  tip: {tip}\n\n{rest}");
+    }
+    match rest.split_once('\n') {
+        Some((similar, after)) if !names_file(text) => {
+            format!(in alloc; "{wrong}\n\n{similar}\n  tip: {tip}\n{after}")
+        }
+        _ => format!(in alloc; "{wrong}\n\n  tip: {tip}\n{rest}"),
+    }
+}
+
+// Whether the word that clap takes for a subcommand in this text looks like the name of a file.
+fn names_file(text: &str) -> bool {
+    let named = named_after(text, "subcommand '");
+    named.contains('.') || named.contains('/')
 }
 
 // The tip for what clap says of a subcommand that is not there, or of a word after `run`.
 fn tip_for(text: &str) -> &'static str {
     match named_after(text, "subcommand '") {
-        "walk" => WALK_TIP,
-        "page" => PAGE_TIP,
+        "walk" | "trac-walk" => WALK_TIP,
+        "page" | "trac-page" => PAGE_TIP,
         "version" => VERSION_TIP,
         _ => RUN_TIP,
     }
