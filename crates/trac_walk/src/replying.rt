@@ -9,7 +9,8 @@ use trac_orders::{
 };
 use trac_rules::primitive::NAMES;
 use trac_screen::{
-    NO_PRIMITIVE, Stop, form_into, list_into, refused, screen_into, standing_into, stop_into, window_into,
+    NO_PRIMITIVE, Stop, form_into, list_into, refused, screen_into, standing_into, stop_into,
+    window_into,
 };
 use trac_show::machine_lines;
 
