@@ -31,17 +31,6 @@ use Rattle.trac_streams.proofs.Splitting.{first_line}
 
 -- ---- what becomes of a line
 
--- an empty line is passed over
-pub turn_null : (number : ℕ) → number ≤ LINE_COUNT_LIMIT → turn_at number [] ≡ Passes
-turn_null number l = cond-true (nat_le number LINE_COUNT_LIMIT) Passes (Ends Budget) (le-leb number LINE_COUNT_LIMIT l)
-
--- any other line says what it says
-pub turn_line : (number : ℕ) (line : List ℕ) → number ≤ LINE_COUNT_LIMIT → 0 < length line → length line ≤ LINE_LIMIT → turn_at number line ≡ turn_of number (command_of line)
-turn_line number [] few some short = absurd (omega arith)
-turn_line number (b ∷ bs) few some short =
-    cond-true (nat_le number LINE_COUNT_LIMIT) (if is_within (b ∷ bs) then turn_of number (command_of (b ∷ bs)) else Ends (NotUnderstood number)) (Ends Budget) (le-leb number LINE_COUNT_LIMIT few)
-    ∙ cond-true (is_within (b ∷ bs)) (turn_of number (command_of (b ∷ bs))) (Ends (NotUnderstood number)) (le-leb (length (b ∷ bs)) LINE_LIMIT short)
-
 -- a line that is too long is not understood
 pub turn_long : (number : ℕ) (line : List ℕ) → number ≤ LINE_COUNT_LIMIT → LINE_LIMIT < length line → turn_at number line ≡ Ends (NotUnderstood number)
 turn_long number [] few long = absurd (omega arith)
@@ -54,16 +43,6 @@ pub turn_late : (number : ℕ) (line : List ℕ) → LINE_COUNT_LIMIT < number �
 turn_late number [] late = cond-false (nat_le number LINE_COUNT_LIMIT) Passes (Ends Budget) (lt-leb number LINE_COUNT_LIMIT late)
 turn_late number (b ∷ bs) late =
     cond-false (nat_le number LINE_COUNT_LIMIT) (if is_within (b ∷ bs) then turn_of number (command_of (b ∷ bs)) else Ends (NotUnderstood number)) (Ends Budget) (lt-leb number LINE_COUNT_LIMIT late)
-
--- a command is carried out, if it is not to end the session
-pub turn_does : (number : ℕ) (command : code.Command) → (command ≡ code.TheVariants.Quit → ⊥) → turn_of number (Some (command_seen command)) ≡ Does (command_seen command)
-turn_does number (code.TheVariants.Forward n) other = refl
-turn_does number (code.TheVariants.Back n) other = refl
-turn_does number (code.TheVariants.Until name n) other = refl
-turn_does number (code.TheVariants.Return name) other = refl
-turn_does number code.TheVariants.Print other = refl
-turn_does number (code.TheVariants.Commit keep) other = refl
-turn_does number code.TheVariants.Quit other = absurd (other refl)
 
 -- ---- a turn
 

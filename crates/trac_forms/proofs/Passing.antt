@@ -14,6 +14,7 @@ use Rattle.trac_rules.specs.Bytes.{last_place}
 use Rattle.trac_rules.specs.Form.{Form}
 use Rattle.trac_rules.specs.Pieces.{Piece, at_most_all, byte_of, bytes_in, count_read, is_gap, last_bytes, next_bytes, place_before, place_behind, place_of_text, read_back, read_on, segment_items, segment_read, until_read, where_any}
 use Rattle.trac_rules.proofs.Balanced.{first_place_some}
+use Rattle.trac_rules.proofs.Items.{bytes_in-append}
 use Rattle.trac_forms.specs.declared.piece.Piece.{Piece as Measured}
 use Rattle.trac_forms.specs.Taken.{IsThere, items_from, taken}
 
@@ -22,9 +23,6 @@ use Rattle.trac_forms.specs.Taken.{IsThere, items_from, taken}
 -- how many bytes there are among items
 abbrev pub count : List Item → ℕ
 count items = length (bytes_in items)
-
-pub bytes_in-append : (xs ys : List Item) → bytes_in (xs ++ ys) ≡ bytes_in xs ++ bytes_in ys
-bytes_in-append xs ys = flat_map-append byte_of xs ys
 
 pub count-append : (xs ys : List Item) → count (xs ++ ys) ≡ count xs + count ys
 count-append xs ys = ap length (bytes_in-append xs ys) ∙ length-append (bytes_in xs) (bytes_in ys)

@@ -36,34 +36,16 @@ newest_call calls older c bytes commas first has =
     let all = subst (λ (cs : List Call). HasCall cs bytes commas) first has in
     record { bytes = all.0; commas = all.1; within = all.2 }
 
--- its lengths are within its bytes
-pub pieces_within : (c : Call) (bytes commas : List ℕ) → IsCall c bytes commas → sum (last_of c.commas commas) ≤ length (last_of c.bytes bytes)
-pieces_within c bytes commas has = omega (arith, has.within, length-last c.bytes bytes has.bytes)
-
 -- it is lent
 pub call_told : (c : Call) (called : code.Called) (calls older : List Call) (bytes commas : List ℕ) (arguments : Arguments) → calls ≡ c ∷ older → called ≡ called_in c →
     arguments ≡ cut_at (last_of c.commas commas) (last_of c.bytes bytes) → (undone : Undone) → IsTold (newest.Call called arguments) (call_of calls undone bytes commas)
 call_told c called calls older bytes commas arguments first called_is arguments_are undone =
     (undone, ap (λ (cs : List Call). call_of cs undone bytes commas) first ∙ (λ i. Called (record_with (sym called_is i) (all_texts (sym arguments_are i)) undone)))
 
--- what it destroyed of forms and blocks is handed out
-pub call_lost : {A : Type 0} → (calls : List Call) (undone : destroyed.Undone A) (u : Undone) (bytes commas : List ℕ) → HasCall calls bytes commas → undone_in undone ≡ u →
-    IsLost (lost.Storage undone) (call_of calls u bytes commas)
-call_lost [] undone u bytes commas has is = absurd has
-call_lost (c ∷ calls) undone u bytes commas has is = is
-
 -- the others stay
 pub undone_stays : (calls : List Call) (l : Listed) → (without_call calls l).undone ≡ l.undone
 undone_stays [] l = refl
 undone_stays (c ∷ calls) l = refl
-
--- it is taken out
-pub call_taken : (calls older : List Call) (c : Call) (l new : Listed) → l.calls ≡ calls → calls ≡ c ∷ older → new.calls ≡ older → new.bytes ≡ all_before_last c.bytes l.bytes →
-    new.commas ≡ all_before_last c.commas l.commas → new.undone ≡ l.undone → new.emptied ≡ l.emptied → new ≡ without_call l.calls l
-call_taken calls older c l new is first calls_are bytes_are commas_are undone_is emptied_is =
-    let all : new ≡ without_call (c ∷ older) l =
-    λ i. record { calls = calls_are i; bytes = bytes_are i; commas = commas_are i; undone = undone_is i; emptied = emptied_is i } in
-    all ∙ ap (λ (cs : List Call). without_call cs l) (sym first ∙ sym is)
 
 -- what it weighs beside what it destroyed of forms and blocks
 pub call_weighs : (calls older : List Call) (c : Call) (bytes commas : List ℕ) → calls ≡ c ∷ older → IsCall c bytes commas → (undone : Undone) →
@@ -150,16 +132,6 @@ call_more k called c texts n u old new count called_is bytes_are commas_are call
     by_kept kept.Idle so w = absurd so
 
 -- ---- what was destroyed or emptied last
-
-pub undone_back : {A : Type 0} → (items : List (destroyed.Undone A)) (u : destroyed.Undone A) (n : ℕ) (undone : List Undone) → map undone_in (reverse items) ≡ undone →
-    length items ≡ n + 1 → u ≡ get_or items n u → first_undone undone ≡ undone_in u
-undone_back {A} items u n undone are many is =
-    sym (ap first_undone are) ∙ ap (λ (us : List (destroyed.Undone A)). first_undone (map undone_in us)) (last_first items u n many is)
-
-pub emptied_back : {A : Type 0} → (items : List (Emptied A)) (e : Emptied A) (n : ℕ) (emptied : List (List ℕ × List Frame)) → map texts_in (reverse items) ≡ emptied →
-    length items ≡ n + 1 → e ≡ get_or items n e → idle_of emptied ≡ Idle (texts_in e).0 (texts_in e).1
-emptied_back {A} items e n emptied are many is =
-    sym (ap idle_of are) ∙ ap (λ (es : List (Emptied A)). idle_of (map texts_in es)) (last_first items e n many is)
 
 -- the record of an idle step is told
 pub idle_told : (k : Kept) (l : Listed) → k ≡ kept.Idle → Holds k l → (base : List ℕ) × ((frames : List Frame) × (newest_in k l ≡ Idle base frames))

@@ -130,17 +130,6 @@ entry_listed entries new e r old_l new_l last more listed =
 
 -- ---- one record more
 
--- an entry that holds all of its record
-pub brief_more : (k : Kept) (l : Listed) → IsBrief k → HasMore k (newest_in k nothing_listed) l l
-brief_more kept.Comma l brief = record { is_there = tt; newest = refl; others = refl }
-brief_more kept.Begun l brief = record { is_there = tt; newest = refl; others = refl }
-brief_more (kept.Quoted closed inner) l brief = record { is_there = tt; newest = refl; others = refl }
-brief_more (kept.Deleted b) l brief = record { is_there = tt; newest = refl; others = refl }
-brief_more kept.Call l brief = absurd brief
-brief_more (kept.Pointed place) l brief = absurd brief
-brief_more kept.Changed l brief = absurd brief
-brief_more kept.Idle l brief = absurd brief
-
 pub brief_light : (k : Kept) → IsBrief k → weight (newest_in k nothing_listed) ≤ 1
 brief_light kept.Comma brief = omega arith
 brief_light kept.Begun brief = omega arith
@@ -186,13 +175,6 @@ one_less moved count weighed own entries left e l new none last others is sound 
       within = omega (arith, is, less.within);
       sound = (subst (AreListed (reverse left)) (sym others) there.1, less.left own 1 (omega (arith, is)) refl);
     }
-
--- the newest record is a light one
-pub newest_light : (moved count weighed : ℕ) (entries left : List Entry) (e : Entry) (l : Listed) → moved ≡ 0 → entries ≡ left ++ e ∷ [] → IsSound moved entries l count weighed →
-    weight (newest_in e.kept l) ≤ 2 ^ 42
-newest_light moved count weighed entries left e l none last sound =
-    All-head IsLight (newest_in e.kept l) (unpacked e.moved (reverse left) (older_in e.kept l))
-    (All-same IsLight (newest_in e.kept l ∷ unpacked e.moved (reverse left) (older_in e.kept l)) (unpacked moved (reverse entries) l) (sym (entry_first moved entries left e l none last)) sound.1.light)
 
 -- ---- moved bytes taken out
 

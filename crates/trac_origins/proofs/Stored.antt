@@ -14,16 +14,12 @@ use Rattle.trac_rules.specs.Blocks.{block_at, forms_in, moved_out, with_all}
 use Rattle.trac_rules.specs.Form.{Form, all_items, pointed_at}
 use Rattle.trac_rules.specs.Handling.{without}
 use Rattle.trac_rules.specs.State.{Block, Forms, Held}
+use Rattle.trac_rules.proofs.Found.{put_get}
 use Rattle.trac_rules.proofs.NamedForms.{found_of_put, found_of_taken}
 use Rattle.trac_rules.proofs.ProperBlocks.{WasAmong, moved_out_among}
 use Rattle.trac_origins.specs.Places.{Origin, held_form}
 use Rattle.trac_origins.specs.Performing.{put_under}
 use Rattle.trac_origins.proofs.Zips.{Zip}
-
--- what is found under a name after a form was put
-get_put : (forms : Forms) (name q : List ℕ) (form : Form) → finite.get (finite.insert forms name form) q ≡ cond (bytes_eq q name) (Some form) (finite.get forms q)
-get_put forms name q form =
-    finite.get-insert nat_list_cmp_total forms name form q ∙ ap (λ b. cond b (Some form) (finite.get forms q)) (is_eq-slice_cmp q name)
 
 -- ---- forms that are left
 
@@ -70,10 +66,10 @@ copied : (held : Held) (m n forms : Forms) (q : List ℕ) → finite.get n q ≡
 copied [] m n forms q e = e
 copied (entry ∷ held) m n forms q e =
     copied held (finite.insert m entry.0 entry.1) (finite.insert n entry.0 entry.1) forms q
-    (get_put n entry.0 q entry.1
+    (put_get n entry.0 q entry.1
     ∙ ap (λ found. cond (bytes_eq q entry.0) (Some entry.1) found) e
     ∙ either (bytes_eq q entry.0) entry.1 (finite.get m q) (finite.get forms q)
-    ∙ ap (λ found. or_else found (finite.get forms q)) (sym (get_put m entry.0 q entry.1)))
+    ∙ ap (λ found. or_else found (finite.get forms q)) (sym (put_get m entry.0 q entry.1)))
 
 -- what is found after a block's forms were put is the block's, or was there
 pub found_of_copies : (block : Block) (forms : Forms) (q : List ℕ) → finite.get (with_all (forms_in block) forms) q ≡ or_else (held_form q block) (finite.get forms q)
@@ -119,7 +115,7 @@ module _ (R : Origin → Item → Type 0) where
   -- a form that is put
   pub put_beside : (name : List ℕ) (items : List Origin) (form : Form) (from : List ℕ → List Origin) (forms : Forms) → Zip R items (all_items form) → FormsBeside from forms →
       FormsBeside (put_under name items from) (finite.insert forms name form)
-  put_beside name items form from forms z h q found e = go (bytes_eq q name) (sym (get_put forms name q form) ∙ e)
+  put_beside name items form from forms z h q found e = go (bytes_eq q name) (sym (put_get forms name q form) ∙ e)
     where
       go : (b : Bool) → cond b (Some form) (finite.get forms q) ≡ Some found → Zip R (cond b items (from q)) (all_items found)
       go true e = subst (λ (f : Form). Zip R items (all_items f)) (same_Some form found e) z

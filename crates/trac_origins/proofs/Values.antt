@@ -19,6 +19,7 @@ use Rattle.trac_rules.specs.Form.{Form, all_items, as_items}
 use Rattle.trac_rules.specs.Handling.{piece_read}
 use Rattle.trac_rules.specs.Pieces.{Piece, at_most_all, byte_of, bytes_in, fitting_count_read, is_gap, last_bytes, next_bytes, nothing_read, place_before, place_behind, place_of_text, read_back, read_on, segment_items, segment_read, until_read, where_any}
 use Rattle.trac_rules.specs.Showing.{shown, shown_item}
+use Rattle.trac_rules.proofs.Items.{bytes_in-append, length-as_items, no_gap}
 use Rattle.trac_rules.proofs.Cuts.{IsCut, done as none_cut, kept as item_kept, made as gap_made}
 use Rattle.trac_origins.specs.Places.{Origin, Made}
 use Rattle.trac_origins.specs.Lists.{all_made}
@@ -31,11 +32,6 @@ use Rattle.trac_origins.proofs.Besides.{OfByte, Text}
 -- a value is given that begins the bytes from the lesser pointer on
 abbrev IsAhead : Form → Piece → Type 0
 IsAhead form piece = take (length piece.value) (bytes_in (drop (min (length form.before) piece.place) (all_items form))) ≡ piece.value
-
-bytes_in-append : (xs ys : List Item) → bytes_in (xs ++ ys) ≡ bytes_in xs ++ bytes_in ys
-bytes_in-append [] ys = refl
-bytes_in-append (Byte b ∷ xs) ys = ap (λ (bytes : List ℕ). b ∷ bytes) (bytes_in-append xs ys)
-bytes_in-append (Gap k w ∷ xs) ys = bytes_in-append xs ys
 
 -- the bytes of a front of items begin their bytes
 front_of_bytes : (k : ℕ) (items : List Item) → take (length (bytes_in (take k items))) (bytes_in items) ≡ bytes_in (take k items)
@@ -120,15 +116,6 @@ piece_ahead ReadCount width arguments form piece e = count_ahead (number_argumen
 piece_ahead ReadUntil width arguments form piece e = until_ahead (argument 2 arguments) form piece e
 
 -- ---- texts as items
-
-length-as_items : (text : List ℕ) → length (as_items text) ≡ length text
-length-as_items [] = refl
-length-as_items (b ∷ text) = ap suc (length-as_items text)
-
--- a text is no gap
-no_gap : (text : List ℕ) (rest : List Item) → 0 < length text → begins_with_gap (as_items text ++ rest) ≡ false
-no_gap [] rest some = absurd (omega arith)
-no_gap (b ∷ text) rest some = refl
 
 -- ---- with origins beside them
 

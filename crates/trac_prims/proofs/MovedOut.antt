@@ -17,7 +17,7 @@ use Rattle.trac_rules.specs.State.{Forms, Held}
 use Rattle.trac_rules.proofs.NamedForms.{only_equal_tie, ties_itself}
 use Rattle.trac_rules.specs.Undone.{names_in}
 use Rattle.trac_text.specs.Framing.{texts_of}
-use Rattle.trac_change.proofs.Found.{taken_get}
+use Rattle.trac_rules.proofs.Found.{taken_get}
 use Rattle.trac_forms.proofs.Tables.{nothing_taken}
 
 -- ---- one name

@@ -154,34 +154,3 @@ pub answers_seen : {T U C : Type 0} (view : T → U) (of_code : C → T) (outcom
     MayAnswer of_code outcome result → MayAnswer (λ made. view (of_code made)) (seen_as view outcome) result
 answers_seen view of_code said (Ok made) h = ap (seen_as view) h
 answers_seen view of_code said (Err refusal) h = refuses_seen view said refusal h
-
--- what is planned leads to the state after the call
-after_planned_is : (call : Call) (kind : Kind) (arguments : List (List ℕ)) (stored : Stored) (now : Now) → IsGiven call kind arguments stored now →
-    (e : Effect) → after_planned call (planned_from now e) ≡ after_call call e
-after_planned_is call kind arguments stored now given e =
-    let meta_is = sym given.state_is.meta_is in
-    let trace_is = sym given.state_is.trace_is in
-    let position_is = sym given.state_is.position_is in
-    λ i. placed call.kind e.forced e.value (record (changed_by e call.state) {
-      meta = unwrap_or e.meta (meta_is i);
-      trace = unwrap_or e.trace (trace_is i);
-      position = position_is i + e.read;
-    })
-
--- the same outcome where its views are the same
-seen_same : {T U V : Type 0} (first : T → U) (second : U → V) (both : T → V) → ((x : T) → second (first x) ≡ both x) → (outcome : Result T Refusal) →
-    seen_as second (seen_as first outcome) ≡ seen_as both outcome
-seen_same first second both same (Ok x) = ap Ok (same x)
-seen_same first second both same (Err refusal) = refl
-
--- what was planned is what comes of the step
-pub planned_step : {C : Type 0} (environment : Environment) (s : State) (call : Call) (kind : Kind) (arguments : List (List ℕ)) (stored : Stored) (now : Now) →
-    IsGiven call kind arguments stored now → (of_code : C → Planned) (result : Result C Refusal) → scan s ≡ Calls call →
-    MayAnswer of_code (seen_as (planned_from now) (limited (fits_after call) (performed environment call))) result →
-    MayAnswer (λ made. after_planned call (of_code made)) (step environment s) result
-unfolding step
-planned_step environment s call kind arguments stored now given of_code result called h =
-    subst (λ o. MayAnswer (λ made. after_planned call (of_code made)) o result)
-    (seen_same (planned_from now) (after_planned call) (after_call call) (after_planned_is call kind arguments stored now given) (limited (fits_after call) (performed environment call))
-    ∙ sym (ap (λ x. limited texts_fit (carried_out environment x)) called ∙ limited-seen_as (fits_after call) texts_fit (after_call call) (λ e. refl) (performed environment call)))
-    (answers_seen (after_planned call) of_code (seen_as (planned_from now) (limited (fits_after call) (performed environment call))) result h)

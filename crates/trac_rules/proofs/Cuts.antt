@@ -15,6 +15,7 @@ use Rattle.trac_rules.specs.Filling.{text_numbered}
 use Rattle.trac_rules.specs.Form.{Form, IsWide, all_items, as_items, extent, width_of}
 use Rattle.trac_rules.specs.Segmenting.{leftmost, cut_at, cut_up_to, part, runs_of, replaced, cut_out, segmented_from, segmented}
 use Rattle.trac_rules.specs.Weights.{gap_count, gaps_made}
+use Rattle.trac_rules.proofs.Items.{length-as_items, no_gap}
 use Rattle.trac_rules.proofs.Cutting.{extent-append, extent-as_items, leftmost_stands, replaced_none, split_at, wide-as_items}
 
 -- the new items are the old ones, with gaps in place of texts that they are numbered for
@@ -23,11 +24,6 @@ pub data IsCut (texts : List (List ℕ)) : List Item → List Item → Type 0 wh
   kept : {item : Item} {old new : List Item} → IsCut texts old new → IsCut texts (item ∷ old) (item ∷ new)
   made : (k : ℕ) {old new : List Item} → 0 < length (text_numbered k texts) → IsCut texts old new →
       IsCut texts (as_items (text_numbered k texts) ++ old) (Gap k (length (text_numbered k texts)) ∷ new)
-
--- a text as items is as long
-length-as_items : (text : List ℕ) → length (as_items text) ≡ length text
-length-as_items [] = refl
-length-as_items (b ∷ text) = ap suc (length-as_items text)
 
 -- joined texts as items
 as_items-append : (xs ys : List ℕ) → as_items (xs ++ ys) ≡ as_items xs ++ as_items ys
@@ -121,11 +117,6 @@ pub segmented_is_cut : (texts : List (List ℕ)) (form : Form) → IsCut texts (
 segmented_is_cut texts form = cut_in_turn texts [] texts 1 (all_items form) refl refl
 
 -- ---- which gaps are made
-
--- a text is no gap
-no_gap : (text : List ℕ) (rest : List Item) → 0 < length text → begins_with_gap (as_items text ++ rest) ≡ false
-no_gap [] rest some = absurd (omega arith)
-no_gap (b ∷ text) rest some = refl
 
 abbrev made_first : ℕ → ℕ → List CutGap → List CutGap
 made_first place k cut = record { place = place; ordinal = k } ∷ cut

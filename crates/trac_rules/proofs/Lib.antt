@@ -2,6 +2,7 @@ pub mod Balanced
 pub mod Calculated
 pub mod Numerals
 pub mod Cutting
+pub mod Items
 pub mod Cuts
 pub mod Outcomes
 pub mod Scans
@@ -10,6 +11,7 @@ pub mod Positions
 pub mod Steps
 pub mod LongerTapes
 pub mod NamedForms
+pub mod Found
 pub mod Addresses
 pub mod ProperBlocks
 pub mod ProperStates

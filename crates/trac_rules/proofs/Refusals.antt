@@ -208,23 +208,6 @@ beyond_limits_of_text t l = false_from_ne_true (texts_fit t) (λ h.
     let inner = and_parts (nat_le (text_bytes t) TEXT_LIMIT) (nat_le (marks t.frames) MARK_LIMIT) outer.0 in
     absurd (omega (arith, leb-true (text_bytes t) TEXT_LIMIT inner.0)))
 
--- a state with too much output is beyond the limits
-pub beyond_limits_of_output : (t : State) → OUTPUT_LIMIT < length t.output → texts_fit t ≡ false
-unfolding texts_fit
-beyond_limits_of_output t l = false_from_ne_true (texts_fit t) (λ h.
-    let parts = and_parts (nat_le (text_bytes t) TEXT_LIMIT && nat_le (marks t.frames) MARK_LIMIT) (nat_le (length t.output) OUTPUT_LIMIT) h in
-    absurd (omega (arith, leb-true (length t.output) OUTPUT_LIMIT parts.1)))
-
--- a placed value leaves the output as it is
-output-placed : (kind : Kind) (forced : Bool) (value : List ℕ) (s : State) → (placed kind forced value s).output ≡ s.output
-output-placed Active forced value s = refl
-output-placed Neutral true value s = refl
-output-placed Neutral false value s = gathered_in_shows (λ t. t.output) (λ t active base frames. refl) s.frames value s
-
--- the output after a call is what it printed after that before it
-pub output-after_call : (call : Call) (e : Effect) → (after_call call e).output ≡ call.state.output ++ e.printed
-output-after_call call e = output-placed call.kind e.forced e.value (changed_by e call.state)
-
 -- a call with a value that is too long is refused
 placed_long : (call : Call) (n : ℕ) (outcome : Result Effect Refusal) → TEXT_LIMIT < n → IsLong n outcome → limited texts_fit (seen_as (after_call call) outcome) ≡ Err TooLong
 placed_long call n (Ok e) l long =

@@ -53,23 +53,6 @@ takes_none in_old in_new p q buffer n refusal ending open_ l few is took h =
     let at = feed_ends p q (take n buffer) refusal open_ few_ h in
     record { got = take n buffer; few = few_; took = took; same = at.0; why = subst (λ e. EndsFor e p (take n buffer)) (sym is) at.1 }
 
--- what was fed
-pub takes_more : (in_old in_new : Option (List ℕ)) (p q : PlainSession) (buffer : List ℕ) (n : ℕ) → 0 < n → n ≤ length buffer →
-    Consumes in_old in_new (take n buffer) → answer (Feed (take n buffer)) p ≡ done q → TakesMore in_old in_new p q
-takes_more in_old in_new p q buffer n some l took h = record {
-  got = take n buffer;
-  took = took;
-  fed = inr (omega (arith, length-take-le n buffer l), h);
-}
-
--- the end
-pub takes_end : (in_old in_new : Option (List ℕ)) (p q : PlainSession) (buffer : List ℕ) (n : ℕ) → n ≡ 0 → Consumes in_old in_new (take n buffer) → IsAtEnd in_new → answer End p ≡ done q → TakesMore in_old in_new p q
-takes_end in_old in_new p q buffer n none took end h = record {
-  got = take n buffer;
-  took = took;
-  fed = inl (ap (λ k. take k buffer) none, end, h);
-}
-
 -- ---- before the read
 
 -- what is wanted is wanted of a tape that has not ended

@@ -67,10 +67,6 @@ pub record HasTaken (in_old in_now out_old out_now : Option (List ℕ)) (p q : P
   pub fewer : (n : ℕ) → p.last.position ≡ 0 → turns_left q n < turns_left p n
   pub wanted : waits ≡ true → answer Step q ≡ refused refusals.NeedInput q
 
--- a fresh session stands on its tape
-pub fresh_on_tape : (q : PlainSession) → IsFresh q → q.last.position ≤ length q.tape.bytes
-fresh_on_tape q fresh = omega (arith, fresh.nothing_read)
-
 -- one piece more
 pub has_taken_more : (in_old in_now in_new out_old out_now out_new : Option (List ℕ)) (p q r : PlainSession) (waited waits : Bool) → HasTaken in_old in_now out_old out_now p q waited →
     ((n : ℕ) → GoesOn in_now in_new out_now out_new q n r n) → IsFresh r → ((n : ℕ) → q.last.position ≡ 0 → turns_left r n < turns_left q n) →

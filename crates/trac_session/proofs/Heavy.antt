@@ -20,9 +20,6 @@ pub record GoesOnLight (most : ℕ) (old : PlainSession) (steps : ℕ) (now : Pl
   pub on : GoesOn Step no_goal old steps now
   pub light : 0 < steps → weights_from now.earlier ≤ most
 
-pub light_at_first : (most : ℕ) (old : PlainSession) → GoesOnLight most old 0 old
-light_at_first most old = record { on = goes_on_first Step no_goal old; light = λ some. absurd (omega arith) }
-
 -- over a step more, and then plain bytes
 pub light_further : (most steps k : ℕ) (old p q r : PlainSession) → GoesOnLight most old steps p → answer Step p ≡ done q → weights_from q.earlier ≤ most →
     repeated Step k q ≡ Some r → weights_from r.earlier ≡ weights_from q.earlier → GoesOnLight most old (steps + 1 + k) r

@@ -116,18 +116,6 @@ rebuilt_parts old new ms ns store kept meta trace position output copy left righ
       spare = kept.spare;
     }
 
-pub sound_rebuilt : (p : Parts) (text_room mark_room output_room : ℕ) (known : Names) (spare : ℕ) → IsSound p → length p.active + length p.text ≤ text_room → length p.marks ≤ mark_room →
-    IsSound (record p { text_room = text_room; mark_room = mark_room; output_room = output_room; known = known; spare = spare })
-sound_rebuilt p text_room mark_room output_room known spare sound text marked = record {
-  ordered = sound.ordered;
-  text_limit = sound.text_limit;
-  mark_limit = sound.mark_limit;
-  output_limit = sound.output_limit;
-  text_room = text;
-  mark_room = marked;
-  storage = sound.storage;
-}
-
 -- ---- the parts at the start
 
 -- the parts of a machine at the start

@@ -17,9 +17,6 @@ use Rattle.trac_step.proofs.Rules.{text_bytes-parts, marks-parts}
 pub no_less : (m : Shown) → IsNoLess m m
 no_less m = record { width = refl; text = omega arith; marks = omega arith; output = omega arith; names = λ name h. h }
 
-pub no_less_same : (m n : Shown) → n ≡ m → IsNoLess m n
-no_less_same m n e = subst (λ x. IsNoLess x n) e (no_less n)
-
 -- another state with the same rooms and names
 pub no_less_state : (m : Shown) (s : State) → IsNoLess m (record m { state = s })
 no_less_state m s = record { width = refl; text = omega arith; marks = omega arith; output = omega arith; names = λ name h. h }

@@ -12,6 +12,7 @@ use Rattle.trac_rules.specs.Proper.{IsProper, IsProperStorage}
 use Rattle.trac_rules.specs.Scanning.{Scanned, closing_in, deleted, front_of, gathered_in, scan}
 use Rattle.trac_rules.specs.State.{Frame, State, Storage, storage_of}
 use Rattle.trac_rules.specs.Undone.{Nothing}
+use Rattle.trac_rules.proofs.ProperStates.{storage-placed}
 use Rattle.trac_forms.specs.Stored.{KnowsAll, Names, Stored, storage_in}
 use Rattle.trac_change.specs.declared.change.Change.{Change}
 use Rattle.trac_change.specs.declared.change.Change.TheVariants.{Keep}
@@ -91,16 +92,6 @@ proper_before known before storage is h = (subst (λ (o : Option Storage). IsSom
 
 -- ---- the call at which they stand
 
--- a value changes no storage
-storage_placed : (kind : Kind) (forced : Bool) (value : List ℕ) (s : State) → storage_of (placed kind forced value s) ≡ storage_of s
-storage_placed Active forced value s = refl
-storage_placed Neutral true value s = refl
-storage_placed Neutral false value s = by_frames s.frames
-  where
-    by_frames : (fs : List Frame) → storage_of (gathered_in fs value s) ≡ storage_of s
-    by_frames [] = refl
-    by_frames (f ∷ fs) = refl
-
 module _ (s : State) (front : front_of s.active ≡ Closing) where
   scanned : scan s ≡ closing_in s.frames (deleted 1 s)
   scanned = scan_front s Closing front
@@ -125,7 +116,7 @@ module _ (s : State) (front : front_of s.active ≡ Closing) where
         by_frames [] h = absurd h
         by_frames (f ∷ fs) h =
             let e = effect_with plan made (changed (arguments_in (closing_in (f ∷ fs) (deleted 1 s))) change (storage_of s)) in
-            storage_placed f.kind e.forced e.value (changed_by e (record (deleted 1 s) { frames = fs }))
+            storage-placed f.kind e.forced e.value (changed_by e (record (deleted 1 s) { frames = fs }))
 
     pub storage_proper : IsProper (state_after plan made change (scan s)) → IsProperStorage (changed (arguments_in (scan s)) change (storage_of s))
     storage_proper proper = subst IsProperStorage storage_after proper.storage

@@ -23,7 +23,7 @@ use Rattle.trac_forms.specs.Stored.{KnowsAll, Names}
 use Rattle.trac_rules.specs.Undone.{names_in}
 use Rattle.trac_change.specs.Changed.{named_forms}
 use Rattle.trac_text.specs.Framing.{texts_of}
-use Rattle.trac_change.proofs.Found.{put_get, taken_get}
+use Rattle.trac_rules.proofs.Found.{put_get, taken_get}
 use Rattle.trac_storage.specs.declared.parts.Parts as code
 use Rattle.trac_storage.specs.Changing.{KnowsNamed}
 use Rattle.trac_storage.specs.Loading.{AreProperEntries, IsProperList, block_entries_fit, block_few, block_of, blocks_fit, counts_fit, entries_fit, forms_few, forms_of, held_of, lengths_fit, names_fit, parts_fit, rooms_fit, state_in}

@@ -14,7 +14,7 @@ use Rattle.trac_rules.specs.Blocks.{moved_out, with_name}
 use Rattle.trac_rules.specs.Form.{Form}
 use Rattle.trac_rules.specs.Handling.{without}
 use Rattle.trac_rules.specs.State.{Forms, Held}
-use Rattle.trac_change.proofs.Found.{taken_get}
+use Rattle.trac_rules.proofs.Found.{taken_get}
 use Rattle.trac_storage.specs.Changing.{AreAmong, KnowsNamed}
 
 -- ---- forms that leave

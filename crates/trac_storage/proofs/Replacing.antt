@@ -14,7 +14,7 @@ use Rattle.trac_rules.specs.Blocks.{block_at, moved_out, with_all, with_name}
 use Rattle.trac_rules.specs.Form.{Form}
 use Rattle.trac_rules.specs.Proper.{IsProperBlock}
 use Rattle.trac_rules.specs.State.{Block, Forms, Held}
-use Rattle.trac_change.proofs.Found.{put_get, taken_get}
+use Rattle.trac_rules.proofs.Found.{put_get, taken_get}
 use Rattle.trac_storage.specs.Changing.{KnowsNamed}
 
 -- two maps of forms are alike under each name but one

@@ -13,17 +13,6 @@ use Rattle.trac_streams.specs.declared.lines.TheConstants.{LINE_LIMIT}
 use Rattle.trac_streams.specs.Pending.{Pending}
 use Rattle.trac_streams.specs.Reading.{Gathers, HELD_LIMIT, IsFront, MayFail, ReadsMore}
 
--- nothing is read
-pub gathers_none : (input : Option (List ℕ)) (old : Pending) → (old.ended ≡ true → IsAtEnd input) → Gathers input input old old
-gathers_none input old at_end = record {
-  got = [];
-  took = Consumes-nothing input;
-  bytes = sym (append-nil old.bytes);
-  closed = λ over. (refl, over);
-  at_end = at_end;
-  few = inl refl;
-}
-
 -- no more is held after two parts than after the last that gave any
 few_of_both : (got more mid new : List ℕ) → new ≡ mid ++ more → (got ≡ []) ⊎ (length mid ≤ HELD_LIMIT) → (more ≡ []) ⊎ (length new ≤ HELD_LIMIT) → (got ++ more ≡ []) ⊎ (length new ≤ HELD_LIMIT)
 few_of_both got more mid new is first second = ⊎_elim
