@@ -2,6 +2,7 @@
 use Rattle.std.proofs.Common.{◌≡◌, ℕ, zero, suc, ◌+◌, ◌<◌, ◌≤◌, true, false, List, [], ◌∷◌, ◌++◌, length, refl, sym, ap, subst, ◌∙◌, arith, inl, inr, ⊎_elim}
 use Rattle.std.specs.Prelude.{◌⊎◌, Bool, Option, None, Some, max, nat_le, nat_lt, ◌&&◌, codes}
 use Rattle.std.proofs.lemmas.Bool.{cases_lt, false≢true}
+use Rattle.std.proofs.lemmas.List.{append_assoc}
 use Rattle.std.proofs.lemmas.Option.{option_and_then_some}
 use Rattle.trac_rules.specs.declared.limit.TheConstants.{TAPE_LIMIT}
 use Rattle.trac_rules.specs.declared.refusal.Refusal.{Refusal}
@@ -16,7 +17,7 @@ use Rattle.trac_streams.specs.declared.ending.Ending.{Ending}
 use Rattle.trac_streams.specs.declared.ending.Ending.TheVariants as endings
 use Rattle.trac_debug.specs.Commands.{Command, Forward, Back, Until, Return, Print, Commit, Quit}
 use Rattle.trac_streams.specs.Lines.{lines_of}
-use Rattle.trac_debug.specs.Replies.{Replies, RepliesWithMemory, SaysMemory, walk_line}
+use Rattle.trac_debug.specs.Replies.{HasMemoryReply, Replies, RepliesWithMemory, SaysMemory, walk_line}
 use Rattle.trac_debug.specs.Debugging.{Turn, Passes, Does, Ends, TakesBy, WritesBy, MayWrite, MayShow, ShowsWithMemory, ready, shown_by, shown_where, turn_at}
 use Rattle.trac_debug.proofs.Existing.{reply_allowed, some_text_with}
 
@@ -266,6 +267,34 @@ text_allowed [] number p text stop a = a
 text_allowed (line ∷ lines) number p text stop a =
     turn_allowed (turn_at number line) lines (number + 1) p text stop (λ q rest. text_allowed lines (number + 1) q rest stop) a
 
+-- any other text that there may be has a reply that says that memory was refused
+abbrev IsWithOrHas : (List ℕ → Type 0) → List ℕ → Type 0
+IsWithOrHas With text = With text ⊎ HasMemoryReply text
+
+has_after : (reply rest text : List ℕ) → text ≡ reply ++ rest → HasMemoryReply rest → HasMemoryReply text
+has_after reply rest text whole has =
+    (reply ++ has.0, has.1, has.2, has.3, whole ∙ ap (λ (r : List ℕ). reply ++ r) has.4 ∙ sym (append_assoc reply has.0 (has.1 ++ has.2)))
+
+turn_with_or_has : (turn : Turn) (lines : List (List ℕ)) (number : ℕ) (p : PlainSession) (text : List ℕ) (stop : Ending) →
+    ((q : PlainSession) (rest : List ℕ) → MayWrite lines number q rest stop → IsWithOrHas (λ r. Writes lines number q r stop) rest) →
+    TakesBy Replies turn p (λ q rest. MayWrite lines number q rest stop) text stop →
+    IsWithOrHas (λ t. TakesBy RepliesWithMemory turn p (λ q rest. Writes lines number q rest stop) t stop) text
+turn_with_or_has Passes lines number p text stop rest a = rest p text a
+turn_with_or_has (Does command) lines number p text stop rest a = ⊎_elim
+    (λ (plain : RepliesWithMemory command p a.0 a.1). ⊎_elim
+    (λ (plain_rest : Writes lines number a.1 a.2 stop). inl (a.0, a.1, a.2, plain, a.4, plain_rest))
+    (λ (has : HasMemoryReply a.2). inr (has_after a.0 a.2 text a.4 has))
+    (rest a.1 a.2 a.5))
+    (λ (says : SaysMemory a.0). inr ([], a.0, a.2, says, a.4))
+    (with_or_said command p a.1 a.0 a.3)
+turn_with_or_has (Ends end) lines number p text stop rest a = inl a
+
+text_with_or_has : (lines : List (List ℕ)) (number : ℕ) (p : PlainSession) (text : List ℕ) (stop : Ending) → MayWrite lines number p text stop →
+    IsWithOrHas (λ t. Writes lines number p t stop) text
+text_with_or_has [] number p text stop a = inl a
+text_with_or_has (line ∷ lines) number p text stop a =
+    turn_with_or_has (turn_at number line) lines (number + 1) p text stop (λ q rest. text_with_or_has lines (number + 1) q rest stop) a
+
 -- ---- whole sessions
 
 module _ (tape : List ℕ) (limit : ℕ) (width : Width) (commands : List ℕ) where
@@ -284,6 +313,10 @@ module _ (tape : List ℕ) (limit : ℕ) (width : Width) (commands : List ℕ) w
   among_by true text stop a = text_allowed (lines_of commands) 1 (ready tape limit width) text stop a
   among_by false text stop a = a
 
+  with_or_has_by : (within : Bool) (text : List ℕ) (stop : Ending) → shown_where tape limit width commands text stop within → IsWithOrHas (λ t. Shows t stop within) text
+  with_or_has_by true text stop a = text_with_or_has (lines_of commands) 1 (ready tape limit width) text stop a
+  with_or_has_by false text stop a = inl a
+
   pub text_is_there : (text : List ℕ) × (stop : Ending) × ShowsWithMemory tape limit width commands text stop
   text_is_there = there_by (nat_le (length tape) TAPE_LIMIT)
 
@@ -292,3 +325,6 @@ module _ (tape : List ℕ) (limit : ℕ) (width : Width) (commands : List ℕ) w
 
   pub text_is_among : (text : List ℕ) (stop : Ending) → ShowsWithMemory tape limit width commands text stop → MayShow tape limit width commands text stop
   text_is_among text stop a = among_by (nat_le (length tape) TAPE_LIMIT) text stop a
+
+  pub text_has_memory_reply : (text : List ℕ) (stop : Ending) → MayShow tape limit width commands text stop → ShowsWithMemory tape limit width commands text stop ⊎ HasMemoryReply text
+  text_has_memory_reply text stop a = with_or_has_by (nat_le (length tape) TAPE_LIMIT) text stop a

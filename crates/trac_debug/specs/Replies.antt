@@ -63,6 +63,10 @@ RepliesWithMemory command old reply new = Replies command old reply new
 abbrev pub SaysMemory : List ℕ → Type 0
 SaysMemory reply = (word : List ℕ) × (steps : ℕ) × (reply ≡ walk_line word steps (Some refusals.Memory))
 
+-- a text has such a reply
+abbrev pub HasMemoryReply : List ℕ → Type 0
+HasMemoryReply text = (before : List ℕ) × (reply : List ℕ) × (after : List ℕ) × SaysMemory reply × (text ≡ before ++ (reply ++ after))
+
 -- what stands where memory is refused for the reply to this command: it is carried out, and there is a reply to that; but nothing is
 -- committed
 abbrev pub StandsUnreplied : Command → PlainSession → PlainSession → Type 0

@@ -1,5 +1,5 @@
 -- The laws are those of `OneText`.
-use Rattle.trac_debug.proofs.OneText.{text_is_among, text_is_one, text_is_there, with_or_said}
+use Rattle.trac_debug.proofs.OneText.{text_has_memory_reply, text_is_among, text_is_one, text_is_there, with_or_said}
 use Rattle.trac_debug.proofs.one_text.one_text_has_no_refused_memory.Goals as goal
 
 pub returns-clause-there : goal.returns-clause-there
@@ -13,3 +13,6 @@ returns-clause-among c = text_is_among
 
 pub returns-clause-else_said : goal.returns-clause-else_said
 returns-clause-else_said c = with_or_said
+
+pub returns-clause-else_has : goal.returns-clause-else_has
+returns-clause-else_has c = text_has_memory_reply
