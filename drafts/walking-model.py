@@ -140,11 +140,11 @@ def rule(s):
     a = s.active
     if s.frames and a[:1] == b")": return function(s.frames[-1]) + ")"
     if s.frames and a[:1] == b",": return '"," ends an argument of ' + function(s.frames[-1])
-    if a[:1] in (b")", b","): return '"%s" outside any function is deleted' % a[:1].decode()
+    if a[:1] in (b")", b","): return '"%s" outside any call is deleted' % a[:1].decode()
     if not a: return "nothing is left: the idle program is loaded"
     if a[:1] == b"(": return '"(" protects what stands up to its ")": ' + esc(a)
-    if a[:2] == b"#(": return '"#(" begins a function: ' + esc(a)
-    if a[:3] == b"##(": return '"##(" begins a function: ' + esc(a)
+    if a[:2] == b"#(": return '"#(" begins a call: ' + esc(a)
+    if a[:3] == b"##(": return '"##(" begins a call: ' + esc(a)
     if a[:1] in (b"\r", b"\n", b"\t"): return "layout is deleted, before: " + esc(a[1:])
     return '"' + esc(a[:1]) + '" is taken as it is: ' + esc(a)
 
@@ -252,7 +252,7 @@ class Walk:
             l = len(w.s().active)
             z = next((i for i in range(w.at - 1, w.first - 1, -1) if len(w.states[i].active) <= l), w.first)
             e = next((i for i in range(z, w.at) if call(w.states[i]) is not None and len(w.states[i].active) == l + 1), None)
-            if e is None: why = "the value of no function ends here"
+            if e is None: why = "the value of no call ends here"
             else:
                 d, here = len(w.states[e].frames), w.at
                 w.at = e
@@ -260,10 +260,10 @@ class Walk:
                 if why: w.at = here
         elif c == "o":
             d = len(w.s().frames) - (call(w.s()) is not None)
-            why = "there is no function to go out of" if d == 0 else w.ahead(10**7, lambda s: call(s) is not None and len(s.frames) == d)
+            why = "no call is begun here" if d == 0 else w.ahead(10**7, lambda s: call(s) is not None and len(s.frames) == d)
         elif c == "O":
             d = len(w.s().frames)
-            why = "there is no function to go out of" if d == 0 else w.behind(lambda s: len(s.frames) < d)
+            why = "no call is begun here" if d == 0 else w.behind(lambda s: len(s.frames) < d)
         elif c == "w":
             o = w.s().out
             if quoted:

@@ -23,7 +23,7 @@ g N        to step N
 i TEXT     a line of input               e          the input ends
 p          the state on one screen       p all      all of it
 f          the forms                     f NAME     one form
-t [N]      the last N calls, or 10, with their values
+t [N]      the last N calls (1 or more), or 10, with their values
 h          this list; or help, ?         q          the end; or quit, exit
 An empty line repeats the last move. A word with blanks stands in quotes; in
 those \\n is a line feed, and \\xHH the byte of that hexadecimal number.

@@ -44,3 +44,8 @@ fn begins(active: &[u8]) -> bool {
 pub fn store_of<A: Allocator + Copy>(machine: &Machine<A>) -> &Store<A> {
     machine.store()
 }
+
+/// Whether the next step of a machine performs `rs`, which reads a text up to the meta character.
+pub fn reads_text<A: Allocator + Copy>(machine: &Machine<A>) -> bool {
+    matches!(machine.at_call(), Some([b'r' | b'R', b's' | b'S']))
+}

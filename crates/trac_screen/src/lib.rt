@@ -11,8 +11,8 @@ mod standing;
 
 pub use calls::{Lengths, call_line, outcome_into};
 pub use form_list::{form_into, list_into};
-pub use glance::{Glance, glance_at, store_of};
-pub use notes::{NO_PRIMITIVE, Stop, refused, stop_into, window_into};
+pub use glance::{Glance, glance_at, reads_text, store_of};
+pub use notes::{NO_PRIMITIVE, Stop, no_end_into, refused, stop_into, window_into};
 pub use screen::{Reach, screen_into};
 pub use screen_line::ScreenLine;
 pub use standing::standing_into;

@@ -80,8 +80,8 @@ fn reason(stop: Stop) -> &'static [u8] {
         Stop::Spent => b"not met in 10000000 steps; an empty line goes on",
         Stop::AtFirst => b"the way back ends here, at step ",
         Stop::NotMet | Stop::NoForm => b"not met on the way back, which ends at step ",
-        Stop::Outside => b"there is no function to go out of",
-        Stop::NoValue => b"the value of no function ends here",
+        Stop::Outside => b"no call is begun here",
+        Stop::NoValue => b"the value of no call ends here",
         Stop::FromOne => b"bytes of the output are counted from 1",
         Stop::NotPrinted => b"that was not printed",
         Stop::NotPrintedSince => b"that was not printed since the way back begins, at step ",
@@ -113,5 +113,19 @@ pub fn window_into<A: Allocator + Copy>(
     line.say(b"steps before ")?;
     line.count(first_step)?;
     line.say(b" are forgotten; --journal keeps more")?;
+    line.end_into(out)
+}
+
+/// Puts a line at the end of a text that says that a line of input does not end the text that `rs` reads, since it has no meta
+/// character, which is this one. The error is that memory was refused.
+pub fn no_end_into<A: Allocator + Copy>(
+    alloc: A,
+    meta: u8,
+    out: &mut Vec<u8, A>,
+) -> Result<(), AllocError> {
+    let mut line = ScreenLine::new(alloc);
+    line.say(b"no ")?;
+    line.show(&[meta])?;
+    line.say(b" in this line: rs reads on until one comes")?;
     line.end_into(out)
 }

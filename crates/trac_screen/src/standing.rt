@@ -62,8 +62,8 @@ fn outside_into<A: Allocator + Copy>(
     line: &mut ScreenLine<A>,
 ) -> Result<(), AllocError> {
     match active {
-        [b')', ..] => line.say(b"\")\" outside any function is deleted"),
-        [b',', ..] => line.say(b"\",\" outside any function is deleted"),
+        [b')', ..] => line.say(b"\")\" outside any call is deleted"),
+        [b',', ..] => line.say(b"\",\" outside any call is deleted"),
         active => anywhere_into(active, line),
     }
 }
@@ -80,8 +80,8 @@ fn anywhere_into<A: Allocator + Copy>(
             active,
             line,
         ),
-        [b'#', b'(', ..] => quoted_into(b"\"#(\" begins a function: ", active, line),
-        [b'#', b'#', b'(', ..] => quoted_into(b"\"##(\" begins a function: ", active, line),
+        [b'#', b'(', ..] => quoted_into(b"\"#(\" begins a call: ", active, line),
+        [b'#', b'#', b'(', ..] => quoted_into(b"\"##(\" begins a call: ", active, line),
         [b'\r' | b'\n' | b'\t', rest @ ..] => quoted_into(
             b"layout is deleted, before: ",
             rest,

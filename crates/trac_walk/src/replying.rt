@@ -9,8 +9,8 @@ use trac_orders::{
 };
 use trac_rules::primitive::NAMES;
 use trac_screen::{
-    NO_PRIMITIVE, Stop, form_into, list_into, refused, screen_into, standing_into, stop_into,
-    window_into,
+    NO_PRIMITIVE, Stop, form_into, list_into, no_end_into, reads_text, refused, screen_into,
+    standing_into, stop_into, window_into,
 };
 use trac_show::machine_lines;
 
@@ -196,7 +196,8 @@ fn tell<A: Allocator + Copy>(
     window_into(alloc, first_step, out)
 }
 
-// Feeds a line, and says where it stands, or why the line was refused.
+// Feeds a line, and says where it stands, or why the line was refused. Where a text is read, it also says that the line does not end
+// one.
 fn feed<A: Allocator + Copy>(
     alloc: A,
     walker: &mut Walker<A>,
@@ -206,6 +207,10 @@ fn feed<A: Allocator + Copy>(
     if let Err(refusal) = walker.feed(alloc, text) {
         out.extend_from_slice(refused(refusal))?;
         return out.extend_from_slice(b"\n");
+    }
+    let meta = walker.machine().meta();
+    if reads_text(walker.machine()) && !text.contains(&meta) {
+        no_end_into(alloc, meta, out)?;
     }
     standing_into(alloc, walker.step(), walker.machine(), out)
 }
