@@ -306,7 +306,7 @@ same_parts called a old text old_marks ms store old_meta meta trace position pri
 -- limits on texts see no forms and blocks
 texts_fit_too : (texts : Texts) (storage other : Storage) (rest : Rest) → texts_fit (rules.state_of texts storage rest) ≡ texts_fit (rules.state_of texts other rest)
 unfolding texts_fit
-texts_fit_too texts storage other rest = refl
+texts_fit_too given storage other others = refl
 
 module _ (called : Called) (texts : List (List ℕ)) (undone : Undone) (m : Shown) (proper : IsProper m.state) (room : HasRoom m m.state)
     (h : CanShow m (restored_call (record_with called texts undone) m.state)) where
