@@ -94,7 +94,8 @@ pub fn refused(refusal: Refusal) -> &'static [u8] {
     match refusal {
         Refusal::NeedInput => b"the program waits for input: i TEXT feeds a line, e ends the input",
         Refusal::Ended => b"the program has ended",
-        Refusal::TooLong => b"a limit is passed: a text, a form, the input or the output is too long",
+        Refusal::TooLong =>
+            b"a limit is passed: a text, a form, the input or the output is too long",
         Refusal::Memory => b"there is no memory for this",
         Refusal::Closed => b"the input has ended",
         Refusal::JournalFull => b"the way back is full",
