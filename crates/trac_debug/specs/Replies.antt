@@ -63,7 +63,7 @@ RepliesWithMemory command old reply new = Replies command old reply new
 abbrev pub SaysMemory : List ℕ → Type 0
 SaysMemory reply = (word : List ℕ) × (steps : ℕ) × (reply ≡ walk_line word steps (Some refusals.Memory))
 
--- a text has such a reply
+-- somewhere in a text stands what such a reply says
 abbrev pub HasMemoryReply : List ℕ → Type 0
 HasMemoryReply text = (before : List ℕ) × (reply : List ℕ) × (after : List ℕ) × SaysMemory reply × (text ≡ before ++ (reply ++ after))
 

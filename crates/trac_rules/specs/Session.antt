@@ -145,7 +145,7 @@ HasEnded goal n steps new = (steps ≡ n) ⊎ ((0 < steps) × (goal new.last ≡
 
 -- a walk from one session to another of at most n steps forward or back, to a goal: `steps` of them were accepted, the goal was not
 -- met before the last of them, and where the walk is not over then, a refusal ended it. That a goal was not met after all its steps
--- is no refusal of the walk; who asked for the goal may say so
+-- is no refusal of the walk; who set the goal may say so
 pub record IsWalk (command : Command) (goal : Goal) (n : ℕ) (old : PlainSession) (steps : ℕ) (why : Option Refusal) (new : PlainSession) : Type 0 where
   pub within : steps ≤ n
   pub walked : repeated command steps old ≡ Some new

@@ -41,7 +41,7 @@ pub fn commits_keep_the_last_states()
 
 /// Take bytes from the front of a state's output, and bytes that it has read from the front of the tape, so that its position
 /// falls by as many. Then all goes as before: a step leads to the next state, released alike, or is refused alike, but for
-/// `TooLong`, which a limit on the output may have asked for; a record leads to the state before, released alike; the
+/// `TooLong`, which a limit on the output may have caused; a record leads to the state before, released alike; the
 /// step's record weighs as much, and the step loses as much.
 pub fn released_states_go_on()
     ensures taken { (width : Width) (tape : Tape) (s t : State) (output position : ℕ) → position ≤ s.position → output ≤ length s.output → step (over width tape) s ≡ Ok t →

@@ -23,7 +23,7 @@ pub enum Stop {
     Outside,
     /// The value of no function ends here.
     NoValue,
-    /// Byte 0 of the output was asked for; the first is number 1.
+    /// Byte 0 of the output was named; the first is number 1.
     FromOne,
     /// The output has no such byte or text.
     NotPrinted,

@@ -1,4 +1,4 @@
--- Loading: the room that is asked for.
+-- Loading: the room that is wanted.
 use Rattle.std.specs.Prelude.{◌≤◌, IsTrue}
 use Rattle.std.specs.FinSet as set
 use Rattle.std.specs.List.{All}

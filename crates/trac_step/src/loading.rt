@@ -16,7 +16,7 @@ use trac_storage::{lengths_within, stored};
 use trac_text::framing::texts_and_marks;
 use trac_text::{Mark, Refusal};
 
-// The output of parts, with no less room than is asked for.
+// The output of parts, with no less room than is wanted.
 fn output_of<A: Allocator + Copy>(alloc: A, parts: &Parts<A>) -> Result<SlidingBuf<u8, A>, Refusal>
     ensures items { IfOk result (λ output. output.items ≡ parts.now.output.items) }
     ensures room { IfOk result (λ output. parts.now.output_room ≤ output.capacity) }

@@ -46,7 +46,7 @@ state_in parts = record {
 
 -- ---- where it is refused
 
--- whether the rooms that are asked for are within the limits
+-- whether the rooms that are wanted are within the limits
 abbrev pub rooms_fit : {A : Type 0} → code.Parts A → Bool
 rooms_fit parts = nat_le parts.text_room TEXT_LIMIT && nat_le parts.mark_room MARK_LIMIT && nat_le parts.output_room OUTPUT_LIMIT
 

@@ -5,7 +5,7 @@ use std::fmt;
 #[derive(Clone, Copy, Debug, PartialEq, Eq)]
 pub enum Ending {
     /// The input has ended and is all read, or the program halted; the commands of the debugger
-    /// have ended, or asked for the end.
+    /// have ended, or said `q`.
     Ended,
     /// As many steps were taken as the budget allows, or as many lines of commands as there may be.
     Budget,

@@ -109,7 +109,7 @@ impl<A: Allocator + Copy> Lines<A> {
         Ok(!self.rest().is_empty())
     }
 
-    /// The first bytes that were read and are not taken yet, as many as are asked for. It takes no memory.
+    /// The first bytes that were read and are not taken yet, as many as are wanted. It takes no memory.
     pub fn front(&self, len: usize) -> &[u8]
         requires { len ≤ length self.now.bytes }
         ensures { result.now ≡ take len self.now.bytes }

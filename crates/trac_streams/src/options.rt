@@ -1,4 +1,4 @@
-//! What a run may be asked for.
+//! The options of a run.
 ghost use Rattle.std.specs.Prelude.{◌≡◌, ◌≤◌, MatchOption};
 
 use trac_rules::width::Width;
@@ -20,7 +20,7 @@ pub struct Options {
     pub decimals: Width,
 }
 
-/// How many steps a run may take where so many are asked for: as many, within the range, or the default number where none is
+/// How many steps a run may take where so many are wanted: as many, within the range, or the default number where none is
 /// said (this project's profile).
 pub fn budget_of(asked: Option<u64>) -> u64
     ensures some { 1 ≤ result }

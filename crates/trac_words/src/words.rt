@@ -129,7 +129,7 @@ pub(crate) fn path_in(alloc: Global, found: &ArgMatches<'_>) -> Result<String, A
     String::from_str(alloc, found.get_str("FILE").unwrap_or(""))
 }
 
-// How many records were asked for, or the default number; none where that is out of range.
+// How many records are wanted, or the default number; none where that is out of range.
 fn journal_in(found: &ArgMatches<'_>) -> Option<usize>
     ensures { IfSome result (λ journal. (1 ≤ journal) × (journal ≤ JOURNAL_LIMIT)) }
 {
@@ -173,8 +173,7 @@ fn out_of_range(
     )
 }
 
-// How wide numbers are to be where this is asked for: of 128 bits where nothing is said. None where another width is asked
-// for.
+// How wide numbers are to be where this is wanted: of 128 bits where nothing is said. None where another width is wanted.
 fn decimals_of(asked: Option<&str>) -> Option<Width>
     ensures { MatchOption asked.entry (result ≡ Some W128) (λ bits. result ≡ width_of bits.now) }
 {
