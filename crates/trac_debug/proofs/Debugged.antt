@@ -16,7 +16,7 @@ use Rattle.trac_streams.specs.declared.ending.Ending.{Ending}
 use Rattle.trac_streams.specs.declared.ending.Ending.TheVariants.{Ended, Budget, Limit, Memory, Read, Write, NotUnderstood}
 use Rattle.trac_streams.proofs.Known.{Appends-nothing, Appends-both, Appends-kept, Consumes-nothing, Consumes-both, front_behind, front_of_front, front_of_nothing}
 use Rattle.trac_debug.specs.declared.command.Command as code
-use Rattle.trac_streams.specs.declared.lines.Front.TheVariants.{Line, TooLong}
+use Rattle.trac_streams.specs.declared.lines.NextLine.TheVariants.{Line, TooLong}
 use Rattle.trac_streams.specs.declared.lines.TheConstants.{LINE_LIMIT, LINE_COUNT_LIMIT}
 use Rattle.trac_streams.specs.Lines.{lines_of, is_within}
 use Rattle.trac_debug.specs.Commands.{Command, command_of}

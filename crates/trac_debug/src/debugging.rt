@@ -13,7 +13,7 @@ use trac_rules::limit::{JOURNAL_LIMIT, TAPE_LIMIT};
 use trac_rules::width::Width;
 use trac_session::Session;
 use trac_streams::writing::{flush, write_whole};
-use trac_streams::{Ending, Front, LINE_COUNT_LIMIT, LINE_LIMIT, Lines, Options};
+use trac_streams::{Ending, LINE_COUNT_LIMIT, LINE_LIMIT, Lines, NextLine, Options};
 
 /// Goes forwards and backwards over a program, the tape being the whole of its input: it reads commands, one a line,
 /// carries each of them out, and writes the reply to it, which is flushed before more is read. The commands are read by
@@ -108,9 +108,9 @@ fn take_line<R: Read, W: Write, A: Allocator + Copy>(
         number lines.old session.old) }
 {
     match lines.seek(commands)? {
-        Front::End => Err(Ending::Ended),
-        Front::TooLong => Err(Ending::NotUnderstood { line: number }),
-        Front::Line { len, whole } => {
+        NextLine::End => Err(Ending::Ended),
+        NextLine::TooLong => Err(Ending::NotUnderstood { line: number }),
+        NextLine::Line { len, whole } => {
             if len > LINE_LIMIT {
                 return Err(Ending::NotUnderstood { line: number });
             }
@@ -118,7 +118,7 @@ fn take_line<R: Read, W: Write, A: Allocator + Copy>(
             lines.pass(whole);
             Ok(())
         }
-        Front::Part => unreachable!(),
+        NextLine::Part => unreachable!(),
     }
 }
 

@@ -39,7 +39,7 @@ mod requests;
 mod schedule;
 mod writing;
 
-pub use logging::{Call, CallLog, Logged};
+pub use logging::{CallLog, Logged, LoggedCall};
 pub use memory::Refusing;
 pub use reading::FaultyReader;
 pub use writing::FaultyWriter;

@@ -7,7 +7,7 @@ use std::io::{Read, Result, Write};
 
 /// One call of a reader or a writer, and what came of it.
 #[derive(Debug, Clone, Copy, PartialEq, Eq)]
-pub enum Call {
+pub enum LoggedCall {
     /// A read that gave this many bytes. At 0 it saw the end, or had no room.
     Read(usize),
     /// A read that failed.
@@ -26,7 +26,7 @@ pub enum Call {
 #[derive(Drop)]
 pub struct CallLog<A: Allocator = Global> {
     alloc: A,
-    calls: RefCell<Vec<Call, A>>,
+    calls: RefCell<Vec<LoggedCall, A>>,
     is_missing_one: Cell<bool>,
 }
 
@@ -46,7 +46,7 @@ impl<A: Allocator + Copy> CallLog<A> {
 
     /// The calls since the log was made, or since they were last taken, in order. `None` where one of them is missing,
     /// since there was no memory to note it. The log is empty after this.
-    pub fn take_calls(&self) -> Option<Vec<Call, A>> {
+    pub fn take_calls(&self) -> Option<Vec<LoggedCall, A>> {
         let calls = self.calls.try_replace(Vec::new(self.alloc)).ok()?;
         if self.is_missing_one.replace(false) {
             return None;
@@ -56,7 +56,7 @@ impl<A: Allocator + Copy> CallLog<A> {
 }
 
 impl<A: Allocator> CallLog<A> {
-    fn note(&self, call: Call) {
+    fn note(&self, call: LoggedCall) {
         match self.calls.try_borrow_mut() {
             Ok(mut calls) => {
                 if calls.push(call).is_err() {
@@ -101,8 +101,8 @@ impl<R: Read, A: Allocator> Read for Logged<'_, R, A> {
     fn read(&mut self, buf: &mut [u8]) -> Result<usize> {
         let given = self.inner.read(buf);
         self.log.note(match &given {
-            Ok(n) => Call::Read(*n),
-            Err(_) => Call::ReadFault,
+            Ok(n) => LoggedCall::Read(*n),
+            Err(_) => LoggedCall::ReadFault,
         });
         given
     }
@@ -116,8 +116,8 @@ impl<W: Write, A: Allocator> Write for Logged<'_, W, A> {
     fn write(&mut self, buf: &[u8]) -> Result<usize> {
         let taken = self.inner.write(buf);
         self.log.note(match &taken {
-            Ok(n) => Call::Write(*n),
-            Err(_) => Call::WriteFault,
+            Ok(n) => LoggedCall::Write(*n),
+            Err(_) => LoggedCall::WriteFault,
         });
         taken
     }
@@ -125,8 +125,8 @@ impl<W: Write, A: Allocator> Write for Logged<'_, W, A> {
     fn flush(&mut self) -> Result<()> {
         let flushed = self.inner.flush();
         self.log.note(match &flushed {
-            Ok(()) => Call::Flush,
-            Err(_) => Call::FlushFault,
+            Ok(()) => LoggedCall::Flush,
+            Err(_) => LoggedCall::FlushFault,
         });
         flushed
     }

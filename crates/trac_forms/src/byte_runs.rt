@@ -13,20 +13,25 @@ use trac_gap::TwoEnds;
 // How many items are looked at together, so that there is no jump for each, or unpacked together at the end of a run.
 const GROUP: usize = 8;
 
-// How many bytes are packed or unpacked together where there are so many, so that there is no call for each.
-const CHUNK: usize = 64;
+// How many are looked at, packed or unpacked together where there are so many, so that there is neither a jump nor a call for
+// each.
+const CHUNK: usize = 32;
 
 // How many items there are up to the first gap, or all where there is none.
+#[inline(always)]
 pub(crate) fn run_len(items: &[PackedItem]) -> usize
     ensures within { result ≤ length items.now }
     ensures bytes { gap_count (take result items.now) ≡ 0 }
 {
     let mut run = 0;
     'groups: while GROUP <= items.len() - run {
-        if group_has_gap(items, run) {
+        if has_gap::<GROUP>(items, run) {
             break;
         }
         run += GROUP;
+        if run == CHUNK {
+            run = far_run_len(items, run);
+        }
     }
     'items: while run < items.len() {
         if items[run].is_gap() {
@@ -37,19 +42,36 @@ pub(crate) fn run_len(items: &[PackedItem]) -> usize
     run
 }
 
-// Whether there is a gap in the group that begins at this place.
-fn group_has_gap(items: &[PackedItem], at: usize) -> bool
-    requires { at + GROUP ≤ length items.now }
-    ensures { result ≡ false → gap_count (take at items.now) ≡ 0 → gap_count (take (at + GROUP) items.now) ≡ 0 }
+// The same from a place on before which there is no gap, as far as there is none in a whole chunk. It is called once for a
+// long run, and kept out of the way of the short ones.
+#[inline(never)]
+fn far_run_len(items: &[PackedItem], from: usize) -> usize
+    requires within { from ≤ length items.now }
+    requires bytes { gap_count (take from items.now) ≡ 0 }
+    ensures from { from ≤ result }
+    ensures within { result ≤ length items.now }
+    ensures bytes { gap_count (take result items.now) ≡ 0 }
 {
-    items[at].is_gap()
-        | items[at + 1].is_gap()
-        | items[at + 2].is_gap()
-        | items[at + 3].is_gap()
-        | items[at + 4].is_gap()
-        | items[at + 5].is_gap()
-        | items[at + 6].is_gap()
-        | items[at + 7].is_gap()
+    let mut run = from;
+    'chunks: while CHUNK <= items.len() - run {
+        if has_gap::<CHUNK>(items, run) {
+            break;
+        }
+        run += CHUNK;
+    }
+    run
+}
+
+// Whether there is a gap among so many items from this place on.
+fn has_gap<const N: usize>(items: &[PackedItem], at: usize) -> bool
+    requires { at + N ≤ length items.now }
+    ensures { result ≡ false → gap_count (take at items.now) ≡ 0 → gap_count (take (at + N) items.now) ≡ 0 }
+{
+    let mut gap = false;
+    for i in 0..N {
+        gap |= items[at + i].is_gap();
+    }
+    gap
 }
 
 // Puts the bytes of a text at the end of the items on the left, where there is room for them.

@@ -22,7 +22,7 @@ use Rattle.core.proofs.mem.Param.{El, R, el_x, elτ}
 use Rattle.core.proofs.ptr.Rows as arrays
 use Rattle.core.proofs.ptr.Rows.{add_times}
 use Rattle.trac_gap.specs.Ownership.{row_owns}
-use Rattle.trac_gap.specs.Places.{items_of, IsFull, IsShifted, run}
+use Rattle.trac_gap.specs.Slots.{items_of, IsFull, IsShifted, run}
 use Rattle.trac_gap.proofs.Rows.{Slot, step_size, cut, glue, of_room, to_room}
 use Rattle.trac_gap.proofs.Shifted.{both, both_is, five, shifted_down, shifted_up}
 

@@ -2,7 +2,7 @@
 use Rattle.std.proofs.Common.{◌≡◌, ℕ, ◌+◌, ◌≤◌, ◌<◌, ◌++◌, List, [], ◌∷◌, Option, Some, length, take, get_or, set, map, sym, ap, ◌∙◌, add-one, arith}
 use Rattle.std.proofs.lemmas.List.{map-append, length-map}
 use Rattle.std.proofs.Math.Seq.{length-take-le, take-suc}
-use Rattle.trac_gap.specs.Places.{pasted}
+use Rattle.trac_gap.specs.Slots.{pasted}
 use Rattle.trac_gap.proofs.Pasted.{length-pasted, set-pasted_behind}
 
 module _ {X : Type 0} (old now new : List (Option X)) where

@@ -2,7 +2,7 @@
 use Rattle.std.proofs.Common.{◌≡◌, ℕ, zero, suc, ◌≤◌, ◌<◌, ◌++◌, List, [], ◌∷◌, Option, Some, None, IsSome, length, take, drop, get_or, map, refl, sym, ap, ◌∙◌, arith}
 use Rattle.std.proofs.lemmas.List.{take-append-drop, map-append, length-map}
 use Rattle.std.proofs.Math.Seq.{take-append_seam, drop-append_seam, length-take-le}
-use Rattle.trac_gap.specs.Places.{items_of, IsFull}
+use Rattle.trac_gap.specs.Slots.{items_of, IsFull}
 
 module _ {X : Type 0} where
   pub items_of-append : (a b : List (Option X)) → items_of (a ++ b) ≡ items_of a ++ items_of b

@@ -2,11 +2,11 @@
 use Rattle.std.proofs.Common.{◌≡◌, ℕ, suc, ◌+◌, ◌-◌, ◌≤◌, ◌<◌, ◌++◌, List, [], ◌∷◌, Option, Some, None, IsSome, length, take, drop, get_or, set, map, refl, sym, ap, subst, ◌∙◌, add-one, arith, length-drop, length-set}
 use Rattle.std.proofs.lemmas.List.{length-map, take-append-drop, take-take, drop-take, drop-drop, drop-set-lt, get_or-take, get_or-drop}
 use Rattle.std.proofs.Math.Seq.{length-take-le, take-add, take-suc, take-suc-set}
-use Rattle.trac_gap.specs.declared.block.Block.TheInside.{Inside}
-use Rattle.trac_gap.specs.declared.places.Places.{Places}
+use Rattle.trac_gap.specs.declared.raw_gap.RawGap.TheInside.{Inside}
+use Rattle.trac_gap.specs.declared.slots.Slots.{Slots}
 use Rattle.trac_gap.specs.Ends.{item_count}
-use Rattle.trac_gap.specs.Block.{block_ends, IsBlock}
-use Rattle.trac_gap.specs.Places.{items_of, IsFull, IsShifted, run, pasted}
+use Rattle.trac_gap.specs.RawGap.{block_ends, IsBlock}
+use Rattle.trac_gap.specs.Slots.{items_of, IsFull, IsShifted, run, pasted}
 use Rattle.trac_gap.proofs.Full.{items_of-map, IsFull-map, length-items_of, full_both, IsFull-take, IsFull-drop, items_of-take, items_of-drop, some_at}
 use Rattle.trac_gap.proofs.Pasted.{length-pasted, take-pasted, drop-pasted, take-pasted_before, drop-pasted_behind}
 
@@ -42,10 +42,10 @@ module _ {T A : Type 0} (b : Inside T A) (ok : IsBlock b) where
   right_count = omega (arith, length-items_of (drop b.gap_end cs) ok.right_full, length-drop b.gap_end cs, ok.within, ok.places_count)
 
   -- the block after a call: its invariant, and what callers see of it
-  abbrev pub Becomes : Places T → ℕ → ℕ → List T → List T → Type 0
+  abbrev pub Becomes : Slots T → ℕ → ℕ → List T → List T → Type 0
   Becomes p s e ls rs = let b' = record b { places = p; gap_start = s; gap_end = e } in IsBlock b' × (block_ends b' ≡ record { left = ls; right = rs; capacity = b.capacity })
 
-  becomes : (p : Places T) (s e : ℕ) (ls rs : List T) → p.at ≡ b.places.at → length p.slots ≡ length cs → s ≤ e → e ≤ b.capacity
+  becomes : (p : Slots T) (s e : ℕ) (ls rs : List T) → p.at ≡ b.places.at → length p.slots ≡ length cs → s ≤ e → e ≤ b.capacity
       → Holds (take s p.slots) ls → Holds (drop e p.slots) rs → Becomes p s e ls rs
   becomes p s e ls rs at same gap within hl hr = (
     record {
@@ -67,7 +67,7 @@ module _ {T A : Type 0} (b : Inside T A) (ok : IsBlock b) where
   gap_room n h = omega (arith, left_count, right_count, ok.gap, ok.within)
 
   -- one item at either side
-  module _ (p : Places T) (x : T) (at : p.at ≡ b.places.at) (room : item_count (block_ends b) < b.capacity) where
+  module _ (p : Slots T) (x : T) (at : p.at ≡ b.places.at) (room : item_count (block_ends b) < b.capacity) where
     free : b.gap_start < b.gap_end
     free = let h : item_count (block_ends b) + 1 ≤ b.capacity = omega arith in let k = gap_room 1 h in omega arith
 
@@ -80,7 +80,7 @@ module _ {T A : Type 0} (b : Inside T A) (ok : IsBlock b) where
         (behind (take b.gap_start cs) _ (x ∷ []) front ok.left_full) (same_row (drop b.gap_end cs) _ back ok.right_full)
 
   -- a run of items at either side
-  module _ (p : Places T) (xs : List T) (at : p.at ≡ b.places.at) (room : item_count (block_ends b) + length xs ≤ b.capacity) where
+  module _ (p : Slots T) (xs : List T) (at : p.at ≡ b.places.at) (room : item_count (block_ends b) + length xs ≤ b.capacity) where
     abbrev ws : List (Option T)
     ws = map Some xs
 
@@ -155,7 +155,7 @@ module _ {T A : Type 0} (b : Inside T A) (ok : IsBlock b) where
         (omega (arith, ok.places_count), subst IsSome (get_or-drop b.gap_end cs 0 None ∙ ap (λ k. get_or cs k None) (omega arith)) (some_at back 0 ok.right_full (omega (arith, length-drop b.gap_end cs, ok.places_count))))
 
   -- a run crosses the gap
-  module _ (n : ℕ) (p : Places T) (at : p.at ≡ b.places.at) where
+  module _ (n : ℕ) (p : Slots T) (at : p.at ≡ b.places.at) where
     module _ (h : n ≤ length R) where
       abbrev next : List (Option T)
       next = run b.gap_end n cs

@@ -2,7 +2,7 @@
 use Rattle.std.proofs.Common.{◌≡◌, ℕ, ◌+◌, ◌-◌, ◌≤◌, ◌++◌, List, Option, length, take, drop, sym, ap, subst, ◌∙◌, append_assoc, arith, length-append, length-drop}
 use Rattle.std.proofs.lemmas.List.{take-append-drop, take-take, drop-take, drop-drop}
 use Rattle.std.proofs.Math.Seq.{length-take-le, take-add}
-use Rattle.trac_gap.specs.Places.{IsFull, run, pasted}
+use Rattle.trac_gap.specs.Slots.{IsFull, run, pasted}
 use Rattle.trac_gap.proofs.Full.{IsFull-take, IsFull-drop}
 use Rattle.trac_gap.proofs.Pasted.{length-pasted, take-pasted, drop-pasted, take-pasted_before, drop-pasted_behind}
 

@@ -2,7 +2,7 @@
 use Rattle.std.proofs.Common.{◌≡◌, ℕ, suc, ◌+◌, ◌-◌, ◌≤◌, ◌<◌, ◌++◌, List, [], ◌∷◌, length, take, drop, set, sym, ap, ◌∙◌, append_assoc, add-zero, arith, length-append, length-drop}
 use Rattle.std.proofs.lemmas.List.{take-append-drop, set_split, take-append-le, take-take}
 use Rattle.std.proofs.Math.Seq.{take-append_seam, drop-append_seam, take-append-add, drop-append-add, length-take-le, drop-drop}
-use Rattle.trac_gap.specs.Places.{pasted}
+use Rattle.trac_gap.specs.Slots.{pasted}
 
 module _ {X : Type 0} (cs : List X) (i : ℕ) (ws : List X) (fits : i + length ws ≤ length cs) where
   front : length (take i cs) ≡ i

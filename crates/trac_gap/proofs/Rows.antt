@@ -37,8 +37,8 @@ use Rattle.core.proofs.mem.Param.{El, R, el_x, elτ, Good as Fitting}
 use Rattle.core.proofs.slice.Rows.{el_out, el_in}
 use Rattle.std_alloc.proofs.RcSteps.{Good, word}
 use Rattle.trac_gap.specs.Ownership.{place_owns, row_owns, place_lent, row_lent}
-use Rattle.trac_gap.specs.contracts.places.Places as P-type
-use Rattle.trac_gap.specs.contracts.places.Origin as O-type
+use Rattle.trac_gap.specs.contracts.slots.Slots as P-type
+use Rattle.trac_gap.specs.contracts.slots.Origin as O-type
 
 module _ (E : El) where
   abbrev pub PlacesRow : RattleType
@@ -47,7 +47,7 @@ module _ (E : El) where
   abbrev pub OriginRow : RattleType
   OriginRow = O-type.the_row (R E)
 
-  -- the one field of `Places`, which takes no bytes
+  -- the one field of `Slots`, which takes no bytes
   abbrev pub Mark : RattleType
   Mark = Struct (shape (P-type.the_type (R E)))
 

@@ -2,7 +2,7 @@
 use Rattle.std.proofs.Common.{◌≡◌, ℕ, ◌+◌, ◌-◌, ◌≤◌, ◌++◌, List, length, take, drop, refl, sym, ap, ◌∙◌, append_assoc, arith, length-drop}
 use Rattle.std.proofs.lemmas.List.{take-append-drop, drop-take, drop-drop}
 use Rattle.std.proofs.Math.Seq.{length-take-le, take-add, take-append_seam}
-use Rattle.trac_gap.specs.Places.{IsShifted, run, pasted}
+use Rattle.trac_gap.specs.Slots.{IsShifted, run, pasted}
 use Rattle.trac_gap.proofs.Pasted.{length-pasted, take-pasted, drop-pasted, take-pasted_before, drop-pasted_behind}
 
 module _ {X : Type 0} (cs : List X) where
@@ -26,6 +26,10 @@ module _ {X : Type 0} (cs : List X) where
   -- a run stays where it is
   pub shifted_nowhere : (i j n : ℕ) → i ≡ j → IsShifted cs i j n cs
   shifted_nowhere i j n e = record { count = refl; moved = ap (λ k. run k n cs) (sym e); below = λ k a b. refl; above = λ k a b. refl }
+
+  -- an empty run is anywhere
+  pub shifted_none : (i j n : ℕ) → n ≡ 0 → IsShifted cs i j n cs
+  shifted_none i j n e = record { count = refl; moved = ap (λ k. run j k cs) e ∙ sym (ap (λ k. run i k cs) e); below = λ k a b. refl; above = λ k a b. refl }
 
   module _ (low high n : ℕ) (apart : low + n ≤ high) (fits : high + n ≤ length cs) (ws vs : List X) (p : length ws ≡ n) (q : length vs ≡ n) where
     abbrev pub both : List X

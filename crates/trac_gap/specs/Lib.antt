@@ -1,6 +1,6 @@
 pub mod Ends
-pub mod Places
+pub mod Slots
 pub mod Ownership
-pub mod Block
+pub mod RawGap
 pub mod GapBuf
 pub mod Window

@@ -2,8 +2,8 @@
 ghost use Rattle.std.specs.Prelude.{◌≡◌, ◌≤◌, IfOk};
 ghost use Rattle.trac_gap.specs.Ends.{item_count};
 
-use crate::block::Block;
 use crate::error::GapError;
+use crate::raw_gap::RawGap;
 use crate::two_ends::TwoEnds;
 use std::alloc::{AllocError, Allocator, Global};
 use std::marker::Model;
@@ -13,7 +13,7 @@ use std::marker::Model;
 #[derive(Drop)]
 pub struct GapBuf<T: Copy, A: Allocator + Copy = Global> {
     alloc: A,
-    block: Option<Block<T, A>>,
+    block: Option<RawGap<T, A>>,
 }
 
 impl<T: Copy, A: Allocator + Copy> Model for GapBuf<T, A> {
@@ -37,11 +37,11 @@ fn grown(capacity: usize, wanted: usize) -> usize
 
 impl<T: Copy, A: Allocator + Copy> GapBuf<T, A> {
     // A block of `capacity` places with a copy of both lists.
-    fn copied(&self, capacity: usize) -> Result<Block<T, A>, AllocError>
+    fn copied(&self, capacity: usize) -> Result<RawGap<T, A>, AllocError>
         requires { item_count self.now ≤ capacity }
         ensures { IfOk result (λ b. b ≡ record self.now { capacity = capacity }) }
     {
-        let mut block = Block::new(self.alloc, capacity)?;
+        let mut block = RawGap::new(self.alloc, capacity)?;
         block.put_left(self.left());
         block.put_right(self.right());
         Ok(block)
@@ -150,7 +150,7 @@ impl<T: Copy, A: Allocator + Copy> TwoEnds<T, A> for GapBuf<T, A> {
         }
     }
 
-    #[inline]
+    #[inline(always)]
     fn shift_left(&mut self, n: usize) {
         if let Some(block) = &mut self.block {
             block.shift_left(n);

@@ -2,22 +2,22 @@
 //! places that both share; and a list that grows at its end and loses items at both ends.
 #![tactic(auto)]
 
-mod block;
 pub mod error;
 pub mod gap_buf;
-mod places;
 pub mod plain;
+mod raw_gap;
 mod runs;
 pub mod sliding;
+mod slots;
 pub mod two_ends;
 
 // A crate above can name a buffer in a contract only if the types of its fields are exported.
-#[doc(hidden)]
-pub use block::Block;
 pub use error::GapError;
 pub use gap_buf::GapBuf;
-#[doc(hidden)]
-pub use places::{Lease, Origin, Places};
 pub use plain::PlainEnds;
+#[doc(hidden)]
+pub use raw_gap::RawGap;
 pub use sliding::SlidingBuf;
+#[doc(hidden)]
+pub use slots::{Lease, Origin, Slots};
 pub use two_ends::TwoEnds;

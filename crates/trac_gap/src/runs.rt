@@ -1,15 +1,15 @@
 //! Copies of runs of items into a row of places, and within it.
 ghost use Rattle.std.specs.Prelude.{◌≡◌, ℕ, ◌+◌, ◌-◌, ◌^◌, ◌<◌, ◌≤◌, Some, None, length, take, drop, map, get_or, IsSome};
-ghost use Rattle.trac_gap.specs.Places.{IsFull, IsShifted, run, pasted};
+ghost use Rattle.trac_gap.specs.Slots.{IsFull, IsShifted, run, pasted};
 
-use crate::places::{Origin, Places};
+use crate::slots::{Origin, Slots};
 
 // How many items a run that overlaps its target moves by at a time: first, and then.
 const LONG: usize = 2048;
 
 const SHORT: usize = 32;
 
-impl<T: Copy> Places<T> {
+impl<T: Copy> Slots<T> {
     /// The item in the place `index`, which has one.
     #[inline]
     pub(crate) fn item(&self, origin: Origin<T>, index: usize) -> T
@@ -34,6 +34,7 @@ impl<T: Copy> Places<T> {
 
     /// Moves the `count` items from the place `from` on to the places from `to` on, which may
     /// overlap them. What the other places of both runs hold afterwards is of no use.
+    #[inline(always)]
     pub(crate) fn shift(&mut self, origin: Origin<T>, from: usize, to: usize, count: usize)
         requires { (origin.ptr ≡ self.old.at) × (from + count ≤ length self.old.slots)
             × (to + count ≤ length self.old.slots) × (length self.old.slots < 2 ^ 64)
@@ -41,6 +42,10 @@ impl<T: Copy> Places<T> {
         ensures { (self.new.at ≡ self.old.at)
             × IsShifted self.old.slots from to count self.new.slots }
     {
+        // A run is often empty, and then nothing has to be called.
+        if count == 0 {
+            return;
+        }
         // With no gap each item has arrived already.
         if from == to {
             return;

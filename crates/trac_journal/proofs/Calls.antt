@@ -14,7 +14,7 @@ use Rattle.trac_journal.specs.Emptied.{texts_in}
 use Rattle.trac_change.specs.Undone.{undone_in}
 use Rattle.trac_journal.specs.declared.called.Called as code
 use Rattle.trac_journal.specs.declared.emptied.Emptied.{Emptied}
-use Rattle.trac_journal.specs.declared.entry.Call.{Call}
+use Rattle.trac_journal.specs.declared.entry.CallEntry.{CallEntry}
 use Rattle.trac_journal.specs.declared.entry.Kept.{Kept}
 use Rattle.trac_journal.specs.declared.entry.Kept.TheVariants as kept
 use Rattle.trac_journal.specs.declared.told.Lost.TheVariants as lost
@@ -26,29 +26,29 @@ use Rattle.trac_text.proofs.Joined.{count-cut, cut-joined, joined-cut, lengths_w
 -- ---- the newest call
 
 -- all its bytes and lengths are there
-pub record IsCall (c : Call) (text lengths : List ℕ) : Type 0 where
+pub record IsCall (c : CallEntry) (text lengths : List ℕ) : Type 0 where
   pub bytes : c.bytes ≤ length text
   pub commas : c.commas ≤ length lengths
   pub within : sum (last_of c.commas lengths) ≤ c.bytes
 
-pub newest_call : (calls older : List Call) (c : Call) (bytes commas : List ℕ) → calls ≡ c ∷ older → HasCall calls bytes commas → IsCall c bytes commas
+pub newest_call : (calls older : List CallEntry) (c : CallEntry) (bytes commas : List ℕ) → calls ≡ c ∷ older → HasCall calls bytes commas → IsCall c bytes commas
 newest_call calls older c bytes commas first has =
-    let all = subst (λ (cs : List Call). HasCall cs bytes commas) first has in
+    let all = subst (λ (cs : List CallEntry). HasCall cs bytes commas) first has in
     record { bytes = all.0; commas = all.1; within = all.2 }
 
 -- it is lent
-pub call_told : (c : Call) (called : code.Called) (calls older : List Call) (bytes commas : List ℕ) (arguments : Arguments) → calls ≡ c ∷ older → called ≡ called_in c →
+pub call_told : (c : CallEntry) (called : code.Called) (calls older : List CallEntry) (bytes commas : List ℕ) (arguments : Arguments) → calls ≡ c ∷ older → called ≡ called_in c →
     arguments ≡ cut_at (last_of c.commas commas) (last_of c.bytes bytes) → (undone : Undone) → IsTold (newest.Call called arguments) (call_of calls undone bytes commas)
 call_told c called calls older bytes commas arguments first called_is arguments_are undone =
-    (undone, ap (λ (cs : List Call). call_of cs undone bytes commas) first ∙ (λ i. Called (record_with (sym called_is i) (all_texts (sym arguments_are i)) undone)))
+    (undone, ap (λ (cs : List CallEntry). call_of cs undone bytes commas) first ∙ (λ i. Called (record_with (sym called_is i) (all_texts (sym arguments_are i)) undone)))
 
 -- the others stay
-pub undone_stays : (calls : List Call) (l : Listed) → (without_call calls l).undone ≡ l.undone
+pub undone_stays : (calls : List CallEntry) (l : Listed) → (without_call calls l).undone ≡ l.undone
 undone_stays [] l = refl
 undone_stays (c ∷ calls) l = refl
 
 -- what it weighs beside what it destroyed of forms and blocks
-pub call_weighs : (calls older : List Call) (c : Call) (bytes commas : List ℕ) → calls ≡ c ∷ older → IsCall c bytes commas → (undone : Undone) →
+pub call_weighs : (calls older : List CallEntry) (c : CallEntry) (bytes commas : List ℕ) → calls ≡ c ∷ older → IsCall c bytes commas → (undone : Undone) →
     c.bytes + c.commas + meta_weight c.meta + undone_weight undone ≡ weight (call_of calls undone bytes commas)
 call_weighs calls older c bytes commas first has undone =
     let a : Arguments = cut_at (last_of c.commas commas) (last_of c.bytes bytes) in
@@ -63,7 +63,7 @@ call_weighs calls older c bytes commas first has undone =
       count-cut (last_of c.commas commas) (last_of c.bytes bytes),
       length-last c.commas commas has.commas,
     ) in
-    of_first ∙ ap (λ (cs : List Call). weight (call_of cs undone bytes commas)) (sym first)
+    of_first ∙ ap (λ (cs : List CallEntry). weight (call_of cs undone bytes commas)) (sym first)
 
 -- ---- a further call
 
@@ -73,7 +73,7 @@ record WithCall (called : code.Called) (texts : List (List ℕ)) (old new : List
   says : (undone : Undone) → call_of new.calls undone new.bytes new.commas ≡ Called (record_with called texts undone)
   others : without_call new.calls new ≡ record old { undone = new.undone }
 
-with_call : (called : code.Called) (c : Call) (texts : List (List ℕ)) (n : ℕ) (old new : Listed) → n + 1 ≡ length texts → called_in c ≡ called →
+with_call : (called : code.Called) (c : CallEntry) (texts : List (List ℕ)) (n : ℕ) (old new : Listed) → n + 1 ≡ length texts → called_in c ≡ called →
     c.bytes ≡ length (concat texts) → c.commas ≡ n → new.calls ≡ c ∷ old.calls → new.bytes ≡ old.bytes ++ concat texts → new.commas ≡ old.commas ++ map length (take n texts) →
     new.emptied ≡ old.emptied → WithCall called texts old new
 with_call called c texts n old new count called_is bytes_are commas_are calls_new bytes_new commas_new emptied_is =
@@ -103,7 +103,7 @@ with_call called c texts n old new count called_is bytes_are commas_are calls_ne
     })
 
 -- it is the newest, whichever way what it destroyed is kept
-pub call_more : (k : Kept) (called : code.Called) (c : Call) (texts : List (List ℕ)) (n : ℕ) (u : Undone) (old new : Listed) → n + 1 ≡ length texts → called_in c ≡ called →
+pub call_more : (k : Kept) (called : code.Called) (c : CallEntry) (texts : List (List ℕ)) (n : ℕ) (u : Undone) (old new : Listed) → n + 1 ≡ length texts → called_in c ≡ called →
     c.bytes ≡ length (concat texts) → c.commas ≡ n → new.calls ≡ c ∷ old.calls → new.bytes ≡ old.bytes ++ concat texts → new.commas ≡ old.commas ++ map length (take n texts) →
     IsKept k u old.undone new.undone → new.emptied ≡ old.emptied → HasMore k (Called (record_with called texts u)) old new
 call_more k called c texts n u old new count called_is bytes_are commas_are calls_new bytes_new commas_new kept_so emptied_is =

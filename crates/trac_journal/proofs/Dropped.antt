@@ -11,7 +11,7 @@ use Rattle.trac_journal.specs.Dropped.{EndsWithCall, IsGone, IsGoneCall, IsOldes
 use Rattle.trac_journal.specs.Journaled.{unpacked, AreCounted, AreListed, IsLight}
 use Rattle.trac_journal.specs.Listed.{Listed, call_of, first_undone, idle_of, newest_in, nothing_listed, older_in, without_call, HasCall, Holds, IsBrief}
 use Rattle.trac_journal.specs.Told.{printed_by, read_by, sum_by}
-use Rattle.trac_journal.specs.declared.entry.Call.{Call}
+use Rattle.trac_journal.specs.declared.entry.CallEntry.{CallEntry}
 use Rattle.trac_journal.specs.declared.entry.Entry.{Entry}
 use Rattle.trac_journal.specs.declared.entry.Kept.{Kept}
 use Rattle.trac_journal.specs.declared.entry.Kept.TheVariants as kept
@@ -31,7 +31,7 @@ first_of {X} f items left x seen newer y first view last =
     ap (λ (xs : List X). map f (reverse xs)) first ∙ ap (map f) (reverse-append (x ∷ []) left) ∙ map-append f (reverse left) (x ∷ []) in
     same_before_last newer (map f (reverse left)) y (f x) (sym last ∙ sym view ∙ there)
 
-pub first_call : (items left : List Call) (x call : Call) (seen newer : List Call) → items ≡ x ∷ left → reverse items ≡ seen → seen ≡ newer ++ call ∷ [] →
+pub first_call : (items left : List CallEntry) (x call : CallEntry) (seen newer : List CallEntry) → items ≡ x ∷ left → reverse items ≡ seen → seen ≡ newer ++ call ∷ [] →
     (newer ≡ reverse left) × (call ≡ x)
 first_call items left x call seen newer first view last =
     let there : reverse items ≡ reverse left ++ x ∷ [] = ap reverse first ∙ reverse-append (x ∷ []) left in
@@ -39,13 +39,13 @@ first_call items left x call seen newer first view last =
 
 -- ---- the oldest call
 
-emptied_stays : (calls : List Call) (l : Listed) → (without_call calls l).emptied ≡ l.emptied
+emptied_stays : (calls : List CallEntry) (l : Listed) → (without_call calls l).emptied ≡ l.emptied
 emptied_stays [] l = refl
 emptied_stays (c ∷ calls) l = refl
 
 -- it is the last of the calls, and all that stands before it is others'
 pub record OldestCall (own others all : Listed) : Type 0 where
-  pub call : Call
+  pub call : CallEntry
   pub ends : EndsWithCall call others.calls all
   pub weighs : (undone : Undone) → call.bytes + call.commas + meta_weight call.meta + undone_weight undone ≡ weight (call_of own.calls undone own.bytes own.commas)
   pub read : (undone : Undone) → call.read ≡ read_by (call_of own.calls undone own.bytes own.commas)
@@ -56,10 +56,10 @@ oldest_call : (own others all alone : Listed) → HasCall own.calls own.bytes ow
     all ≡ joined own others → OldestCall own others all
 oldest_call own others all alone has is no_calls no_bytes no_commas together = by_calls own.calls refl has is
   where
-    by_calls : (calls : List Call) → own.calls ≡ calls → HasCall calls own.bytes own.commas → without_call calls own ≡ alone → OldestCall own others all
+    by_calls : (calls : List CallEntry) → own.calls ≡ calls → HasCall calls own.bytes own.commas → without_call calls own ≡ alone → OldestCall own others all
     by_calls [] first has is = absurd has
     by_calls (c ∷ calls) first has is =
-        let one : own.calls ≡ c ∷ [] = first ∙ ap (λ (cs : List Call). c ∷ cs) (ap (λ (l : Listed). l.calls) is ∙ no_calls) in
+        let one : own.calls ≡ c ∷ [] = first ∙ ap (λ (cs : List CallEntry). c ∷ cs) (ap (λ (l : Listed). l.calls) is ∙ no_calls) in
         let bytes : length own.bytes ≡ c.bytes = length-alone c.bytes own.bytes has.0 (ap (λ (l : Listed). l.bytes) is ∙ no_bytes) in
         let commas : length own.commas ≡ c.commas = length-alone c.commas own.commas has.1 (ap (λ (l : Listed). l.commas) is ∙ no_commas) in
         let text_is : all.bytes ≡ own.bytes ++ others.bytes = ap (λ (l : Listed). l.bytes) together in
@@ -67,13 +67,13 @@ oldest_call own others all alone has is no_calls no_bytes no_commas together = b
         record {
           call = c;
           ends = record {
-            last = ap (λ (l : Listed). l.calls) together ∙ ap (λ (cs : List Call). others.calls ++ cs) one;
+            last = ap (λ (l : Listed). l.calls) together ∙ ap (λ (cs : List CallEntry). others.calls ++ cs) one;
             bytes = omega (arith, bytes, ap (λ (xs : List ℕ). length xs) text_is, length-append own.bytes others.bytes);
             commas = omega (arith, commas, ap (λ (xs : List ℕ). length xs) lengths_are, length-append own.commas others.commas);
           };
-          weighs = call_weighs own.calls calls c own.bytes own.commas first (newest_call own.calls calls c own.bytes own.commas first (subst (λ (cs : List Call). HasCall cs own.bytes own.commas) (sym first) has));
-          read = λ undone. sym (ap (λ (cs : List Call). read_by (call_of cs undone own.bytes own.commas)) first);
-          printed = λ undone. sym (ap (λ (cs : List Call). printed_by (call_of cs undone own.bytes own.commas)) first);
+          weighs = call_weighs own.calls calls c own.bytes own.commas first (newest_call own.calls calls c own.bytes own.commas first (subst (λ (cs : List CallEntry). HasCall cs own.bytes own.commas) (sym first) has));
+          read = λ undone. sym (ap (λ (cs : List CallEntry). read_by (call_of cs undone own.bytes own.commas)) first);
+          printed = λ undone. sym (ap (λ (cs : List CallEntry). printed_by (call_of cs undone own.bytes own.commas)) first);
           left = λ i. record {
             calls = others.calls;
             bytes = (ap (drop c.bytes) text_is ∙ drop_at own.bytes others.bytes c.bytes bytes) i;
@@ -184,7 +184,7 @@ brief_gone kept.Idle gone own others all brief weighs reads prints is = absurd b
 
 -- what dropping the oldest call leaves
 abbrev pub DropsCall : Gone → Listed → Listed → Type 0
-DropsCall gone all new = (call : Call) (newer : List Call) → EndsWithCall call newer all → IsGoneCall gone call × (new ≡ without_oldest call newer all)
+DropsCall gone all new = (call : CallEntry) (newer : List CallEntry) → EndsWithCall call newer all → IsGoneCall gone call × (new ≡ without_oldest call newer all)
 
 -- of an entry that holds what the call destroyed of forms and blocks
 pub call_gone : (k : Kept) (u : Undone) (gone : Gone) (own others all new : Listed) → (whole : (oldest : OldestCall own others all) × (without_oldest oldest.call others.calls all ≡ others)) →

@@ -1,5 +1,5 @@
 -- Lists from their ends.
-use Rattle.std.proofs.Common.{◌≡◌, ℕ, zero, suc, ◌+◌, ◌-◌, ◌<◌, ◌≤◌, List, [], ◌∷◌, ◌++◌, length, take, drop, get_or, add-one, drop-cons, refl, sym, ap, ◌∙◌, arith}
+use Rattle.std.proofs.Common.{◌≡◌, ℕ, zero, suc, ◌+◌, ◌-◌, ◌<◌, ◌≤◌, List, [], ◌∷◌, ◌++◌, length, take, drop, get_or, map, add-one, drop-cons, refl, sym, ap, ◌∙◌, arith}
 use Rattle.std.specs.Prelude.{reverse}
 use Rattle.std.proofs.lemmas.List.{drop-drop, drop_at, length-append, length-drop, length-take-le, nil_from_length, take-append-drop, take_at}
 use Rattle.trac_rules.specs.Records.{all_before_last, last_of}
@@ -17,6 +17,16 @@ last_apart {X} (y ∷ xs) x (suc n) many is = ap (λ (rest : List X). y ∷ rest
 -- the last of a list stands first in reverse
 pub last_first : {X : Type 0} (xs : List X) (x : X) (n : ℕ) → length xs ≡ n + 1 → x ≡ get_or xs n x → reverse xs ≡ x ∷ reverse (take n xs)
 last_first xs x n many is = ap reverse (last_apart xs x n many is) ∙ reverse_push (take n xs) x
+
+-- the same of a list that is seen through a function
+pub last_seen : {X Y : Type 0} (f : X → Y) (xs : List X) (x : X) (n : ℕ) (ys : List Y) → map f (reverse xs) ≡ ys → length xs ≡ n + 1 → x ≡ get_or xs n x →
+    ys ≡ f x ∷ map f (reverse (take n xs))
+last_seen f xs x n ys seen many is = sym seen ∙ ap (map f) (last_first xs x n many is)
+
+-- and where it stands after the others
+pub push_seen : {X Y : Type 0} (f : X → Y) (xs others : List X) (x : X) (ys : List Y) → map f (reverse xs) ≡ ys → xs ≡ others ++ x ∷ [] →
+    ys ≡ f x ∷ map f (reverse others)
+push_seen {X} f xs others x ys seen is = sym seen ∙ ap (λ (zs : List X). map f (reverse zs)) is ∙ ap (map f) (reverse_push others x)
 
 -- ---- the last n of a list, and those before them
 

@@ -10,7 +10,7 @@ use Rattle.trac_journal.specs.Journaled.{unpacked, AreListed}
 use Rattle.trac_journal.specs.Listed.{Listed, call_of, called_in, first_undone, idle_of, newest_in, nothing_listed, older_in, without_call, HasCall, Holds}
 use Rattle.trac_text.specs.Pieces.{all_texts, cut_at}
 use Rattle.trac_journal.specs.Told.{record_with}
-use Rattle.trac_journal.specs.declared.entry.Call.{Call}
+use Rattle.trac_journal.specs.declared.entry.CallEntry.{CallEntry}
 use Rattle.trac_journal.specs.declared.entry.Entry.{Entry}
 use Rattle.trac_journal.specs.declared.entry.Kept.{Kept}
 use Rattle.trac_journal.specs.declared.entry.Kept.TheVariants as kept
@@ -34,12 +34,12 @@ joined_assoc a b c =
     }
 
 -- with others after it the newest call is the same
-record CallBehind (calls : List Call) (older l : Listed) : Type 0 where
+record CallBehind (calls : List CallEntry) (older l : Listed) : Type 0 where
   has : HasCall (calls ++ older.calls) (older.bytes ++ l.bytes) (older.commas ++ l.commas)
   same : (undone : Undone) → call_of (calls ++ older.calls) undone (older.bytes ++ l.bytes) (older.commas ++ l.commas) ≡ call_of calls undone l.bytes l.commas
   rest : without_call (calls ++ older.calls) (joined older l) ≡ joined older (without_call calls l)
 
-call_behind : (calls : List Call) (older l : Listed) → HasCall calls l.bytes l.commas → CallBehind calls older l
+call_behind : (calls : List CallEntry) (older l : Listed) → HasCall calls l.bytes l.commas → CallBehind calls older l
 call_behind [] older l has = absurd has
 call_behind (c ∷ calls) older l has =
     let text = last-behind older.bytes l.bytes c.bytes has.0 in
@@ -104,14 +104,14 @@ behind kept.Idle older l has =
 -- ---- the newest record's own
 
 -- those of a call, with what it destroyed of forms and blocks
-record CallApart (calls : List Call) (l : Listed) (undone : List Undone) : Type 0 where
+record CallApart (calls : List CallEntry) (l : Listed) (undone : List Undone) : Type 0 where
   own : Listed
   has : HasCall own.calls own.bytes own.commas
   destroyed : own.undone ≡ undone
   alone : without_call own.calls own ≡ record nothing_listed { undone = undone }
   together : (others : List Undone) → undone ++ others ≡ l.undone → l ≡ joined (record (without_call calls l) { undone = others }) own
 
-call_apart : (calls : List Call) (l : Listed) (undone : List Undone) → l.calls ≡ calls → HasCall calls l.bytes l.commas → CallApart calls l undone
+call_apart : (calls : List CallEntry) (l : Listed) (undone : List Undone) → l.calls ≡ calls → HasCall calls l.bytes l.commas → CallApart calls l undone
 call_apart [] l undone first has = absurd has
 call_apart (c ∷ calls) l undone first has = record {
   own = record { calls = c ∷ []; bytes = last_of c.bytes l.bytes; commas = last_of c.commas l.commas; undone = undone; emptied = [] };

@@ -9,7 +9,7 @@ use Rattle.trac_journal.specs.Dropped.{calls_of, printed_at, printed_first, prin
 use Rattle.trac_journal.specs.Journaled.{unpacked, AreListed}
 use Rattle.trac_journal.specs.Listed.{Listed, first_undone, newest_in}
 use Rattle.trac_journal.specs.Told.{printed_by, sum_by}
-use Rattle.trac_journal.specs.declared.entry.Call.{Call}
+use Rattle.trac_journal.specs.declared.entry.CallEntry.{CallEntry}
 use Rattle.trac_journal.specs.declared.entry.Entry.{Entry}
 use Rattle.trac_journal.specs.declared.entry.Kept.{Kept}
 use Rattle.trac_journal.specs.declared.entry.Kept.TheVariants as kept
@@ -22,20 +22,20 @@ use Rattle.trac_journal.proofs.Dropped.{OldestCall, brief_left, changed_call, fi
 none_printed : (n k : ℕ) → sum_by printed_by (drop n (replicate k Moved)) ≡ 0
 none_printed n k = omega (arith, sum_fewer printed_by (replicate k Moved) 0 n (omega arith), moved_sum printed_by k refl)
 
-record OldestPrinted (k : Kept) (own others : Listed) (calls : List Call) : Type 0 where
+record OldestPrinted (k : Kept) (own others : Listed) (calls : List CallEntry) : Type 0 where
   printed : printed_by (newest_in k own) ≡ printed_in k calls
   left : others.calls ≡ reverse (drop (calls_of k) calls)
 
 -- of the entry of a call
-call_printed : (own others all : Listed) (calls : List Call) (oldest : OldestCall own others all) → all.calls ≡ reverse calls →
+call_printed : (own others all : Listed) (calls : List CallEntry) (oldest : OldestCall own others all) → all.calls ≡ reverse calls →
     (oldest.call.printed ≡ printed_at calls) × (others.calls ≡ reverse (drop 1 calls))
 call_printed own others all [] oldest view =
-    absurd (omega (arith, ap (λ (cs : List Call). length cs) (sym view ∙ oldest.ends.last), length-append others.calls (oldest.call ∷ [])))
+    absurd (omega (arith, ap (λ (cs : List CallEntry). length cs) (sym view ∙ oldest.ends.last), length-append others.calls (oldest.call ∷ [])))
 call_printed own others all (c ∷ calls) oldest view =
     let first = first_call (c ∷ calls) calls c oldest.call all.calls others.calls refl (sym view) oldest.ends.last in
-    (ap (λ (call : Call). call.printed) first.1, first.0)
+    (ap (λ (call : CallEntry). call.printed) first.1, first.0)
 
-oldest_printed : (k : Kept) (own others all : Listed) (calls : List Call) → IsOldest k own others all → all.calls ≡ reverse calls → OldestPrinted k own others calls
+oldest_printed : (k : Kept) (own others all : Listed) (calls : List CallEntry) → IsOldest k own others all → all.calls ≡ reverse calls → OldestPrinted k own others calls
 oldest_printed kept.Comma own others all calls is view =
     record { printed = refl; left = ap (λ (l : Listed). l.calls) (sym (brief_left own others all is.alone is.together)) ∙ view }
 oldest_printed kept.Begun own others all calls is view =
@@ -63,12 +63,12 @@ oldest_printed kept.Idle own others all calls is view =
 -- ---- all that are left out
 
 -- of so few that the oldest entry's own record stays
-pub printed_few : (count : ℕ) (e : Entry) (entries : List Entry) (calls : List Call) → count ≤ e.moved → printed_first count (e ∷ entries) calls ≡ 0
+pub printed_few : (count : ℕ) (e : Entry) (entries : List Entry) (calls : List CallEntry) → count ≤ e.moved → printed_first count (e ∷ entries) calls ≡ 0
 printed_few count e entries calls few =
     cond-true (nat_le count e.moved) 0 (printed_in e.kept calls + printed_first (count - (e.moved + 1)) entries (drop (calls_of e.kept) calls)) (le-leb count e.moved few)
 
 -- and of more
-pub printed_more : (count : ℕ) (e : Entry) (entries : List Entry) (calls : List Call) → e.moved < count →
+pub printed_more : (count : ℕ) (e : Entry) (entries : List Entry) (calls : List CallEntry) → e.moved < count →
     printed_first count (e ∷ entries) calls ≡ printed_in e.kept calls + printed_first (count - (e.moved + 1)) entries (drop (calls_of e.kept) calls)
 printed_more count e entries calls more =
     cond-false (nat_le count e.moved) 0 (printed_in e.kept calls + printed_first (count - (e.moved + 1)) entries (drop (calls_of e.kept) calls)) (lt-leb count e.moved more)
@@ -95,7 +95,7 @@ more_last newer r k n more =
       moved_sum printed_by k refl,
     )
 
-pub printed_by_oldest : (entries : List Entry) (calls : List Call) (moved n : ℕ) (l : Listed) → AreListed (reverse entries) l → l.calls ≡ reverse calls →
+pub printed_by_oldest : (entries : List Entry) (calls : List CallEntry) (moved n : ℕ) (l : Listed) → AreListed (reverse entries) l → l.calls ≡ reverse calls →
     sum_by printed_by (drop n (unpacked moved (reverse entries) l)) ≡ printed_first (length (unpacked moved (reverse entries) l) - n) entries calls
 printed_by_oldest [] calls moved n l listed view = none_printed n moved
 printed_by_oldest (e ∷ entries) calls moved n l listed view =
@@ -122,7 +122,7 @@ printed_by_oldest (e ∷ entries) calls moved n l listed view =
     ]
 
 -- as the fields of a journal tell it
-pub printed_all : (entries : List Entry) (calls : List Call) (moved n count : ℕ) (l : Listed) (records : List Record) → AreListed (reverse entries) l → l.calls ≡ reverse calls →
+pub printed_all : (entries : List Entry) (calls : List CallEntry) (moved n count : ℕ) (l : Listed) (records : List Record) → AreListed (reverse entries) l → l.calls ≡ reverse calls →
     unpacked moved (reverse entries) l ≡ records → count ≡ length (unpacked moved (reverse entries) l) → printed_first (count - n) entries calls ≡ sum_by printed_by (drop n records)
 printed_all entries calls moved n count l records listed view is all =
     ap (λ k. printed_first (k - n) entries calls) all ∙ sym (printed_by_oldest entries calls moved n l listed view) ∙ ap (λ (rs : List Record). sum_by printed_by (drop n rs)) is

@@ -11,7 +11,7 @@ use Rattle.trac_rules.specs.State.{Frame, Held}
 use Rattle.trac_rules.specs.Undone.{Undone, Nothing, Point, Join, Swap, Restore, MoveOut, Unbring, Unerase}
 use Rattle.trac_journal.specs.Journaled.{Journaled, Lists, Room}
 use Rattle.trac_journal.specs.Listed.{Listed}
-use Rattle.trac_journal.specs.declared.entry.Call.{Call}
+use Rattle.trac_journal.specs.declared.entry.CallEntry.{CallEntry}
 
 abbrev pub cut_gap_code : Coded CutGap
 cut_gap_code = code_by (ℕ × ℕ) (coded× coded_ℕ coded_ℕ) (λ g. (g.place, g.ordinal)) (λ p. record { place = p.0; ordinal = p.1 }) (λ _. refl)
@@ -130,7 +130,7 @@ room_code =
     (λ p. record { calls = p.0; bytes = p.1.0; commas = p.1.1.0; undone = p.1.1.1.0; emptied = p.1.1.1.1 })
     (λ _. refl)
 
-abbrev pub call_code : Coded Call
+abbrev pub call_code : Coded CallEntry
 call_code =
     code_by (ℕ × (ℕ × (ℕ × (ℕ × (ℕ × (Kind × (Bool × (Bool × Option ℕ))))))))
     (coded× coded_ℕ (coded× coded_ℕ (coded× coded_ℕ (coded× coded_ℕ (coded× coded_ℕ (coded× kind_code (coded× coded_bool (coded× coded_bool
@@ -151,7 +151,7 @@ call_code =
 
 abbrev pub listed_code : Coded Listed
 listed_code =
-    code_by (List Call × (List ℕ × (List ℕ × (List Undone × List (List ℕ × List Frame)))))
+    code_by (List CallEntry × (List ℕ × (List ℕ × (List Undone × List (List ℕ × List Frame)))))
     (coded× (coded_list call_code) (coded× text_code (coded× text_code (coded× (coded_list undone_code)
     (coded_list (coded× text_code (coded_list frame_code)))))))
     (λ l. (l.calls, (l.bytes, (l.commas, (l.undone, l.emptied)))))

@@ -4,7 +4,7 @@ use Rattle.trac_rules.specs.Records.{Record}
 use Rattle.trac_rules.specs.Weights.{meta_weight, weight}
 use Rattle.trac_journal.specs.Listed.{Listed, nothing_listed, older_in, Holds}
 use Rattle.trac_journal.specs.Told.{printed_by, read_by}
-use Rattle.trac_journal.specs.declared.entry.Call.{Call}
+use Rattle.trac_journal.specs.declared.entry.CallEntry.{CallEntry}
 use Rattle.trac_journal.specs.declared.entry.Entry.{Entry}
 use Rattle.trac_journal.specs.declared.entry.Kept.{Kept}
 use Rattle.trac_journal.specs.declared.entry.Kept.TheVariants as kept
@@ -27,13 +27,13 @@ pub record IsOldest (k : Kept) (own others all : Listed) : Type 0 where
   pub together : all ≡ joined own others
 
 -- the oldest of the calls is this, after these, and its bytes and lengths stand first
-pub record EndsWithCall (call : Call) (newer : List Call) (l : Listed) : Type 0 where
+pub record EndsWithCall (call : CallEntry) (newer : List CallEntry) (l : Listed) : Type 0 where
   pub last : l.calls ≡ newer ++ call ∷ []
   pub bytes : call.bytes ≤ length l.bytes
   pub commas : call.commas ≤ length l.commas
 
 -- the lists without it
-abbrev pub without_oldest : Call → List Call → Listed → Listed
+abbrev pub without_oldest : CallEntry → List CallEntry → Listed → Listed
 without_oldest call newer l = record l { calls = newer; bytes = drop call.bytes l.bytes; commas = drop call.commas l.commas }
 
 -- what is to be known of a record that is dropped: what it weighs, and how much its step read and printed
@@ -43,7 +43,7 @@ pub record IsGone (gone : Gone) (r : Record) : Type 0 where
   pub prints : gone.printed ≡ printed_by r
 
 -- and of a call, beside what it destroyed of forms and blocks
-pub record IsGoneCall (gone : Gone) (call : Call) : Type 0 where
+pub record IsGoneCall (gone : Gone) (call : CallEntry) : Type 0 where
   pub weighs : gone.weight ≡ call.bytes + call.commas + meta_weight call.meta
   pub reads : gone.read ≡ call.read
   pub prints : gone.printed ≡ call.printed
@@ -58,19 +58,19 @@ calls_of kept.Changed = 1
 calls_of other = 0
 
 -- what the first of these calls printed
-abbrev pub printed_at : List Call → ℕ
+abbrev pub printed_at : List CallEntry → ℕ
 printed_at [] = 0
 printed_at (c ∷ calls) = c.printed
 
 -- what the step printed of whose record an entry keeps this; its call, where it has one, is the first of these
-abbrev pub printed_in : Kept → List Call → ℕ
+abbrev pub printed_in : Kept → List CallEntry → ℕ
 printed_in kept.Call calls = printed_at calls
 printed_in (kept.Pointed place) calls = printed_at calls
 printed_in kept.Changed calls = printed_at calls
 printed_in other calls = 0
 
 -- what the steps of so many of the oldest records printed, of these entries and calls, the oldest first
-abbrev pub printed_first : ℕ → List Entry → List Call → ℕ
+abbrev pub printed_first : ℕ → List Entry → List CallEntry → ℕ
 printed_first count [] calls = 0
 printed_first count (e ∷ entries) calls =
     if nat_le count e.moved then 0 else (printed_in e.kept calls + printed_first (count - (e.moved + 1)) entries (drop (calls_of e.kept) calls))

@@ -10,14 +10,14 @@ use Rattle.trac_change.specs.Undone.{undone_in}
 use Rattle.trac_journal.specs.declared.called.Called as code
 use Rattle.trac_journal.specs.declared.emptied.Emptied.{Emptied}
 use Rattle.trac_change.specs.declared.undone.Undone as destroyed
-use Rattle.trac_journal.specs.declared.entry.Call.{Call}
+use Rattle.trac_journal.specs.declared.entry.CallEntry.{CallEntry}
 use Rattle.trac_journal.specs.declared.entry.Kept.{Kept}
 use Rattle.trac_journal.specs.declared.entry.Kept.TheVariants as kept
 
 -- what the lists hold
 pub record Listed : Type 0 where
   -- the calls, the newest first
-  pub calls : List Call
+  pub calls : List CallEntry
   -- the bytes of their arguments, one after another, those of the newest call last; and how long each argument is that a `,` ended
   pub bytes : List ℕ
   pub commas : List ℕ
@@ -30,7 +30,7 @@ abbrev pub nothing_listed : Listed
 nothing_listed = record { calls = []; bytes = []; commas = []; undone = []; emptied = [] }
 
 -- what a call says beside its arguments, and what was destroyed of forms and blocks
-abbrev pub called_in : Call → code.Called
+abbrev pub called_in : CallEntry → code.Called
 called_in c = record {
   kind = c.kind;
   value = c.value;
@@ -42,7 +42,7 @@ called_in c = record {
 }
 
 -- what these lists of the code hold
-abbrev pub listed_by : {A : Type 0} → List Call → List ℕ → List ℕ → List (destroyed.Undone A) → List (Emptied A) → Listed
+abbrev pub listed_by : {A : Type 0} → List CallEntry → List ℕ → List ℕ → List (destroyed.Undone A) → List (Emptied A) → Listed
 listed_by calls bytes commas undone emptied = record {
   calls = reverse calls;
   bytes = bytes;
@@ -63,7 +63,7 @@ pub record AreSmall (called : code.Called) (len count : ℕ) : Type 0 where
 
 -- that of the first of these calls, which destroyed this: it has the last of the bytes, cut by the last of the lengths. Where there is
 -- no call, any record
-abbrev pub call_of : List Call → Undone → List ℕ → List ℕ → Record
+abbrev pub call_of : List CallEntry → Undone → List ℕ → List ℕ → Record
 call_of [] undone bytes commas = Moved
 call_of (c ∷ calls) undone bytes commas =
     Called (record_with (called_in c) (all_texts (cut_at (last_of c.commas commas) (last_of c.bytes bytes))) undone)
@@ -99,7 +99,7 @@ IsBrief other = ⊥
 -- ---- the others
 
 -- the lists without the first of these calls
-abbrev pub without_call : List Call → Listed → Listed
+abbrev pub without_call : List CallEntry → Listed → Listed
 without_call [] l = l
 without_call (c ∷ calls) l =
     record l { calls = calls; bytes = all_before_last c.bytes l.bytes; commas = all_before_last c.commas l.commas }
@@ -113,7 +113,7 @@ older_in kept.Idle l = record l { emptied = drop 1 l.emptied }
 older_in other l = l
 
 -- there is a call, and all bytes and lengths of its arguments
-abbrev pub HasCall : List Call → List ℕ → List ℕ → Type 0
+abbrev pub HasCall : List CallEntry → List ℕ → List ℕ → Type 0
 HasCall [] bytes commas = ⊥
 HasCall (c ∷ calls) bytes commas =
     (c.bytes ≤ length bytes) × (c.commas ≤ length commas) × (sum (last_of c.commas commas) ≤ c.bytes)

@@ -29,7 +29,7 @@ pub enum Kept {
 
 /// What a call has in the list of calls. Lengths count bytes.
 #[derive(Clone, Copy)]
-pub struct Call {
+pub struct CallEntry {
     pub(crate) value: u32,
     pub(crate) printed: u32,
     pub(crate) read: u32,
@@ -46,4 +46,4 @@ pub struct Call {
 // each `,` and each begun function takes an entry, and each call both
 const _: () = prove!(size_of::<Entry>() == 12);
 
-const _: () = prove!(size_of::<Call>() == 28);
+const _: () = prove!(size_of::<CallEntry>() == 28);

@@ -1,6 +1,7 @@
 //! The journal: a record for each step, packed.
 ghost use Rattle.std.specs.Prelude.{◌≡◌, ◌==◌, ◌+◌, ◌-◌, ◌<◌, ◌≤◌, ◌^◌, ◌++◌, List, ◌∷◌, [], length, replicate, IsOkUnless, MatchOption, OnErr, OnOk};
 ghost use Rattle.std.specs.List.{concat};
+ghost use Rattle.std.specs.VecDeque.{deque_capacity, deque_len};
 ghost use Rattle.trac_rules.specs.declared.limit.TheConstants.{JOURNAL_LIMIT};
 ghost use Rattle.trac_rules.specs.Records.{Called as CallOf, Idle, Moved, Record};
 ghost use Rattle.trac_rules.specs.Weights.{meta_weight, undone_weight, weight};
@@ -15,7 +16,7 @@ use crate::emptied::Emptied;
 use crate::entry::{Entry, Kept};
 use crate::lists::Lists;
 use crate::told::{Lost, Newest};
-use std::alloc::{Allocator, Global};
+use std::alloc::{AllocError, Allocator, Global};
 use std::collections::VecDeque;
 use std::marker::Model;
 use trac_change::Undone;
@@ -105,7 +106,7 @@ impl<A: Allocator + Copy> Journal<A> {
         ensures err { IsOkUnless result Refusal.Memory }
         ensures full { OnErr result (self.old.places ≡ 0) }
     {
-        self.entries.reserve(1)?;
+        reserve_entry(&mut self.entries)?;
         Ok(())
     }
 
@@ -116,7 +117,7 @@ impl<A: Allocator + Copy> Journal<A> {
         ensures same { self.new.records ≡ self.old.records }
         ensures err { IsOkUnless result Refusal.Memory }
     {
-        self.entries.reserve(1)?;
+        reserve_entry(&mut self.entries)?;
         self.lists.reserve_call(bytes, commas)
     }
 
@@ -127,7 +128,7 @@ impl<A: Allocator + Copy> Journal<A> {
         ensures same { self.new.records ≡ self.old.records }
         ensures err { IsOkUnless result Refusal.Memory }
     {
-        self.entries.reserve(1)?;
+        reserve_entry(&mut self.entries)?;
         self.lists.reserve_idle()
     }
 
@@ -296,4 +297,17 @@ fn weigh_call<A: Allocator + Copy>(len: usize, meta: Option<u8>, undone: &Undone
         Some(_byte) => kept as u64 + 1,
         None => kept as u64,
     }
+}
+
+// Makes a place for one more entry. Most often there is one, and then nothing is called.
+#[inline(always)]
+fn reserve_entry<A: Allocator>(entries: &mut VecDeque<Entry, A>) -> Result<(), AllocError>
+    ensures items { entries.new.items ≡ entries.old.items }
+    ensures ok { OnOk result (deque_len entries.new + 1 ≤ deque_capacity entries.new) }
+    ensures full { OnErr result (deque_capacity entries.old ≡ deque_len entries.old) }
+{
+    if entries.len() < entries.capacity() {
+        return Ok(());
+    }
+    entries.reserve(1)
 }

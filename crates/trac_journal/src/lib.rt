@@ -15,7 +15,7 @@ pub use called::{Called, Short};
 pub use dropping::Passed;
 pub use emptied::Emptied;
 #[doc(hidden)]
-pub use entry::{Call, Entry, Kept};
+pub use entry::{CallEntry, Entry, Kept};
 pub use journal::Journal;
 #[doc(hidden)]
 pub use lists::Lists;

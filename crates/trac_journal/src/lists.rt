@@ -16,7 +16,7 @@ ghost use Rattle.trac_change.specs.Undone.{undone_in};
 
 use crate::called::{Called, Short};
 use crate::emptied::Emptied;
-use crate::entry::{Call, Kept};
+use crate::entry::{CallEntry, Kept};
 use crate::told::{Lost, Newest};
 use std::alloc::{Allocator, Global};
 use std::collections::VecDeque;
@@ -32,7 +32,7 @@ use trac_text::{Args, PiecesRef};
 /// beside them how much room they have.
 #[derive(Drop)]
 pub struct Lists<A: Allocator + Copy = Global> {
-    calls: VecDeque<Call, A>,
+    calls: VecDeque<CallEntry, A>,
     // the bytes of the arguments of all calls
     bytes: SlidingBuf<u8, A>,
     // how long each argument is that a `,` ended
@@ -313,8 +313,8 @@ impl<A: Allocator + Copy> Lists<A> {
 
     // Drops the oldest call, and returns what is to be known of it, what it destroyed of forms and blocks aside.
     fn drop_call(&mut self) -> Gone
-        requires { (call : Call) × ((calls : List Call) × EndsWithCall call calls self.old.listed) }
-        ensures { (call : Call) (calls : List Call) → EndsWithCall call calls self.old.listed → IsGoneCall result call × (self.new.listed ≡ without_oldest call calls self.old.listed) }
+        requires { (call : CallEntry) × ((calls : List CallEntry) × EndsWithCall call calls self.old.listed) }
+        ensures { (call : CallEntry) (calls : List CallEntry) → EndsWithCall call calls self.old.listed → IsGoneCall result call × (self.new.listed ≡ without_oldest call calls self.old.listed) }
     {
         let Some(call) = self.calls.pop_front() else {
             unreachable!()
@@ -397,13 +397,13 @@ fn weighing(weight: u64) -> Gone
 }
 
 // What is kept of a call whose arguments have so many bytes, and so many commas between them.
-fn call_by(called: Called, bytes: usize, commas: usize) -> Call
+fn call_by(called: Called, bytes: usize, commas: usize) -> CallEntry
     requires { AreSmall called bytes commas }
     ensures called { called_in result ≡ called }
     ensures bytes { result.bytes ≡ bytes }
     ensures commas { result.commas ≡ commas }
 {
-    Call {
+    CallEntry {
         value: called.value as u32,
         printed: called.printed as u32,
         read: called.read as u32,
@@ -417,7 +417,7 @@ fn call_by(called: Called, bytes: usize, commas: usize) -> Call
 }
 
 // What a call says of which this is kept, beside its arguments, and what was destroyed of forms and blocks.
-fn called_by(call: Call) -> Called
+fn called_by(call: CallEntry) -> Called
     ensures { result ≡ called_in call }
 {
     Called {
@@ -432,7 +432,7 @@ fn called_by(call: Call) -> Called
 }
 
 // What a call weighs beside what it destroyed of forms and blocks.
-fn weigh_texts(call: Call) -> u64
+fn weigh_texts(call: CallEntry) -> u64
     ensures { result ≡ call.bytes + call.commas + meta_weight call.meta }
 {
     let texts = u64::from(call.bytes) + u64::from(call.commas);

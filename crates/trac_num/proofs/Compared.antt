@@ -9,11 +9,11 @@ use Rattle.trac_rules.specs.Number.{is_greater, whole_number}
 
 -- ---- whole numbers by their signs
 
-minus_number : (numeral digits : List ℕ) → starts_with_minus numeral ≡ true → digits_value 10 digits ≡ digits_value 10 (without_leading_sign numeral) → whole_number numeral ≡ neg_ℤ (pos (digits_value 10 digits))
+pub minus_number : (numeral digits : List ℕ) → starts_with_minus numeral ≡ true → digits_value 10 digits ≡ digits_value 10 (without_leading_sign numeral) → whole_number numeral ≡ neg_ℤ (pos (digits_value 10 digits))
 unfolding whole_number
 minus_number numeral digits t e = rw e (rw t refl)
 
-plain_number : (numeral digits : List ℕ) → starts_with_minus numeral ≡ false → digits_value 10 digits ≡ digits_value 10 (without_leading_sign numeral) → whole_number numeral ≡ pos (digits_value 10 digits)
+pub plain_number : (numeral digits : List ℕ) → starts_with_minus numeral ≡ false → digits_value 10 digits ≡ digits_value 10 (without_leading_sign numeral) → whole_number numeral ≡ pos (digits_value 10 digits)
 unfolding whole_number
 plain_number numeral digits f e = rw e (rw f refl)
 

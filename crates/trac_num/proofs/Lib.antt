@@ -5,6 +5,7 @@ pub mod NumeralPlaces
 pub mod Range
 pub mod Larger
 pub mod Compared
+pub mod Sums
 mod Pairs
 mod OctalDigits
 mod Bits

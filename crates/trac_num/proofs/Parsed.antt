@@ -1,6 +1,5 @@
 -- std reads a numeral as the number that it writes.
-use Rattle.std.proofs.Common.{◌≡◌, ◌∙◌, ℕ, true, ℤ, pos, w64, of_z, to_z, List, [], None, Some, Result, Ok, Err, length, refl, sym, ap, subst, ⊎_elim}
-use Rattle.std.proofs.lemmas.List.{nil_from_length}
+use Rattle.std.proofs.Common.{◌≡◌, ◌∙◌, ℕ, true, ℤ, w64, of_z, to_z, List, [], None, Some, Result, Ok, Err, refl, sym, ap, subst, ⊎_elim}
 use Rattle.std.proofs.lemmas.Str.{IsUtf8-from_ascii, IsUtf8-nil}
 use Rattle.std.specs.Int.{w128}
 use Rattle.std.specs.Result.{result_ok}
@@ -13,12 +12,6 @@ use Rattle.trac_rules.specs.declared.width.Width.{Width}
 use Rattle.trac_rules.specs.declared.width.Width.TheVariants.{W64, W128}
 use Rattle.trac_rules.proofs.Calculated.{narrow_number}
 use Rattle.trac_rules.specs.Number.{IsNumeralOrNull, fits, is_numeral, number_of, whole_number}
-
--- an empty numeral writes 0
-pub null_number : (width : Width) (numeral : List ℕ) → length numeral ≡ 0 → Some (pos 0) ≡ number_of width numeral
-unfolding number_of whole_number
-null_number W64 numeral e = rw (nil_from_length numeral e) refl
-null_number W128 numeral e = rw (nil_from_length numeral e) refl
 
 pub utf8_numeral : (numeral : List ℕ) → IsNumeralOrNull numeral → IsUtf8 numeral
 utf8_numeral numeral form =
@@ -51,7 +44,9 @@ number_of_narrow {E} width numeral (Err e) n t h was = absurd (cc)
 pub no_narrow_number : {E : Type 0} (numeral : List ℕ) (r : Result ℤ E) (e : E) → is_numeral numeral ≡ true → ParsesSigned w64 10 numeral r → r ≡ Err e → None ≡ number_of W64 numeral
 no_narrow_number numeral r e t h was = ap result_ok (sym was) ∙ parsed_number W64 numeral r t h
 
--- of a numeral with a byte
-pub numeral_not_null : (numeral : List ℕ) → IsNumeralOrNull numeral → (length numeral ≡ 0 → ⊥) → is_numeral numeral ≡ true
-numeral_not_null numeral form n =
-    ⊎_elim (λ (e : numeral ≡ []). absurd (n (ap length e))) (λ (t : is_numeral numeral ≡ true). t) form
+-- a number of 64 bits that is known to be the numeral's
+pub number_of_short : (width : Width) (numeral : List ℕ) (n : ℤ) → n ≡ whole_number numeral → fits W64 n ≡ true → Some (to_z w128 (of_z w128 (to_z w64 (of_z w64 n)))) ≡ number_of width numeral
+unfolding number_of
+number_of_short width numeral n e t =
+    let kept : Some n ≡ number_of W64 numeral = rw (← e) (rw t refl) in
+    ap Some (same_narrow n t) ∙ of_narrow_number width numeral n kept

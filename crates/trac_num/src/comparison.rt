@@ -6,7 +6,7 @@ ghost use Rattle.trac_num.specs.Magnitude.{IsMagnitude, IsMagnitudeOf};
 ghost use Rattle.trac_rules.specs.Number.{IsNumeralOrNull, is_greater};
 
 // The digits after a sign, or all of them.
-fn unsigned(numeral: &[u8]) -> &[u8]
+pub(crate) fn unsigned(numeral: &[u8]) -> &[u8]
     ensures { result.now ≡ without_leading_sign numeral.now }
 {
     if numeral.is_empty() {
@@ -44,7 +44,8 @@ fn magnitude(numeral: &[u8]) -> &[u8]
     without_zeros(unsigned(numeral))
 }
 
-fn has_minus(numeral: &[u8]) -> bool
+// Whether a minus stands first.
+pub(crate) fn has_minus(numeral: &[u8]) -> bool
     ensures { result ≡ starts_with_minus numeral.now }
 {
     if numeral.is_empty() {

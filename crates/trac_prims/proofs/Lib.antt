@@ -15,3 +15,4 @@ pub mod ReadCounts
 pub mod Slots
 pub mod Joining
 pub mod Planned
+pub mod ValueLengths

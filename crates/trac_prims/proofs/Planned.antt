@@ -1,7 +1,6 @@
 -- The outcome of a call, from what its primitive made and from the lengths of the pieces.
-use Rattle.std.proofs.Common.{◌≡◌, ℕ, ◌+◌, ◌++◌, List, [], length, refl, sym, ap, ◌∙◌, subst, arith, Bool, true, false, ⊎_elim}
+use Rattle.std.proofs.Common.{◌≡◌, ℕ, ◌++◌, List, [], length, refl, sym, ap, ◌∙◌, subst, arith, Bool, true, false, ⊎_elim}
 use Rattle.std.specs.Prelude.{Result, Ok, Err, nat_le}
-use Rattle.std.specs.Option.{unwrap_or}
 use Rattle.std.proofs.lemmas.Bool.{and_from, cases_Bool, false_from_ne_true, le-leb, true≢false}
 use Rattle.std.proofs.lemmas.List.{length-append}
 use Rattle.trac_forms.specs.Stored.{Stored}
@@ -11,18 +10,16 @@ use Rattle.trac_rules.specs.declared.primitive.Primitive.{Primitive}
 use Rattle.trac_rules.specs.declared.refusal.Refusal.{Refusal}
 use Rattle.trac_rules.specs.declared.refusal.Refusal.TheVariants.{Memory, TooLong}
 use Rattle.trac_rules.specs.Effect.{Effect, argument}
-use Rattle.trac_rules.specs.Limits.{texts_fit}
 use Rattle.trac_rules.specs.Outcomes.{MayAnswer, MayLackMemory, MayRefuse, limited, seen_as}
-use Rattle.trac_rules.specs.Performing.{after_call, changed_by, effect_of, performed, placed, primitive_of, printed_behind, trace_line}
-use Rattle.trac_rules.specs.Scanning.{Call, Calls, scan}
-use Rattle.trac_rules.specs.State.{Environment, State, storage_of}
-use Rattle.trac_rules.specs.Stepping.{carried_out, step}
-use Rattle.trac_rules.proofs.Outcomes.{limited_beyond, limited_Err, limited_within, limited-seen_as}
+use Rattle.trac_rules.specs.Performing.{effect_of, performed, primitive_of, printed_behind, trace_line}
+use Rattle.trac_rules.specs.Scanning.{Call}
+use Rattle.trac_rules.specs.State.{Environment, storage_of}
+use Rattle.trac_rules.proofs.Outcomes.{limited_beyond, limited_Err, limited_within}
 use Rattle.trac_prims.specs.declared.effect.Deed.{Deed}
 use Rattle.trac_prims.specs.declared.effect.Made.{Made}
 use Rattle.trac_prims.specs.declared.effect.Now.{Now}
-use Rattle.trac_prims.specs.Effects.{MayFail, Planned, added_to, done_on, pieces_fit, planned_from}
-use Rattle.trac_prims.specs.Plans.{HasPlace, IsGiven, after_planned, fits_after}
+use Rattle.trac_prims.specs.Effects.{MayFail, added_to, done_on, pieces_fit}
+use Rattle.trac_prims.specs.Plans.{HasPlace, IsGiven, fits_after}
 use Rattle.trac_prims.proofs.Fitting.{FitsAfter, fits_by, fits_then}
 
 -- ---- what is refused

@@ -1,8 +1,9 @@
 //! Calls that look at the forms or change them.
-ghost use Rattle.std.specs.Prelude.{◌≡◌, ◌≤◌, ◌++◌, List, ℕ, length, flat_map, IfOk, IsOkUnless, OnOk, SomeIff};
+ghost use Rattle.std.specs.Prelude.{◌≡◌, ◌<◌, ◌≤◌, ◌++◌, List, ℕ, length, drop, flat_map, IfOk, IsOkUnless, MatchOption, OnOk, SomeIff};
 ghost use Rattle.trac_forms.specs.Layout.{IsSound};
 ghost use Rattle.trac_forms.specs.Stored.{storage_in};
 ghost use Rattle.trac_rules.specs.Effect.{argument};
+ghost use Rattle.trac_rules.specs.Filling.{called};
 ghost use Rattle.trac_rules.specs.Form.{Form as Divided};
 ghost use Rattle.trac_rules.specs.Handling.{handled, putting};
 ghost use Rattle.trac_rules.specs.Limits.{may_be_put};
@@ -96,11 +97,11 @@ pub(crate) fn call<A: Allocator + Copy>(
     let Some(form) = store.get(args.get(1)) else {
         return Ok(Deed::changing(Change::Keep));
     };
-    let texts = after(args, 2);
-    let Some(len) = form.call_len(&texts) else {
+    let Some(room) = room_of(form, args) else {
         return Err(Refusal::TooLong);
     };
-    made.value.reserve(len)?;
+    let texts = after(args, 2);
+    made.value.reserve(room)?;
     form.call_into(&texts, &mut made.value)?;
     Ok(Deed::changing(Change::Keep))
 }
@@ -145,6 +146,18 @@ pub(crate) fn print_form<A: Allocator + Copy>(
 }
 
 // ---- pieces
+
+// For how many bytes the value of this call is given room before it is made; `None` where it is longer than a text may be. Its
+// length is found first only where it may be that long: an item gives one byte, or one of the texts.
+fn room_of<A: Allocator + Copy>(form: &Form<A>, args: &Args<'_>) -> Option<usize>
+    ensures { MatchOption result (TEXT_LIMIT < length (called (drop 2 args.now) form.now)) (λ _. length (called (drop 2 args.now) form.now) ≤ TEXT_LIMIT) }
+{
+    let items = form.len() - form.pointer();
+    if items.saturating_mul(args.joined().len() + 1) <= TEXT_LIMIT {
+        return Some(items);
+    }
+    form.call_len(&after(args, 2))
+}
 
 // Whether a form may be put under this name: all forms are alike in that.
 fn may_put<A: Allocator + Copy>(store: &Store<A>, name: &[u8]) -> bool

@@ -1,5 +1,5 @@
 //! The names of the primitives.
-ghost use Rattle.std.specs.Prelude.{◌≡◌, ◌+◌, ◌*◌, ◌%◌, ◌<◌, find};
+ghost use Rattle.std.specs.Prelude.{◌≡◌, find};
 ghost use Rattle.std.specs.Str.{bytes_eq};
 ghost use Rattle.trac_rules.specs.Performing.{named_primitive, primitive_of};
 ghost use Rattle.trac_rules.specs.declared.primitive.TheConstants.{NAMES};
@@ -31,7 +31,7 @@ pub(crate) fn primitive_named(name: &[u8]) -> Primitive
 fn named_by(letters: &[u8; 2]) -> Primitive
     ensures { result ≡ named_primitive (find (λ entry. bytes_eq letters.now entry.letters) NAMES) }
 {
-    let slot = slot_of(letters[0], letters[1]);
+    let slot = (usize::from(letters[0]) * 30 + usize::from(letters[1])) % SLOT_COUNT;
     let Some(entry) = NAMES.get(usize::from(PLACES[slot])) else {
         return Primitive::Unknown;
     };
@@ -40,12 +40,4 @@ fn named_by(letters: &[u8; 2]) -> Primitive
     } else {
         Primitive::Unknown
     }
-}
-
-// The slot of two letters.
-fn slot_of(first: u8, second: u8) -> usize
-    ensures slot { result ≡ (first * 30 + second) % SLOT_COUNT }
-    ensures within { result < SLOT_COUNT }
-{
-    (usize::from(first) * 30 + usize::from(second)) % SLOT_COUNT
 }

@@ -30,7 +30,7 @@ use crate::engine::Core;
 use crate::record::Record;
 use std::alloc::Allocator;
 use std::mem;
-use trac_gap::TwoEnds;
+use trac_gap::{SlidingBuf, TwoEnds};
 use trac_journal::{Called, Journal, Undone};
 use trac_prims::{Change, Deed, Made, Now, Tape, plan_into};
 use trac_rules::scan::Front;
@@ -91,6 +91,17 @@ fn arguments_at<'a, E: TwoEnds<u8, A>, M: TwoEnds<Mark, A>, A: Allocator + Copy>
 {
     let further = marks.left().split_at(beginning.number + 1).1;
     Args::new(text.left(), further, beginning.place)
+}
+
+// Puts what a call prints at the end of the output, which has to have room for it. Most calls print nothing.
+fn put_printed<A: Allocator>(output: &mut SlidingBuf<u8, A>, printed: &[u8])
+    requires { length output.old.items + length printed.now ≤ output.old.capacity }
+    ensures items { output.new.items ≡ output.old.items ++ printed.now }
+    ensures grows { output.old.capacity ≤ output.new.capacity }
+{
+    if !printed.is_empty() {
+        output.put(printed);
+    }
 }
 
 impl<E: TwoEnds<u8, A>, M: TwoEnds<Mark, A>, A: Allocator + Copy> Core<E, M, A> {
@@ -240,7 +251,7 @@ impl<E: TwoEnds<u8, A>, M: TwoEnds<Mark, A>, A: Allocator + Copy> Core<E, M, A> 
             plan.forced,
             made.value.as_slice(),
         );
-        self.output.put(made.print.as_slice());
+        put_printed(&mut self.output, made.print.as_slice());
         let meta = plan.meta.unwrap_or(self.meta);
         let trace = plan.trace.unwrap_or(self.trace);
         self.meta = meta;

@@ -1,5 +1,5 @@
 //! The rules of scanning that perform no function, each on the machine's own parts.
-ghost use Rattle.std.specs.Prelude.{◌≡◌, ◌<◌, ◌≤◌, ◌+◌, false, get_or, is_some, length, drop, None, IfOk, IsOkUnless, OnErr, OnOk, ℕ};
+ghost use Rattle.std.specs.Prelude.{◌≡◌, ◌<◌, ◌≤◌, ◌+◌, ◌++◌, false, get_or, is_some, length, take, drop, None, IfOk, IsOkUnless, OnErr, OnOk, ℕ};
 ghost use Rattle.trac_rules.specs.Matching.{match_of, protected};
 ghost use Rattle.trac_rules.specs.Scanning.{protect, deleted, comma_in, gather_first};
 ghost use Rattle.trac_rules.specs.Limits.{marks};
@@ -20,6 +20,16 @@ use trac_rules::refusal::Refusal;
 use trac_text::Mark;
 use trac_text::front::plain_front;
 use trac_text::texts::{push_mark, take_first, take_protected};
+
+// Moves so many bytes of the active text, which has to have them, to the current text. After most steps there are none.
+fn gather_plain<E: TwoEnds<u8, A>, A: Allocator + Copy>(text: &mut E, count: usize)
+    requires { count ≤ length (E.ends text.old).right }
+    ensures { E.ends text.new ≡ record (E.ends text.old) { left = (E.ends text.old).left ++ take count (E.ends text.old).right; right = drop count (E.ends text.old).right } }
+{
+    if count > 0 {
+        text.shift_left(count);
+    }
+}
 
 impl<E: TwoEnds<u8, A>, M: TwoEnds<Mark, A>, A: Allocator + Copy> Core<E, M, A> {
     // A `(`: what it protects goes to the current text. Returns how many bytes that is, and whether there was a match.
@@ -98,7 +108,7 @@ impl<E: TwoEnds<u8, A>, M: TwoEnds<Mark, A>, A: Allocator + Copy> Core<E, M, A> 
     {
         self.is_in_its_room();
         let count = plain_front(self.text.right(), most);
-        self.text.shift_left(count);
+        gather_plain(&mut self.text, count);
         count
     }
 }

@@ -7,8 +7,8 @@ use Rattle.std.proofs.lemmas.List.{append-nil, append_assoc, length-append, leng
 use Rattle.trac_streams.specs.declared.ending.Ending.{Ending}
 use Rattle.trac_streams.specs.declared.ending.Ending.TheVariants.{Memory, Read}
 use Rattle.trac_streams.proofs.Known.{Consumes-nothing, Consumes-both}
-use Rattle.trac_streams.specs.declared.lines.Front.{Front}
-use Rattle.trac_streams.specs.declared.lines.Front.TheVariants.{Part}
+use Rattle.trac_streams.specs.declared.lines.NextLine.{NextLine}
+use Rattle.trac_streams.specs.declared.lines.NextLine.TheVariants.{Part}
 use Rattle.trac_streams.specs.declared.lines.TheConstants.{LINE_LIMIT}
 use Rattle.trac_streams.specs.Pending.{Pending}
 use Rattle.trac_streams.specs.Reading.{Gathers, HELD_LIMIT, IsFront, MayFail, ReadsMore}
@@ -116,5 +116,5 @@ fewer_left a b old new part read = ⊎_elim
     read.more
 
 -- the same bytes have the same front
-pub front_same : (rest bytes : List ℕ) (e ended : Bool) (front : Front) → rest ≡ bytes → e ≡ ended → IsFront rest e front → IsFront bytes ended front
+pub front_same : (rest bytes : List ℕ) (e ended : Bool) (front : NextLine) → rest ≡ bytes → e ≡ ended → IsFront rest e front → IsFront bytes ended front
 front_same rest bytes e ended front same alike is = subst (λ b. IsFront bytes b front) alike (subst (λ t. IsFront t e front) same is)

@@ -9,7 +9,7 @@ use Rattle.std.proofs.lemmas.List.{append-nil, append_assoc, length-append, leng
 use Rattle.trac_rules.specs.declared.byte.TheConstants.{CARRIAGE_RETURN, LINE_FEED}
 use Rattle.trac_streams.specs.declared.lines.TheConstants.{LINE_LIMIT}
 use Rattle.trac_streams.specs.Lines.{between_feeds, lines_of, without_return}
-use Rattle.trac_streams.specs.declared.lines.Front.TheVariants.{Line}
+use Rattle.trac_streams.specs.declared.lines.NextLine.TheVariants.{Line}
 use Rattle.trac_streams.specs.Reading.{HasNone, IsFront, IsPlace}
 
 -- whether a byte is a line feed

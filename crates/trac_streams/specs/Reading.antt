@@ -4,8 +4,8 @@ use Rattle.std.specs.Io.KnownBytes.{Consumes, IsAtEnd}
 use Rattle.trac_streams.specs.declared.ending.Ending.{Ending}
 use Rattle.trac_streams.specs.declared.ending.Ending.TheVariants.{Memory, Read}
 use Rattle.trac_streams.specs.declared.input.TheConstants.{READ_SIZE}
-use Rattle.trac_streams.specs.declared.lines.Front.{Front}
-use Rattle.trac_streams.specs.declared.lines.Front.TheVariants.{Line, TooLong, Part, End}
+use Rattle.trac_streams.specs.declared.lines.NextLine.{NextLine}
+use Rattle.trac_streams.specs.declared.lines.NextLine.TheVariants.{Line, TooLong, Part, End}
 use Rattle.trac_streams.specs.declared.lines.TheConstants.{LINE_LIMIT}
 use Rattle.trac_streams.specs.Lines.{lines_of}
 use Rattle.trac_streams.specs.Pending.{Pending}
@@ -16,7 +16,7 @@ HELD_LIMIT = LINE_LIMIT + 1 + READ_SIZE
 
 -- what stands at the front of these bytes, whatever more comes after them: nothing, where they have ended. What ends a line has two
 -- bytes at most
-abbrev pub IsFront : List ℕ → Bool → Front → Type 0
+abbrev pub IsFront : List ℕ → Bool → NextLine → Type 0
 IsFront bytes ended (Line len whole) =
     (len ≤ length bytes) × (whole ≤ length bytes)
     × ((more : List ℕ) → (ended ≡ true → more ≡ []) → lines_of (bytes ++ more) ≡ take len bytes ∷ lines_of (drop whole bytes ++ more))
@@ -27,7 +27,7 @@ IsFront bytes ended Part = (ended ≡ false) × (length bytes ≤ LINE_LIMIT + 1
 IsFront bytes ended End = (ended ≡ true) × (bytes ≡ [])
 
 -- not a part of a line
-abbrev pub IsWhole : Front → Type 0
+abbrev pub IsWhole : NextLine → Type 0
 IsWhole (Line len whole) = Unit {0}
 IsWhole TooLong = Unit {0}
 IsWhole Part = ⊥

@@ -20,7 +20,7 @@ pub const LINE_COUNT_LIMIT: u64 = 1_048_576;
 
 /// What stands at the front of bytes that were read.
 #[derive(Clone, Copy, PartialEq, Eq)]
-pub enum Front {
+pub enum NextLine {
     /// A line, which may be longer than a line may be. Lengths count bytes.
     Line {
         /// How long it is without what ends it.
@@ -77,7 +77,7 @@ impl<A: Allocator + Copy> Lines<A> {
     ///
     /// `Ending::Read`: the reader failed. `Ending::Memory`: memory was refused. What was there stands then, with what was read
     /// before the last read, and what that one gave is lost.
-    pub fn seek<R: Read>(&mut self, input: &mut R) -> Result<Front, Ending>
+    pub fn seek<R: Read>(&mut self, input: &mut R) -> Result<NextLine, Ending>
         requires at_end { self.old.ended ≡ true → IsAtEnd (R.remaining input.old) }
         ensures front { IfOk result (IsFront self.new.bytes self.new.ended) }
         ensures whole { IfOk result IsWhole }
@@ -86,7 +86,7 @@ impl<A: Allocator + Copy> Lines<A> {
     {
         loop {
             let front = front_of(self.rest(), self.ended);
-            if front != Front::Part {
+            if front != NextLine::Part {
                 return Ok(front);
             }
             self.read_more(input)?;
@@ -173,25 +173,25 @@ fn drop_front<A: Allocator>(bytes: &mut Vec<u8, A>, n: usize)
 }
 
 // What stands at the front of these bytes, where the text ends after them or may go on.
-fn front_of(bytes: &[u8], ended: bool) -> Front
+fn front_of(bytes: &[u8], ended: bool) -> NextLine
     ensures { IsFront bytes.now ended result }
 {
     if let Some(place) = place_of(LINE_FEED, bytes) {
-        return Front::Line {
+        return NextLine::Line {
             len: len_without_return(bytes.split_at(place).0),
             whole: place + 1,
         };
     }
     if bytes.len() > LINE_LIMIT + 1 {
-        return Front::TooLong;
+        return NextLine::TooLong;
     }
     if !ended {
-        return Front::Part;
+        return NextLine::Part;
     }
     if bytes.is_empty() {
-        return Front::End;
+        return NextLine::End;
     }
-    Front::Line {
+    NextLine::Line {
         len: len_without_return(bytes),
         whole: bytes.len(),
     }

@@ -10,3 +10,4 @@ pub mod Framed
 pub mod Joined
 pub mod NeutralAgain
 pub mod TakenOut
+pub mod Lengths

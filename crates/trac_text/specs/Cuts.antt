@@ -25,6 +25,11 @@ end_of end [] i = end
 end_of end (m ∷ marks) zero = m.place
 end_of end (m ∷ marks) (suc i) = end_of end marks i
 
+-- how many bytes lie from a place up to the first mark, and from each mark up to the next
+abbrev pub lengths_between : ℕ → List Mark → List ℕ
+lengths_between from [] = []
+lengths_between from (m ∷ marks) = (m.place - from) ∷ lengths_between m.place marks
+
 -- what stands for a mark where there is none
 abbrev pub no_mark : Mark
 no_mark = record { place = 0; frame = None }

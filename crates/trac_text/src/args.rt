@@ -1,10 +1,12 @@
 //! The arguments of a function, borrowed from the neutral text.
-ghost use Rattle.std.specs.Prelude.{◌≡◌, ◌≤◌, ◌+◌, ◌-◌, [], length, get_or, take, drop};
+ghost use Rattle.std.specs.Prelude.{◌≡◌, ◌≤◌, ◌+◌, ◌-◌, ◌<◌, ◌^◌, ◌++◌, [], length, map, get_or, take, drop};
 ghost use Rattle.std.specs.List.{concat};
-ghost use Rattle.trac_text.specs.Cuts.{AreCuts, cut, start_of, end_of};
+ghost use Rattle.trac_text.specs.Cuts.{AreCuts, cut, lengths_between, start_of, end_of};
 
 use crate::mark::Mark;
+use std::alloc::Allocator;
 use std::marker::Model;
+use trac_gap::SlidingBuf;
 
 /// Arguments that lie one after another in a text: seen as the list of these texts.
 #[derive(Drop)]
@@ -61,11 +63,34 @@ impl<'a> Args<'a> {
         part(self.text, start, end)
     }
 
+    // Puts the lengths of all arguments but the last at the end of a list that has room for them, in one pass over the marks.
+    pub(crate) fn put_lengths<A: Allocator>(&self, commas: &mut SlidingBuf<u32, A>)
+        requires short { length (concat self.now) < 2 ^ 32 }
+        requires room { length commas.old.items + (length self.now - 1) ≤ commas.old.capacity }
+        ensures { commas.new.items ≡ commas.old.items ++ map length (take (length self.now - 1) self.now) }
+    {
+        put_lengths_between(self.from, self.marks, commas);
+    }
+
     /// The bytes of all arguments, one after another. Nothing is copied (this project's profile).
     pub fn joined(&self) -> &'a [u8]
         ensures { result.now ≡ concat self.now }
     {
         self.text.split_at(self.from).1
+    }
+}
+
+// Puts the lengths between these marks, of which the first is that from a place on, at the end of a list that has room for
+// them.
+fn put_lengths_between<A: Allocator>(from: usize, marks: &[Mark], commas: &mut SlidingBuf<u32, A>)
+    requires short { AreCuts from marks.now (from + (2 ^ 32 - 1)) }
+    requires room { length commas.old.items + length marks.now ≤ commas.old.capacity }
+    ensures { commas.new.items ≡ commas.old.items ++ lengths_between from marks.now }
+{
+    let mut start = from;
+    for mark in marks {
+        commas.put(&[(mark.place - start) as u32]);
+        start = mark.place;
     }
 }
 

@@ -1,5 +1,5 @@
 //! What a text begins with.
-ghost use Rattle.std.specs.Prelude.{◌≡◌, ◌<◌, ◌≤◌, false, get_or, length, true, ℕ};
+ghost use Rattle.std.specs.Prelude.{◌≡◌, ◌+◌, ◌<◌, ◌≤◌, false, get_or, length, true, ℕ};
 ghost use Rattle.trac_rules.specs.PlainRuns.{is_plain as is_plain_byte};
 ghost use Rattle.trac_rules.specs.Performing.{beginning_of};
 ghost use Rattle.trac_rules.specs.Scanning.{front_of, sharp_before};
@@ -57,6 +57,12 @@ fn is_plain(b: u8) -> bool
         && b != byte::TAB
 }
 
+// How many bytes are looked at one by one before more are looked at together: most runs are short.
+const NEAR: usize = 8;
+
+// How many bytes are looked at together, so that there is no jump for each.
+const GROUP: usize = 16;
+
 /// With how many plain bytes a text begins, counted up to `most`: bytes that go to the current text whatever stands after them
 /// (this project's profile).
 pub fn plain_front(text: &[u8], most: usize) -> usize
@@ -68,8 +74,74 @@ pub fn plain_front(text: &[u8], most: usize) -> usize
     let mut n = 0;
     while n < most && n < text.len() && is_plain(text[n]) {
         n += 1;
+        if n == NEAR {
+            return far_plain_end(text, n, most.min(text.len()));
+        }
     }
     n
+}
+
+// Where the plain bytes end that go on from one place, up to another: one by one.
+fn plain_end(text: &[u8], from: usize, end: usize) -> usize
+    requires from { from ≤ end }
+    requires within { end ≤ length text.now }
+    requires plain { (k : ℕ) → k < from → is_plain_byte (get_or text.now k 0) ≡ true }
+    ensures from { from ≤ result }
+    ensures within { result ≤ end }
+    ensures plain { (k : ℕ) → k < result → is_plain_byte (get_or text.now k 0) ≡ true }
+    ensures end { result < end → is_plain_byte (get_or text.now result 0) ≡ false }
+{
+    let mut place = from;
+    while place < end && is_plain(text[place]) {
+        place += 1;
+    }
+    place
+}
+
+// The same, many at a time. It is called once for a long run, and kept out of the way of the short ones.
+#[inline(never)]
+fn far_plain_end(text: &[u8], from: usize, end: usize) -> usize
+    requires from { from ≤ end }
+    requires within { end ≤ length text.now }
+    requires plain { (k : ℕ) → k < from → is_plain_byte (get_or text.now k 0) ≡ true }
+    ensures within { result ≤ end }
+    ensures plain { (k : ℕ) → k < result → is_plain_byte (get_or text.now k 0) ≡ true }
+    ensures end { result < end → is_plain_byte (get_or text.now result 0) ≡ false }
+{
+    let mut place = from;
+    while place < end {
+        if GROUP <= end - place && !group_has_low(text, place) {
+            place += GROUP;
+            continue;
+        }
+        let stop = end.min(place + GROUP);
+        let reached = plain_end(text, place, stop);
+        if reached < stop {
+            return reached;
+        }
+        place = stop;
+    }
+    place
+}
+
+// Whether one of the group of bytes that begins at this place is low. Where none is, all of them are plain.
+fn group_has_low(text: &[u8], at: usize) -> bool
+    requires { at + GROUP ≤ length text.now }
+    ensures { result ≡ false → ((k : ℕ) → k < at → is_plain_byte (get_or text.now k 0) ≡ true)
+        → (k : ℕ) → k < at + GROUP → is_plain_byte (get_or text.now k 0) ≡ true }
+{
+    let mut low = false;
+    for i in 0..GROUP {
+        low |= is_low(text[at + i]);
+    }
+    low
+}
+
+// Whether a byte is below `-` and no space: so are all bytes that are not plain, and few others in most texts.
+fn is_low(b: u8) -> bool
+    ensures { result ≡ false → is_plain_byte b ≡ true }
+{
+    (b < b'-') & (b != b' ')
 }
 
 /// Whether the rule for this front makes a mark, where there are so many marks: a function is begun, or, inside of one, a

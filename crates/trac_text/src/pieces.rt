@@ -121,7 +121,5 @@ pub fn push_lengths<A: Allocator>(commas: &mut SlidingBuf<u32, A>, arguments: &A
     requires room { length commas.old.items + (length arguments.now - 1) ≤ commas.old.capacity }
     ensures { commas.new.items ≡ commas.old.items ++ map length (take (length arguments.now - 1) arguments.now) }
 {
-    for i in 0..arguments.comma_count() {
-        commas.put(&[arguments.get(i).len() as u32]);
-    }
+    arguments.put_lengths(commas);
 }

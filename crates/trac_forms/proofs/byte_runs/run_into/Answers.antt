@@ -1,5 +1,5 @@
 -- Some bytes are put, and the rest of the run is left.
-use Rattle.std.proofs.Common.{◌+◌, ap, ◌∙◌, arith}
+use Rattle.std.proofs.Common.{◌∙◌, arith}
 use Rattle.trac_forms.proofs.ByteRuns.{front_plain, front_put, rest_plain}
 use Rattle.trac_forms.proofs.byte_runs.run_into.Goals as goal
 

@@ -3,9 +3,6 @@ use Rattle.std.proofs.Common.{◌+◌, arith, sym, ◌∙◌}
 use Rattle.trac_forms.proofs.ByteRuns.{byte_passed}
 use Rattle.trac_forms.proofs.byte_runs.run_len.Goals as goal
 
-pub groups-preserved : goal.groups-preserved
-groups-preserved c = (omega (arith, c.groups-test.true), c.group_has_gap.ensures c.if-group_has_gap.false c.groups.invariant.1)
-
 pub items-preserved : goal.items-preserved
 items-preserved c = (
   omega (arith, c.items-test.true),

@@ -3,7 +3,7 @@ use Rattle.std.proofs.Common.{◌≡◌, ◌+◌, ◌-◌, ◌<◌, List, length
 use Rattle.std.specs.Prelude.{reverse}
 use Rattle.std.proofs.lemmas.List.{drop-drop}
 use Rattle.trac_journal.specs.Dropped.{calls_of, printed_first}
-use Rattle.trac_journal.specs.declared.entry.Call.{Call}
+use Rattle.trac_journal.specs.declared.entry.CallEntry.{CallEntry}
 use Rattle.trac_journal.specs.declared.entry.Entry.{Entry}
 use Rattle.trac_journal.proofs.Ends.{next_of}
 use Rattle.trac_journal.proofs.Printed.{printed_few, printed_more}
@@ -11,7 +11,7 @@ use Rattle.trac_journal.proofs.dropping.printed_by_first.Goals as goal
 
 pub returns-then-left-moved : goal.returns-then-left-moved
 returns-then-left-moved g c =
-    let calls : List Call = reverse c.args.lists.now.listed.calls in
+    let calls : List CallEntry = reverse c.args.lists.now.listed.calls in
     let within : c.loop-i.i < length c.args.entries.now.items = omega (arith, c.loop-i-test.true, c.len-i-end.ensures, c.args.entries.now.ok.0) in
     let cut = next_of c.args.entries.now.items c.loop-i.i c.index-entry.result.now within c.index-entry.ensures in
     omega (
@@ -23,7 +23,7 @@ returns-then-left-moved g c =
 
 pub overflow_add-printed : goal.overflow_add-printed
 overflow_add-printed g c =
-    let calls : List Call = reverse c.args.lists.now.listed.calls in
+    let calls : List CallEntry = reverse c.args.lists.now.listed.calls in
     let within : c.loop-i.i < length c.args.entries.now.items = omega (arith, c.loop-i-test.true, c.len-i-end.ensures, c.args.entries.now.ok.0) in
     let cut = next_of c.args.entries.now.items c.loop-i.i c.index-entry.result.now within c.index-entry.ensures in
     omega (
@@ -37,7 +37,7 @@ overflow_add-printed g c =
 
 pub loop-i-preserved : goal.loop-i-preserved
 loop-i-preserved g c =
-    let calls : List Call = reverse c.args.lists.now.listed.calls in
+    let calls : List CallEntry = reverse c.args.lists.now.listed.calls in
     let within : c.loop-i.i < length c.args.entries.now.items = omega (arith, c.loop-i-test.true, c.len-i-end.ensures, c.args.entries.now.ok.0) in
     let cut = next_of c.args.entries.now.items c.loop-i.i c.index-entry.result.now within c.index-entry.ensures in
     let rest : List Entry = drop (c.loop-i.i + 1) c.args.entries.now.items in
@@ -50,6 +50,6 @@ loop-i-preserved g c =
         c.printed_by-printed.ensures,
         ap (λ (es : List Entry). printed_first c.loop-i.left es (drop c.loop-i.at calls)) cut,
         printed_more c.loop-i.left c.index-entry.result.now rest (drop c.loop-i.at calls) (omega (arith, c.if-left-moved.false)),
-        ap (λ (cs : List Call). printed_first (c.loop-i.left - (c.index-entry.result.now.moved + 1)) rest cs) others,
+        ap (λ (cs : List CallEntry). printed_first (c.loop-i.left - (c.index-entry.result.now.moved + 1)) rest cs) others,
       ),
     )

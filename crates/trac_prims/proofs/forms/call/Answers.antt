@@ -1,4 +1,4 @@
-use Rattle.std.proofs.Common.{◌≡◌, ℕ, ◌<◌, ◌++◌, List, length, drop, Ok, Some, None, refl, sym, ap, subst, ◌∙◌, arith}
+use Rattle.std.proofs.Common.{◌≡◌, ℕ, ◌<◌, ◌++◌, List, length, drop, Ok, Some, None, refl, sym, ap, subst, ◌∙◌}
 use Rattle.std.specs.FinMap as finite
 use Rattle.trac_rules.specs.declared.limit.TheConstants.{TEXT_LIMIT}
 use Rattle.trac_rules.specs.Effect.{gives, leaves}
@@ -11,12 +11,11 @@ use Rattle.trac_change.specs.declared.change.Change.TheVariants.{Keep}
 use Rattle.trac_prims.proofs.Kept.{given, left_so, value_beyond}
 use Rattle.trac_prims.proofs.forms.call.Goals as goal
 
-pub returns-in_default-call_len-clause-outcome : goal.returns-in_default-call_len-clause-outcome
-returns-in_default-call_len-clause-outcome g c = λ width.
+pub returns-in_default-room_of-clause-outcome : goal.returns-in_default-room_of-clause-outcome
+returns-in_default-room_of-clause-outcome g c = λ width.
     let storage = storage_in c.args.store.now in
     let held : named_form c.args.args.now storage ≡ Some c.in-Some.form.now = ap (finite.get storage.forms) (sym c.get.ensures) ∙ sym c.in-Some.ensures.value in
-    let long : TEXT_LIMIT < length (called (drop 2 c.args.args.now) c.in-Some.form.now) =
-    subst (λ (texts : List (List ℕ)). TEXT_LIMIT < length (called texts c.in-Some.form.now)) c.after-texts.ensures (omega (arith, c.in_default-call_len.ensures)) in
+    let long : TEXT_LIMIT < length (called (drop 2 c.args.args.now) c.in-Some.form.now) = c.in_default-room_of.ensures in
     ap (λ h. limited pieces_fit (on_form h (λ form. Ok (gives (called (drop 2 c.args.args.now) form) storage)) storage)) held
     ∙ value_beyond (called (drop 2 c.args.args.now) c.in-Some.form.now) storage long
 

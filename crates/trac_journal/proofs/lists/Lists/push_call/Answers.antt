@@ -5,7 +5,7 @@ use Rattle.trac_rules.specs.Undone.{Undone}
 use Rattle.trac_journal.specs.Journaled.{Lists}
 use Rattle.trac_journal.specs.Listed.{Listed, listed_by, IsKept}
 use Rattle.trac_change.specs.Undone.{undone_in}
-use Rattle.trac_journal.specs.declared.entry.Call.{Call}
+use Rattle.trac_journal.specs.declared.entry.CallEntry.{CallEntry}
 use Rattle.trac_journal.proofs.Calls.{call_more}
 use Rattle.trac_text.proofs.Marking.{reverse_push}
 use Rattle.trac_journal.proofs.lists.Lists.push_call.Goals as goal
@@ -29,7 +29,7 @@ returns g c =
     call_more c.keep_undone.result c.args.called c.call_by.result texts n (undone_in c.args.undone) l new count c.call_by.ensures.called
     (c.call_by.ensures.bytes ∙ ap (λ (text : List ℕ). length text) c.joined-joined.ensures)
     (omega (arith, c.call_by.ensures.commas, c.comma_count.ensures))
-    (ap (λ (cs : List Call). reverse cs) c.push_back_reserved.ensures.items ∙ reverse_push c.self.inside.calls.items c.call_by.result
+    (ap (λ (cs : List CallEntry). reverse cs) c.push_back_reserved.ensures.items ∙ reverse_push c.self.inside.calls.items c.call_by.result
     ∙ ap (λ (v : Listed). c.call_by.result ∷ v.calls) view)
     (c.put.ensures.items ∙ (λ i. (view i).bytes ++ c.joined-joined.ensures i))
     (c.push_lengths.ensures ∙ ap (λ (v : Listed). v.commas ++ map length (take n texts)) view)

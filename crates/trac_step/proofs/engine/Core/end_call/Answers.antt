@@ -36,16 +36,16 @@ pub invariant_of-self : goal.invariant_of-self
 invariant_of-self g c =
     let i = c.self.inside in
     (ended (g.E.TwoEnds.ends i.text) (g.E.TwoEnds.ends c.cut_function.new.text) (g.E.TwoEnds.ends c.put_value.new.text) (g.M.TwoEnds.ends i.marks) (g.M.TwoEnds.ends c.cut_function.new.marks) i.store
-    i.meta i.trace i.position i.output c.unwrap_or-meta.result c.unwrap_or-trace.result c.put.new.self c.as_slice.result.now c.as_slice-2.result.now c.args.self.now c.args.plan c.args.made.now
-    c.self.invariant c.self.view_is c.requires c.cut_function.ensures.text c.put_value.ensures c.cut_function.ensures.marks c.unwrap_or-meta.ensures c.unwrap_or-trace.ensures c.put.ensures.items
+    i.meta i.trace i.position i.output c.unwrap_or-meta.result c.unwrap_or-trace.result c.put_printed.new.output c.as_slice.result.now c.as_slice-2.result.now c.args.self.now c.args.plan c.args.made.now
+    c.self.invariant c.self.view_is c.requires c.cut_function.ensures.text c.put_value.ensures c.cut_function.ensures.marks c.unwrap_or-meta.ensures c.unwrap_or-trace.ensures c.put_printed.ensures.items
     c.as_slice.ensures.value c.as_slice-2.ensures.value).sound
 
 pub returns-clause-state : goal.returns-clause-state
 returns-clause-state g c =
     let i = c.self.inside in
     (ended (g.E.TwoEnds.ends i.text) (g.E.TwoEnds.ends c.cut_function.new.text) (g.E.TwoEnds.ends c.put_value.new.text) (g.M.TwoEnds.ends i.marks) (g.M.TwoEnds.ends c.cut_function.new.marks) i.store
-    i.meta i.trace i.position i.output c.unwrap_or-meta.result c.unwrap_or-trace.result c.put.new.self c.as_slice.result.now c.as_slice-2.result.now c.args.self.now c.args.plan c.args.made.now
-    c.self.invariant c.self.view_is c.requires c.cut_function.ensures.text c.put_value.ensures c.cut_function.ensures.marks c.unwrap_or-meta.ensures c.unwrap_or-trace.ensures c.put.ensures.items
+    i.meta i.trace i.position i.output c.unwrap_or-meta.result c.unwrap_or-trace.result c.put_printed.new.output c.as_slice.result.now c.as_slice-2.result.now c.args.self.now c.args.plan c.args.made.now
+    c.self.invariant c.self.view_is c.requires c.cut_function.ensures.text c.put_value.ensures c.cut_function.ensures.marks c.unwrap_or-meta.ensures c.unwrap_or-trace.ensures c.put_printed.ensures.items
     c.as_slice.ensures.value c.as_slice-2.ensures.value).state
 
 pub returns-clause-room : goal.returns-clause-room
@@ -53,6 +53,6 @@ returns-clause-room g c =
     let i = c.self.inside in
     let plan = c.args.plan in
     let cut = g.E.TwoEnds.ends c.cut_function.new.text in
-    let q = parts_of (g.E.TwoEnds.ends c.put_value.new.text) (g.M.TwoEnds.ends c.cut_function.new.marks) i.store c.unwrap_or-meta.result c.unwrap_or-trace.result plan.position c.put.new.self in
+    let q = parts_of (g.E.TwoEnds.ends c.put_value.new.text) (g.M.TwoEnds.ends c.cut_function.new.marks) i.store c.unwrap_or-meta.result c.unwrap_or-trace.result plan.position c.put_printed.new.output in
     let kept = ap (λ (x : Ends ℕ). x.capacity) c.put_value.ensures ∙ value_capacity plan.beginning.kind plan.forced c.as_slice.result.now cut ∙ ap (λ (x : Ends ℕ). x.capacity) c.cut_function.ensures.text in
-    IsNoLess-parts (parts_of (g.E.TwoEnds.ends c.self.inside.text) (g.M.TwoEnds.ends c.self.inside.marks) c.self.inside.store c.self.inside.meta c.self.inside.trace c.self.inside.position c.self.inside.output) q c.args.self.now c.self.view_is (omega (arith, kept)) (omega (arith, ap (λ (x : Ends Mark). x.capacity) c.cut_function.ensures.marks)) c.put.ensures.grows (λ name h. h)
+    IsNoLess-parts (parts_of (g.E.TwoEnds.ends c.self.inside.text) (g.M.TwoEnds.ends c.self.inside.marks) c.self.inside.store c.self.inside.meta c.self.inside.trace c.self.inside.position c.self.inside.output) q c.args.self.now c.self.view_is (omega (arith, kept)) (omega (arith, ap (λ (x : Ends Mark). x.capacity) c.cut_function.ensures.marks)) c.put_printed.ensures.grows (λ name h. h)
