@@ -19,6 +19,9 @@ u CALL..   forward to a call             r CALL..   back to a call
 w NAME     back to the call that changed the form NAME last
 w #K       back to the call that printed byte K of the output
 w \"TEXT\"   back to the call that printed the last TEXT
+y \"TEXT\"   to where the last TEXT comes from      y #K   byte K of the output
+y NAME K   to where byte K of a form comes from    y . A K   of argument A
+y          to where the next call was written      l      says where that is
 g N        to step N
 i TEXT     a line of input               e          the input ends
 p          the state on one screen       p all      all of it
@@ -58,6 +61,23 @@ pub enum Move<'a> {
     To(u64),
 }
 
+/// A byte whose way back is wanted. Bytes are counted from 1.
+#[derive(Clone, Copy)]
+pub enum Spot<'a> {
+    /// This byte of the output.
+    Printed(u64),
+    /// The last byte of the output.
+    LastPrinted,
+    /// The end of the last occurrence of this text in the output.
+    PrintedText(&'a [u8]),
+    /// This item of the form of this name, bytes and gaps counted together.
+    OfForm(&'a [u8], u64),
+    /// Of this argument of the innermost begun function, whose name is argument 0, this byte.
+    OfArgument(u64, u64),
+    /// The first byte of the name of the call that comes next.
+    Next,
+}
+
 /// What a person asks for.
 #[derive(Clone, Copy)]
 pub enum Order<'a> {
@@ -77,6 +97,10 @@ pub enum Order<'a> {
     Form(&'a [u8]),
     /// To list the last calls, so many of them.
     Calls(u64),
+    /// To go back to where a byte comes from.
+    Follow(Spot<'a>),
+    /// To say where the name of the call that comes next was written.
+    Locate,
     /// To list the commands.
     Help,
     /// To end.
@@ -95,6 +119,8 @@ pub fn order_of<'a>(words: &'a [&'a [u8]], quoted: bool) -> Option<Order<'a>> {
         b"p" => print_of(rest),
         b"f" => forms_of(rest),
         b"t" => calls_of(rest),
+        b"y" => Some(Order::Follow(spot_of(rest, quoted)?)),
+        b"l" => alone(rest, Order::Locate),
         b"e" => alone(rest, Order::EndInput),
         b"h" | b"help" | b"?" => alone(rest, Order::Help),
         b"q" | b"quit" | b"exit" => alone(rest, Order::Quit),
@@ -128,6 +154,35 @@ fn origin_of<'a>(rest: &[&'a [u8]], quoted: bool) -> Option<Move<'a>> {
     match word {
         [b'#', digits @ ..] => Some(Move::Printed(number(digits)?)),
         _ => Some(Move::Changed(word)),
+    }
+}
+
+// The byte that `y` follows back.
+fn spot_of<'a>(rest: &[&'a [u8]], quoted: bool) -> Option<Spot<'a>> {
+    match rest {
+        [] => Some(Spot::Next),
+        [text] if quoted => Some(Spot::PrintedText(*text)),
+        [word] => printed_of(*word),
+        [name, place] => Some(Spot::OfForm(*name, number(*place)?)),
+        [dot, argument, place] => argument_of(*dot, number(*argument)?, number(*place)?),
+        _ => None,
+    }
+}
+
+// A byte of the output: `#` and its number, or `#` for the last.
+fn printed_of<'a>(word: &[u8]) -> Option<Spot<'a>> {
+    match word {
+        [b'#'] => Some(Spot::LastPrinted),
+        [b'#', digits @ ..] => Some(Spot::Printed(number(digits)?)),
+        _ => None,
+    }
+}
+
+// A byte of an argument here, which a dot stands for.
+fn argument_of<'a>(dot: &[u8], argument: u64, place: u64) -> Option<Spot<'a>> {
+    match dot {
+        b"." => Some(Spot::OfArgument(argument, place)),
+        _ => None,
     }
 }
 

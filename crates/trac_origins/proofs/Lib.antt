@@ -10,3 +10,8 @@ pub mod Growing
 pub mod ToldSteps
 pub mod ToldCalls
 pub mod ToldForms
+pub mod ToldEffects
+pub mod ToldValues
+pub mod ToldPut
+pub mod Moved
+pub mod Unchanged

@@ -70,17 +70,17 @@ module _ (R : Origin → Item → Type 0) (environment : Environment) (s t : Sta
   kept = kept_beside R s may.carried
 
   -- what scanning gives
-  scanned : ScanBeside R (front_of s.active) s (all_kept s) (scan s)
+  pub scanned : ScanBeside R (front_of s.active) s (all_kept s) (scan s)
   unfolding scan
   scanned =
       scan_beside R (front_of s.active) s (all_kept s) kept
       (λ e b. may.made (Byte b) (ap (λ front. made_in (Byte b) s (scan_at front s)) e ∙ ap makes_idle e))
 
-  -- a call
-  called : (call : Call) (from : EndedOrigins) → scan s ≡ Calls call → EndedBeside R from call → (e : Effect) → performed environment call ≡ Ok e → t ≡ after_call call e →
-      StateBeside R (after_call_from (record { environment = environment; call = call; effect = e; from = from })) (after_call call e)
+  -- what a call does
+  pub whole : (call : Call) (from : EndedOrigins) → scan s ≡ Calls call → EndedBeside R from call → (e : Effect) → performed environment call ≡ Ok e → t ≡ after_call call e →
+      EffectBeside R (performed_from (record { environment = environment; call = call; effect = e; from = from })) e
   unfolding performed
-  called call from is given e does after =
+  whole call from is given e does after =
       let line = trace_line call.state.trace call.kind call.arguments in
       let primitive = primitive_of (argument 0 call.arguments) in
       let outcome = effect_of primitive environment call.arguments call.state in
@@ -96,11 +96,16 @@ module _ (R : Origin → Item → Type 0) (environment : Environment) (s t : Sta
       λ i b less there. may.read (call.state.position + i) b (omega (arith, place)) (omega (arith, less, end))
       (ap (option_map Byte) (sym (of_dropped call.state.position environment.tape.bytes i) ∙ there)) in
       let effect : EffectBeside R (effect_from primitive (doing R environment call from given line plain.0)) plain.0 = (subst (DoneBeside R environment call from given line (λ f. effect_from primitive (doing R environment call from given line f))) plain.1 (effect_beside R environment call from given line primitive made gap)) read in
-      let whole : EffectBeside R (performed_from (doing R environment call from given line plain.0)) (printed_behind line plain.0) =
-      traced_beside R line (line_beside R call call.state.trace traced) _ plain.0 effect in
       subst
-      (λ (f : Effect). StateBeside R (after_call_from (record { environment = environment; call = call; effect = f; from = from })) (after_call call f)) (sym plain.2)
-      (placed_beside R call.kind plain.0.forced _ plain.0.value whole.value _ _ (changed_beside R _ _ whole from.others call.state given.others))
+      (λ (f : Effect). EffectBeside R (performed_from (record { environment = environment; call = call; effect = f; from = from })) f) (sym plain.2)
+      (traced_beside R line (line_beside R call call.state.trace traced) _ plain.0 effect)
+
+  -- a call
+  called : (call : Call) (from : EndedOrigins) → scan s ≡ Calls call → EndedBeside R from call → (e : Effect) → performed environment call ≡ Ok e → t ≡ after_call call e →
+      StateBeside R (after_call_from (record { environment = environment; call = call; effect = e; from = from })) (after_call call e)
+  called call from is given e does after =
+      let effect = whole call from is given e does after in
+      placed_beside R call.kind e.forced _ e.value effect.value _ _ (changed_beside R _ _ effect from.others call.state given.others)
 
   -- the step
   pub stepped : step environment s ≡ Ok t → StateBeside R (origins environment s) t

@@ -27,10 +27,10 @@ use Rattle.trac_origins.proofs.ToldSteps.{active-gather_from, lost_told}
 use Rattle.trac_origins.proofs.Zips.{same_length}
 
 -- the function that is ended is the innermost one
-record HasEnded (f : Frame) (fs : List Frame) (s : State) (call : Call) : Type 0 where
-  frames : s.frames ≡ f ∷ fs
-  state : call.state ≡ record s { active = drop 1 s.active; frames = fs }
-  arguments : call.arguments ≡ arguments_of f
+pub record HasEnded (f : Frame) (fs : List Frame) (s : State) (call : Call) : Type 0 where
+  pub frames : s.frames ≡ f ∷ fs
+  pub state : call.state ≡ record s { active = drop 1 s.active; frames = fs }
+  pub arguments : call.arguments ≡ arguments_of f
 
 abbrev EndsAt : State → Scanned → Type 0
 EndsAt s (Moves t) = Unit {0}
@@ -54,7 +54,7 @@ ends_at f s = go f
     go Closing = closing s.frames refl
     go Plain = tt
 
-ended : (s : State) (call : Call) → scan s ≡ Calls call → (f : Frame) × (fs : List Frame) × HasEnded f fs s call
+pub ended : (s : State) (call : Call) → scan s ≡ Calls call → (f : Frame) × (fs : List Frame) × HasEnded f fs s call
 unfolding scan
 ended s call is = subst (EndsAt s) is (ends_at (front_of s.active) s)
 
@@ -78,7 +78,7 @@ abbrev pub left_of : State → List Origin
 left_of s = drop 1 (kept InActive s.active)
 
 -- all else without the function
-others_are : (s : State) (call : Call) → scan s ≡ Calls call → (ended_from (frames_kept s.frames) (deleted_from 1 (all_kept s))).others ≡ record (all_kept call.state) { active = left_of s }
+pub others_are : (s : State) (call : Call) → scan s ≡ Calls call → (ended_from (frames_kept s.frames) (deleted_from 1 (all_kept s))).others ≡ record (all_kept call.state) { active = left_of s }
 others_are s call is =
     let at = ended s call is in
     ap (λ (gs : List Frame). (ended_from (frames_kept gs) (deleted_from 1 (all_kept s))).others) at.2.frames
@@ -111,17 +111,17 @@ is_after environment s t call h is =
     }
 
 -- texts that are placed, around which forms, blocks and output are other ones
-base_aside : (gs : List FrameOrigins) (text : List Origin) (o : Origins) (output : List Origin) (forms : List ℕ → List Origin) (blocks : ℕ → List ℕ → List Origin) (i : ℕ) →
+pub base_aside : (gs : List FrameOrigins) (text : List Origin) (o : Origins) (output : List Origin) (forms : List ℕ → List Origin) (blocks : ℕ → List ℕ → List Origin) (i : ℕ) →
     origin_at (gather_from gs text (record o { output = output; forms = forms; blocks = blocks })) (InBase i) ≡ origin_at (gather_from gs text o) (InBase i)
 base_aside [] text o output forms blocks i = refl
 base_aside (g ∷ gs) text o output forms blocks i = refl
 
-arguments_aside : (gs : List FrameOrigins) (text : List Origin) (o : Origins) (output : List Origin) (forms : List ℕ → List Origin) (blocks : ℕ → List ℕ → List Origin) (n k i : ℕ) →
+pub arguments_aside : (gs : List FrameOrigins) (text : List Origin) (o : Origins) (output : List Origin) (forms : List ℕ → List Origin) (blocks : ℕ → List ℕ → List Origin) (n k i : ℕ) →
     origin_at (gather_from gs text (record o { output = output; forms = forms; blocks = blocks })) (InArgument n k i) ≡ origin_at (gather_from gs text o) (InArgument n k i)
 arguments_aside [] text o output forms blocks n k i = refl
 arguments_aside (g ∷ gs) text o output forms blocks n k i = refl
 
-output_aside : (gs : List FrameOrigins) (text : List Origin) (o : Origins) (i : ℕ) → origin_at (gather_from gs text o) (InOutput i) ≡ get_or o.output i Made
+pub output_aside : (gs : List FrameOrigins) (text : List Origin) (o : Origins) (i : ℕ) → origin_at (gather_from gs text o) (InOutput i) ≡ get_or o.output i Made
 output_aside [] text o i = refl
 output_aside (g ∷ gs) text o i = refl
 

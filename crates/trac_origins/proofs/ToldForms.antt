@@ -55,7 +55,7 @@ handled_aside action.ListNames d q other = refl
 handled_aside action.PrintForm d q other =
     form_aside d q (named_form d.call.arguments (storage_of d.call.state)) (λ form. prints_from (shown_from form (items_from d)) d) (λ form. refl)
 
-forms_aside : (p : Primitive) (d : Performed) (q : List ℕ) → may_put p (text_given 1 d) q ≡ false → (effect_from p d).forms q ≡ d.from.others.forms q
+pub forms_aside : (p : Primitive) (d : Performed) (q : List ℕ) → may_put p (text_given 1 d) q ≡ false → (effect_from p d).forms q ≡ d.from.others.forms q
 forms_aside PrintString d q other = refl
 forms_aside ReadString d q other = refl
 forms_aside ReadByte d q other = refl
@@ -94,7 +94,7 @@ handled_held action.ListNames d k q = refl
 handled_held action.PrintForm d k q =
     held_aside d k q (named_form d.call.arguments (storage_of d.call.state)) (λ form. prints_from (shown_from form (items_from d)) d) (λ form. refl)
 
-blocks_aside : (p : Primitive) (d : Performed) (k : ℕ) (q : List ℕ) → k < length d.call.state.blocks → (effect_from p d).blocks k q ≡ d.from.others.blocks k q
+pub blocks_aside : (p : Primitive) (d : Performed) (k : ℕ) (q : List ℕ) → k < length d.call.state.blocks → (effect_from p d).blocks k q ≡ d.from.others.blocks k q
 blocks_aside PrintString d k q l = refl
 blocks_aside ReadString d k q l = refl
 blocks_aside ReadByte d k q l = refl
@@ -121,12 +121,12 @@ blocks-gather_from : (gs : List FrameOrigins) (text : List Origin) (o : Origins)
 blocks-gather_from [] text o k q = refl
 blocks-gather_from (g ∷ gs) text o k q = refl
 
-forms-placed : (kind : Kind) (forced : Bool) (value : List Origin) (o : Origins) (q : List ℕ) → (placed_from kind forced value o).forms q ≡ o.forms q
+pub forms-placed : (kind : Kind) (forced : Bool) (value : List Origin) (o : Origins) (q : List ℕ) → (placed_from kind forced value o).forms q ≡ o.forms q
 forms-placed Active forced value o q = refl
 forms-placed Neutral true value o q = refl
 forms-placed Neutral false value o q = forms-gather_from o.frames value o q
 
-blocks-placed : (kind : Kind) (forced : Bool) (value : List Origin) (o : Origins) (k : ℕ) (q : List ℕ) → (placed_from kind forced value o).blocks k q ≡ o.blocks k q
+pub blocks-placed : (kind : Kind) (forced : Bool) (value : List Origin) (o : Origins) (k : ℕ) (q : List ℕ) → (placed_from kind forced value o).blocks k q ≡ o.blocks k q
 blocks-placed Active forced value o k q = refl
 blocks-placed Neutral true value o k q = refl
 blocks-placed Neutral false value o k q = blocks-gather_from o.frames value o k q

@@ -1,22 +1,24 @@
 -- Origins by lengths, of a step.
 use Rattle.std.proofs.Common.{◌≡◌, ℕ, zero, suc, ◌+◌, ◌-◌, ◌<◌, true, false, List, [], ◌∷◌, ◌++◌, length, take, drop, get_or, refl, sym, ap, subst, ◌∙◌, arith}
-use Rattle.std.specs.Prelude.{Option, None, Some}
-use Rattle.std.proofs.lemmas.List.{drop-drop, drop_all, get_or-drop, get_or-take, length-append, length-drop, length-take}
+use Rattle.std.specs.Prelude.{Option, None, Some, ◌==◌, option_and_then}
+use Rattle.std.proofs.lemmas.Bool.{cond-true, eq-eqb}
+use Rattle.std.proofs.lemmas.List.{drop-drop, drop_all, get_or_at, get_or-drop, get_or-take, length-append, length-drop, length-take}
 use Rattle.trac_rules.specs.declared.item.Item.{Item}
 use Rattle.trac_rules.specs.declared.scan.Front.{Front}
 use Rattle.trac_rules.specs.declared.scan.Front.TheVariants.{Nothing, Opening, Layout, Comma, ActiveCall, NeutralCall, Sharp, Closing, Plain}
 use Rattle.trac_rules.specs.Bytes.{idle_program}
+use Rattle.trac_rules.specs.Effect.{argument}
 use Rattle.trac_rules.specs.Matching.{match_of, protected_up_to}
 use Rattle.trac_rules.specs.Scanning.{Scanned, Moves, Calls, closing_in, comma_in, deleted, front_of, gathered_in, protect, scan, scan_at}
 use Rattle.trac_rules.specs.State.{Environment, Frame, State}
-use Rattle.trac_origins.specs.Places.{Place, InActive, Origin, Carried, Made, found_at}
+use Rattle.trac_origins.specs.Places.{Place, InActive, InBase, InArgument, InForm, InHeld, InOutput, Origin, Carried, Made, arguments_of, byte_at, found_at, numbered}
 use Rattle.trac_origins.specs.Lists.{FrameOrigins, Origins, all_kept, frames_kept, kept, one_each, origin_at}
 use Rattle.trac_origins.specs.Moving.{comma_from, deleted_from, gather_from, moved_from, protect_from}
 use Rattle.trac_origins.specs.Stepping.{origin, origins, scanned_from}
 use Rattle.trac_origins.specs.Accounts.{makes_idle}
-use Rattle.trac_origins.specs.Lengths.{current_text, first_moved, in_current, is_outside, moves_bytes}
+use Rattle.trac_origins.specs.Lengths.{current_text, first_moved, in_current, is_outside, is_stored, moves_bytes}
 use Rattle.trac_origins.proofs.Growing.{begun_from_told, comma_told, gather_told, gathered_told, outside_told}
-use Rattle.trac_origins.proofs.Told.{length-one_each, one_each-at}
+use Rattle.trac_origins.proofs.Told.{byte_within, kept_told, length-one_each, one_each-at}
 
 -- the origins after a rule that moves on
 of_moves : (environment : Environment) (s t : State) (place : Place) → scan s ≡ Moves t → origin environment s place ≡ origin_at (moved_from (front_of s.active) s (all_kept s)) place
@@ -59,7 +61,7 @@ pub active-gather_from : (gs : List FrameOrigins) (text : List Origin) (o : Orig
 active-gather_from [] text o = refl
 active-gather_from (g ∷ gs) text o = refl
 
-active-gathered_in : (fs : List Frame) (text : List ℕ) (s : State) → (gathered_in fs text s).active ≡ s.active
+pub active-gathered_in : (fs : List Frame) (text : List ℕ) (s : State) → (gathered_in fs text s).active ≡ s.active
 active-gathered_in [] text s = refl
 active-gathered_in (f ∷ fs) text s = refl
 
@@ -204,7 +206,7 @@ moves_on f s moving = go f moving
     go Plain moving = first
 
 -- how long the current text is then
-length-current : (fs : List Frame) (bytes : List ℕ) (s : State) → s.frames ≡ fs →
+pub length-current : (fs : List Frame) (bytes : List ℕ) (s : State) → s.frames ≡ fs →
     length (current_text (gathered_in fs bytes s).frames (gathered_in fs bytes s)) ≡ length (current_text fs s) + length bytes
 length-current [] bytes s is =
     ap (λ (fs : List Frame). length (current_text fs (record s { base = s.base ++ bytes }))) is ∙ length-append s.base bytes
@@ -226,9 +228,54 @@ scanning_moved environment s t i is moving l =
     same [] left = refl
     same (f ∷ fs) left = refl
 
+-- what stands in what was the current text is within it
+pub within_gathered : (fs : List Frame) (bytes : List ℕ) (u : State) (n : ℕ) (item : Item) → u.frames ≡ fs → found_at (gathered_in fs bytes u) (in_current fs n) ≡ Some item →
+    n < length (current_text (gathered_in fs bytes u).frames (gathered_in fs bytes u))
+within_gathered [] bytes u n item is e =
+    subst (λ (fs : List Frame). n < length (current_text fs (record u { base = u.base ++ bytes }))) (sym is) (byte_within n (u.base ++ bytes) item e)
+within_gathered (f ∷ fs) bytes u n item is e =
+    let g : Frame = record f { gathered = f.gathered ++ bytes } in
+    let there : numbered (length fs) (g ∷ fs) ≡ Some g = cond-true (length fs == length fs) (Some g) (numbered (length fs) fs) (eq-eqb (length fs) (length fs) refl) in
+    let last : argument (length f.arguments) (arguments_of g) ≡ f.gathered ++ bytes = get_or_at f.arguments (f.gathered ++ bytes) [] [] (length f.arguments) refl in
+    byte_within n (f.gathered ++ bytes) item
+    (ap (byte_at n) (sym last) ∙ sym (ap (option_and_then (λ (h : Frame). byte_at n (argument (length f.arguments) (arguments_of h)))) there) ∙ e)
+
+-- and what stands in the current text is within that
+pub within_current : (fs : List Frame) (u : State) (n : ℕ) (item : Item) → u.frames ≡ fs → found_at u (in_current fs n) ≡ Some item → n < length (current_text fs u)
+within_current [] u n item is e = byte_within n u.base item e
+within_current (f ∷ fs) u n item is e =
+    let there : numbered (length fs) u.frames ≡ Some f =
+    ap (numbered (length fs)) is ∙ cond-true (length fs == length fs) (Some f) (numbered (length fs) fs) (eq-eqb (length fs) (length fs) refl) in
+    let last : argument (length f.arguments) (arguments_of f) ≡ f.gathered = get_or_at f.arguments f.gathered [] [] (length f.arguments) refl in
+    byte_within n f.gathered item
+    (ap (byte_at n) (sym last) ∙ sym (ap (option_and_then (λ (h : Frame). byte_at n (argument (length f.arguments) (arguments_of h)))) there) ∙ e)
+
+pub scanning_within : (s t : State) (n : ℕ) (item : Item) → scan s ≡ Moves t → moves_bytes (front_of s.active) ≡ true → found_at t (in_current s.frames n) ≡ Some item →
+    n < length (current_text t.frames t)
+scanning_within s t n item is moving e =
+    let moved = subst (MovesAt (front_of s.active) s) (at_front s (Moves t) is) (moves_on (front_of s.active) s moving) in
+    let before : State = record s { active = moved.left } in
+    subst (λ (u : State). n < length (current_text u.frames u)) (sym moved.state)
+    (within_gathered s.frames moved.bytes before n item refl (subst (λ (u : State). found_at u (in_current s.frames n) ≡ Some item) moved.state e))
+
+-- the state after it
+pub state_idle : (s t : State) → scan s ≡ Moves t → makes_idle (front_of s.active) ≡ true → t ≡ record s { active = idle_program; base = []; frames = [] }
+state_idle s t is idle = go (front_of s.active) idle (at_front s (Moves t) is)
+  where
+    go : (f : Front) → makes_idle f ≡ true → scan_at f s ≡ Moves t → t ≡ record s { active = idle_program; base = []; frames = [] }
+    go Nothing idle e = cc
+    go Opening idle e = absurd (cc)
+    go Layout idle e = absurd (cc)
+    go Comma idle e = absurd (cc)
+    go ActiveCall idle e = absurd (cc)
+    go NeutralCall idle e = absurd (cc)
+    go Sharp idle e = absurd (cc)
+    go Closing idle e = absurd (cc)
+    go Plain idle e = absurd (cc)
+
 -- ---- with nothing left
 
-always_made : {A : Type 0} (xs : List A) (i : ℕ) → get_or (one_each (λ j. Made) xs) i Made ≡ Made
+pub always_made : {A : Type 0} (xs : List A) (i : ℕ) → get_or (one_each (λ j. Made) xs) i Made ≡ Made
 always_made [] i = refl
 always_made (x ∷ xs) zero = refl
 always_made (x ∷ xs) (suc i) = always_made xs i
@@ -246,3 +293,27 @@ scanning_idle environment s t i is idle = of_moves environment s t (InActive i) 
     go Sharp idle = absurd (cc)
     go Closing idle = absurd (cc)
     go Plain idle = absurd (cc)
+
+-- what is in no text stays
+pub scanning_idle_stays : (environment : Environment) (s t : State) (place : Place) (item : Item) → scan s ≡ Moves t → makes_idle (front_of s.active) ≡ true → is_stored place ≡ true →
+    found_at s place ≡ Some item → origin environment s place ≡ Carried place
+scanning_idle_stays environment s t place item is idle stored e = of_moves environment s t place is ∙ go (front_of s.active) idle place stored e
+  where
+    nothing : (p : Place) → is_stored p ≡ true → found_at s p ≡ Some item → origin_at (moved_from Nothing s (all_kept s)) p ≡ Carried p
+    nothing (InActive i) stored e = absurd (cc)
+    nothing (InBase i) stored e = absurd (cc)
+    nothing (InArgument n k i) stored e = absurd (cc)
+    nothing (InForm name i) stored e = kept_told s (InForm name i) item e
+    nothing (InHeld number name i) stored e = kept_told s (InHeld number name i) item e
+    nothing (InOutput i) stored e = kept_told s (InOutput i) item e
+
+    go : (f : Front) → makes_idle f ≡ true → (p : Place) → is_stored p ≡ true → found_at s p ≡ Some item → origin_at (moved_from f s (all_kept s)) p ≡ Carried p
+    go Nothing idle p stored e = nothing p stored e
+    go Opening idle p stored e = absurd (cc)
+    go Layout idle p stored e = absurd (cc)
+    go Comma idle p stored e = absurd (cc)
+    go ActiveCall idle p stored e = absurd (cc)
+    go NeutralCall idle p stored e = absurd (cc)
+    go Sharp idle p stored e = absurd (cc)
+    go Closing idle p stored e = absurd (cc)
+    go Plain idle p stored e = absurd (cc)

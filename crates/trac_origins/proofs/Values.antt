@@ -12,7 +12,6 @@ use Rattle.trac_rules.specs.declared.primitive.FormReading.TheVariants.{ReadSegm
 use Rattle.trac_rules.specs.declared.width.Width.{Width}
 use Rattle.trac_rules.specs.Bytes.{last_place}
 use Rattle.trac_rules.specs.Computing.{number_argument}
-use Rattle.trac_rules.specs.Cuts.{begins_with_gap}
 use Rattle.trac_rules.specs.Effect.{argument}
 use Rattle.trac_rules.specs.Filling.{all_filled, filled, text_numbered}
 use Rattle.trac_rules.specs.Form.{Form, all_items, as_items}
@@ -114,8 +113,6 @@ piece_ahead ReadSegment width arguments form piece e = segment_ahead form piece 
 piece_ahead ReadChar width arguments form piece e = next_ahead 1 form piece e
 piece_ahead ReadCount width arguments form piece e = count_ahead (number_argument width 2 arguments) form piece e
 piece_ahead ReadUntil width arguments form piece e = until_ahead (argument 2 arguments) form piece e
-
--- ---- texts as items
 
 -- ---- with origins beside them
 

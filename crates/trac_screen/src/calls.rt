@@ -4,8 +4,9 @@ use crate::notes::refused;
 use crate::screen_line::ScreenLine;
 use crate::standing::{call_into, innermost};
 use std::alloc::{AllocError, Allocator};
+use trac_gap::TwoEnds;
 use trac_rules::refusal::Refusal;
-use trac_step::Machine;
+use trac_step::{Core, Machine, Mark};
 
 // So many columns a call takes at most, with its number, so that its value is seen.
 const CALL_WIDTH: usize = 56;
@@ -67,15 +68,14 @@ pub struct Lengths {
 impl Lengths {
     /// Before a call.
     pub fn of<A: Allocator + Copy>(machine: &Machine<A>) -> Lengths {
-        let depth = machine.depth().saturating_sub(1);
-        Lengths {
-            active: machine.active().len().saturating_sub(1),
-            around: current_at(machine, depth).len(),
-        }
+        lengths_of(machine)
     }
 
     // The value, after the call: what was added to the front of the active text, or to the end of the text around.
-    fn value<'m, A: Allocator + Copy>(&self, machine: &'m Machine<A>) -> &'m [u8] {
+    fn value<'m, E: TwoEnds<u8, A>, M: TwoEnds<Mark, A>, A: Allocator + Copy>(
+        &self,
+        machine: &'m Core<E, M, A>,
+    ) -> &'m [u8] {
         let active = machine.active();
         if active.len() > self.active {
             return active.split_at(active.len() - self.active).0;
@@ -85,8 +85,23 @@ impl Lengths {
     }
 }
 
+// How long the texts of a machine are before a call. Here and below the machine may be of any representation: that the gap
+// buffer is one is shown once by each public call, and not by each function.
+fn lengths_of<E: TwoEnds<u8, A>, M: TwoEnds<Mark, A>, A: Allocator + Copy>(
+    machine: &Core<E, M, A>,
+) -> Lengths {
+    let depth = machine.depth().saturating_sub(1);
+    Lengths {
+        active: machine.active().len().saturating_sub(1),
+        around: current_at(machine, depth).len(),
+    }
+}
+
 // The text that is gathered at this depth.
-fn current_at<A: Allocator + Copy>(machine: &Machine<A>, depth: usize) -> &[u8] {
+fn current_at<E: TwoEnds<u8, A>, M: TwoEnds<Mark, A>, A: Allocator + Copy>(
+    machine: &Core<E, M, A>,
+    depth: usize,
+) -> &[u8] {
     if depth == 0 {
         return machine.base();
     }

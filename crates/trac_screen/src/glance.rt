@@ -3,7 +3,8 @@
 
 use std::alloc::Allocator;
 use trac_forms::Store;
-use trac_step::Machine;
+use trac_gap::TwoEnds;
+use trac_step::{Core, Machine, Mark};
 
 /// Where scanning stands.
 #[derive(Clone, Copy)]
@@ -14,29 +15,37 @@ pub struct Glance {
     pub rest: usize,
     /// How many bytes of the output are not released.
     pub unreleased: usize,
-    /// Whether the next step begins a function.
-    pub begins: bool,
+    /// How many bytes at the front of the active text begin a function by the next step; 0 where it begins none.
+    pub beginning: usize,
     /// Whether the next step performs a function.
     pub performs: bool,
 }
 
 /// Where scanning stands in a machine.
 pub fn glance_at<A: Allocator + Copy>(machine: &Machine<A>) -> Glance {
+    glance_of(machine)
+}
+
+// Where scanning stands in a machine of any representation.
+fn glance_of<E: TwoEnds<u8, A>, M: TwoEnds<Mark, A>, A: Allocator + Copy>(
+    machine: &Core<E, M, A>,
+) -> Glance {
     let active = machine.active();
     Glance {
         depth: machine.depth(),
         rest: active.len(),
         unreleased: machine.output().len(),
-        begins: begins(active),
+        beginning: beginning_of(active),
         performs: machine.at_call().is_some(),
     }
 }
 
-// Whether the first step over these bytes begins a function.
-fn begins(active: &[u8]) -> bool {
+// How many bytes at the front of these begin a function.
+fn beginning_of(active: &[u8]) -> usize {
     match active {
-        [b'#', b'(', ..] | [b'#', b'#', b'(', ..] => true,
-        _ => false,
+        [b'#', b'(', ..] => 2,
+        [b'#', b'#', b'(', ..] => 3,
+        _ => 0,
     }
 }
 

@@ -5,14 +5,18 @@ mod calls;
 mod form_list;
 mod glance;
 mod notes;
+mod printing;
 mod screen;
 mod screen_line;
 mod standing;
+mod way;
 
 pub use calls::{Lengths, call_line, outcome_into};
 pub use form_list::{form_into, list_into};
 pub use glance::{Glance, glance_at, reads_text, store_of};
 pub use notes::{NO_PRIMITIVE, Stop, no_end_into, refused, stop_into, window_into};
+pub use printing::lacks_output_room;
 pub use screen::{Reach, screen_into};
 pub use screen_line::ScreenLine;
 pub use standing::standing_into;
+pub use way::{Deed, deed_into, left_out_into, source_into, step_line};

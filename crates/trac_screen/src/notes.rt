@@ -31,6 +31,8 @@ pub enum Stop {
     NotPrintedSince,
     /// The byte was printed before the first step that one can go back to.
     PrintedEarlier,
+    /// Nothing stands at the place.
+    NoByte,
 }
 
 // What may have been meant where there is no form of a name.
@@ -86,6 +88,7 @@ fn reason(stop: Stop) -> &'static [u8] {
         Stop::NotPrinted => b"that was not printed",
         Stop::NotPrintedSince => b"that was not printed since the way back begins, at step ",
         Stop::PrintedEarlier => b"that was printed before the way back begins, at step ",
+        Stop::NoByte => b"no byte stands there",
     }
 }
 
@@ -104,16 +107,22 @@ pub fn refused(refusal: Refusal) -> &'static [u8] {
     }
 }
 
-/// Puts a line at the end of a text that says that the way back goes to this step from now on.
+/// Puts a line at the end of a text that says that the way back goes to this step from now on, and why: to make room for the
+/// output, or because so many steps are kept.
 pub fn window_into<A: Allocator + Copy>(
     alloc: A,
     first_step: u64,
+    is_for_output: bool,
     out: &mut Vec<u8, A>,
 ) -> Result<(), AllocError> {
     let mut line = ScreenLine::new(alloc);
     line.say(b"steps before ")?;
     line.count(first_step)?;
-    line.say(b" are forgotten; --journal keeps more")?;
+    line.say(if is_for_output {
+        b" are forgotten, to make room for the output"
+    } else {
+        b" are forgotten; --journal keeps more"
+    })?;
     line.end_into(out)
 }
 

@@ -4,8 +4,9 @@ ghost use Rattle.std.specs.Prelude.{◌≤◌, length};
 use crate::screen_line::{ScreenLine, shown_tail, tail};
 use crate::standing::{begun_into, sharps};
 use std::alloc::{AllocError, Allocator};
+use trac_gap::TwoEnds;
 use trac_rules::byte::LINE_FEED;
-use trac_step::Machine;
+use trac_step::{Core, Machine, Mark};
 use trac_streams::escaped_into;
 
 // So many begun functions are shown at most: the outermost and the innermost of them.
@@ -48,6 +49,17 @@ pub fn screen_into<A: Allocator + Copy>(
     reach: Reach,
     out: &mut Vec<u8, A>,
 ) -> Result<(), AllocError> {
+    parts_into(alloc, machine, reach, out)
+}
+
+// All parts of the state. Here and below the machine may be of any representation: that the gap buffer is one is shown once,
+// by the public call, and not by each function.
+fn parts_into<E: TwoEnds<u8, A>, M: TwoEnds<Mark, A>, A: Allocator + Copy>(
+    alloc: A,
+    machine: &Core<E, M, A>,
+    reach: Reach,
+    out: &mut Vec<u8, A>,
+) -> Result<(), AllocError> {
     functions_into(alloc, machine, out)?;
     text_into(alloc, machine, out)?;
     output_into(alloc, machine.output(), out)?;
@@ -63,9 +75,9 @@ fn labelled<A: Allocator + Copy>(alloc: A, label: &[u8]) -> Result<ScreenLine<A>
 }
 
 // The begun functions, one a line: the outermost first, and of many those in the middle left out.
-fn functions_into<A: Allocator + Copy>(
+fn functions_into<E: TwoEnds<u8, A>, M: TwoEnds<Mark, A>, A: Allocator + Copy>(
     alloc: A,
-    machine: &Machine<A>,
+    machine: &Core<E, M, A>,
     out: &mut Vec<u8, A>,
 ) -> Result<(), AllocError> {
     let depth = machine.depth();
@@ -81,9 +93,9 @@ fn functions_into<A: Allocator + Copy>(
 }
 
 // The begun functions from one number up to another.
-fn rows_into<A: Allocator + Copy>(
+fn rows_into<E: TwoEnds<u8, A>, M: TwoEnds<Mark, A>, A: Allocator + Copy>(
     alloc: A,
-    machine: &Machine<A>,
+    machine: &Core<E, M, A>,
     from: usize,
     to: usize,
     out: &mut Vec<u8, A>,
@@ -99,9 +111,9 @@ fn rows_into<A: Allocator + Copy>(
 }
 
 // The text around the place that scanning has reached.
-fn text_into<A: Allocator + Copy>(
+fn text_into<E: TwoEnds<u8, A>, M: TwoEnds<Mark, A>, A: Allocator + Copy>(
     alloc: A,
-    machine: &Machine<A>,
+    machine: &Core<E, M, A>,
     out: &mut Vec<u8, A>,
 ) -> Result<(), AllocError> {
     let scanned = scanned_end(alloc, machine)?;
@@ -126,9 +138,9 @@ fn end_of_into<A: Allocator + Copy>(
 }
 
 // The end of the scanned text in reading order, shown, so that the columns that are wanted of it are there.
-fn scanned_end<A: Allocator + Copy>(
+fn scanned_end<E: TwoEnds<u8, A>, M: TwoEnds<Mark, A>, A: Allocator + Copy>(
     alloc: A,
-    machine: &Machine<A>,
+    machine: &Core<E, M, A>,
 ) -> Result<Vec<u8, A>, AllocError> {
     let mut shown = Vec::new(alloc);
     let depth = machine.depth();
@@ -142,8 +154,8 @@ fn scanned_end<A: Allocator + Copy>(
 }
 
 // The end of a begun function, as it was written.
-fn frame_end_into<A: Allocator + Copy>(
-    machine: &Machine<A>,
+fn frame_end_into<E: TwoEnds<u8, A>, M: TwoEnds<Mark, A>, A: Allocator + Copy>(
+    machine: &Core<E, M, A>,
     i: usize,
     shown: &mut Vec<u8, A>,
 ) -> Result<(), AllocError> {
@@ -224,9 +236,9 @@ fn last_lines(text: &[u8]) -> &[u8] {
 }
 
 // How many forms and blocks there are.
-fn storage_into<A: Allocator + Copy>(
+fn storage_into<E: TwoEnds<u8, A>, M: TwoEnds<Mark, A>, A: Allocator + Copy>(
     alloc: A,
-    machine: &Machine<A>,
+    machine: &Core<E, M, A>,
     out: &mut Vec<u8, A>,
 ) -> Result<(), AllocError> {
     let store = machine.store();

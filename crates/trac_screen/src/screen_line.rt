@@ -57,6 +57,15 @@ impl<A: Allocator + Copy> ScreenLine<A> {
         escaped_into(front(text, WIDTH + 1), &mut self.bytes)
     }
 
+    /// Puts blanks at the end, two or as many as lead to this column.
+    pub fn pad(&mut self, column: usize) -> Result<(), AllocError> {
+        self.say(b"  ")?;
+        for _ in self.bytes.len()..column {
+            self.say(b" ")?;
+        }
+        Ok(())
+    }
+
     /// Cuts the line where it has more columns than these.
     pub fn cut(&mut self, columns: usize) -> Result<(), AllocError> {
         if self.bytes.len() <= columns {

@@ -2,7 +2,8 @@
 
 use crate::screen_line::{ScreenLine, front};
 use std::alloc::{AllocError, Allocator};
-use trac_step::{Args, Kind, Machine};
+use trac_gap::TwoEnds;
+use trac_step::{Args, Core, Kind, Machine, Mark};
 
 /// Puts a line at the end of a text: the number of the next step, which is this, and what that step does. The error is that
 /// memory was refused, here and below.
@@ -19,9 +20,10 @@ pub fn standing_into<A: Allocator + Copy>(
     line.end_into(out)
 }
 
-// What the next step does: the call that it performs, or the rule of scanning that it follows.
-fn next_into<A: Allocator + Copy>(
-    machine: &Machine<A>,
+/// What the next step does: the call that it performs, or the rule of scanning that it follows. Here and below the machine may
+/// be of any representation: that the gap buffer is one is shown once by each public call, and not by each function.
+pub fn next_into<E: TwoEnds<u8, A>, M: TwoEnds<Mark, A>, A: Allocator + Copy>(
+    machine: &Core<E, M, A>,
     line: &mut ScreenLine<A>,
 ) -> Result<(), AllocError> {
     match innermost(machine) {
@@ -31,7 +33,9 @@ fn next_into<A: Allocator + Copy>(
 }
 
 /// The innermost begun function: its kind and its arguments.
-pub fn innermost<A: Allocator + Copy>(machine: &Machine<A>) -> Option<(Kind, Args<'_>)> {
+pub fn innermost<E: TwoEnds<u8, A>, M: TwoEnds<Mark, A>, A: Allocator + Copy>(
+    machine: &Core<E, M, A>,
+) -> Option<(Kind, Args<'_>)> {
     let depth = machine.depth();
     if depth == 0 {
         return None;
@@ -40,8 +44,8 @@ pub fn innermost<A: Allocator + Copy>(machine: &Machine<A>) -> Option<(Kind, Arg
 }
 
 // What the next step does inside a function.
-fn inside_into<A: Allocator + Copy>(
-    machine: &Machine<A>,
+fn inside_into<E: TwoEnds<u8, A>, M: TwoEnds<Mark, A>, A: Allocator + Copy>(
+    machine: &Core<E, M, A>,
     kind: Kind,
     arguments: &Args<'_>,
     line: &mut ScreenLine<A>,

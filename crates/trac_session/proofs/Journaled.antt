@@ -1,5 +1,5 @@
 -- Sessions as their fields show them, and what the calls make of the fields.
-use Rattle.std.proofs.Common.{◌≡◌, ℕ, suc, ◌+◌, ◌-◌, ◌<◌, ◌≤◌, Bool, true, false, List, [], ◌∷◌, ◌++◌, length, refl, sym, ap, subst, ◌∙◌, arith}
+use Rattle.std.proofs.Common.{◌≡◌, ℕ, suc, ◌+◌, ◌<◌, ◌≤◌, Bool, true, false, List, [], ◌∷◌, ◌++◌, length, refl, sym, ap, subst, ◌∙◌, arith}
 use Rattle.std.specs.Prelude.{Option, Some, Result, Ok, Err, OnErr, OnOk, IfErr, IsSomeAnd}
 use Rattle.std.proofs.lemmas.List.{length-append}
 use Rattle.trac_rules.specs.declared.width.Width.{Width}
@@ -19,7 +19,7 @@ use Rattle.trac_step.specs.Kept.{CanGoBack, IsKept}
 use Rattle.trac_step.specs.Layout.{Shown}
 use Rattle.trac_step.specs.Room.{HasRoom, IsNoLess}
 use Rattle.trac_step.proofs.Rooms.{HasRoom-kept}
-use Rattle.trac_session.specs.Journal.{led_on, earlier_of, IsOfStep, AreRecords, plain_of, IsWithinReach, IsSound}
+use Rattle.trac_session.specs.Journal.{led_on, earlier_of, AreRecords, plain_of, IsWithinReach, IsSound}
 use Rattle.trac_session.specs.Replies.{reply_of}
 
 -- ---- lists of records

@@ -23,6 +23,7 @@ use Rattle.trac_step.proofs.Rooms.{HasRoom-kept, no_less_state}
 use Rattle.trac_step.specs.Layout.{Shown}
 use Rattle.trac_step.specs.Room.{HasRoom, IsNoLess}
 use Rattle.trac_session.specs.Journal.{earlier_of, AreRecords, plain_of, IsWithinReach, IsSound}
+use Rattle.trac_session.specs.Runs.{HasMovedBack}
 use Rattle.trac_session.proofs.Journaled.{led_on-Some, length-earlier, AreRecords-weaker, IsWithinReach-more}
 use Rattle.trac_session.proofs.Walked.{repeated-from}
 
@@ -168,6 +169,7 @@ pub record GoesBack (Holds : State → Type 0) (n : ℕ) (rest : List Record) (t
   pub first : State
   pub there : IsThere n first t
   pub records : AreRecords Holds rest first
+  pub way : earlier_of (replicate n Moved ++ rest) t ≡ on_the_way n first ++ earlier_of rest first
   pub walked : repeated Back n p ≡ Some (record p { earlier = earlier_of rest first; last = first })
 
 goes_back : (Holds : State → Type 0) (n : ℕ) (rest : List Record) (t : State) (p : PlainSession) → AreRecords Holds (replicate n Moved ++ rest) t →
@@ -176,12 +178,14 @@ goes_back Holds zero rest t p all earlier last = record {
   first = t;
   there = (sym (moved_on-zero t), omega arith);
   records = all;
+  way = refl;
   walked = λ i. Some (record p { earlier = earlier i; last = last i });
 }
 goes_back Holds (suc n) rest t p all earlier last =
     let s : State = all.0 in
-    let some : p.earlier ≡ s ∷ earlier_of (replicate n Moved ++ rest) s =
-    earlier ∙ led_on-Some (state_before Moved t) s (λ u. earlier_of (replicate n Moved ++ rest) u) all.1.says in
+    let one_less : earlier_of (replicate (suc n) Moved ++ rest) t ≡ s ∷ earlier_of (replicate n Moved ++ rest) s =
+    led_on-Some (state_before Moved t) s (λ u. earlier_of (replicate n Moved ++ rest) u) all.1.says in
+    let some : p.earlier ≡ s ∷ earlier_of (replicate n Moved ++ rest) s = earlier ∙ one_less in
     let q : PlainSession = record p { earlier = earlier_of (replicate n Moved ++ rest) s; last = s } in
     let back : repeated Back 1 p ≡ Some q = ap accepted_by (answer_Back_from p s (earlier_of (replicate n Moved ++ rest) s) some) in
     let next : suc n ≡ 1 + n = omega arith in
@@ -190,6 +194,8 @@ goes_back Holds (suc n) rest t p all earlier last =
       first = others.first;
       there = moved_there-more n others.first s t (moved_there 1 s t (restored_of_before Moved s t all.1.says).0) others.there;
       records = others.records;
+      way = one_less ∙ ap (λ (states : List State). s ∷ states) others.way
+          ∙ ap (λ (u : State). u ∷ (on_the_way n others.first ++ earlier_of rest others.first)) others.there.0;
       walked = ap (λ k. repeated Back k p) next ∙ repeated-from Back 1 n p q back ∙ others.walked;
     }
 
@@ -222,6 +228,24 @@ Back_passed {width} {after} Holds limit bytes ended old new t s n p view all kep
     let same : went.first ≡ s = cc in
     ap (repeated Back n) (sym view) ∙ went.walked ∙ ap (λ (u : State). Some (plain_of limit width bytes ended new u)) same
     ∙ ap (λ (w : Width). Some (plain_of limit w bytes ended new s)) (sym still)
+
+-- each of which moved a byte
+pub Back_moved : {width after : Width} → (Holds : State → Type 0) (limit : ℕ) (bytes : List ℕ) (ended : Bool) (old new : List Record) (t s : State) (n : ℕ) (p : PlainSession) →
+    plain_of limit width bytes ended old t ≡ p → AreRecords Holds old t → old ≡ replicate n Moved ++ new → moved_back n t ≡ Some s → after ≡ width →
+    HasMovedBack n p (plain_of limit after bytes ended new s)
+Back_moved {width} {after} Holds limit bytes ended old new t s n p view all kept back still =
+    let went = went_back {width = width} Holds limit bytes ended old new t n kept all in
+    let here : moved_back n t ≡ Some went.first = ap (moved_back n) went.there.0 ∙ moved_on-back n went.first went.there.1 in
+    let same : went.first ≡ s = cc in
+    subst (λ (q : PlainSession). HasMovedBack n q (plain_of limit after bytes ended new s)) view
+    (subst (λ (w : Width). HasMovedBack n (plain_of limit width bytes ended old t) (plain_of limit w bytes ended new s)) (sym still)
+    (subst (λ (u : State). HasMovedBack n (plain_of limit width bytes ended old t) (plain_of limit width bytes ended new u)) same
+    (record {
+      others = refl;
+      within = went.there.1;
+      last = went.there.0;
+      earlier = ap (λ (records : List Record). earlier_of records t) kept ∙ went.way;
+    })))
 
 -- the fields stay sound
 pub IsSound-passed-back : (limit : ℕ) (bytes : List ℕ) (old new : List Record) (m k : Shown) (n : ℕ) → old ≡ replicate n Moved ++ new →

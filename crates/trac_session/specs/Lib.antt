@@ -6,5 +6,6 @@ pub mod Goals
 pub mod Returns
 pub mod Directions
 pub mod Within
+pub mod Runs
 -- How proofs store these values.
 pub mod Codes

@@ -7,7 +7,8 @@ ghost use Rattle.trac_session.specs.Goals.{goal_of};
 
 use std::alloc::{AllocError, Allocator, Global};
 use trac_forms::{Form, Item};
-use trac_step::{Args, Kind, Machine};
+use trac_gap::TwoEnds;
+use trac_step::{Args, Core, Kind, Mark};
 
 /// What a walk looks for. Whether a state meets it is a definition (`trac_rules/specs/Goals.antt`), in this project's profile.
 pub enum Goal<'a, A: Allocator + Copy = Global> {
@@ -47,8 +48,12 @@ impl<'a, A: Allocator + Copy> Clone for Goal<'a, A> {
 
 impl<'a, A: Allocator + Copy> Copy for Goal<'a, A> {}
 
-// Whether a machine shows a state that meets the goal.
-pub(crate) fn is_met<A: Allocator + Copy>(machine: &Machine<A>, goal: &Goal<'_, A>) -> bool
+// Whether a machine shows a state that meets the goal. Here and below the machine may be of any representation: that the gap
+// buffer is one is shown once, where a session passes its machine on, and not at each call.
+pub(crate) fn is_met<E: TwoEnds<u8, A>, M: TwoEnds<Mark, A>, A: Allocator + Copy>(
+    machine: &Core<E, M, A>,
+    goal: &Goal<'_, A>,
+) -> bool
     ensures { result ≡ goal_of goal.now machine.now.state }
 {
     match goal {
@@ -63,22 +68,27 @@ pub(crate) fn is_met<A: Allocator + Copy>(machine: &Machine<A>, goal: &Goal<'_, 
 }
 
 // Whether the next step performs a call.
-fn is_calling<A: Allocator + Copy>(machine: &Machine<A>) -> bool
+fn is_calling<E: TwoEnds<u8, A>, M: TwoEnds<Mark, A>, A: Allocator + Copy>(
+    machine: &Core<E, M, A>,
+) -> bool
     ensures { result ≡ is_some (next_call machine.now.state) }
 {
     machine.next_call().is_some()
 }
 
 // Whether it performs the begun function of this number, the outermost being number 1.
-fn is_at_end<A: Allocator + Copy>(machine: &Machine<A>, depth: usize) -> bool
+fn is_at_end<E: TwoEnds<u8, A>, M: TwoEnds<Mark, A>, A: Allocator + Copy>(
+    machine: &Core<E, M, A>,
+    depth: usize,
+) -> bool
     ensures { result ≡ is_end_of depth machine.now.state }
 {
     is_calling(machine) && machine.depth() == depth
 }
 
 // Whether it performs a call, and the form of this name is another one than this.
-fn has_other_form<A: Allocator + Copy>(
-    machine: &Machine<A>,
+fn has_other_form<E: TwoEnds<u8, A>, M: TwoEnds<Mark, A>, A: Allocator + Copy>(
+    machine: &Core<E, M, A>,
     name: &[u8],
     form: &Option<Form<A>>,
 ) -> bool
@@ -103,7 +113,10 @@ fn begin_with(arguments: &Args<'_>, wanted: &[&[u8]]) -> bool
 }
 
 // Whether the next step performs a call whose first arguments are these.
-fn is_before_call<A: Allocator + Copy>(machine: &Machine<A>, wanted: &[&[u8]]) -> bool
+fn is_before_call<E: TwoEnds<u8, A>, M: TwoEnds<Mark, A>, A: Allocator + Copy>(
+    machine: &Core<E, M, A>,
+    wanted: &[&[u8]],
+) -> bool
     ensures { result ≡ is_call_with (map (λ text. text.now) wanted.now) machine.now.state }
 {
     match machine.next_call() {
@@ -113,7 +126,11 @@ fn is_before_call<A: Allocator + Copy>(machine: &Machine<A>, wanted: &[&[u8]]) -
 }
 
 // Whether the begun function of this number is active, and its arguments begin with these.
-fn has_begun<A: Allocator + Copy>(machine: &Machine<A>, number: usize, wanted: &[&[u8]]) -> bool
+fn has_begun<E: TwoEnds<u8, A>, M: TwoEnds<Mark, A>, A: Allocator + Copy>(
+    machine: &Core<E, M, A>,
+    number: usize,
+    wanted: &[&[u8]],
+) -> bool
     ensures { result ≡ is_begun_with (map (λ text. text.now) wanted.now) (frame_at number machine.now.state) }
 {
     match machine.frame(number) {
@@ -123,7 +140,9 @@ fn has_begun<A: Allocator + Copy>(machine: &Machine<A>, number: usize, wanted: &
 }
 
 // Whether the next step performs the `rs` of the idle program.
-fn reads_idly<A: Allocator + Copy>(machine: &Machine<A>) -> bool
+fn reads_idly<E: TwoEnds<u8, A>, M: TwoEnds<Mark, A>, A: Allocator + Copy>(
+    machine: &Core<E, M, A>,
+) -> bool
     ensures { result ≡ is_idle_reading machine.now.state }
 {
     machine.active() == b"))".as_slice()
@@ -133,14 +152,18 @@ fn reads_idly<A: Allocator + Copy>(machine: &Machine<A>) -> bool
 }
 
 // Whether the next step performs the `ps` of the idle program.
-fn prints_idly<A: Allocator + Copy>(machine: &Machine<A>) -> bool
+fn prints_idly<E: TwoEnds<u8, A>, M: TwoEnds<Mark, A>, A: Allocator + Copy>(
+    machine: &Core<E, M, A>,
+) -> bool
     ensures { result ≡ is_idle_printing machine.now.state }
 {
     machine.active() == b")".as_slice() && machine.depth() == 1 && has_begun(machine, 0, &[b"ps"])
 }
 
 // Whether the next step performs a call that is not the idle program's.
-fn is_before_own_call<A: Allocator + Copy>(machine: &Machine<A>) -> bool
+fn is_before_own_call<E: TwoEnds<u8, A>, M: TwoEnds<Mark, A>, A: Allocator + Copy>(
+    machine: &Core<E, M, A>,
+) -> bool
     ensures { result ≡ is_own_call machine.now.state }
 {
     is_calling(machine) && !(reads_idly(machine) || prints_idly(machine))

@@ -2,6 +2,7 @@
 ghost use Rattle.std.specs.Prelude.{◌≡◌, ◌≤◌, Some};
 ghost use Rattle.trac_rules.specs.Session.{Step, Back, repeated};
 ghost use Rattle.trac_rules.specs.Weights.{weights_from};
+ghost use Rattle.trac_session.specs.Runs.{HasMovedBack};
 
 use crate::session::Session;
 use std::alloc::Allocator;
@@ -20,10 +21,12 @@ impl<A: Allocator + Copy> Session<A> {
         count as u64
     }
 
-    /// Goes back over steps that moved a byte each, up to `most` of them, until one that did something else. Returns how
-    /// many these are. It takes no memory (this project's profile).
-    pub(crate) fn pass_back(&mut self, most: u64) -> u64
+    /// Goes back over steps that moved a byte each to the current text, up to `most` of them, until one that did something
+    /// else. Returns how many these are. It takes the same time however many they are, but for moving the bytes, and no
+    /// memory (this project's profile).
+    pub fn pass_back(&mut self, most: u64) -> u64
         ensures passed { repeated Back result self.old ≡ Some self.new }
+        ensures moved { HasMovedBack result self.old self.new }
         ensures most { result ≤ most }
     {
         let records = self.journal.len();

@@ -11,7 +11,7 @@ use std::io::{Read, Write};
 use trac_orders::NOT_UNDERSTOOD;
 use trac_rules::width::Width;
 use trac_streams::writing::{flush, write_whole};
-use trac_streams::{Ending, Front, LINE_LIMIT, Lines, number_into};
+use trac_streams::{Ending, LINE_LIMIT, Lines, NextLine, number_into};
 
 /// How a program is walked through.
 #[derive(Clone, Copy, Debug, PartialEq, Eq)]
@@ -55,7 +55,7 @@ pub fn walk<R: Read, W: Write, A: Allocator + Copy>(
     ensures unread { result ≡ Ending.Limit → Keeps (W.contents output.old) (W.contents output.new) }
 {
     match Walker::new(alloc, tape, settings.journal, settings.decimals) {
-        Ok(walker) => walk_from(alloc, walker, settings.prompt, input, output),
+        Ok(walker) => walk_from(alloc, walker, tape, settings.prompt, input, output),
         Err(ending) => ending,
     }
 }
@@ -64,6 +64,7 @@ pub fn walk<R: Read, W: Write, A: Allocator + Copy>(
 fn walk_from<R: Read, W: Write, A: Allocator + Copy>(
     alloc: A,
     mut walker: Walker<A>,
+    program: &[u8],
     prompt: bool,
     input: &mut R,
     output: &mut W,
@@ -72,7 +73,7 @@ fn walk_from<R: Read, W: Write, A: Allocator + Copy>(
     ensures gave { Gives (W.contents output.old) (W.contents output.new) }
     ensures ends { IsStop result }
 {
-    take_lines(alloc, &mut walker, prompt, input, output)
+    take_lines(alloc, &mut walker, program, prompt, input, output)
 }
 
 // Takes line by line, until the dialogue ends.
@@ -80,6 +81,7 @@ fn walk_from<R: Read, W: Write, A: Allocator + Copy>(
 fn take_lines<R: Read, W: Write, A: Allocator + Copy>(
     alloc: A,
     walker: &mut Walker<A>,
+    program: &[u8],
     prompt: bool,
     input: &mut R,
     output: &mut W,
@@ -88,7 +90,7 @@ fn take_lines<R: Read, W: Write, A: Allocator + Copy>(
     ensures gave { Gives (W.contents output.old) (W.contents output.new) }
     ensures ends { IsStop result }
 {
-    let mut memo = Memo::new(alloc);
+    let mut memo = Memo::new(alloc, program);
     let mut lines = Lines::new(alloc);
     let mut taking = Taking {
         prompt,
@@ -116,7 +118,7 @@ fn take_lines<R: Read, W: Write, A: Allocator + Copy>(
 fn take_line<R: Read, W: Write, A: Allocator + Copy>(
     alloc: A,
     walker: &mut Walker<A>,
-    memo: &mut Memo<A>,
+    memo: &mut Memo<'_, A>,
     taking: &mut Taking,
     lines: &mut Lines<A>,
     input: &mut R,
@@ -133,17 +135,17 @@ fn take_line<R: Read, W: Write, A: Allocator + Copy>(
     }
     match lines.seek(input) {
         Err(ending) => Err(ending),
-        Ok(Front::End) => Err(Ending::Ended),
-        Ok(Front::TooLong) => {
+        Ok(NextLine::End) => Err(Ending::Ended),
+        Ok(NextLine::TooLong) => {
             lines.pass_all();
             pass_part(alloc, taking, output)
         }
-        Ok(Front::Line { len, whole }) => {
+        Ok(NextLine::Line { len, whole }) => {
             let replied = answer(alloc, walker, memo, taking, lines.front(len), output);
             lines.pass(whole);
             replied
         }
-        Ok(Front::Part) => unreachable!(),
+        Ok(NextLine::Part) => unreachable!(),
     }
 }
 
@@ -207,7 +209,7 @@ fn prompt<A: Allocator + Copy>(alloc: A, step: u64) -> Result<Vec<u8, A>, AllocE
 fn answer<W: Write, A: Allocator + Copy>(
     alloc: A,
     walker: &mut Walker<A>,
-    memo: &mut Memo<A>,
+    memo: &mut Memo<'_, A>,
     taking: &mut Taking,
     line: &[u8],
     output: &mut W,
@@ -231,7 +233,7 @@ fn answer<W: Write, A: Allocator + Copy>(
 fn reply_to<A: Allocator + Copy>(
     alloc: A,
     walker: &mut Walker<A>,
-    memo: &mut Memo<A>,
+    memo: &mut Memo<'_, A>,
     line: &[u8],
 ) -> Result<Option<Vec<u8, A>>, AllocError> {
     let mut text = Vec::new(alloc);

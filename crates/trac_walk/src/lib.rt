@@ -6,6 +6,7 @@ mod aim;
 mod call_list;
 mod dialogue;
 mod moving;
+mod origins;
 mod replying;
 mod walker;
 

@@ -66,7 +66,7 @@ fn call_aim<'a>(call: &'a [&'a [u8]]) -> Aim<'a> {
 // Back to the call that changed the form of this name last.
 fn to_change<A: Allocator + Copy>(walker: &mut Walker<A>, name: &[u8]) -> Option<Stop> {
     let stopped = behind(walker.return_to_change(name));
-    if matches!(stopped, Some(Stop::NotMet)) && walker.machine().store().get(name).is_none() {
+    if matches!(stopped, Some(Stop::NotMet)) && walker.store().get(name).is_none() {
         return Some(Stop::NoForm);
     }
     stopped
@@ -87,7 +87,7 @@ fn over<A: Allocator + Copy>(walker: &mut Walker<A>) -> Option<Stop> {
         return Some(stop);
     }
     let here = walker.glance();
-    if here.begins {
+    if here.beginning > 0 {
         let inside = here.depth.saturating_add(1);
         let ended = ahead(walker.forward_to(Aim::End(inside), SEARCH_LIMIT));
         if ended.is_some() {
@@ -101,7 +101,7 @@ fn over<A: Allocator + Copy>(walker: &mut Walker<A>) -> Option<Stop> {
 fn to_function<A: Allocator + Copy>(walker: &mut Walker<A>) -> Option<Stop> {
     for _ in 0..SEARCH_LIMIT {
         let here = walker.glance();
-        if here.performs || here.begins {
+        if here.performs || here.beginning > 0 {
             return None;
         }
         let stopped = ahead(walker.forward(1));

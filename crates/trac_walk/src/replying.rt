@@ -2,6 +2,7 @@
 
 use crate::call_list::calls_into;
 use crate::moving::carry_out;
+use crate::origins::{way_into, written_into};
 use crate::walker::Walker;
 use std::alloc::{AllocError, Allocator};
 use trac_orders::{
@@ -16,17 +17,20 @@ use trac_show::machine_lines;
 
 /// What is kept of the lines so far.
 #[derive(Drop)]
-pub struct Memo<A: Allocator + Copy> {
+pub struct Memo<'p, A: Allocator + Copy> {
+    // the program
+    program: &'p [u8],
     // the line of the last move; empty before the first
     last: Vec<u8, A>,
     // whether it was said that steps are forgotten
     told: bool,
 }
 
-impl<A: Allocator + Copy> Memo<A> {
+impl<'p, A: Allocator + Copy> Memo<'p, A> {
     /// Before the first line. It takes no memory.
-    pub fn new(alloc: A) -> Self {
+    pub fn new(alloc: A, program: &'p [u8]) -> Self {
         Memo {
+            program,
             last: Vec::new(alloc),
             told: false,
         }
@@ -38,7 +42,7 @@ impl<A: Allocator + Copy> Memo<A> {
 pub fn reply_into<A: Allocator + Copy>(
     alloc: A,
     walker: &mut Walker<A>,
-    memo: &mut Memo<A>,
+    memo: &mut Memo<'_, A>,
     line: &[u8],
     out: &mut Vec<u8, A>,
 ) -> Result<bool, AllocError> {
@@ -57,7 +61,7 @@ pub fn reply_into<A: Allocator + Copy>(
 fn repeat<A: Allocator + Copy>(
     alloc: A,
     walker: &mut Walker<A>,
-    memo: &mut Memo<A>,
+    memo: &mut Memo<'_, A>,
     out: &mut Vec<u8, A>,
 ) -> Result<(), AllocError> {
     if memo.last.is_empty() {
@@ -71,7 +75,7 @@ fn repeat<A: Allocator + Copy>(
 fn repeat_line<A: Allocator + Copy>(
     alloc: A,
     walker: &mut Walker<A>,
-    memo: &mut Memo<A>,
+    memo: &mut Memo<'_, A>,
     line: &[u8],
     out: &mut Vec<u8, A>,
 ) -> Result<(), AllocError> {
@@ -86,7 +90,7 @@ fn repeat_line<A: Allocator + Copy>(
 fn obey_words<A: Allocator + Copy>(
     alloc: A,
     walker: &mut Walker<A>,
-    memo: &mut Memo<A>,
+    memo: &mut Memo<'_, A>,
     line: &[u8],
     words: &Vec<Word<A>, A>,
     out: &mut Vec<u8, A>,
@@ -108,7 +112,7 @@ fn not_understood<A: Allocator>(out: &mut Vec<u8, A>) -> Result<bool, AllocError
 fn obey<A: Allocator + Copy>(
     alloc: A,
     walker: &mut Walker<A>,
-    memo: &mut Memo<A>,
+    memo: &mut Memo<'_, A>,
     line: &[u8],
     order: Order<'_>,
     out: &mut Vec<u8, A>,
@@ -116,6 +120,8 @@ fn obey<A: Allocator + Copy>(
     match order {
         Order::Quit => return Ok(false),
         Order::Go(way) => go(alloc, walker, memo, line, way, out)?,
+        Order::Follow(spot) => way_into(alloc, walker, memo.program, spot, out)?,
+        Order::Locate => written_into(alloc, walker, memo.program, out)?,
         order => serve(alloc, walker, order, out)?,
     }
     Ok(true)
@@ -140,14 +146,14 @@ fn serve<A: Allocator + Copy>(
 fn go<A: Allocator + Copy>(
     alloc: A,
     walker: &mut Walker<A>,
-    memo: &mut Memo<A>,
+    memo: &mut Memo<'_, A>,
     line: &[u8],
     way: Move<'_>,
     out: &mut Vec<u8, A>,
 ) -> Result<(), AllocError> {
     memo.last = Vec::from_slice(alloc, line)?;
     let stop = carry_out(walker, way);
-    tell(alloc, walker.first_step(), stop, &mut memo.told, out)?;
+    tell(alloc, walker, stop, &mut memo.told, out)?;
     if is_unmet(stop) && names_no_primitive(way) {
         out.extend_from_slice(NO_PRIMITIVE)?;
     }
@@ -178,14 +184,15 @@ fn is_primitive(name: &[u8]) -> bool {
     }
 }
 
-// Says why a move stopped, where it did, and once that steps are forgotten, where they are: the way back ends at this step.
+// Says why a move stopped, where it did, and once that steps are forgotten, where they are, and up to which.
 fn tell<A: Allocator + Copy>(
     alloc: A,
-    first_step: u64,
+    walker: &Walker<A>,
     stop: Option<Stop>,
     told: &mut bool,
     out: &mut Vec<u8, A>,
 ) -> Result<(), AllocError> {
+    let first_step = walker.first_step();
     if let Some(stop) = stop {
         stop_into(alloc, first_step, stop, out)?;
     }
@@ -193,7 +200,7 @@ fn tell<A: Allocator + Copy>(
         return Ok(());
     }
     *told = true;
-    window_into(alloc, first_step, out)
+    window_into(alloc, first_step, walker.has_made_output_room(), out)
 }
 
 // Feeds a line, and says where it stands, or why the line was refused. Where a text is read, it also says that the line does not end

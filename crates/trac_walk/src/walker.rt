@@ -1,19 +1,21 @@
 //! A walker: a session whose way back never stops a walk, and where it stands.
-ghost use Rattle.std.specs.Prelude.{◌≡◌, ◌<◌, ◌≤◌, length, IfErr, OnOk};
+ghost use Rattle.std.specs.Prelude.{◌≡◌, ◌+◌, ◌^◌, ◌<◌, ◌≤◌, length, IfErr, OnOk};
+ghost use Rattle.trac_rules.specs.Session.{first_kept};
 ghost use Rattle.trac_walk.specs.Talks.{MayRefuseProgram};
 
 use crate::aim::{Aim, goal_for};
 use std::alloc::{AllocError, Allocator};
+use trac_follow::{Place, Source, follow};
 use trac_forms::{Form, FormError, Store};
 use trac_rules::byte::LINE_FEED;
 use trac_rules::limit::{JOURNAL_LIMIT, TAPE_LIMIT};
 use trac_rules::width::Width;
-use trac_screen::{Glance, Reach, glance_at, store_of};
+use trac_screen::{Glance, Reach, glance_at, lacks_output_room, store_of};
 use trac_session::{Goal, Machine, Refusal, Return, Session, Walk};
 use trac_streams::Ending;
 
-/// A session over a program, and how far it is from the start. Where the journal is full, the walker forgets its older half
-/// and goes on.
+/// A session over a program, and how far it is from the start. Where the journal is full, and where there is no room for more
+/// output, the walker forgets the older half of the steps, with what they printed, and goes on.
 #[derive(Drop)]
 pub struct Walker<A: Allocator + Copy> {
     session: Session<A>,
@@ -23,6 +25,12 @@ pub struct Walker<A: Allocator + Copy> {
     forgotten: u64,
     // how many bytes of the output were forgotten with them
     released: u64,
+    // whether some were forgotten to make room for the output
+    has_made_output_room: bool,
+    // how wide numbers are
+    width: Width,
+    // how many bytes of input there were so far
+    fed: u64,
 }
 
 impl<A: Allocator + Copy> Walker<A> {
@@ -46,6 +54,9 @@ impl<A: Allocator + Copy> Walker<A> {
             limit,
             forgotten: 0,
             released: 0,
+            has_made_output_room: false,
+            width,
+            fed: tape.len() as u64,
         })
     }
 
@@ -89,6 +100,11 @@ impl<A: Allocator + Copy> Walker<A> {
         self.released
     }
 
+    /// Whether steps were forgotten to make room for the output.
+    pub fn has_made_output_room(&self) -> bool {
+        self.has_made_output_room
+    }
+
     /// How far it has come.
     pub fn reach(&self) -> Reach {
         Reach {
@@ -107,7 +123,22 @@ impl<A: Allocator + Copy> Walker<A> {
         let Ok(line) = with_line_feed(alloc, text) else {
             return Err(Refusal::Memory);
         };
-        self.session.feed(line.as_slice())
+        self.session.feed(line.as_slice())?;
+        self.fed = self.fed.saturating_add(line.len() as u64);
+        Ok(())
+    }
+
+    /// Which byte of all input that of this number of the tape is, the first being number 0.
+    pub fn input_number(&self, n: usize) -> u64 {
+        let read = self.machine().position() as u64;
+        let there = read.saturating_add(self.session.unread().len() as u64);
+        self.fed.saturating_sub(there).saturating_add(n as u64)
+    }
+
+    /// Goes back as long as steps carried the byte at a place.
+    pub fn follow<'p>(&mut self, place: Place<'p>) -> Source<'p> {
+        let most = self.session.len() as u64;
+        source_of(&mut self.session, self.width, place, most)
     }
 
     /// Ends the input.
@@ -126,13 +157,16 @@ impl<A: Allocator + Copy> Walker<A> {
         self.go(Some(aim), most)
     }
 
-    // Goes forward, to a goal where there is one, walk by walk: after each that the full journal ended it makes room.
+    // Goes forward, to a goal where there is one, walk by walk: after each that ended for want of room it makes room.
     fn go(&mut self, aim: Option<Aim<'_>>, most: u64) -> Option<Refusal> {
         let mut left = most;
-        while left > 0 {
+        for _ in 0..u64::MAX {
+            if left == 0 {
+                break;
+            }
             self.make_room();
             let walk = walk_on(&mut self.session, aim, left);
-            if walk.done == 0 || !is_full(walk.why) {
+            if !self.goes_on(walk) {
                 return walk.why;
             }
             left = left.saturating_sub(walk.done);
@@ -140,6 +174,15 @@ impl<A: Allocator + Copy> Walker<A> {
         match aim {
             Some(_) => Some(Refusal::NotMet),
             None => None,
+        }
+    }
+
+    // Whether a walk goes on that has ended so: the journal was full, or there is room for the output now.
+    fn goes_on(&mut self, walk: Walk) -> bool {
+        match walk.why {
+            Some(Refusal::JournalFull) => walk.done > 0,
+            Some(Refusal::TooLong) => self.make_output_room(),
+            _ => false,
         }
     }
 
@@ -166,13 +209,31 @@ impl<A: Allocator + Copy> Walker<A> {
     // Forgets the older half of the journal where it is full.
     fn make_room(&mut self) {
         let len = self.session.len();
-        if len < self.limit {
-            return;
+        if len >= self.limit {
+            self.keep_steps(len / 2);
         }
-        let keep = len / 2;
+    }
+
+    // Forgets the older half of the journal where that is why the next step is refused: what it prints has no room. Whether it
+    // did; it may take several times, until the output of the steps that are left is short enough.
+    fn make_output_room(&mut self) -> bool {
+        let len = self.session.len();
+        if len == 0 || !lacks_output_room(self.session.machine()) {
+            return false;
+        }
+        self.keep_steps(len / 2);
+        self.has_made_output_room = true;
+        true
+    }
+
+    // Forgets all steps but the last, so many of them, and counts these, and the bytes of the output that are forgotten with them.
+    fn keep_steps(&mut self, keep: usize)
+        ensures counted { self.old.released + length (first_kept keep self.old.session).output < 2 ^ 64 → self.new.released ≡ self.old.released + length (first_kept keep self.old.session).output }
+    {
+        let steps = self.session.len().saturating_sub(keep);
         let released = forget_before(&mut self.session, keep);
         self.released = self.released.saturating_add(released as u64);
-        self.forgotten = self.forgotten.saturating_add((len - keep) as u64);
+        self.forgotten = self.forgotten.saturating_add(steps as u64);
     }
 }
 
@@ -207,19 +268,24 @@ fn walk_on<A: Allocator + Copy>(session: &mut Session<A>, aim: Option<Aim<'_>>, 
     }
 }
 
-// Keeps so many steps, and returns how many bytes of the output are forgotten with the others.
-fn forget_before<A: Allocator + Copy>(session: &mut Session<A>, keep: usize) -> usize {
+// Keeps so many steps, and returns how many bytes of the output are forgotten with the others: those of the first state that
+// stays.
+fn forget_before<A: Allocator + Copy>(session: &mut Session<A>, keep: usize) -> usize
+    ensures { result ≡ length (first_kept keep session.old).output }
+{
     let released = session.pending_before(keep).len();
     session.commit(keep);
     released
 }
 
-// Whether a walk was ended by the full journal.
-fn is_full(why: Option<Refusal>) -> bool {
-    match why {
-        Some(Refusal::JournalFull) => true,
-        _ => false,
-    }
+// Where a byte comes from that is followed back.
+fn source_of<'p, A: Allocator + Copy>(
+    session: &mut Session<A>,
+    width: Width,
+    place: Place<'p>,
+    most: u64,
+) -> Source<'p> {
+    follow(session, width, place, most).source
 }
 
 // A copy of the form of this name, where there is one. The error is that memory was refused.

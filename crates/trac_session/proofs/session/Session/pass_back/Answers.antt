@@ -3,7 +3,7 @@ use Rattle.std.specs.Prelude.{Option, IsSome}
 use Rattle.trac_rules.specs.State.{State}
 use Rattle.trac_step.specs.Layout.{Shown}
 use Rattle.trac_session.specs.Journal.{IsWithinReach}
-use Rattle.trac_session.proofs.Passed.{Back_passed, IsSound-passed-back, moved_back_says}
+use Rattle.trac_session.proofs.Passed.{Back_moved, Back_passed, IsSound-passed-back, moved_back_says}
 use Rattle.trac_session.proofs.session.Session.pass_back.Goals as goal
 
 pub move_back-requires : goal.move_back-requires
@@ -22,4 +22,10 @@ pub returns-clause-passed : goal.returns-clause-passed
 returns-clause-passed g c =
     let m = c.self.inside.machine in
     Back_passed (IsWithinReach m (length c.self.inside.tape.items)) _ _ _ c.self.inside.journal.records c.pop_moved-count.new.self.records m.state c.move_back.new.self.state c.pop_moved-count.result _
+    c.self.view_is c.self.invariant.records c.pop_moved-count.ensures.taken c.move_back.ensures.state (ap (λ (m : Shown). m.width) c.move_back.ensures.others)
+
+pub returns-clause-moved : goal.returns-clause-moved
+returns-clause-moved g c =
+    let m = c.self.inside.machine in
+    Back_moved (IsWithinReach m (length c.self.inside.tape.items)) _ _ _ c.self.inside.journal.records c.pop_moved-count.new.self.records m.state c.move_back.new.self.state c.pop_moved-count.result _
     c.self.view_is c.self.invariant.records c.pop_moved-count.ensures.taken c.move_back.ensures.state (ap (λ (m : Shown). m.width) c.move_back.ensures.others)

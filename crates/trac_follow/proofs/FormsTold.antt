@@ -1,0 +1,312 @@
+-- Bytes that calls take out of forms, print of them and cut in them, as the code tells them.
+use Rattle.std.proofs.Common.{◌≡◌, ℕ, ◌+◌, ◌-◌, ◌<◌, ◌≤◌, min, Bool, true, false, cond, List, [], ◌∷◌, length, take, drop, refl, sym, ap, ap₂, subst, ◌∙◌, ⊎_elim, arith}
+use Rattle.std.specs.Prelude.{Option, None, Some, Ok, Err, bytes_eq, slice_get}
+use Rattle.std.specs.FinMap as finite
+use Rattle.std.specs.List.{flat_map}
+use Rattle.std.specs.Cmp.Lexicographic.{nat_list_cmp_total}
+use Rattle.std.proofs.lemmas.Bool.{cond-true}
+use Rattle.std.proofs.lemmas.List.{length-append}
+use Rattle.std.proofs.lemmas.Map.Text.{is_eq-slice_cmp}
+use Rattle.std.proofs.lemmas.Slice.Eq.{bytes_eq-Decides}
+use Rattle.trac_rules.specs.declared.item.Item.{Item}
+use Rattle.trac_rules.specs.declared.item.Item.TheVariants.{Byte, Gap}
+use Rattle.trac_rules.specs.declared.kind.Kind.{Kind}
+use Rattle.trac_rules.specs.declared.kind.Kind.TheVariants.{Active, Neutral}
+use Rattle.trac_rules.specs.declared.primitive.FormAction.TheVariants as action
+use Rattle.trac_rules.specs.declared.primitive.FormReading.{FormReading}
+use Rattle.trac_rules.specs.declared.primitive.Primitive.{Primitive}
+use Rattle.trac_rules.specs.declared.primitive.Primitive.TheVariants.{Handle}
+use Rattle.trac_rules.specs.declared.refusal.Refusal.TheVariants.{TooLong}
+use Rattle.trac_rules.specs.declared.width.Width.{Width}
+use Rattle.trac_rules.specs.Effect.{Effect, argument, leaves, prints}
+use Rattle.trac_rules.specs.Filling.{all_filled, filled}
+use Rattle.trac_rules.specs.Form.{Form, all_items, extent}
+use Rattle.trac_rules.specs.Handling.{keeping, named_form, on_form, piece_read, putting}
+use Rattle.trac_rules.specs.Limits.{may_be_put}
+use Rattle.trac_rules.specs.Outcomes.{seen_as}
+use Rattle.trac_rules.specs.Performing.{after_call, changed_by, effect_of, performed, placed, primitive_of, printed_behind, trace_line}
+use Rattle.trac_rules.specs.Pieces.{Piece, bytes_in, is_gap}
+use Rattle.trac_rules.specs.Scanning.{Call, Calls, gathered_in, scan}
+use Rattle.trac_rules.specs.Segmenting.{segmented}
+use Rattle.trac_rules.specs.Showing.{shown, shown_item, shown_items}
+use Rattle.trac_rules.specs.State.{Environment, Frame, State, storage_of}
+use Rattle.trac_forms.specs.declared.piece.Piece.{Piece as Measured}
+use Rattle.trac_forms.specs.Taken.{items_from, taken}
+use Rattle.trac_origins.specs.Lengths.{IsCallOf, cut_from, number_of_default, of_form, printed_at, value_at}
+use Rattle.trac_origins.specs.Places.{Place, InArgument, InForm, InOutput, Origin, Carried, Made, found_at, items_of}
+use Rattle.trac_origins.specs.Stepping.{origin}
+use Rattle.trac_origins.proofs.ToldCalls.{ended}
+use Rattle.trac_origins.proofs.ToldEffects.{line_told}
+use Rattle.trac_origins.proofs.ToldPut.{segmented_told}
+use Rattle.trac_origins.proofs.ToldValues.{after_printed, before_printed, called_told, filled_told, mark_after_printed, mark_before_printed, other_told, piece_told, pointer_printed}
+use Rattle.trac_follow.specs.declared.items.Given.{Given}
+use Rattle.trac_follow.specs.declared.place.Origin as told
+use Rattle.trac_follow.specs.declared.place.Place as code_place
+use Rattle.trac_follow.specs.declared.place.After.{After}
+use Rattle.trac_follow.specs.Formed.{CarriedFrom, IsAfter, IsShown, TellsOfForm, ToldAsCut, ToldAsPiece, ToldAsShown, ToldAsShownAfter, ToldAsShownAt, is_cut, of_shown, told_of}
+use Rattle.trac_follow.specs.Items.{IsGiven, IsMeasured}
+use Rattle.trac_follow.specs.Places.{Tells}
+use Rattle.trac_follow.proofs.Spans.{after_those, same_place}
+
+-- ---- `cl`
+
+module _ (form : Form) (arguments : List (List ℕ)) (function i start : ℕ) (given : Given) (begins : start ≡ length form.before) (is : IsGiven (filled (drop 2 arguments)) (drop start (all_items form)) i given) where
+  after_pointer : drop start (all_items form) ≡ form.after
+  after_pointer = ap (λ k. drop k (all_items form)) begins ∙ after_those form.before form.after
+
+  there_after : slice_get form.after given.at ≡ Some given.item
+  there_after = ap (λ (xs : List Item). slice_get xs given.at) (sym after_pointer) ∙ is.there
+
+  given_so_far : (call : Call) → call.arguments ≡ arguments → length (all_filled (drop 2 call.arguments) (take given.at form.after)) + given.byte ≡ i
+  given_so_far call same =
+      ap (λ (texts : List (List ℕ)). length (all_filled (drop 2 texts) (take given.at form.after)) + given.byte) same
+      ∙ ap (λ (xs : List Item). length (flat_map (filled (drop 2 arguments)) (take given.at xs)) + given.byte) (sym after_pointer) ∙ is.place
+
+  pub called_item : (b n : ℕ) → given.item ≡ Byte b → n ≡ start + given.at → (width : Width) → TellsOfForm (Handle action.Call) form arguments function width i (told.TheVariants.OfForm n)
+  called_item b n byte place width environment s call e wide of same number names l =
+      let none : given.byte < 1 = subst (λ (x : Item). given.byte < length (filled (drop 2 arguments) x)) byte is.within in
+      let index : i ≡ length (all_filled (drop 2 call.arguments) (take given.at form.after)) = omega (arith, given_so_far call same, none) in
+      let where_is : length form.before + given.at ≡ n = omega (arith, begins, place) in (
+        call,
+        of.scans,
+        ap (λ k. origin environment s (value_at call.kind e.forced call.state k)) index
+            ∙ called_told environment s call e of form names given.at b (there_after ∙ ap Some byte)
+            ∙ ap (λ k. Carried (InForm (argument 1 call.arguments) k)) where_is,
+      )
+
+  pub filled_text : (k w n : ℕ) → given.item ≡ Gap k w → n ≡ k + 1 → (width : Width) →
+      TellsOfForm (Handle action.Call) form arguments function width i (told.TheVariants.Carried (code_place.TheVariants.Argument function n given.byte))
+  filled_text k w n gap place width environment s call e wide of same number names l =
+      let within : given.byte < length (filled (drop 2 arguments) (Gap k w)) = subst (λ (x : Item). given.byte < length (filled (drop 2 arguments) x)) gap is.within in
+      let within_call : given.byte < length (filled (drop 2 call.arguments) (Gap k w)) =
+      subst (λ (texts : List (List ℕ)). given.byte < length (filled (drop 2 texts) (Gap k w))) (sym same) within in
+      ap (λ j. origin environment s (value_at call.kind e.forced call.state j)) (sym (given_so_far call same))
+      ∙ filled_told environment s call e of form names given.at k w given.byte (there_after ∙ ap Some gap) within_call
+      ∙ ap₂ (λ f m. Carried (InArgument f m given.byte)) number (sym place)
+
+-- ---- `cs`, `cc`, `cn` and `in`
+
+module _ (reading : FormReading) (form : Form) (arguments : List (List ℕ)) (function : ℕ) (width : Width) (i : ℕ) where
+  -- what is read in a call
+  read_in : (environment : Environment) (call : Call) (found : Option Piece) → environment.width ≡ width → call.arguments ≡ arguments → found ≡ piece_read reading width arguments form →
+      piece_read reading environment.width call.arguments form ≡ found
+  read_in environment call found wide same read = ap₂ (λ w (texts : List (List ℕ)). piece_read reading w texts form) wide same ∙ sym read
+
+  pub default_read : (n : ℕ) → None ≡ piece_read reading width arguments form → n ≡ number_of_default reading →
+      TellsOfForm (Handle (action.Read reading)) form arguments function width i (told.TheVariants.Carried (code_place.TheVariants.Argument function n i))
+  default_read n read which environment s call e wide of same number names l =
+      other_told environment s call e reading of form names (read_in environment call None wide same read) i l
+      ∙ ap₂ (λ f m. Carried (InArgument f m i)) number (sym which)
+
+  pub piece_item : (piece : Measured) (o : told.Origin) → Some (taken piece form) ≡ piece_read reading width arguments form → ToldAsPiece form piece i o →
+      TellsOfForm (Handle (action.Read reading)) form arguments function width i o
+  piece_item piece (told.TheVariants.Carried place) read tells environment s call e wide of same number names l = absurd tells
+  piece_item piece (told.TheVariants.Read n) read tells environment s call e wide of same number names l = absurd tells
+  piece_item piece told.TheVariants.Made read tells environment s call e wide of same number names l = absurd tells
+  piece_item piece told.TheVariants.Unknown read tells environment s call e wide of same number names l = tt
+  piece_item piece (told.TheVariants.OfForm n) read tells environment s call e wide of same number names l =
+      let m : ℕ = tells.0 in
+      let b : ℕ = tells.1 in
+      let least : min piece.pointer (length form.before) ≡ min (length form.before) piece.pointer = omega arith in
+      let items : drop (min (length form.before) piece.pointer) (all_items form) ≡ items_from piece form = ap (λ k. drop k (all_items form)) (sym least) in
+      let index : i ≡ length (bytes_in (take m (drop (min (length form.before) piece.pointer) (all_items form)))) =
+      sym tells.4 ∙ ap (λ (xs : List Item). length (bytes_in (take m xs))) (sym items) in
+      let where_is : min (length form.before) piece.pointer + m ≡ n = omega (arith, tells.2, least) in (
+        call,
+        of.scans,
+        ap (λ k. origin environment s (value_at call.kind e.forced call.state k)) index
+            ∙ piece_told environment s call e reading of form names (taken piece form) (read_in environment call (Some (taken piece form)) wide same read) m b
+            (ap (λ (xs : List Item). slice_get xs m) items ∙ tells.3) (subst (λ k. k < length e.value) index l)
+            ∙ ap (λ k. Carried (InForm (argument 1 call.arguments) k)) where_is,
+      )
+
+-- ---- `pf` and `ss`
+
+module _ (environment : Environment) (s t : State) (call : Call) (e : Effect) (form : Form) (scans : scan s ≡ Calls call) (does : performed environment call ≡ Ok e) (after : t ≡ after_call call e) where
+  output_before : call.state.output ≡ s.output
+  output_before = ap (λ (u : State). u.output) (ended s call scans).2.state
+
+  output-after : (kind : Kind) (forced : Bool) (value : List ℕ) (u : State) → (placed kind forced value u).output ≡ u.output
+  output-after Active forced value u = refl
+  output-after Neutral true value u = refl
+  output-after Neutral false value u = go u.frames
+    where
+      go : (fs : List Frame) → (gathered_in fs value u).output ≡ u.output
+      go [] = refl
+      go (f ∷ fs) = refl
+
+  -- what the primitive does
+  done_by : (primitive : Primitive) → primitive_of (argument 0 call.arguments) ≡ primitive →
+      seen_as (printed_behind (trace_line call.state.trace call.kind call.arguments)) (effect_of primitive environment call.arguments call.state) ≡ Ok e
+  unfolding performed
+  done_by primitive named =
+      ap (λ p. seen_as (printed_behind (trace_line call.state.trace call.kind call.arguments)) (effect_of p environment call.arguments call.state)) (sym named) ∙ does
+
+  -- ---- `pf`
+
+  module _ (of : IsCallOf environment s call (Handle action.PrintForm) e) (names : named_form call.arguments (storage_of call.state) ≡ Some form) where
+    abbrev line : ℕ
+    line = length (trace_line call.state.trace call.kind call.arguments)
+
+    -- how much is printed
+    printed_is : length e.printed ≡ line + length (shown form)
+    printed_is =
+        let text = trace_line call.state.trace call.kind call.arguments in
+        let storage = storage_of call.state in
+        let done : Ok (printed_behind text (prints (shown form) storage)) ≡ Ok e =
+        ap (λ (found : Option Form). seen_as (printed_behind text) (on_form found (λ f. Ok (prints (shown f) storage)) storage)) (sym names) ∙ done_by (Handle action.PrintForm) of.named in
+        let same : printed_behind text (prints (shown form) storage) ≡ e = cc in
+        ap (λ (f : Effect). length f.printed) (sym same) ∙ length-append text (shown form)
+
+    output_then : length t.output ≡ length s.output + (line + length (shown form))
+    output_then =
+        omega (
+          arith,
+          ap (λ (u : State). length u.output) after,
+          ap (λ (bytes : List ℕ). length bytes) (output-after call.kind e.forced e.value (changed_by e call.state)),
+          length-append call.state.output e.printed,
+          ap (λ (bytes : List ℕ). length bytes) output_before,
+          printed_is,
+        )
+
+    -- an item that is printed
+    item_shown : (place : ℕ → Place) (items : List Item) (first : ℕ) →
+        ((m b : ℕ) → slice_get items m ≡ Some (Byte b) → origin environment s (place (length (shown_items (take m items)))) ≡ of_form call (first + m)) →
+        ((m k w j : ℕ) → slice_get items m ≡ Some (Gap k w) → j < length (shown_item (Gap k w)) → origin environment s (place (length (shown_items (take m items)) + j)) ≡ Made) →
+        (j : ℕ) (o : told.Origin) → IsShown items first j o → Tells s o (origin environment s (place j))
+    item_shown place items first bytes marks j o is = go is.item refl
+      where
+        go : (x : Item) → is.item ≡ x → Tells s o (origin environment s (place j))
+        go (Byte b) same =
+            let none : is.byte < 1 = subst (λ (x : Item). is.byte < length (shown_item x)) same is.within in
+            let index : j ≡ length (shown_items (take is.at items)) = omega (arith, is.place, none) in
+            subst (λ told. Tells s told (origin environment s (place j))) (sym (is.shows ∙ ap (λ (x : Item). of_shown x (first + is.at)) same))
+            (call, scans, ap (λ k. origin environment s (place k)) index ∙ bytes is.at b (is.there ∙ ap Some same))
+        go (Gap k w) same =
+            let within : is.byte < length (shown_item (Gap k w)) = subst (λ (x : Item). is.byte < length (shown_item x)) same is.within in
+            subst (λ told. Tells s told (origin environment s (place j))) (sym (is.shows ∙ ap (λ (x : Item). of_shown x (first + is.at)) same))
+            (ap (λ k. origin environment s (place k)) (sym is.place) ∙ marks is.at k w is.byte (is.there ∙ ap Some same) within)
+
+    unknown_tells : (o : told.Origin) (p : Place) → o ≡ told.TheVariants.Unknown → Tells s o (origin environment s p)
+    unknown_tells o p unknown = subst (λ told. Tells s told (origin environment s p)) (sym unknown) tt
+
+    made_tells : (o : told.Origin) (p : Place) → o ≡ told.TheVariants.Made → origin environment s p ≡ Made → Tells s o (origin environment s p)
+    made_tells o p made is = subst (λ told. Tells s told (origin environment s p)) (sym made) is
+
+    form_shown_at : (j : ℕ) (o : told.Origin) → ToldAsShownAt form j o → Tells s o (origin environment s (printed_at call j))
+    form_shown_at j o tells =
+        ⊎_elim
+        (λ (is : IsShown form.before 0 j o).
+        item_shown (printed_at call) form.before 0
+        (λ m b there. before_printed environment s call e of form names m b there ∙ ap (of_form call) (omega arith))
+        (mark_before_printed environment s call e of form names) j o is)
+        (⊎_elim
+        (λ (mark : (o ≡ told.TheVariants.Made) × ((k : ℕ) × (k < 3) × (j ≡ length (shown_items form.before) + k))).
+        made_tells o (printed_at call j) mark.0
+        (ap (λ k. origin environment s (printed_at call k)) mark.1.2 ∙ pointer_printed environment s call e of form names mark.1.0 mark.1.1))
+        (λ (later : (k : ℕ) × (j ≡ length (shown_items form.before) + (3 + k)) × ToldAsShownAfter form k o).
+        subst (λ k. Tells s o (origin environment s (printed_at call k))) (sym later.1)
+        (⊎_elim
+        (unknown_tells o (printed_at call (length (shown_items form.before) + (3 + later.0))))
+        (item_shown (λ k. printed_at call (length (shown_items form.before) + (3 + k))) form.after (length form.before)
+        (after_printed environment s call e of form names) (mark_after_printed environment s call e of form names) later.0 o)
+        later.2)))
+        tells
+
+    pub form_printed : (end i : ℕ) (o : told.Origin) → end ≡ length t.output → length s.output ≤ i → ToldAsShown form end i o → Tells s o (origin environment s (InOutput i))
+    form_printed end i o ends past tells =
+        let before : length call.state.output ≡ length s.output = ap (λ (bytes : List ℕ). length bytes) output_before in
+        ⊎_elim
+        (unknown_tells o (InOutput i))
+        (⊎_elim
+        (λ (early : (o ≡ told.TheVariants.Made) × (i + length (shown form) < end)).
+        let index : i ≡ length call.state.output + (i - length s.output) = omega (arith, past, before) in
+        made_tells o (InOutput i) early.0
+        (ap (λ m. origin environment s (InOutput m)) index
+        ∙ line_told environment s call (Handle action.PrintForm) e of (i - length s.output) (omega (arith, early.1, ends, output_then, past))))
+        (λ (there : (j : ℕ) × (j + end ≡ i + length (shown form)) × ToldAsShownAt form j o).
+        let index : i ≡ length call.state.output + (line + there.0) = omega (arith, there.1, ends, output_then, before) in
+        subst (λ m. Tells s o (origin environment s (InOutput m))) (sym index) (form_shown_at there.0 o there.2)))
+        tells
+
+  -- ---- `ss`
+
+  module _ (of : IsCallOf environment s call (Handle action.Segment) e) (names : named_form call.arguments (storage_of call.state) ≡ Some form) where
+    abbrev texts : List (List ℕ)
+    texts = drop 2 call.arguments
+
+    -- what is there then
+    cut_form : finite.get t.forms (argument 1 call.arguments) ≡ Some (segmented texts form)
+    cut_form =
+        let storage = storage_of call.state in
+        let name = argument 1 call.arguments in
+        let line = trace_line call.state.trace call.kind call.arguments in
+        let done : seen_as (printed_behind line) (putting name (segmented texts form) storage) ≡ Ok e =
+        ap (λ (found : Option Form). seen_as (printed_behind line) (on_form found (λ f. putting name (segmented texts f) storage) storage)) (sym names) ∙ done_by (Handle action.Segment) of.named in
+        ap (λ (u : State). finite.get u.forms name) after
+        ∙ ap (λ forms. finite.get forms name) (forms-after call.kind e.forced e.value (changed_by e call.state))
+        ∙ ap (λ forms. finite.get forms name) (put_by (may_be_put name (segmented texts form) storage.forms) done)
+        ∙ finite.get-insert nat_list_cmp_total storage.forms name (segmented texts form) name
+        ∙ cond-true _ (Some (segmented texts form)) (finite.get storage.forms name) (is_eq-slice_cmp name name ∙ (bytes_eq-Decides name name).1 refl)
+      where
+        forms-after : (kind : Kind) (forced : Bool) (value : List ℕ) (u : State) → (placed kind forced value u).forms ≡ u.forms
+        forms-after Active forced value u = refl
+        forms-after Neutral true value u = refl
+        forms-after Neutral false value u = go u.frames
+          where
+            go : (fs : List Frame) → (gathered_in fs value u).forms ≡ u.forms
+            go [] = refl
+            go (f ∷ fs) = refl
+
+        put_by : (b : Bool) →
+            seen_as (printed_behind (trace_line call.state.trace call.kind call.arguments))
+            (cond b (Ok (leaves (keeping (finite.insert call.state.forms (argument 1 call.arguments) (segmented texts form)) (storage_of call.state)))) (Err TooLong)) ≡ Ok e →
+            e.storage.forms ≡ finite.insert call.state.forms (argument 1 call.arguments) (segmented texts form)
+        put_by true done =
+            let put = finite.insert call.state.forms (argument 1 call.arguments) (segmented texts form) in
+            let same : printed_behind (trace_line call.state.trace call.kind call.arguments) (leaves (keeping put (storage_of call.state))) ≡ e = cc in
+            ap (λ (f : Effect). f.storage.forms) (sym same)
+        put_by false done = absurd (cc)
+
+    -- the item of a place, and the item that stood there
+    pub item_cut : (name : List ℕ) (seen : After) (i : ℕ) (item : Item) (o : told.Origin) → bytes_eq name (argument 1 call.arguments) ≡ true → IsMeasured seen.extent seen.is_gap t (InForm name i) →
+        found_at t (InForm name i) ≡ Some item → ToldAsCut form name seen o → Tells s o (origin environment s (InForm name i))
+    item_cut name seen i item o same measured stands tells =
+        let is_name : name ≡ argument 1 call.arguments = (bytes_eq-Decides name (argument 1 call.arguments)).0 same in
+        let found : finite.get t.forms name ≡ Some (segmented texts form) = ap (finite.get t.forms) is_name ∙ cut_form in
+        let there : slice_get (all_items (segmented texts form)) i ≡ Some item = ap (λ (f : Option Form). slice_get (items_of f) i) (sym found) ∙ stands in
+        let told_item = segmented_told environment s call e of form names i item there in
+        let number : ℕ = told_item.0 in
+        let was : Item = told_item.1 in
+        let bytes : seen.extent ≡ extent (take number (all_items form)) =
+        (measured item stands).0 ∙ ap (λ (f : Option Form). extent (take i (items_of f))) found ∙ told_item.3 in
+        let is_from : origin environment s (InForm name i) ≡ cut_from item was (of_form call number) =
+        ap (λ q. origin environment s (InForm q i)) is_name ∙ told_item.4 in
+        ⊎_elim
+        (λ (unknown : o ≡ told.TheVariants.Unknown). subst (λ p. Tells s p (origin environment s (InForm name i))) (sym unknown) tt)
+        (λ (at : (n : ℕ) × (stood : Item) × IsAfter form seen.extent n stood × told_of (is_cut seen.is_gap stood) o name n).
+        let place : number ≡ at.0 = same_place (all_items form) at.2.wide number at.0 was at.1 told_item.2 at.2.there (sym bytes ∙ sym at.2.before) in
+        let one : Some was ≡ Some at.1 = sym told_item.2 ∙ ap (slice_get (all_items form)) place ∙ at.2.there in
+        let same_item : was ≡ at.1 = cc in
+        by_items item at.1 (measured item stands).1 at.0
+        (is_from ∙ ap₂ (λ k (x : Item). cut_from item x (of_form call k)) place same_item) o at.3)
+        tells
+      where
+        is_carried : (n : ℕ) (p : told.Origin) (r : Origin) → name ≡ argument 1 call.arguments → r ≡ of_form call n → CarriedFrom p name n → Tells s p r
+        is_carried n (told.TheVariants.Carried place) r is_name is at = is ∙ ap (λ q. Carried (InForm q n)) (sym is_name) ∙ ap Carried (sym at)
+        is_carried n (told.TheVariants.OfForm k) r is_name is at = absurd at
+        is_carried n (told.TheVariants.Read k) r is_name is at = absurd at
+        is_carried n told.TheVariants.Made r is_name is at = absurd at
+        is_carried n told.TheVariants.Unknown r is_name is at = absurd at
+
+        named_so : name ≡ argument 1 call.arguments
+        named_so = (bytes_eq-Decides name (argument 1 call.arguments)).0 same
+
+        by_items : (x stood : Item) → seen.is_gap ≡ is_gap x → (n : ℕ) → origin environment s (InForm name i) ≡ cut_from x stood (of_form call n) →
+            (p : told.Origin) → told_of (is_cut seen.is_gap stood) p name n → Tells s p (origin environment s (InForm name i))
+        by_items (Byte c) (Byte b) gap n is p at = is_carried n p (origin environment s (InForm name i)) named_so is (subst (λ g. told_of g p name n) gap at)
+        by_items (Byte c) (Gap k w) gap n is p at = is_carried n p (origin environment s (InForm name i)) named_so is at
+        by_items (Gap k w) (Byte b) gap n is p at =
+            let made : p ≡ told.TheVariants.Made = subst (λ g. told_of g p name n) gap at in
+            subst (λ q. Tells s q (origin environment s (InForm name i))) (sym made) is
+        by_items (Gap k w) (Gap j v) gap n is p at = is_carried n p (origin environment s (InForm name i)) named_so is at

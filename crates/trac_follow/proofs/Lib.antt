@@ -1,0 +1,11 @@
+pub mod Found
+pub mod Scanned
+pub mod CallsTold
+pub mod ValuesTold
+pub mod StepsBack
+pub mod Spans
+pub mod FormsTold
+pub mod ShownTold
+pub mod FormCalls
+pub mod Staying
+pub mod RunsBack

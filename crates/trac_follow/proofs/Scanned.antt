@@ -1,0 +1,95 @@
+-- Origins of what stands after a rule of scanning that moves on, as the code tells them.
+use Rattle.std.proofs.Common.{◌≡◌, ℕ, ◌+◌, ◌-◌, ◌<◌, Bool, true, false, cond, List, [], ◌∷◌, length, drop, refl, sym, ap, subst, ◌∙◌, ⊎_elim, arith}
+use Rattle.std.specs.Prelude.{Some, ◌==◌, codes, nat_eq}
+use Rattle.std.specs.List.{starts_with}
+use Rattle.std.proofs.lemmas.Bool.{cases_Bool}
+use Rattle.std.proofs.lemmas.Bool.Decides.{nat_tests}
+use Rattle.trac_rules.specs.declared.byte.TheConstants.{OPENING, CLOSING, COMMA, SHARP}
+use Rattle.trac_rules.specs.declared.item.Item.{Item}
+use Rattle.trac_rules.specs.declared.scan.Front.{Front}
+use Rattle.trac_rules.specs.declared.scan.Front.TheVariants.{Opening, Layout, Comma, ActiveCall, NeutralCall, Sharp, Closing, Plain}
+use Rattle.trac_rules.specs.Bytes.{idle_program}
+use Rattle.trac_rules.specs.Scanning.{Moves, front_of, is_layout, scan, sharp_before}
+use Rattle.trac_rules.specs.State.{Environment, State}
+use Rattle.trac_origins.specs.Accounts.{makes_idle}
+use Rattle.trac_origins.specs.Lengths.{current_text, first_moved, in_current, is_outside, is_stored, moves_bytes}
+use Rattle.trac_origins.specs.Places.{Place, InActive, InBase, InArgument, InForm, InHeld, InOutput, Carried, Made, found_at}
+use Rattle.trac_origins.specs.Stepping.{origin}
+use Rattle.trac_origins.proofs.Told.{byte_within}
+use Rattle.trac_origins.proofs.ToldSteps.{scanning_idle, scanning_idle_stays, scanning_moved, scanning_rest, scanning_stays, scanning_within, state_idle}
+
+-- a text that is not empty begins with something
+not_idle : (b : ℕ) (rest : List ℕ) → makes_idle (front_of (b ∷ rest)) ≡ false
+not_idle b rest =
+    pick (b == OPENING) Opening _ refl
+    (pick (b == CLOSING) Closing _ refl
+    (pick (b == COMMA) Comma _ refl
+    (pick (b == SHARP) (sharp_before rest) _
+    (pick (starts_with nat_eq rest (codes "(")) ActiveCall _ refl (pick (starts_with nat_eq rest (codes "#(")) NeutralCall Sharp refl refl))
+    (pick (is_layout b) Layout Plain refl refl))))
+  where
+    pick : (c : Bool) (f g : Front) → makes_idle f ≡ false → makes_idle g ≡ false → makes_idle (cond c f g) ≡ false
+    pick true f g first second = first
+    pick false f g first second = second
+
+some_idle : (text : List ℕ) → 0 < length text → makes_idle (front_of text) ≡ false
+some_idle [] some = absurd (omega (arith, some))
+some_idle (b ∷ rest) some = not_idle b rest
+
+-- ---- the active text
+
+pub idle_made : (environment : Environment) (s t : State) (i : ℕ) → scan s ≡ Moves t → s.active ≡ [] → origin environment s (InActive i) ≡ Made
+idle_made environment s t i is empty = scanning_idle environment s t i is (ap (λ (text : List ℕ). makes_idle (front_of text)) empty)
+
+pub left_carried : (environment : Environment) (s t : State) (i : ℕ) (item : Item) → scan s ≡ Moves t → 0 < length s.active → found_at t (InActive i) ≡ Some item →
+    origin environment s (InActive i) ≡ Carried (InActive (length s.active - length t.active + i))
+left_carried environment s t i item is some e = scanning_rest environment s t i is (some_idle s.active some) (byte_within i t.active item e)
+
+-- ---- elsewhere
+
+pub stays_carried : (environment : Environment) (s t : State) (place : Place) (x item : Item) → scan s ≡ Moves t → is_outside place ≡ true → found_at s place ≡ Some x →
+    found_at t place ≡ Some item → origin environment s place ≡ Carried place
+stays_carried environment s t place x item is outside before after =
+    ⊎_elim
+    (λ (idle : makes_idle (front_of s.active) ≡ true).
+    scanning_idle_stays environment s t place x is idle
+    (stored place outside (subst (λ (u : State). found_at u place ≡ Some item) (state_idle s t is idle) after)) before)
+    (λ (busy : makes_idle (front_of s.active) ≡ false). scanning_stays environment s t place x is busy outside before)
+    (cases_Bool (makes_idle (front_of s.active)))
+  where
+    stored : (p : Place) → is_outside p ≡ true → found_at (record s { active = idle_program; base = []; frames = [] }) p ≡ Some item → is_stored p ≡ true
+    stored (InActive i) outside e = absurd (cc)
+    stored (InBase i) outside e = absurd (cc)
+    stored (InArgument n k i) outside e = absurd (cc)
+    stored (InForm name i) outside e = refl
+    stored (InHeld number name i) outside e = refl
+    stored (InOutput i) outside e = refl
+
+pub gathered_carried : (environment : Environment) (s t : State) (place : Place) (n : ℕ) (item : Item) → scan s ≡ Moves t → moves_bytes (front_of s.active) ≡ true →
+    place ≡ in_current s.frames (length (current_text s.frames s) + n) → found_at t place ≡ Some item → origin environment s place ≡ Carried (InActive (first_moved (front_of s.active) + n))
+gathered_carried environment s t place n item is moving at e =
+    ap (origin environment s) at
+    ∙ scanning_moved environment s t n is moving
+    (scanning_within s t (length (current_text s.frames s) + n) item is moving (subst (λ p. found_at t p ≡ Some item) at e))
+
+-- ---- tests for emptiness
+
+pub none_by_test : (text : List ℕ) (empty : Bool) → empty ≡ (length text == 0) → empty ≡ true → text ≡ []
+none_by_test [] empty is e = refl
+none_by_test (b ∷ text) empty is e = let none : length (b ∷ text) ≡ 0 = grind (arith, nat_tests) in absurd (omega (arith, none))
+
+pub some_by_test : (text : List ℕ) (empty : Bool) → empty ≡ (length text == 0) → empty ≡ false → 0 < length text
+some_by_test text empty is e = grind (arith, nat_tests)
+
+-- ---- what is new in the current text
+
+pub gathered_by : (environment : Environment) (s t : State) (place : Place) (n first depth : ℕ) (active : List ℕ) (item : Item) → scan s ≡ Moves t → active ≡ s.active →
+    (moves_bytes (front_of active) ≡ true) × (first ≡ first_moved (front_of active)) → depth ≡ length s.frames →
+    place ≡ in_current (drop (length s.frames - depth) s.frames) (length (current_text (drop (length s.frames - depth) s.frames) s) + n) →
+    found_at t place ≡ Some item → origin environment s place ≡ Carried (InActive (first + n))
+gathered_by environment s t place n first depth active item is same moves all at stands =
+    let none : length s.frames - depth ≡ 0 = omega (arith, all) in
+    let here : place ≡ in_current s.frames (length (current_text s.frames s) + n) =
+    at ∙ ap (λ k. in_current (drop k s.frames) (length (current_text (drop k s.frames) s) + n)) none in
+    gathered_carried environment s t place n item is (ap (λ (text : List ℕ). moves_bytes (front_of text)) (sym same) ∙ moves.0) here stands
+    ∙ ap (λ k. Carried (InActive (k + n))) (sym (moves.1 ∙ ap (λ (text : List ℕ). first_moved (front_of text)) same))

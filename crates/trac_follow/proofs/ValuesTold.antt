@@ -1,0 +1,300 @@
+-- Bytes of values, and of what is printed and put, as the code tells them.
+use Rattle.std.proofs.Common.{◌≡◌, ℕ, ◌+◌, ◌-◌, ◌<◌, ◌≤◌, Bool, true, false, List, [], ◌∷◌, length, refl, sym, ap, ap₂, subst, ◌∙◌, ℤ, inl, inr, not, ⊎_elim, arith}
+use Rattle.std.specs.Prelude.{Option, None, Some, Ok, ◌⊎◌, bytes_eq, is_none, is_some}
+use Rattle.std.proofs.lemmas.List.{length-append}
+use Rattle.std.proofs.lemmas.Slice.Eq.{bytes_eq-Decides}
+use Rattle.trac_rules.specs.declared.item.Item.{Item}
+use Rattle.trac_rules.specs.declared.kind.Kind.{Kind}
+use Rattle.trac_rules.specs.declared.kind.Kind.TheVariants.{Active, Neutral}
+use Rattle.trac_rules.specs.declared.primitive.BlockAction.TheVariants.{StoreBlock}
+use Rattle.trac_rules.specs.declared.primitive.Computation.{Computation}
+use Rattle.trac_rules.specs.declared.primitive.Computation.TheVariants.{Equal, Greater, Calculate}
+use Rattle.trac_rules.specs.declared.primitive.FormAction.TheVariants.{Define}
+use Rattle.trac_rules.specs.declared.primitive.Operation.{Operation}
+use Rattle.trac_rules.specs.declared.primitive.Primitive.{Primitive}
+use Rattle.trac_rules.specs.declared.primitive.Primitive.TheVariants.{PrintString, ReadString, ReadByte, Halt, SetMeta, SetTrace, Compute, Handle, HandleBlock, Unknown}
+use Rattle.trac_rules.specs.declared.width.Width.{Width}
+use Rattle.trac_rules.specs.Computing.{computed, number_argument, result_of}
+use Rattle.trac_rules.specs.Effect.{Effect, argument, gives_or_forces}
+use Rattle.trac_rules.specs.Goals.{IsCall, next_call}
+use Rattle.trac_rules.specs.Number.{behind_prefix, calculated, is_greater, numeral_of, on_both, prefix_of}
+use Rattle.trac_rules.specs.Outcomes.{seen_as}
+use Rattle.trac_rules.specs.Performing.{after_call, changed_by, effect_of, performed, placed, primitive_of, printed_behind, trace_line}
+use Rattle.trac_rules.specs.Scanning.{Call, Calls, gathered_in, scan}
+use Rattle.trac_rules.specs.State.{Block, Environment, Frame, State, Storage, storage_of}
+use Rattle.trac_rules.specs.Stepping.{step}
+use Rattle.trac_origins.specs.Lengths.{IsCallOf, gives_bits, is_silent, may_put, number_chosen, of_argument, value_at}
+use Rattle.trac_origins.specs.Places.{InArgument, InForm, InHeld, InOutput, Carried, Read, Made, found_at}
+use Rattle.trac_origins.specs.Stepping.{origin}
+use Rattle.trac_origins.proofs.ToldEffects.{length_argument, length_printed, line_told, silent_told}
+use Rattle.trac_origins.proofs.ToldPut.{address_told, defined_told, stored_told}
+use Rattle.trac_origins.proofs.ToldValues.{bits_told, byte_told, default_told, digits_told, equal_told, greater_told, prefix_told, string_told, text_printed}
+use Rattle.trac_follow.specs.declared.place.Origin as code_origin
+use Rattle.trac_follow.specs.declared.place.Place as code_place
+use Rattle.trac_follow.specs.Places.{Tells, TellsComputed, TellsValue, ToldAsPrinted, ToldAsPut, ToldAsRead, ToldAsStored, reads_tape}
+use Rattle.trac_follow.proofs.CallsTold.{blocks_are, form_without, given_call, has_done, number_is, output_is, position_is}
+
+-- a call is one
+one_call : (s : State) (a b : Call) → scan s ≡ Calls a → scan s ≡ Calls b → a ≡ b
+one_call s a b first second = let same : Calls a ≡ Calls b = sym first ∙ second in cc
+
+-- the call of a reader is this one
+pub arguments_given : (s : State) (kind : Kind) (arguments : List (List ℕ)) (call : Call) → IsCall (next_call s) kind arguments →
+    scan s ≡ Calls call → call.arguments ≡ arguments
+arguments_given s kind arguments call is scans =
+    let given = given_call s kind arguments is in
+    ap (λ (c : Call). c.arguments) (one_call s call given.0 scans given.1) ∙ given.3
+
+-- ---- the input
+
+-- a primitive that reads is one of two
+reads_one : (primitive : Primitive) → reads_tape primitive ≡ true → (primitive ≡ ReadString) ⊎ (primitive ≡ ReadByte)
+reads_one PrintString e = absurd (cc)
+reads_one ReadString e = inl refl
+reads_one ReadByte e = inr refl
+reads_one Halt e = absurd (cc)
+reads_one SetMeta e = absurd (cc)
+reads_one (SetTrace trace) e = absurd (cc)
+reads_one (Compute computation) e = absurd (cc)
+reads_one (Handle action) e = absurd (cc)
+reads_one (HandleBlock action) e = absurd (cc)
+reads_one Unknown e = absurd (cc)
+
+pub read_told : (s : State) (width : Width) (i : ℕ) (told : code_origin.Origin) (arguments : List (List ℕ)) (kind : Kind) (primitive : Primitive) →
+    IsCall (next_call s) kind arguments → primitive ≡ primitive_of (argument 0 arguments) →
+    reads_tape primitive ≡ true → ToldAsRead s.position i told → TellsValue s width i told
+read_told s width i (code_origin.TheVariants.Carried place) arguments kind primitive is named which told = absurd told
+read_told s width i (code_origin.TheVariants.OfForm n) arguments kind primitive is named which told = absurd told
+read_told s width i code_origin.TheVariants.Made arguments kind primitive is named which told = absurd told
+read_told s width i code_origin.TheVariants.Unknown arguments kind primitive is named which told = λ environment call e wide scans does l. tt
+read_told s width i (code_origin.TheVariants.Read n) arguments kind primitive is named which told = λ environment call e wide scans does l.
+    let called : primitive_of (argument 0 call.arguments) ≡ primitive =
+    ap (λ (texts : List (List ℕ)). primitive_of (argument 0 texts)) (arguments_given s kind arguments call is scans) ∙ sym named in
+    let place : call.state.position + i ≡ n = ap (λ m. m + i) (position_is s call scans) ∙ sym told in
+    ⊎_elim
+    (λ (string : primitive ≡ ReadString). string_told environment s call e (record { scans = scans; named = called ∙ string; does = does }) i l ∙ ap Read place)
+    (λ (byte : primitive ≡ ReadByte). byte_told environment s call e (record { scans = scans; named = called ∙ byte; does = does }) i l ∙ ap Read place)
+    (reads_one primitive which)
+
+-- ---- computations
+
+-- from what a computation tells
+pub computed_told : (s : State) (width : Width) (i function : ℕ) (told : code_origin.Origin) (arguments : List (List ℕ)) (kind : Kind) (computation : Computation) →
+    IsCall (next_call s) kind arguments → primitive_of (argument 0 arguments) ≡ Compute computation →
+    function + 1 ≡ length s.frames → TellsComputed computation arguments function width i told → TellsValue s width i told
+computed_told s width i function told arguments kind computation is named number tells environment call e wide scans does l =
+    let same = arguments_given s kind arguments call is scans in
+    tells environment s call e wide
+    (record { scans = scans; named = ap (λ (texts : List (List ℕ)). primitive_of (argument 0 texts)) same ∙ named; does = does })
+    same (number_is s call scans function number) l
+
+module _ (arguments : List (List ℕ)) (function : ℕ) (width : Width) (i : ℕ) where
+  abbrev given : ℕ → code_origin.Origin
+  given k = code_origin.TheVariants.Carried (code_place.TheVariants.Argument function k i)
+
+  -- an argument of the call, whatever texts it has
+  as_given : (environment : Environment) (s : State) (call : Call) (e : Effect) (k n : ℕ) → length call.state.frames ≡ function → k ≡ n →
+      origin environment s (value_at call.kind e.forced call.state i) ≡ of_argument call k i → Tells s (given n) (origin environment s (value_at call.kind e.forced call.state i))
+  as_given environment s call e k n number same h = h ∙ ap₂ (λ m j. Carried (InArgument m j i)) number same
+
+  pub equal_is : (first : Bool) → first ≡ bytes_eq (argument 1 arguments) (argument 2 arguments) → (k : ℕ) → k ≡ number_chosen first → TellsComputed Equal arguments function width i (given k)
+  equal_is first test k chosen environment s call e wide is same number l =
+      as_given environment s call e (number_chosen (bytes_eq (argument 1 call.arguments) (argument 2 call.arguments))) k number
+      (ap (λ (texts : List (List ℕ)). number_chosen (bytes_eq (argument 1 texts) (argument 2 texts))) same ∙ ap number_chosen (sym test) ∙ sym chosen)
+      (equal_told environment s call e is i l)
+
+  pub greater_is : (first : Bool) → first ≡ is_greater (numeral_of (argument 1 arguments)) (numeral_of (argument 2 arguments)) → (k : ℕ) → k ≡ number_chosen first →
+      TellsComputed Greater arguments function width i (given k)
+  greater_is first test k chosen environment s call e wide is same number l =
+      as_given environment s call e (number_chosen (is_greater (numeral_of (argument 1 call.arguments)) (numeral_of (argument 2 call.arguments)))) k number
+      (ap (λ (texts : List (List ℕ)). number_chosen (is_greater (numeral_of (argument 1 texts)) (numeral_of (argument 2 texts)))) same ∙ ap number_chosen (sym test) ∙ sym chosen)
+      (greater_told environment s call e is i l)
+
+  pub bits_are : (computation : Computation) → gives_bits computation ≡ true → TellsComputed computation arguments function width i code_origin.TheVariants.Made
+  bits_are computation bits environment s call e wide is same number l = bits_told environment s call e computation bits is i l
+
+  -- ---- results
+
+  abbrev result : Operation → Width → List (List ℕ) → Option ℤ
+  result operation w texts = on_both (result_of operation w) (number_argument w 1 texts) (number_argument w 2 texts)
+
+  -- what a computation does
+  effect_is : (environment : Environment) (s : State) (call : Call) (e : Effect) (computation : Computation) → IsCallOf environment s call (Compute computation) e →
+      e.forced ≡ (computed computation environment.width call.arguments (storage_of call.state)).forced
+  unfolding performed
+  effect_is environment s call e computation is =
+      let line = trace_line call.state.trace call.kind call.arguments in
+      let done : Ok (printed_behind line (computed computation environment.width call.arguments (storage_of call.state))) ≡ Ok e =
+      ap (λ p. seen_as (printed_behind line) (effect_of p environment call.arguments call.state)) (sym is.named) ∙ is.does in
+      let same : printed_behind line (computed computation environment.width call.arguments (storage_of call.state)) ≡ e = cc in
+      ap (λ (f : Effect). f.forced) (sym same)
+
+  forced_is : (found : Option ℤ) (prefix other : List ℕ) (storage : Storage) → (gives_or_forces (behind_prefix prefix found) other storage).forced ≡ is_none found
+  forced_is None prefix other storage = refl
+  forced_is (Some n) prefix other storage = refl
+
+  calculated_is : (operation : Operation) (w : Width) (texts : List (List ℕ)) (storage : Storage) →
+      (computed (Calculate operation) w texts storage).forced ≡ is_none (result operation w texts)
+  unfolding calculated
+  calculated_is operation w texts storage = forced_is (result operation w texts) (prefix_of (argument 1 texts)) (argument 3 texts) storage
+
+  forced_by : (environment : Environment) (s : State) (call : Call) (e : Effect) (operation : Operation) → IsCallOf environment s call (Compute (Calculate operation)) e →
+      environment.width ≡ width → call.arguments ≡ arguments → e.forced ≡ is_none (result operation width arguments)
+  forced_by environment s call e operation is wide same =
+      effect_is environment s call e (Calculate operation) is ∙ calculated_is operation environment.width call.arguments (storage_of call.state)
+      ∙ ap₂ (λ w (texts : List (List ℕ)). is_none (result operation w texts)) wide same
+
+  pub default_is : (operation : Operation) → is_none (result operation width arguments) ≡ true → TellsComputed (Calculate operation) arguments function width i (given 3)
+  default_is operation none environment s call e wide is same number l =
+      as_given environment s call e 3 3 number refl (default_told environment s call e operation is (forced_by environment s call e operation is wide same ∙ none) i l)
+
+  pub prefix_is : (operation : Operation) → is_none (result operation width arguments) ≡ false → i < length (prefix_of (argument 1 arguments)) →
+      TellsComputed (Calculate operation) arguments function width i (given 1)
+  prefix_is operation some within environment s call e wide is same number l =
+      as_given environment s call e 1 1 number refl
+      (prefix_told environment s call e operation is (forced_by environment s call e operation is wide same ∙ some) i l
+      (subst (λ (texts : List (List ℕ)). i < length (prefix_of (argument 1 texts))) (sym same) within))
+
+  pub digits_are : (operation : Operation) → is_none (result operation width arguments) ≡ false → length (prefix_of (argument 1 arguments)) ≤ i →
+      TellsComputed (Calculate operation) arguments function width i code_origin.TheVariants.Made
+  digits_are operation some past environment s call e wide is same number l =
+      digits_told environment s call e operation is (forced_by environment s call e operation is wide same ∙ some) i l
+      (subst (λ (texts : List (List ℕ)). length (prefix_of (argument 1 texts)) ≤ i) (sym same) past)
+
+-- a test for a result
+pub is_none_by : (found : Option ℤ) (none : Bool) → is_some found ≡ not none → is_none found ≡ none
+is_none_by None true e = refl
+is_none_by None false e = absurd (cc)
+is_none_by (Some n) true e = absurd (cc)
+is_none_by (Some n) false e = refl
+
+-- ---- what is printed
+
+output-placed : (kind : Kind) (forced : Bool) (value : List ℕ) (u : State) → (placed kind forced value u).output ≡ u.output
+output-placed Active forced value u = refl
+output-placed Neutral true value u = refl
+output-placed Neutral false value u = go u.frames
+  where
+    go : (fs : List Frame) → (gathered_in fs value u).output ≡ u.output
+    go [] = refl
+    go (f ∷ fs) = refl
+
+-- a name that is given
+pub named_by : (s : State) (kind : Kind) (arguments : List (List ℕ)) (call : Call) (primitive : Primitive) (name : List ℕ) → IsCall (next_call s) kind arguments → scan s ≡ Calls call →
+    name ≡ argument 0 arguments → primitive ≡ primitive_of name → primitive_of (argument 0 call.arguments) ≡ primitive
+named_by s kind arguments call primitive name is scans given named =
+    ap (λ (texts : List (List ℕ)). primitive_of (argument 0 texts)) (arguments_given s kind arguments call is scans) ∙ ap primitive_of (sym given) ∙ sym named
+
+module _ (environment : Environment) (s t : State) (call : Call) (h : step environment s ≡ Ok t) (scans : scan s ≡ Calls call) where
+  pub call_does : (primitive : Primitive) → primitive_of (argument 0 call.arguments) ≡ primitive → (e : Effect) × IsCallOf environment s call primitive e × (t ≡ after_call call e)
+  call_does primitive named =
+      let done = has_done environment s t call h scans in
+      (done.effect, record { scans = scans; named = named; does = done.does }, done.after)
+
+  pub silent_made : (primitive : Primitive) → primitive_of (argument 0 call.arguments) ≡ primitive → is_silent primitive ≡ true → (i : ℕ) → length s.output ≤ i → origin environment s (InOutput i) ≡ Made
+  silent_made primitive named silent i past =
+      let done = call_does primitive named in
+      let index : i ≡ length call.state.output + (i - length s.output) =
+      omega (arith, past, ap (λ (text : List ℕ). length text) (output_is s call scans)) in
+      ap (λ n. origin environment s (InOutput n)) index ∙ silent_told environment s call primitive done.0 done.1 silent (i - length s.output)
+
+  pub printed_tells : primitive_of (argument 0 call.arguments) ≡ PrintString → (text function end i : ℕ) (told : code_origin.Origin) → text ≡ length (argument 1 call.arguments) →
+      length call.state.frames ≡ function → end ≡ length t.output → length s.output ≤ i → ToldAsPrinted text function end i told → Tells s told (origin environment s (InOutput i))
+  printed_tells named text function end i told long number ends past tells = go told tells
+    where
+      done : (e : Effect) × IsCallOf environment s call PrintString e × (t ≡ after_call call e)
+      done = call_does PrintString named
+
+      line : ℕ
+      line = length (trace_line call.state.trace call.kind call.arguments)
+
+      -- how long the output is then
+      whole : end ≡ length s.output + (line + text)
+      whole =
+          let e : Effect = done.0 in
+          omega (
+            arith,
+            ends,
+            ap (λ (u : State). length u.output) done.2,
+            ap (λ (bytes : List ℕ). length bytes) (output-placed call.kind e.forced e.value (changed_by e call.state)),
+            length-append call.state.output e.printed,
+            ap (λ (bytes : List ℕ). length bytes) (output_is s call scans),
+            length_printed environment s call PrintString e done.1,
+            length_argument environment s call PrintString e done.1 1,
+            long,
+          )
+
+      before : length call.state.output ≡ length s.output
+      before = ap (λ (bytes : List ℕ). length bytes) (output_is s call scans)
+
+      go : (o : code_origin.Origin) → ToldAsPrinted text function end i o → Tells s o (origin environment s (InOutput i))
+      go (code_origin.TheVariants.Carried (code_place.TheVariants.Argument n k j)) at =
+          let index : i ≡ length call.state.output + (line + j) = omega (arith, at.2, whole, before) in
+          ap (λ m. origin environment s (InOutput m)) index
+          ∙ text_printed environment s call done.0 done.1 j (omega (arith, at.3, long))
+          ∙ ap₂ (λ m a. Carried (InArgument m a j)) (number ∙ sym at.0) (sym at.1)
+      go (code_origin.TheVariants.Carried (code_place.TheVariants.Active j)) at = absurd at
+      go (code_origin.TheVariants.Carried (code_place.TheVariants.Base j)) at = absurd at
+      go (code_origin.TheVariants.Carried (code_place.TheVariants.Form name j)) at = absurd at
+      go (code_origin.TheVariants.Carried (code_place.TheVariants.Held k name j)) at = absurd at
+      go (code_origin.TheVariants.Carried (code_place.TheVariants.Output j)) at = absurd at
+      go (code_origin.TheVariants.OfForm n) at = absurd at
+      go (code_origin.TheVariants.Read n) at = absurd at
+      go code_origin.TheVariants.Unknown at = tt
+      go code_origin.TheVariants.Made at =
+          let index : i ≡ length call.state.output + (i - length s.output) = omega (arith, past, before) in
+          ap (λ m. origin environment s (InOutput m)) index
+          ∙ line_told environment s call PrintString done.0 done.1 (i - length s.output) (omega (arith, at, whole, past))
+
+  -- ---- what is put
+
+  pub defined_is : (name : List ℕ) (i function : ℕ) → primitive_of (argument 0 call.arguments) ≡ Handle Define → bytes_eq name (argument 1 call.arguments) ≡ true → length call.state.frames ≡ function →
+      i < length (argument 2 call.arguments) → origin environment s (InForm name i) ≡ Carried (InArgument function 2 i)
+  defined_is name i function named same number l =
+      let done = call_does (Handle Define) named in
+      ap (λ q. origin environment s (InForm q i)) ((bytes_eq-Decides name (argument 1 call.arguments)).0 same)
+      ∙ defined_told environment s call done.0 done.1 i l ∙ ap (λ n. Carried (InArgument n 2 i)) number
+
+  pub address_is : (name : List ℕ) (i : ℕ) → primitive_of (argument 0 call.arguments) ≡ HandleBlock StoreBlock → bytes_eq name (argument 1 call.arguments) ≡ true →
+      origin environment s (InForm name i) ≡ Made
+  address_is name i named same =
+      let done = call_does (HandleBlock StoreBlock) named in
+      ap (λ q. origin environment s (InForm q i)) ((bytes_eq-Decides name (argument 1 call.arguments)).0 same) ∙ address_told environment s call done.0 done.1 i
+
+  pub stored_is : (number : ℕ) (name : List ℕ) (i : ℕ) (x : Item) → primitive_of (argument 0 call.arguments) ≡ HandleBlock StoreBlock → number ≡ length s.blocks →
+      found_at s (InForm name i) ≡ Some x → origin environment s (InHeld number name i) ≡ Carried (InForm name i)
+  stored_is number name i x named last stands =
+      let done = call_does (HandleBlock StoreBlock) named in
+      let count : number ≡ length call.state.blocks = last ∙ sym (ap (λ (bs : List Block). length bs) (blocks_are s call scans)) in
+      ap (λ n. origin environment s (InHeld n name i)) count ∙ stored_told environment s call done.0 done.1 name i x (form_without s call scans name i x stands)
+
+  pub put_tells : (primitive : Primitive) → primitive_of (argument 0 call.arguments) ≡ primitive → (name : List ℕ) (i function text : ℕ) (told : code_origin.Origin) →
+      may_put primitive (argument 1 call.arguments) name ≡ true → length call.state.frames ≡ function → text ≡ length (argument 2 call.arguments) →
+      ToldAsPut primitive text function i told → Tells s told (origin environment s (InForm name i))
+  put_tells primitive named name i function text told may number long tells = go told tells
+    where
+      given_name : (p : Primitive) → p ≡ primitive → may_put p (argument 1 call.arguments) name ≡ true
+      given_name p same = ap (λ q. may_put q (argument 1 call.arguments) name) same ∙ may
+
+      go : (o : code_origin.Origin) → ToldAsPut primitive text function i o → Tells s o (origin environment s (InForm name i))
+      go (code_origin.TheVariants.Carried (code_place.TheVariants.Argument n k j)) at =
+          defined_is name i function (named ∙ at.0) (given_name (Handle Define) (sym at.0)) number (omega (arith, at.4, long))
+          ∙ ap₂ (λ m a. Carried (InArgument m a i)) (sym at.1) (sym at.2) ∙ ap (λ b. Carried (InArgument n k b)) (sym at.3)
+      go (code_origin.TheVariants.Carried (code_place.TheVariants.Active j)) at = absurd at
+      go (code_origin.TheVariants.Carried (code_place.TheVariants.Base j)) at = absurd at
+      go (code_origin.TheVariants.Carried (code_place.TheVariants.Form q j)) at = absurd at
+      go (code_origin.TheVariants.Carried (code_place.TheVariants.Held k q j)) at = absurd at
+      go (code_origin.TheVariants.Carried (code_place.TheVariants.Output j)) at = absurd at
+      go (code_origin.TheVariants.OfForm n) at = absurd at
+      go (code_origin.TheVariants.Read n) at = absurd at
+      go code_origin.TheVariants.Unknown at = tt
+      go code_origin.TheVariants.Made at = address_is name i (named ∙ at) (given_name (HandleBlock StoreBlock) (sym at))
+
+  pub stored_tells : (number : ℕ) (name : List ℕ) (i : ℕ) (told : code_origin.Origin) → primitive_of (argument 0 call.arguments) ≡ HandleBlock StoreBlock → number ≡ length s.blocks →
+      ToldAsStored s name i told → Tells s told (origin environment s (InHeld number name i))
+  stored_tells number name i (code_origin.TheVariants.Carried place) named last tells =
+      stored_is number name i tells.1.0 named last tells.1.1 ∙ ap Carried (sym tells.0)
+  stored_tells number name i (code_origin.TheVariants.OfForm n) named last tells = absurd tells
+  stored_tells number name i (code_origin.TheVariants.Read n) named last tells = absurd tells
+  stored_tells number name i code_origin.TheVariants.Made named last tells = absurd tells
+  stored_tells number name i code_origin.TheVariants.Unknown named last tells = tt

@@ -1,0 +1,29 @@
+use Rattle.std.proofs.Common.{inl, inr, refl, sym, subst}
+use Rattle.trac_follow.specs.declared.history.Source as code
+use Rattle.trac_follow.specs.declared.history.Turn as turning
+use Rattle.trac_follow.specs.Running.{IsTurn}
+use Rattle.trac_follow.proofs.history.turned.Goals as goal
+
+pub returns-then-is_passed : goal.returns-then-is_passed
+returns-then-is_passed g c =
+    (c.told_of.result, c.told_of.ensures, subst (λ o. IsTurn c.args.here o (turning.TheVariants.End (code.TheVariants.Passed c.in-Carried.there))) (sym c.in-Carried.is) (inr refl))
+
+pub returns-else-is_passed : goal.returns-else-is_passed
+returns-else-is_passed g c =
+    (c.told_of.result, c.told_of.ensures, subst (λ o. IsTurn c.args.here o (turning.TheVariants.On c.in-Carried.there)) (sym c.in-Carried.is) (inl refl))
+
+pub returns-in-OfForm : goal.returns-in-OfForm
+returns-in-OfForm g c =
+    (c.told_of.result, c.told_of.ensures, subst (λ o. IsTurn c.args.here o (turning.TheVariants.End (code.TheVariants.OfForm c.in-OfForm.i))) (sym c.in-OfForm.is) (refl))
+
+pub returns-in-Read : goal.returns-in-Read
+returns-in-Read g c =
+    (c.told_of.result, c.told_of.ensures, subst (λ o. IsTurn c.args.here o (turning.TheVariants.End (code.TheVariants.Read c.in-Read.n))) (sym c.in-Read.is) (refl))
+
+pub returns-in-Made : goal.returns-in-Made
+returns-in-Made g c =
+    (c.told_of.result, c.told_of.ensures, subst (λ o. IsTurn c.args.here o (turning.TheVariants.End code.TheVariants.Made)) (sym c.in-Made.is) (refl))
+
+pub returns-in-Unknown : goal.returns-in-Unknown
+returns-in-Unknown g c =
+    (c.told_of.result, c.told_of.ensures, subst (λ o. IsTurn c.args.here o (turning.TheVariants.End (code.TheVariants.Unknown c.args.here))) (sym c.in-Unknown.is) (refl))

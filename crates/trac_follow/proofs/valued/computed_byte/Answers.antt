@@ -1,0 +1,26 @@
+use Rattle.std.proofs.Common.{◌≡◌, sym, ap, subst, ◌∙◌}
+use Rattle.std.specs.Str.{bytes_eq}
+use Rattle.trac_rules.specs.declared.primitive.Computation.{Computation}
+use Rattle.trac_rules.specs.declared.primitive.Computation.TheVariants.{Equal, Greater}
+use Rattle.trac_rules.specs.Effect.{argument}
+use Rattle.trac_follow.specs.Places.{TellsComputed}
+use Rattle.trac_follow.proofs.ValuesTold.{bits_are, equal_is, greater_is}
+use Rattle.trac_follow.proofs.valued.computed_byte.Goals as goal
+
+pub returns-then-gives_bits : goal.returns-then-gives_bits
+returns-then-gives_bits c =
+    bits_are c.args.arguments.now c.args.function c.args.width c.args.i c.args.computation (sym c.gives_bits.ensures ∙ c.if-gives_bits.true)
+
+pub returns-in-Equal : goal.returns-in-Equal
+returns-in-Equal c =
+    let same : c.eq.result ≡ bytes_eq (argument 1 c.args.arguments.now) (argument 2 c.args.arguments.now) =
+    c.eq.ensures ∙ ap (λ text. bytes_eq text c.get-in-Equal.result.now) c.get.ensures ∙ ap (bytes_eq (argument 1 c.args.arguments.now)) c.get-in-Equal.ensures in
+    subst (λ (k : Computation). TellsComputed k c.args.arguments.now c.args.function c.args.width c.args.i c.argument_byte.result) (sym c.in-Equal.is)
+    (subst (λ told. TellsComputed Equal c.args.arguments.now c.args.function c.args.width c.args.i told) (sym c.argument_byte.ensures)
+    (equal_is c.args.arguments.now c.args.function c.args.width c.args.i c.eq.result same c.chosen.result c.chosen.ensures))
+
+pub returns-in-Greater : goal.returns-in-Greater
+returns-in-Greater c =
+    subst (λ (k : Computation). TellsComputed k c.args.arguments.now c.args.function c.args.width c.args.i c.argument_byte-in-Greater.result) (sym c.in-Greater.is)
+    (subst (λ told. TellsComputed Greater c.args.arguments.now c.args.function c.args.width c.args.i told) (sym c.argument_byte-in-Greater.ensures)
+    (greater_is c.args.arguments.now c.args.function c.args.width c.args.i c.has_greater.result c.has_greater.ensures c.chosen-in-Greater.result c.chosen-in-Greater.ensures))

@@ -1,0 +1,6 @@
+-- What following a byte says, in the words of `trac_origins`.
+pub mod Places
+pub mod Items
+pub mod Formed
+pub mod Following
+pub mod Running

@@ -1,0 +1,104 @@
+-- Places and origins as the definitions see them.
+use Rattle.std.specs.Prelude.{◌≡◌, ℕ, ◌+◌, ◌<◌, List, length, Bool, true, false, Some, Ok}
+use Rattle.trac_rules.specs.declared.item.Item.{Item}
+use Rattle.trac_rules.specs.declared.primitive.BlockAction.TheVariants.{StoreBlock}
+use Rattle.trac_rules.specs.declared.primitive.Computation.{Computation}
+use Rattle.trac_rules.specs.declared.primitive.FormAction.TheVariants.{Define}
+use Rattle.trac_rules.specs.declared.primitive.Primitive.{Primitive}
+use Rattle.trac_rules.specs.declared.primitive.Primitive.TheVariants.{ReadString, ReadByte, Compute, Handle, HandleBlock}
+use Rattle.trac_rules.specs.declared.width.Width.{Width}
+use Rattle.trac_rules.specs.Effect.{Effect, argument}
+use Rattle.trac_rules.specs.Performing.{performed}
+use Rattle.trac_rules.specs.Scanning.{Call, Calls, scan}
+use Rattle.trac_rules.specs.State.{Environment, State}
+use Rattle.trac_rules.specs.Stepping.{step}
+use Rattle.trac_origins.specs.Places.{Place, InActive, InBase, InArgument, InForm, InHeld, InOutput, Origin, Carried, Read, Made, found_at}
+use Rattle.trac_origins.specs.Lengths.{IsCallOf, value_at}
+use Rattle.trac_origins.specs.Stepping.{origin}
+use Rattle.trac_follow.specs.declared.place.After.{After}
+use Rattle.trac_follow.specs.Items.{IsMeasured}
+use Rattle.trac_follow.specs.declared.place.Place as code_place
+use Rattle.trac_follow.specs.declared.place.Origin as code_origin
+
+abbrev pub place_of : code_place.Place → Place
+place_of (code_place.TheVariants.Active i) = InActive i
+place_of (code_place.TheVariants.Base i) = InBase i
+place_of (code_place.TheVariants.Argument function argument byte) = InArgument function argument byte
+place_of (code_place.TheVariants.Form name i) = InForm name.now i
+place_of (code_place.TheVariants.Held number name i) = InHeld number name.now i
+place_of (code_place.TheVariants.Output i) = InOutput i
+
+-- what is told in a state is this origin of what stands somewhere after the step from it
+abbrev pub Tells : State → code_origin.Origin → Origin → Type 0
+Tells s (code_origin.TheVariants.Carried place) o = o ≡ Carried (place_of place)
+Tells s (code_origin.TheVariants.OfForm i) o = (call : Call) × (scan s ≡ Calls call) × (o ≡ Carried (InForm (argument 1 call.arguments) i))
+Tells s (code_origin.TheVariants.Read n) o = o ≡ Read n
+Tells s code_origin.TheVariants.Made o = o ≡ Made
+Tells s code_origin.TheVariants.Unknown o = Unit {0}
+
+-- this is told of a state and of a place in it
+pub record AreLengths (after : After) (t : State) (place : Place) : Type 0 where
+  pub active : after.active ≡ length t.active
+  pub output : after.output ≡ length t.output
+  pub measured : IsMeasured after.extent after.is_gap t place
+
+-- what is told in the state `s` of a place: it is the origin of what stands there after the step, of whatever input, where that step leads
+-- to texts of these lengths
+abbrev pub TellsOf : State → Width → After → Place → code_origin.Origin → Type 0
+TellsOf s width after place told =
+    (environment : Environment) (t : State) (item : Item) → environment.width ≡ width → step environment s ≡ Ok t → AreLengths after t place → found_at t place ≡ Some item →
+    Tells s told (origin environment s place)
+
+-- what is told in the state `s` of the byte of this number of the value of the call that the step performs
+abbrev pub TellsValue : State → Width → ℕ → code_origin.Origin → Type 0
+TellsValue s width i told =
+    (environment : Environment) (call : Call) (e : Effect) → environment.width ≡ width → scan s ≡ Calls call → performed environment call ≡ Ok e → i < length e.value →
+    Tells s told (origin environment s (value_at call.kind e.forced call.state i))
+
+-- the same, where the call is of this computation, has these arguments, and is that of the function of this number
+abbrev pub TellsComputed : Computation → List (List ℕ) → ℕ → Width → ℕ → code_origin.Origin → Type 0
+TellsComputed computation arguments function width i told =
+    (environment : Environment) (s : State) (call : Call) (e : Effect) → environment.width ≡ width → IsCallOf environment s call (Compute computation) e → call.arguments ≡ arguments →
+    length call.state.frames ≡ function → i < length e.value → Tells s told (origin environment s (value_at call.kind e.forced call.state i))
+
+-- read from this position on, or not told
+abbrev pub ToldAsRead : ℕ → ℕ → code_origin.Origin → Type 0
+ToldAsRead position i (code_origin.TheVariants.Read n) = n ≡ position + i
+ToldAsRead position i code_origin.TheVariants.Unknown = Unit {0}
+ToldAsRead position i told = ⊥
+
+-- a place is in no function from this number on
+abbrev pub IsOutside : ℕ → Place → Type 0
+IsOutside function (InArgument number argument byte) = number < function
+IsOutside function place = Unit {0}
+
+-- of a text of this length, an argument 1, that ends the output at `end`, and of the line that is made before it
+abbrev pub ToldAsPrinted : ℕ → ℕ → ℕ → ℕ → code_origin.Origin → Type 0
+ToldAsPrinted text function end i (code_origin.TheVariants.Carried (code_place.TheVariants.Argument n k j)) = (n ≡ function) × (k ≡ 1) × (j + end ≡ i + text) × (j < text)
+ToldAsPrinted text function end i code_origin.TheVariants.Made = i + text < end
+ToldAsPrinted text function end i code_origin.TheVariants.Unknown = Unit {0}
+ToldAsPrinted text function end i told = ⊥
+
+-- of argument 2, which is so long, where the primitive is `ds`; and made, where it is `sb`
+abbrev pub ToldAsPut : Primitive → ℕ → ℕ → ℕ → code_origin.Origin → Type 0
+ToldAsPut primitive text function i (code_origin.TheVariants.Carried (code_place.TheVariants.Argument n k j)) =
+    (primitive ≡ Handle Define) × (n ≡ function) × (k ≡ 2) × (j ≡ i) × (i < text)
+ToldAsPut primitive text function i code_origin.TheVariants.Made = primitive ≡ HandleBlock StoreBlock
+ToldAsPut primitive text function i code_origin.TheVariants.Unknown = Unit {0}
+ToldAsPut primitive text function i told = ⊥
+
+-- something stands at a place
+abbrev pub Stands : State → Place → Type 0
+Stands s place = (item : Item) × (found_at s place ≡ Some item)
+
+-- carried from this item of a form
+abbrev pub ToldAsStored : State → List ℕ → ℕ → code_origin.Origin → Type 0
+ToldAsStored s name i (code_origin.TheVariants.Carried place) = (place_of place ≡ InForm name i) × Stands s (InForm name i)
+ToldAsStored s name i code_origin.TheVariants.Unknown = Unit {0}
+ToldAsStored s name i told = ⊥
+
+-- whether a primitive reads the input
+abbrev pub reads_tape : Primitive → Bool
+reads_tape ReadString = true
+reads_tape ReadByte = true
+reads_tape primitive = false

@@ -1,0 +1,32 @@
+-- Steps back over which a byte is followed without a look at where it comes from.
+use Rattle.std.specs.Prelude.{◌≡◌, ◌⊎◌, ℕ, Bool, Ok, Some}
+use Rattle.trac_rules.specs.declared.item.Item.{Item}
+use Rattle.trac_rules.specs.declared.width.Width.{Width}
+use Rattle.trac_rules.specs.State.{Environment, State}
+use Rattle.trac_rules.specs.Stepping.{step}
+use Rattle.trac_origins.specs.Places.{Place, Carried, found_at}
+use Rattle.trac_origins.specs.Stepping.{origin}
+use Rattle.trac_follow.specs.declared.history.Source as code
+use Rattle.trac_follow.specs.declared.history.Turn as turning
+use Rattle.trac_follow.specs.declared.place.After.{After}
+use Rattle.trac_follow.specs.declared.place.Origin as told
+use Rattle.trac_follow.specs.declared.place.Place as code_place
+use Rattle.trac_follow.specs.Items.{IsMeasured}
+use Rattle.trac_follow.specs.Places.{TellsOf, place_of}
+
+-- what stands at a place after the step from a state stood there before it, and what is measured of the place stays
+abbrev pub StaysAt : State → Place → Type 0
+StaysAt s place =
+    (environment : Environment) (t : State) (item : Item) → step environment s ≡ Ok t → found_at t place ≡ Some item →
+    (origin environment s place ≡ Carried place) × ((bytes : ℕ) (gap : Bool) → IsMeasured bytes gap t place → IsMeasured bytes gap s place)
+
+-- how it goes on from a place here, by what is told of it
+abbrev pub IsTurn : code_place.Place → told.Origin → turning.Turn → Type 0
+IsTurn here (told.TheVariants.Carried there) turn = (turn ≡ turning.TheVariants.On there) ⊎ (turn ≡ turning.TheVariants.End (code.TheVariants.Passed there))
+IsTurn here (told.TheVariants.OfForm i) turn = turn ≡ turning.TheVariants.End (code.TheVariants.OfForm i)
+IsTurn here (told.TheVariants.Read n) turn = turn ≡ turning.TheVariants.End (code.TheVariants.Read n)
+IsTurn here told.TheVariants.Made turn = turn ≡ turning.TheVariants.End code.TheVariants.Made
+IsTurn here told.TheVariants.Unknown turn = turn ≡ turning.TheVariants.End (code.TheVariants.Unknown here)
+
+abbrev pub HasTurned : State → Width → After → code_place.Place → turning.Turn → Type 0
+HasTurned s width after here turn = (o : told.Origin) × TellsOf s width after (place_of here) o × IsTurn here o turn

@@ -1,0 +1,276 @@
+//! Where bytes come from by a call.
+ghost use Rattle.std.specs.Prelude.{◌≡◌, ◌+◌, length, IsTrue};
+ghost use Rattle.trac_origins.specs.Lengths.{is_silent, may_put};
+ghost use Rattle.trac_origins.specs.Places.{InActive, InForm, InHeld, InOutput};
+ghost use Rattle.trac_rules.specs.declared.primitive.BlockAction.TheVariants.{StoreBlock};
+ghost use Rattle.trac_rules.specs.declared.primitive.Primitive.TheVariants.{HandleBlock};
+ghost use Rattle.trac_rules.specs.declared.width.Width.{Width};
+ghost use Rattle.trac_rules.specs.Goals.{IsCall, next_call};
+ghost use Rattle.trac_follow.specs.declared.place.After.{After as Lengths};
+ghost use Rattle.trac_follow.specs.Formed.{ToldAsFormCut, ToldAsFormShown};
+ghost use Rattle.trac_follow.specs.Places.{TellsOf, ToldAsPrinted, ToldAsPut, ToldAsStored, place_of};
+
+use crate::formed::{cut_item, shown_byte};
+use crate::name::primitive_named;
+use crate::place::{After, Origin, Place};
+use crate::standing::{past_current, stands_around, stands_in_form};
+use crate::valued::{argument_byte, value_byte};
+use std::alloc::Allocator;
+use trac_gap::TwoEnds;
+use trac_prims::{Args, Kind};
+use trac_rules::primitive::{BlockAction, FormAction, Primitive};
+use trac_rules::width::Width;
+use trac_step::{Core, Mark};
+
+// Where what stands at a place comes from, after a step that performs this call and leaves texts of these lengths.
+pub(crate) fn called<'a, E: TwoEnds<u8, A>, M: TwoEnds<Mark, A>, A: Allocator + Copy>(
+    before: &Core<E, M, A>,
+    width: Width,
+    kind: Kind,
+    arguments: &Args<'_>,
+    after: After,
+    place: Place<'a>,
+) -> Origin<'a>
+    requires call { IsCall (next_call before.now.state) kind arguments.now }
+    ensures { TellsOf before.now.state width after (place_of place.entry) result }
+{
+    let depth = before.depth();
+    if depth == 0 {
+        return Origin::Unknown;
+    }
+    match place {
+        Place::Active(i) => of_active(before, width, kind, arguments, depth - 1, after, i),
+        Place::Form(name, i) => of_form(before, kind, arguments, depth - 1, after, name, i),
+        Place::Held(number, name, i) => of_block(before, kind, arguments, number, name, i),
+        Place::Output(i) => of_output(before, kind, arguments, depth - 1, after, i),
+        _ => of_text(before, width, kind, arguments, depth - 1, place),
+    }
+}
+
+// Of the active text: the value, where it is scanned, and then what was left.
+fn of_active<'a, E: TwoEnds<u8, A>, M: TwoEnds<Mark, A>, A: Allocator + Copy>(
+    before: &Core<E, M, A>,
+    width: Width,
+    kind: Kind,
+    arguments: &Args<'_>,
+    function: usize,
+    after: After,
+    i: usize,
+) -> Origin<'a>
+    requires call { IsCall (next_call before.now.state) kind arguments.now }
+    requires number { function + 1 ≡ length before.now.state.frames }
+    ensures { TellsOf before.now.state width after (InActive i) result }
+{
+    let len = before.active().len();
+    if len == 0 || after.active < len - 1 {
+        return Origin::Unknown;
+    }
+    let value = after.active - (len - 1);
+    if i < value {
+        return value_byte(before, kind, arguments, function, width, i);
+    }
+    if i - value >= len - 1 {
+        return Origin::Unknown;
+    }
+    Origin::Carried(Place::Active(i - value + 1))
+}
+
+// Of the texts without the function: what stood there, and after the current text the value, where it is not scanned.
+fn of_text<'a, E: TwoEnds<u8, A>, M: TwoEnds<Mark, A>, A: Allocator + Copy>(
+    before: &Core<E, M, A>,
+    width: Width,
+    kind: Kind,
+    arguments: &Args<'_>,
+    function: usize,
+    place: Place<'a>,
+) -> Origin<'a>
+    requires call { IsCall (next_call before.now.state) kind arguments.now }
+    requires number { function + 1 ≡ length before.now.state.frames }
+    ensures { (after : Lengths) → TellsOf before.now.state width after (place_of place.entry) result }
+{
+    if stands_around(before, function, place) {
+        return Origin::Carried(place);
+    }
+    match past_current(before, function, place) {
+        Some(n) => value_byte(before, kind, arguments, function, width, n),
+        None => Origin::Unknown,
+    }
+}
+
+// Of the output: what was printed, then the line of the trace, and what the primitive prints.
+fn of_output<'a, E: TwoEnds<u8, A>, M: TwoEnds<Mark, A>, A: Allocator + Copy>(
+    before: &Core<E, M, A>,
+    kind: Kind,
+    arguments: &Args<'_>,
+    function: usize,
+    after: After,
+    i: usize,
+) -> Origin<'a>
+    requires call { IsCall (next_call before.now.state) kind arguments.now }
+    requires number { function + 1 ≡ length before.now.state.frames }
+    ensures { (width : Width) → TellsOf before.now.state width after (InOutput i) result }
+{
+    if i < before.output().len() {
+        return Origin::Carried(Place::Output(i));
+    }
+    let primitive = primitive_named(arguments.get(0));
+    if is_silent(primitive) {
+        return Origin::Made;
+    }
+    match primitive {
+        Primitive::PrintString => printed(arguments.get(1).len(), function, after.output, i),
+        Primitive::Handle(FormAction::PrintForm) => {
+            form_shown(before, arguments.get(1), after.output, i)
+        }
+        _ => Origin::Unknown,
+    }
+}
+
+// Of what `pf` prints of the form of this name, after which the output ends; without a form it prints nothing, so what is new
+// is the line of the trace.
+fn form_shown<'a, E: TwoEnds<u8, A>, M: TwoEnds<Mark, A>, A: Allocator + Copy>(
+    before: &Core<E, M, A>,
+    name: &[u8],
+    end: usize,
+    i: usize,
+) -> Origin<'a>
+    ensures { ToldAsFormShown before.now.state name.now end i result }
+{
+    match before.store().get(name) {
+        Some(form) => shown_byte(form, end, i),
+        None => Origin::Made,
+    }
+}
+
+// Whether a primitive prints nothing.
+fn is_silent(primitive: Primitive) -> bool
+    ensures { result ≡ is_silent primitive }
+{
+    !matches!(
+        primitive,
+        Primitive::PrintString | Primitive::Handle(FormAction::PrintForm)
+    )
+}
+
+// Of what `ps` prints, a text that is so long, after which the output ends.
+fn printed<'a>(text: usize, function: usize, end: usize, i: usize) -> Origin<'a>
+    ensures { ToldAsPrinted text function end i result }
+{
+    if text > end {
+        return Origin::Unknown;
+    }
+    if i < end - text {
+        return Origin::Made;
+    }
+    if i - (end - text) >= text {
+        return Origin::Unknown;
+    }
+    argument_byte(function, 1, i - (end - text))
+}
+
+// Of a form.
+fn of_form<'a, E: TwoEnds<u8, A>, M: TwoEnds<Mark, A>, A: Allocator + Copy>(
+    before: &Core<E, M, A>,
+    kind: Kind,
+    arguments: &Args<'_>,
+    function: usize,
+    after: After,
+    name: &'a [u8],
+    i: usize,
+) -> Origin<'a>
+    requires call { IsCall (next_call before.now.state) kind arguments.now }
+    requires number { function + 1 ≡ length before.now.state.frames }
+    ensures { (width : Width) → TellsOf before.now.state width after (InForm name.now i) result }
+{
+    let primitive = primitive_named(arguments.get(0));
+    if may_put(primitive, arguments.get(1), name) {
+        return match primitive {
+            Primitive::Handle(FormAction::Segment) => form_cut(before, name, after),
+            _ => put_item(primitive, arguments.get(2).len(), function, i),
+        };
+    }
+    Origin::Carried(Place::Form(name, i))
+}
+
+// Of a form of this name that `ss` cuts.
+fn form_cut<'a, E: TwoEnds<u8, A>, M: TwoEnds<Mark, A>, A: Allocator + Copy>(
+    before: &Core<E, M, A>,
+    name: &'a [u8],
+    after: After,
+) -> Origin<'a>
+    ensures { ToldAsFormCut before.now.state name.now after result }
+{
+    match before.store().get(name) {
+        Some(form) => cut_item(form, name, after),
+        None => Origin::Unknown,
+    }
+}
+
+// Of a form that the primitive puts, where argument 2 is so long.
+fn put_item<'a>(primitive: Primitive, text: usize, function: usize, i: usize) -> Origin<'a>
+    ensures { ToldAsPut primitive text function i result }
+{
+    match primitive {
+        Primitive::Handle(FormAction::Define) if i < text => argument_byte(function, 2, i),
+        Primitive::HandleBlock(BlockAction::StoreBlock) => Origin::Made,
+        _ => Origin::Unknown,
+    }
+}
+
+// Whether a primitive with this argument 1 may put a form under a name.
+pub(crate) fn may_put(primitive: Primitive, given: &[u8], name: &[u8]) -> bool
+    ensures { result ≡ may_put primitive given.now name.now }
+{
+    match primitive {
+        Primitive::Handle(FormAction::Define | FormAction::Segment)
+        | Primitive::HandleBlock(BlockAction::StoreBlock) => name == given,
+        Primitive::HandleBlock(BlockAction::FetchBlock) => true,
+        _ => false,
+    }
+}
+
+// Of a form that a block holds, which held it before, or of a new block, whose forms were among the others.
+fn of_block<'a, E: TwoEnds<u8, A>, M: TwoEnds<Mark, A>, A: Allocator + Copy>(
+    before: &Core<E, M, A>,
+    kind: Kind,
+    arguments: &Args<'_>,
+    number: usize,
+    name: &'a [u8],
+    i: usize,
+) -> Origin<'a>
+    requires call { IsCall (next_call before.now.state) kind arguments.now }
+    ensures { (width : Width) (after : Lengths) → TellsOf before.now.state width after (InHeld number name.now i) result }
+{
+    let count = before.store().block_count();
+    if number < count {
+        return Origin::Carried(Place::Held(number, name, i));
+    }
+    if number > count {
+        return Origin::Unknown;
+    }
+    if stores_block(primitive_named(arguments.get(0))) {
+        return stored_item(before, name, i);
+    }
+    Origin::Unknown
+}
+
+// Of a form that went into a block with others.
+fn stored_item<'a, E: TwoEnds<u8, A>, M: TwoEnds<Mark, A>, A: Allocator + Copy>(
+    before: &Core<E, M, A>,
+    name: &'a [u8],
+    i: usize,
+) -> Origin<'a>
+    ensures { ToldAsStored before.now.state name.now i result }
+{
+    if stands_in_form(before, name, i) {
+        return Origin::Carried(Place::Form(name, i));
+    }
+    Origin::Unknown
+}
+
+// Whether a primitive puts forms into a new block.
+fn stores_block(primitive: Primitive) -> bool
+    ensures { IsTrue result → primitive ≡ HandleBlock StoreBlock }
+{
+    matches!(primitive, Primitive::HandleBlock(BlockAction::StoreBlock))
+}

@@ -1,0 +1,193 @@
+//! Following a byte back over many steps.
+ghost use Rattle.std.specs.Prelude.{◌≡◌, ◌≤◌, length, Some};
+ghost use Rattle.trac_follow.specs.Following.{IsFollowed};
+ghost use Rattle.trac_follow.specs.Items.{IsMeasured};
+ghost use Rattle.trac_follow.specs.Places.{place_of};
+ghost use Rattle.trac_follow.specs.Running.{HasTurned};
+ghost use Rattle.trac_rules.specs.Session.{Back, repeated};
+ghost use Rattle.trac_rules.specs.Trails.{IsTrail};
+
+use crate::items::item_measured;
+use crate::origin::told_of;
+use crate::place::{After, Origin, Place};
+use crate::running::{before_run, stays};
+use crate::standing::stands;
+use std::alloc::Allocator;
+use trac_gap::TwoEnds;
+use trac_rules::width::Width;
+use trac_session::Session;
+use trac_step::{Core, Mark};
+
+/// What was found by following a byte back.
+#[derive(Clone, Copy)]
+pub enum Source<'a> {
+    /// Nothing stood at the place, or it is one of those that are not followed.
+    Nothing,
+    /// All steps that were gone back over carried it; it stands at this place. There are no more steps, or as many were taken
+    /// as were wanted.
+    Here(Place<'a>),
+    /// All steps that were gone back over carried it; it stands at this place, and the call that comes next carried it from
+    /// there: from an argument of its own, or between a form and a block.
+    Passed(Place<'a>),
+    /// The same, and the step that comes next carried it from this item of the form that argument 1 of its call names.
+    OfForm(usize),
+    /// The step that comes next read it, as the byte of this number of the tape.
+    Read(usize),
+    /// The step that comes next made it.
+    Made,
+    /// After the step that comes next it stood at this place. Where that step has it from is not told.
+    Unknown(Place<'a>),
+}
+
+/// How a byte was followed back.
+#[derive(Clone, Copy)]
+pub struct Followed<'a> {
+    /// Over how many steps the session has gone back.
+    pub steps: u64,
+    /// What was found.
+    pub source: Source<'a>,
+}
+
+/// Goes back over up to `most` steps, as long as these carried the byte at a place, or the item of a form: until one made or
+/// read it, or has it from a form. The width of the session's numbers has to be given. Bytes that moved one by one are
+/// passed at once, as `Session::back` passes them. It takes no memory and cannot be refused (this project's profile).
+pub fn follow<'a, A: Allocator + Copy>(
+    session: &mut Session<A>,
+    width: Width,
+    place: Place<'a>,
+    most: u64,
+) -> Followed<'a>
+    ensures back { repeated Back result.steps session.old ≡ Some session.new }
+    ensures most { result.steps ≤ most }
+    ensures followed { width ≡ session.old.width → IsTrail session.old → IsFollowed session.old (place_of place.entry) most session.new result }
+{
+    if !stands(session.machine(), place) {
+        return Followed {
+            steps: 0,
+            source: Source::Nothing,
+        };
+    }
+    let mut here = place;
+    let mut measure = measured(session.machine(), place);
+    let mut steps = 0;
+    while steps < most {
+        let count = session.pass_back(most - steps);
+        if count > 0 {
+            here = before_run(session.machine(), count, here);
+            steps += count;
+            continue;
+        }
+        let after = seen_after(session.machine(), measure);
+        if session.back(1).why.is_some() {
+            break;
+        }
+        steps += 1;
+        if stays(session.machine(), here) {
+            continue;
+        }
+        match turned(session.machine(), width, after, here) {
+            Turn::On(there) => {
+                measure = measured(session.machine(), there);
+                here = there;
+            }
+            Turn::End(source) => return found(steps, source),
+        }
+    }
+    found(steps, Source::Here(here))
+}
+
+// What is told of a machine and of a place in it, of which so much is measured.
+fn seen_after<E: TwoEnds<u8, A>, M: TwoEnds<Mark, A>, A: Allocator + Copy>(
+    machine: &Core<E, M, A>,
+    measure: (usize, bool),
+) -> After
+    ensures active { result.active ≡ length machine.now.state.active }
+    ensures output { result.output ≡ length machine.now.state.output }
+    ensures extent { result.extent ≡ measure.0 }
+    ensures gap { result.is_gap ≡ measure.1 }
+{
+    After {
+        active: machine.active().len(),
+        output: machine.output().len(),
+        extent: measure.0,
+        is_gap: measure.1,
+    }
+}
+
+// How a byte is followed further back.
+#[derive(Clone, Copy)]
+pub(crate) enum Turn<'a> {
+    // On from this place.
+    On(Place<'a>),
+    // No further.
+    End(Source<'a>),
+}
+
+// How what stands here after the next step of a machine is followed further back, where that step leaves texts of these
+// lengths.
+fn turned<'a, E: TwoEnds<u8, A>, M: TwoEnds<Mark, A>, A: Allocator + Copy>(
+    before: &Core<E, M, A>,
+    width: Width,
+    after: After,
+    here: Place<'a>,
+) -> Turn<'a>
+    ensures { HasTurned before.now.state width after here.entry result }
+{
+    match told_of(before, width, after, here) {
+        Origin::Carried(there) => {
+            if is_passed(before, here, there) {
+                return Turn::End(Source::Passed(there));
+            }
+            Turn::On(there)
+        }
+        Origin::OfForm(i) => Turn::End(Source::OfForm(i)),
+        Origin::Read(n) => Turn::End(Source::Read(n)),
+        Origin::Made => Turn::End(Source::Made),
+        Origin::Unknown => Turn::End(Source::Unknown(here)),
+    }
+}
+
+// Of a place in a form: how many bytes the items before it stand for, and whether a gap stands there.
+fn measured<E: TwoEnds<u8, A>, M: TwoEnds<Mark, A>, A: Allocator + Copy>(
+    machine: &Core<E, M, A>,
+    place: Place<'_>,
+) -> (usize, bool)
+    ensures { IsMeasured result.0 result.1 machine.now.state (place_of place.entry) }
+{
+    match place {
+        Place::Form(name, i) => match machine.store().get(name) {
+            Some(form) => item_measured(form, i),
+            None => (0, false),
+        },
+        _ => (0, false),
+    }
+}
+
+// Whether the call that comes next carried a byte that is here after it from there: from an argument of its own, or between a
+// form and a block.
+fn is_passed<E: TwoEnds<u8, A>, M: TwoEnds<Mark, A>, A: Allocator + Copy>(
+    machine: &Core<E, M, A>,
+    here: Place<'_>,
+    there: Place<'_>,
+) -> bool {
+    match (here, there) {
+        (Place::Form(_, _), Place::Held(_, _, _)) => true,
+        (Place::Held(_, _, _), Place::Form(_, _)) => true,
+        (_, Place::Argument { function, .. }) => {
+            machine.next_call().is_some() && is_innermost(function, machine.depth())
+        }
+        _ => false,
+    }
+}
+
+// Whether the begun function of this number is the last of so many.
+fn is_innermost(function: usize, depth: usize) -> bool {
+    function < depth && depth - function == 1
+}
+
+fn found<'a>(steps: u64, source: Source<'a>) -> Followed<'a>
+    ensures steps { result.steps ≡ steps }
+    ensures source { result.source ≡ source.entry }
+{
+    Followed { steps, source }
+}

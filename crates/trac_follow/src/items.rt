@@ -1,0 +1,169 @@
+//! Which item of a form gives a byte.
+ghost use Rattle.std.specs.Prelude.{◌≡◌, ◌<◌, ◌≤◌, ◌-◌, drop, length, take, IfSome, Some, slice_get};
+ghost use Rattle.trac_rules.specs.Filling.{text_numbered};
+ghost use Rattle.trac_rules.specs.Form.{all_items, extent, width_of};
+ghost use Rattle.trac_rules.specs.Pieces.{is_gap};
+ghost use Rattle.trac_rules.specs.Showing.{shown_item};
+ghost use Rattle.trac_rules.specs.declared.item.Item.{Item};
+ghost use Rattle.trac_rules.specs.declared.item.Item.TheVariants.{Gap};
+ghost use Rattle.trac_follow.specs.Formed.{IsAfter};
+ghost use Rattle.trac_follow.specs.Items.{IsAmong, given_by};
+
+use itoa::Buffer;
+use std::alloc::Allocator;
+use trac_forms::Form;
+use trac_rules::item::Item;
+use trac_text::Args;
+
+/// What items give.
+#[derive(Clone, Copy)]
+pub(crate) enum Giving<'a> {
+    // In a call of the form with these arguments: a gap gives the argument of its number.
+    Filled(&'a Args<'a>),
+    // Where it is read: a gap gives nothing.
+    Read,
+    // Where it is printed: a gap gives a mark.
+    Shown,
+}
+
+/// A byte of what an item gives.
+#[derive(Clone, Copy)]
+pub(crate) struct Given {
+    /// The item.
+    pub item: Item,
+    /// How many items stand before it.
+    pub at: usize,
+    /// How many bytes of what it gives stand before the byte.
+    pub byte: usize,
+}
+
+/// Where a byte is among what items give.
+#[derive(Clone, Copy)]
+pub(crate) enum Among {
+    // There.
+    Here(Given),
+    // So far past all of it.
+    Past(usize),
+}
+
+// Where the byte of this number is among what the items of a form give from one place up to another.
+pub(crate) fn byte_among<A: Allocator + Copy>(
+    form: &Form<A>,
+    from: usize,
+    to: usize,
+    giving: Giving<'_>,
+    i: usize,
+) -> Among
+    requires order { from ≤ to }
+    requires within { to ≤ length (all_items form.now) }
+    ensures { IsAmong (given_by giving.entry) (drop from (all_items form.now)) (to - from) i result }
+{
+    let mut rest = i;
+    for place in from..to {
+        let Some(item) = form.item(place) else {
+            unreachable!();
+        };
+        let len = given_len(giving, item);
+        if rest < len {
+            return Among::Here(Given {
+                item,
+                at: place - from,
+                byte: rest,
+            });
+        }
+        rest -= len;
+    }
+    Among::Past(rest)
+}
+
+// How many bytes an item gives.
+fn given_len(giving: Giving<'_>, item: Item) -> usize
+    ensures { result ≡ length (given_by giving.entry item) }
+{
+    let Item::Gap { ordinal, width: _ } = item else {
+        return 1;
+    };
+    match giving {
+        Giving::Filled(arguments) => text_len(arguments, ordinal),
+        Giving::Read => 0,
+        Giving::Shown => mark_len(ordinal),
+    }
+}
+
+// How long the text is that fills a gap of this ordinal.
+fn text_len(arguments: &Args<'_>, ordinal: u32) -> usize
+    ensures { result ≡ length (text_numbered ordinal (drop 2 arguments.now)) }
+{
+    if ordinal == 0 {
+        return 0;
+    }
+    arguments.get(ordinal as usize + 1).len()
+}
+
+// How long the mark of a gap of this ordinal is.
+fn mark_len(ordinal: u32) -> usize
+    ensures { result ≡ length (shown_item (Gap ordinal 1)) }
+{
+    let mut buffer = Buffer::new();
+    b"<".len() + buffer.format(ordinal).len() + b">".len()
+}
+
+// How many bytes the items before this place stand for, and whether a gap stands there; nothing is told of a place past the end.
+pub(crate) fn item_measured<A: Allocator + Copy>(form: &Form<A>, place: usize) -> (usize, bool)
+    ensures extent { place < length (all_items form.now) → result.0 ≡ extent (take place (all_items form.now)) }
+    ensures gap { (item : Item) → slice_get (all_items form.now) place ≡ Some item → result.1 ≡ is_gap item }
+{
+    match form.item(place) {
+        Some(Item::Byte(_)) => (extent_before(form, place), false),
+        Some(Item::Gap { .. }) => (extent_before(form, place), true),
+        None => (0, false),
+    }
+}
+
+// How many bytes the items before this place stand for.
+pub(crate) fn extent_before<A: Allocator + Copy>(form: &Form<A>, place: usize) -> usize
+    requires { place ≤ length (all_items form.now) }
+    ensures { result ≡ extent (take place (all_items form.now)) }
+{
+    // For the sum: a form stands for no more than the limit on forms.
+    let _count = form.len();
+    let mut bytes = 0;
+    for i in 0..place {
+        let Some(item) = form.item(i) else {
+            unreachable!();
+        };
+        bytes += width_of(item);
+    }
+    bytes
+}
+
+// The item before which items stand that stand for so many bytes, and its place.
+pub(crate) fn item_after<A: Allocator + Copy>(form: &Form<A>, bytes: usize) -> Option<(usize, Item)>
+    ensures { IfSome result (λ found. IsAfter form.now bytes found.0 found.1) }
+{
+    let mut left = bytes;
+    for place in 0..form.len() {
+        let Some(item) = form.item(place) else {
+            unreachable!();
+        };
+        if left == 0 {
+            return Some((place, item));
+        }
+        let width = width_of(item);
+        if width > left {
+            return None;
+        }
+        left -= width;
+    }
+    None
+}
+
+// How many bytes an item stands for.
+fn width_of(item: Item) -> usize
+    ensures { result ≡ width_of item }
+{
+    match item {
+        Item::Byte(_) => 1,
+        Item::Gap { ordinal: _, width } => width as usize,
+    }
+}

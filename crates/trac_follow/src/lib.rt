@@ -1,0 +1,19 @@
+//! Following a byte back to the step that made it, or to the byte of the input that it is.
+#![tactic(auto)]
+
+mod called;
+mod formed;
+mod front;
+pub mod history;
+mod items;
+mod moving;
+mod name;
+pub mod origin;
+pub mod place;
+mod running;
+mod standing;
+mod valued;
+
+pub use history::{Followed, Source, follow};
+pub use origin::origin_of;
+pub use place::{After, Origin, Place};

@@ -1,0 +1,69 @@
+//! Where bytes come from by the rules of scanning that move on.
+ghost use Rattle.std.specs.Prelude.{◌≡◌, length, Some};
+ghost use Rattle.trac_origins.specs.Places.{InActive, found_at};
+ghost use Rattle.trac_origins.specs.Stepping.{origin};
+ghost use Rattle.trac_rules.specs.declared.item.Item.{Item};
+ghost use Rattle.trac_rules.specs.Scanning.{Moves, scan};
+ghost use Rattle.trac_rules.specs.State.{Environment, State};
+ghost use Rattle.trac_follow.specs.Places.{Tells, place_of};
+
+use crate::front::first_moved_at;
+use crate::place::{Origin, Place};
+use crate::standing::{past_current, stands_elsewhere};
+use std::alloc::Allocator;
+use trac_gap::TwoEnds;
+use trac_step::{Core, Mark};
+
+// Where what stands at a place comes from, after a step by which scanning moves on and which leaves so much of the active
+// text.
+pub(crate) fn moved<'a, E: TwoEnds<u8, A>, M: TwoEnds<Mark, A>, A: Allocator + Copy>(
+    before: &Core<E, M, A>,
+    left: usize,
+    place: Place<'a>,
+) -> Origin<'a>
+    ensures { (environment : Environment) (t : State) (item : Item) → scan before.now.state ≡ Moves t → left ≡ length t.active → found_at t (place_of place.entry) ≡ Some item →
+        Tells before.now.state result (origin environment before.now.state (place_of place.entry)) }
+{
+    if let Place::Active(i) = place {
+        return left_over(before.active(), left, i);
+    }
+    if stands_elsewhere(before, place) {
+        return Origin::Carried(place);
+    }
+    gathered(before, place)
+}
+
+// Of the active text that is left.
+fn left_over<'a>(active: &[u8], left: usize, i: usize) -> Origin<'a>
+    ensures { (environment : Environment) (s t : State) (item : Item) → scan s ≡ Moves t → s.active ≡ active.now → left ≡ length t.active →
+        found_at t (InActive i) ≡ Some item →
+        Tells s result (origin environment s (InActive i)) }
+{
+    if active.is_empty() {
+        return Origin::Made;
+    }
+    if left > active.len() || i >= left {
+        return Origin::Unknown;
+    }
+    Origin::Carried(Place::Active(active.len() - left + i))
+}
+
+// Of what is new in the current text.
+fn gathered<'a, E: TwoEnds<u8, A>, M: TwoEnds<Mark, A>, A: Allocator + Copy>(
+    before: &Core<E, M, A>,
+    place: Place<'a>,
+) -> Origin<'a>
+    ensures { (environment : Environment) (t : State) (item : Item) → scan before.now.state ≡ Moves t → found_at t (place_of place.entry) ≡ Some item →
+        Tells before.now.state result (origin environment before.now.state (place_of place.entry)) }
+{
+    let Some(first) = first_moved_at(before.active()) else {
+        return Origin::Unknown;
+    };
+    let Some(n) = past_current(before, before.depth(), place) else {
+        return Origin::Unknown;
+    };
+    if n >= before.active().len() {
+        return Origin::Unknown;
+    }
+    Origin::Carried(Place::Active(first + n))
+}

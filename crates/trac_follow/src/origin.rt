@@ -1,0 +1,41 @@
+//! Where what stands at a place after a step comes from, told by the machine before the step.
+ghost use Rattle.trac_follow.specs.Places.{TellsOf, place_of};
+
+use crate::called::called;
+use crate::moving::moved;
+use crate::place::{After, Origin, Place};
+use std::alloc::Allocator;
+use trac_gap::TwoEnds;
+use trac_rules::width::Width;
+use trac_session::Machine;
+use trac_step::{Core, Mark};
+
+/// Where what stands at a place comes from after the next step of a machine, whose numbers are of this width, if that step
+/// leaves texts of these lengths: for any input the origin that the definitions of `trac_origins` say. Of some calls it does not
+/// tell. It takes no memory, and time for the begun functions, for the arguments of the call, and for the form that is
+/// named.
+pub fn origin_of<'a, A: Allocator + Copy>(
+    before: &Machine<A>,
+    width: Width,
+    after: After,
+    place: Place<'a>,
+) -> Origin<'a>
+    ensures { TellsOf before.now.state width after (place_of place.entry) result }
+{
+    told_of(before, width, after, place)
+}
+
+// The same, of a machine that keeps its texts in any way.
+pub(crate) fn told_of<'a, E: TwoEnds<u8, A>, M: TwoEnds<Mark, A>, A: Allocator + Copy>(
+    before: &Core<E, M, A>,
+    width: Width,
+    after: After,
+    place: Place<'a>,
+) -> Origin<'a>
+    ensures { TellsOf before.now.state width after (place_of place.entry) result }
+{
+    match before.next_call() {
+        Some((kind, arguments)) => called(before, width, kind, &arguments, after, place),
+        None => moved(before, after.active, place),
+    }
+}

@@ -1,0 +1,149 @@
+//! What stands at a place, and what is past the current text.
+ghost use Rattle.std.specs.Prelude.{◌≡◌, ◌+◌, ◌-◌, drop, length, true, Some, IfSome, IsTrue};
+ghost use Rattle.trac_origins.specs.Lengths.{current_text, in_current, is_of_text, is_outside};
+ghost use Rattle.trac_origins.specs.Places.{byte_at, InArgument, InForm};
+ghost use Rattle.trac_rules.specs.declared.item.Item.{Item};
+ghost use Rattle.trac_follow.specs.Places.{IsOutside, Stands, place_of};
+
+use crate::place::Place;
+use std::alloc::Allocator;
+use trac_gap::TwoEnds;
+use trac_step::{Core, Mark};
+
+// Whether a byte stands at a place of the texts or the output, or an item in a form: then something does. Of blocks it does
+// not tell.
+pub(crate) fn stands<E: TwoEnds<u8, A>, M: TwoEnds<Mark, A>, A: Allocator + Copy>(
+    machine: &Core<E, M, A>,
+    place: Place<'_>,
+) -> bool
+    ensures { IsTrue result → Stands machine.now.state (place_of place.entry) }
+{
+    match place {
+        Place::Active(i) => has_byte(machine.active(), i),
+        _ => stands_elsewhere(machine, place),
+    }
+}
+
+// The same, for a place that is not in the active text.
+pub(crate) fn stands_elsewhere<E: TwoEnds<u8, A>, M: TwoEnds<Mark, A>, A: Allocator + Copy>(
+    machine: &Core<E, M, A>,
+    place: Place<'_>,
+) -> bool
+    ensures { IsTrue result → Stands machine.now.state (place_of place.entry) × (is_outside (place_of place.entry) ≡ true) }
+{
+    match place {
+        Place::Base(i) => has_byte(machine.base(), i),
+        Place::Argument {
+            function,
+            argument,
+            byte,
+        } => stands_in_argument(machine, function, argument, byte),
+        Place::Form(name, i) => stands_in_form(machine, name, i),
+        Place::Output(i) => has_byte(machine.output(), i),
+        Place::Active(_) | Place::Held(_, _, _) => false,
+    }
+}
+
+// The same, for a place that is in the base text, or in an argument of a function that has a number below this one.
+pub(crate) fn stands_around<E: TwoEnds<u8, A>, M: TwoEnds<Mark, A>, A: Allocator + Copy>(
+    machine: &Core<E, M, A>,
+    function: usize,
+    place: Place<'_>,
+) -> bool
+    ensures { IsTrue result → Stands machine.now.state (place_of place.entry) × ((is_of_text (place_of place.entry) ≡ true) × IsOutside function (place_of place.entry)) }
+{
+    match place {
+        Place::Base(i) => has_byte(machine.base(), i),
+        Place::Argument {
+            function: number,
+            argument,
+            byte,
+        } if number < function => stands_in_argument(machine, number, argument, byte),
+        _ => false,
+    }
+}
+
+// Whether a text has such a byte.
+fn has_byte(text: &[u8], i: usize) -> bool
+    ensures { IsTrue result → (item : Item) × (byte_at i text.now ≡ Some item) }
+{
+    i < text.len()
+}
+
+// Whether an argument of a begun function has such a byte.
+fn stands_in_argument<E: TwoEnds<u8, A>, M: TwoEnds<Mark, A>, A: Allocator + Copy>(
+    machine: &Core<E, M, A>,
+    function: usize,
+    argument: usize,
+    byte: usize,
+) -> bool
+    ensures { IsTrue result → Stands machine.now.state (InArgument function argument byte) }
+{
+    match machine.frame(function) {
+        Some((_, arguments)) => byte < arguments.get(argument).len(),
+        None => false,
+    }
+}
+
+// Whether a form has such an item.
+pub(crate) fn stands_in_form<E: TwoEnds<u8, A>, M: TwoEnds<Mark, A>, A: Allocator + Copy>(
+    machine: &Core<E, M, A>,
+    name: &[u8],
+    i: usize,
+) -> bool
+    ensures { IsTrue result → Stands machine.now.state (InForm name.now i) }
+{
+    match machine.store().get(name) {
+        Some(form) => form.item(i).is_some(),
+        None => false,
+    }
+}
+
+// How far a place is past the current text, as it is when only so many functions are begun; none where it is not.
+pub(crate) fn past_current<E: TwoEnds<u8, A>, M: TwoEnds<Mark, A>, A: Allocator + Copy>(
+    machine: &Core<E, M, A>,
+    depth: usize,
+    place: Place<'_>,
+) -> Option<usize>
+    ensures { IfSome result (λ n. place_of place.entry ≡ in_current (drop (length machine.now.state.frames - depth) machine.now.state.frames)
+        (length (current_text (drop (length machine.now.state.frames - depth) machine.now.state.frames) machine.now.state) + n)) }
+{
+    match place {
+        Place::Base(i) if depth == 0 => past(machine.base().len(), i),
+        Place::Argument {
+            function,
+            argument,
+            byte,
+        } if function < depth && depth - function == 1 => {
+            past_argument(machine, function, argument, byte)
+        }
+        _ => None,
+    }
+}
+
+// How far a byte is past the last argument of a begun function; none where it is not, or is one of another argument.
+fn past_argument<E: TwoEnds<u8, A>, M: TwoEnds<Mark, A>, A: Allocator + Copy>(
+    machine: &Core<E, M, A>,
+    function: usize,
+    argument: usize,
+    byte: usize,
+) -> Option<usize>
+    ensures { IfSome result (λ n. InArgument function argument byte ≡ in_current (drop (length machine.now.state.frames - (function + 1)) machine.now.state.frames)
+        (length (current_text (drop (length machine.now.state.frames - (function + 1)) machine.now.state.frames) machine.now.state) + n)) }
+{
+    let (_, arguments) = machine.frame(function)?;
+    if argument != arguments.comma_count() {
+        return None;
+    }
+    past(arguments.get(argument).len(), byte)
+}
+
+// How far a byte is past a text of this length; none where it is within.
+fn past(len: usize, i: usize) -> Option<usize>
+    ensures { IfSome result (λ n. n + len ≡ i) }
+{
+    if i < len {
+        return None;
+    }
+    Some(i - len)
+}

@@ -1,0 +1,212 @@
+//! Where the bytes of a value come from.
+ghost use Rattle.std.specs.Prelude.{◌≡◌, ◌+◌, length, ℕ};
+ghost use Rattle.trac_rules.specs.Computing.{number_argument, result_of};
+ghost use Rattle.trac_rules.specs.Effect.{argument};
+ghost use Rattle.trac_rules.specs.Goals.{IsCall, next_call};
+ghost use Rattle.trac_rules.specs.Number.{is_greater, numeral_of, on_both};
+ghost use Rattle.trac_rules.specs.Performing.{primitive_of};
+ghost use Rattle.trac_rules.specs.declared.primitive.Computation.TheVariants.{Calculate};
+ghost use Rattle.trac_rules.specs.declared.primitive.Primitive.TheVariants.{Handle};
+ghost use Rattle.trac_origins.specs.Lengths.{gives_bits, number_chosen};
+ghost use Rattle.trac_follow.specs.declared.place.Origin.TheVariants.{Carried};
+ghost use Rattle.trac_follow.specs.declared.place.Place.TheVariants.{Argument};
+ghost use Rattle.trac_follow.specs.Places.{TellsComputed, TellsValue, ToldAsRead, reads_tape};
+
+use crate::formed::{called_byte, read_byte_of};
+use crate::name::primitive_named;
+use crate::place::{Origin, Place};
+use std::alloc::Allocator;
+use trac_gap::TwoEnds;
+use trac_num::{add, div, greater, mul, read_tail, sub, value};
+use trac_prims::{Args, Kind};
+use trac_rules::primitive::{Computation, FormAction, Operation, Primitive};
+use trac_rules::width::Width;
+use trac_step::{Core, Mark};
+
+// Where the byte of this number of the value comes from that the next step gives, which performs this call. The call's
+// function has this number.
+pub(crate) fn value_byte<'a, E: TwoEnds<u8, A>, M: TwoEnds<Mark, A>, A: Allocator + Copy>(
+    before: &Core<E, M, A>,
+    kind: Kind,
+    arguments: &Args<'_>,
+    function: usize,
+    width: Width,
+    i: usize,
+) -> Origin<'a>
+    requires call { IsCall (next_call before.now.state) kind arguments.now }
+    requires number { function + 1 ≡ length before.now.state.frames }
+    ensures { TellsValue before.now.state width i result }
+{
+    let primitive = primitive_named(arguments.get(0));
+    if reads_tape(primitive) {
+        return read_byte(before.position(), i);
+    }
+    match primitive {
+        Primitive::Compute(computation) => {
+            computed_byte(computation, arguments, function, width, i)
+        }
+        Primitive::Handle(action) => {
+            handled_byte(before, action, kind, arguments, function, width, i)
+        }
+        _ => Origin::Unknown,
+    }
+}
+
+// Of a call on a form.
+fn handled_byte<'a, E: TwoEnds<u8, A>, M: TwoEnds<Mark, A>, A: Allocator + Copy>(
+    before: &Core<E, M, A>,
+    action: FormAction,
+    kind: Kind,
+    arguments: &Args<'_>,
+    function: usize,
+    width: Width,
+    i: usize,
+) -> Origin<'a>
+    requires call { IsCall (next_call before.now.state) kind arguments.now }
+    requires named { primitive_of (argument 0 arguments.now) ≡ Handle action }
+    requires number { function + 1 ≡ length before.now.state.frames }
+    ensures { TellsValue before.now.state width i result }
+{
+    let Some(form) = before.store().get(arguments.get(1)) else {
+        return Origin::Unknown;
+    };
+    match action {
+        FormAction::Call => called_byte(form, arguments, function, i),
+        FormAction::Read(reading) => { read_byte_of(reading, form, arguments, function, width, i) }
+        _ => Origin::Unknown,
+    }
+}
+
+// Whether a primitive reads the input.
+fn reads_tape(primitive: Primitive) -> bool
+    ensures { result ≡ reads_tape primitive }
+{
+    matches!(primitive, Primitive::ReadString | Primitive::ReadByte)
+}
+
+// Of a text of the input, which the step reads from the position on.
+fn read_byte<'a>(position: usize, i: usize) -> Origin<'a>
+    ensures { ToldAsRead position i result }
+{
+    if i > usize::MAX - position {
+        return Origin::Unknown;
+    }
+    Origin::Read(position + i)
+}
+
+// Of a computation with these arguments.
+fn computed_byte<'a>(
+    computation: Computation,
+    arguments: &Args<'_>,
+    function: usize,
+    width: Width,
+    i: usize,
+) -> Origin<'a>
+    ensures { TellsComputed computation arguments.now function width i result }
+{
+    if gives_bits(computation) {
+        return Origin::Made;
+    }
+    match computation {
+        Computation::Equal => argument_byte(
+            function,
+            chosen(arguments.get(1) == arguments.get(2)),
+            i,
+        ),
+        Computation::Greater => argument_byte(function, chosen(has_greater(arguments)), i),
+        Computation::Calculate(operation) => {
+            calculated_byte(operation, arguments, function, width, i)
+        }
+        _ => Origin::Unknown,
+    }
+}
+
+// Whether a computation gives bits.
+fn gives_bits(computation: Computation) -> bool
+    ensures { result ≡ gives_bits computation }
+{
+    !matches!(
+        computation,
+        Computation::Equal | Computation::Greater | Computation::Calculate(_)
+    )
+}
+
+// A byte of an argument of this function.
+pub(crate) fn argument_byte<'a>(function: usize, argument: usize, byte: usize) -> Origin<'a>
+    ensures { result ≡ Carried (Argument function argument byte) }
+{
+    Origin::Carried(Place::Argument {
+        function,
+        argument,
+        byte,
+    })
+}
+
+// Which argument a decision gives.
+fn chosen(first: bool) -> usize
+    ensures { result ≡ number_chosen first }
+{
+    if first { 3 } else { 4 }
+}
+
+// Whether the number of the first argument after the name is greater than that of the second.
+fn has_greater(arguments: &Args<'_>) -> bool
+    ensures { result ≡ is_greater (numeral_of (argument 1 arguments.now)) (numeral_of (argument 2 arguments.now)) }
+{
+    greater(
+        read_tail(arguments.get(1)).numeral,
+        read_tail(arguments.get(2)).numeral,
+    )
+}
+
+// ---- numbers
+
+// Of `ad`, `su`, `ml` or `dv`: the prefix is that of the first number, and the digits are made; where there is no result, of
+// the default argument.
+fn calculated_byte<'a>(
+    operation: Operation,
+    arguments: &Args<'_>,
+    function: usize,
+    width: Width,
+    i: usize,
+) -> Origin<'a>
+    ensures { TellsComputed (Calculate operation) arguments.now function width i result }
+{
+    if result_on(operation, arguments, width).is_none() {
+        return argument_byte(function, 3, i);
+    }
+    if i < read_tail(arguments.get(1)).prefix.len() {
+        return argument_byte(function, 1, i);
+    }
+    Origin::Made
+}
+
+// The number of an argument, its prefix dropped; none where it does not fit the width.
+pub(crate) fn number_at(arguments: &Args<'_>, k: usize, width: Width) -> Option<i128>
+    ensures { result ≡ number_argument width k arguments.now }
+{
+    value(read_tail(arguments.get(k)).numeral, width)
+}
+
+// The result of an operation on the numbers of the two arguments after the name, if it fits.
+fn result_on(operation: Operation, arguments: &Args<'_>, width: Width) -> Option<i128>
+    ensures { result ≡ on_both (result_of operation width) (number_argument width 1 arguments.now) (number_argument width 2 arguments.now) }
+{
+    operate(
+        operation,
+        number_at(arguments, 1, width)?,
+        number_at(arguments, 2, width)?,
+        width,
+    )
+}
+
+fn operate(operation: Operation, a: i128, b: i128, width: Width) -> Option<i128>
+    ensures { result ≡ result_of operation width a b }
+{
+    match operation {
+        Operation::Add => add(a, b, width),
+        Operation::Subtract => sub(a, b, width),
+        Operation::Multiply => mul(a, b, width),
+        Operation::Divide => div(a, b, width),
+    }
+}

@@ -1,0 +1,146 @@
+//! The way of a byte back: what steps did with it, one in a line.
+
+use crate::screen_line::ScreenLine;
+use crate::standing::next_into;
+use std::alloc::{AllocError, Allocator};
+use trac_step::Machine;
+
+// So many columns a step takes at most, so that what it did is seen.
+const STEP_WIDTH: usize = 48;
+
+// What it did begins in this column, where the step leaves room.
+const DEED_COLUMN: usize = 34;
+
+/// What a step did with a byte.
+#[derive(Clone, Copy)]
+pub enum Deed {
+    /// A call printed it that was given it, or had it from a form.
+    Prints,
+    /// A call put it into a form or a block.
+    Puts,
+    /// A call gave it in its value.
+    Gives,
+    /// The step made it.
+    Makes,
+    /// A call read it, as this byte of this line of the program, both counted from 1.
+    Reads(u64, u64),
+    /// A call read it, as the byte of this number, counted from 1, of the input after the program.
+    ReadsFed(u64),
+    /// The step before brought it here, and where from is not told.
+    Hides,
+    /// The way back begins after the step that brought it here.
+    Keeps,
+}
+
+/// The beginning of a line: the number of the next step, which is this, and what the step does. The error is that memory was
+/// refused, here and below.
+pub fn step_line<A: Allocator + Copy>(
+    alloc: A,
+    step: u64,
+    machine: &Machine<A>,
+) -> Result<ScreenLine<A>, AllocError> {
+    let mut line = ScreenLine::new(alloc);
+    line.count(step)?;
+    line.say(b"  ")?;
+    next_into(machine, &mut line)?;
+    line.cut(STEP_WIDTH)?;
+    line.pad(DEED_COLUMN)?;
+    Ok(line)
+}
+
+/// Puts a line at the end of a text: the number of the next step, what the step does, and what it did with a byte.
+pub fn deed_into<A: Allocator + Copy>(
+    alloc: A,
+    step: u64,
+    machine: &Machine<A>,
+    deed: Deed,
+    out: &mut Vec<u8, A>,
+) -> Result<(), AllocError> {
+    let mut line = step_line(alloc, step, machine)?;
+    say_deed(deed, &mut line)?;
+    line.end_into(out)
+}
+
+// What was done, in words.
+fn say_deed<A: Allocator + Copy>(deed: Deed, line: &mut ScreenLine<A>) -> Result<(), AllocError> {
+    line.say(words_of(deed))?;
+    match deed {
+        Deed::Reads(row, column) => place_into(row, column, line),
+        Deed::ReadsFed(number) => fed_into(number, line),
+        _ => Ok(()),
+    }
+}
+
+// A place in the program, both numbers counted from 1.
+fn place_into<A: Allocator + Copy>(
+    row: u64,
+    column: u64,
+    line: &mut ScreenLine<A>,
+) -> Result<(), AllocError> {
+    line.count(row)?;
+    line.say(b", column ")?;
+    line.count(column)
+}
+
+// A byte of the input after the program.
+fn fed_into<A: Allocator + Copy>(number: u64, line: &mut ScreenLine<A>) -> Result<(), AllocError> {
+    line.count(number)?;
+    line.say(b" after FILE")
+}
+
+/// Puts where a byte comes from at the end of a line, by what the step of this number did with it.
+pub fn source_into<A: Allocator + Copy>(
+    deed: Deed,
+    step: u64,
+    line: &mut ScreenLine<A>,
+) -> Result<(), AllocError> {
+    match deed {
+        Deed::Reads(row, column) => {
+            line.say(b"line ")?;
+            place_into(row, column, line)
+        }
+        Deed::ReadsFed(number) => {
+            line.say(b"byte ")?;
+            fed_into(number, line)
+        }
+        Deed::Makes => {
+            line.say(b"made by step ")?;
+            line.count(step)
+        }
+        Deed::Keeps => {
+            line.say(b"there at step ")?;
+            line.count(step)
+        }
+        _ => {
+            line.say(b"brought by step ")?;
+            line.count(step)
+        }
+    }
+}
+
+// What was done; of what is read the words before its place.
+fn words_of(deed: Deed) -> &'static [u8] {
+    match deed {
+        Deed::Prints => b"prints it",
+        Deed::Puts => b"sets it",
+        Deed::Gives => b"gives it",
+        Deed::Makes => b"makes it",
+        Deed::Reads(_, _) => b"reads it: line ",
+        Deed::ReadsFed(_) => b"reads it: byte ",
+        Deed::Hides => b"brings it",
+        Deed::Keeps => b"it is there already",
+    }
+}
+
+/// Puts a line at the end of a text that says how many lines are left out.
+pub fn left_out_into<A: Allocator + Copy>(
+    alloc: A,
+    count: usize,
+    out: &mut Vec<u8, A>,
+) -> Result<(), AllocError> {
+    let mut line = ScreenLine::new(alloc);
+    line.say(b".. ")?;
+    line.count(count as u64)?;
+    line.say(b" more ..")?;
+    line.end_into(out)
+}
