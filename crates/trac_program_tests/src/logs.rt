@@ -1,89 +1,83 @@
 //! When something is written: the calls of a reader and a writer that share a log. What is pending is written and flushed
 //! before more is read.
 use crate::faults::INPUT;
-use crate::programs::{debug_over, walk_over};
+use crate::programs::{debug_over, run_over, walk_over};
 use std::process::Abort;
-use trac_faults::{Call, CallLog, FaultyReader, FaultyWriter, Logged};
+use trac_faults::{CallLog, FaultyReader, FaultyWriter, Logged, LoggedCall};
 use trac_rules::width::Width;
-use trac_run::{Ending, Options, run};
-
-const OPTIONS: Options = Options {
-    budget: 1_000_000_000,
-    journal: 64,
-    decimals: Width::W128,
-};
+use trac_run::Ending;
 
 // The calls of a run over `INPUT`, one byte a read: the first line is whole with its eighth byte, and the second with the
 // tenth.
-const IN_A_RUN: &[Call] = &[
-    Call::Flush,
-    Call::Read(1),
-    Call::Flush,
-    Call::Read(1),
-    Call::Flush,
-    Call::Read(1),
-    Call::Flush,
-    Call::Read(1),
-    Call::Flush,
-    Call::Read(1),
-    Call::Flush,
-    Call::Read(1),
-    Call::Flush,
-    Call::Read(1),
-    Call::Flush,
-    Call::Read(1),
-    Call::Write(1),
-    Call::Flush,
-    Call::Read(1),
-    Call::Flush,
-    Call::Read(1),
-    Call::Write(1),
-    Call::Flush,
-    Call::Read(0),
-    Call::Flush,
+const IN_A_RUN: &[LoggedCall] = &[
+    LoggedCall::Flush,
+    LoggedCall::Read(1),
+    LoggedCall::Flush,
+    LoggedCall::Read(1),
+    LoggedCall::Flush,
+    LoggedCall::Read(1),
+    LoggedCall::Flush,
+    LoggedCall::Read(1),
+    LoggedCall::Flush,
+    LoggedCall::Read(1),
+    LoggedCall::Flush,
+    LoggedCall::Read(1),
+    LoggedCall::Flush,
+    LoggedCall::Read(1),
+    LoggedCall::Flush,
+    LoggedCall::Read(1),
+    LoggedCall::Write(1),
+    LoggedCall::Flush,
+    LoggedCall::Read(1),
+    LoggedCall::Flush,
+    LoggedCall::Read(1),
+    LoggedCall::Write(1),
+    LoggedCall::Flush,
+    LoggedCall::Read(0),
+    LoggedCall::Flush,
 ];
 
 // "s 1", "forward 1", an empty line, "b 1", "back 1", and the end.
-const IN_A_SESSION: &[Call] = &[
-    Call::Read(4),
-    Call::Write(10),
-    Call::Flush,
-    Call::Read(1),
-    Call::Read(4),
-    Call::Write(7),
-    Call::Flush,
-    Call::Read(0),
+const IN_A_SESSION: &[LoggedCall] = &[
+    LoggedCall::Read(4),
+    LoggedCall::Write(10),
+    LoggedCall::Flush,
+    LoggedCall::Read(1),
+    LoggedCall::Read(4),
+    LoggedCall::Write(7),
+    LoggedCall::Flush,
+    LoggedCall::Read(0),
 ];
 
 // The prompt, "s 1", where it stands; the prompt, an empty line, where it stands; the prompt and the end.
-const IN_A_WALK: &[Call] = &[
-    Call::Write(3),
-    Call::Flush,
-    Call::Read(4),
-    Call::Write(36),
-    Call::Flush,
-    Call::Write(3),
-    Call::Flush,
-    Call::Read(1),
-    Call::Write(35),
-    Call::Flush,
-    Call::Write(3),
-    Call::Flush,
-    Call::Read(0),
+const IN_A_WALK: &[LoggedCall] = &[
+    LoggedCall::Write(3),
+    LoggedCall::Flush,
+    LoggedCall::Read(4),
+    LoggedCall::Write(36),
+    LoggedCall::Flush,
+    LoggedCall::Write(3),
+    LoggedCall::Flush,
+    LoggedCall::Read(1),
+    LoggedCall::Write(35),
+    LoggedCall::Flush,
+    LoggedCall::Write(3),
+    LoggedCall::Flush,
+    LoggedCall::Read(0),
 ];
 
 // The programs and their inputs are constants here: the borrow checker does not follow a call that is lent them beside two
 // readers and writers that share a log.
-fn noted_in_a_run(rt: &(impl Abort + AllocGlobal)) -> Option<Vec<Call>> {
+fn noted_in_a_run(rt: &(impl Abort + AllocGlobal)) -> Option<Vec<LoggedCall>> {
     let log = CallLog::new(rt.alloc());
     let mut reader = Logged::new(FaultyReader::new(INPUT).at_most(1), &log);
     let mut writer = Logged::new(FaultyWriter::new(rt.alloc()), &log);
-    let ending = run(rt.alloc(), &mut reader, &mut writer, OPTIONS);
+    let ending = run_over(rt, rt.alloc(), (64, Width::W128), &mut reader, &mut writer);
     assert!(rt; ending == Ending::Ended);
     log.take_calls()
 }
 
-fn noted_in_a_session(rt: &(impl Abort + AllocGlobal)) -> Option<Vec<Call>> {
+fn noted_in_a_session(rt: &(impl Abort + AllocGlobal)) -> Option<Vec<LoggedCall>> {
     let log = CallLog::new(rt.alloc());
     let mut reader = Logged::new(FaultyReader::new(b"s 1\n\nb 1\n").by_lines(), &log);
     let mut writer = Logged::new(FaultyWriter::new(rt.alloc()), &log);
@@ -92,7 +86,7 @@ fn noted_in_a_session(rt: &(impl Abort + AllocGlobal)) -> Option<Vec<Call>> {
     log.take_calls()
 }
 
-fn noted_in_a_walk(rt: &(impl Abort + AllocGlobal)) -> Option<Vec<Call>> {
+fn noted_in_a_walk(rt: &(impl Abort + AllocGlobal)) -> Option<Vec<LoggedCall>> {
     let log = CallLog::new(rt.alloc());
     let mut reader = Logged::new(FaultyReader::new(b"s 1\n\n").by_lines(), &log);
     let mut writer = Logged::new(FaultyWriter::new(rt.alloc()), &log);
@@ -101,7 +95,7 @@ fn noted_in_a_walk(rt: &(impl Abort + AllocGlobal)) -> Option<Vec<Call>> {
     log.take_calls()
 }
 
-fn expect_calls(rt: &impl Abort, noted: Option<Vec<Call>>, wanted: &[Call]) {
+fn expect_calls(rt: &impl Abort, noted: Option<Vec<LoggedCall>>, wanted: &[LoggedCall]) {
     let Some(calls) = noted else {
         panic!(rt; "there was no memory")
     };

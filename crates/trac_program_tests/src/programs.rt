@@ -44,7 +44,8 @@ fn options_of(rt: &impl Abort, journal: usize, decimals: Width) -> Options
     }
 }
 
-fn run_over<R: Read, W: Write, A: Allocator + Copy>(
+/// A run, whose journal may hold so many records, with numbers of this width.
+pub(crate) fn run_over<R: Read, W: Write, A: Allocator + Copy>(
     rt: &impl Abort,
     alloc: A,
     (journal, decimals): (usize, Width),

@@ -1,6 +1,7 @@
 //! The program that is debugged, as it is read: whole, or not at all. One that is too long is tried by `tests/sessions`.
 use crate::faulty::{Failing, Fault, KINDS, NO_FAULT, reader_of};
 use std::alloc::Allocator;
+use std::io::Read;
 use trac_debug::read_tape;
 use trac_faults::Refusing;
 use trac_run::Ending;
@@ -28,6 +29,11 @@ const READS: &[(Fault, usize, Outcome)] = &[
     (Fault::None, 4096, (Ok(true), 0)),
 ];
 
+// What is read as a tape.
+fn tape_of<R: Read, A: Allocator + Copy>(alloc: A, reader: &mut R) -> Result<Vec<u8, A>, Ending> {
+    read_tape(alloc, reader)
+}
+
 // What comes of a read of these bytes as a tape.
 fn outcome<A: Allocator + Copy>(
     alloc: A,
@@ -35,7 +41,7 @@ fn outcome<A: Allocator + Copy>(
     (failing, most): (Failing, usize),
 ) -> Outcome {
     let mut reader = reader_of(bytes, most, failing);
-    let met = match read_tape(alloc, &mut reader) {
+    let met = match tape_of(alloc, &mut reader) {
         Ok(tape) => Ok(tape.as_slice() == bytes),
         Err(ending) => Err(ending),
     };

@@ -129,7 +129,12 @@ fn feed_all(rt: &impl Abort, run: &Run<'_>, session: &mut Session<Memory<'_>>) {
     session.end();
 }
 
-// Commits, for which no memory is asked.
+// How many bytes are read of the tape as the session has it.
+fn position(session: &Session<Memory<'_>>) -> usize {
+    session.machine().position()
+}
+
+// Commits, for which no memory is wanted.
 fn commit_at(rt: &impl Abort, memory: Memory<'_>, session: &mut Session<Memory<'_>>, keep: usize) {
     let requests = memory.requests();
     session.commit(keep);
@@ -150,9 +155,9 @@ fn commit(
     let more = session.pending_before(keep).len();
     let wanted = front(rest(run.output, released.printed), more);
     expect_text(rt, session.pending_before(keep), wanted);
-    let position = session.machine().position();
+    let before = position(session);
     commit_at(rt, run.memory, session, keep);
-    let dropped = position.saturating_sub(session.machine().position());
+    let dropped = before.saturating_sub(position(session));
     Released {
         printed: released.printed.saturating_add(more),
         read: released.read.saturating_add(dropped),
@@ -215,7 +220,7 @@ fn to_start(
         back(session, 1);
     }
     expect_walk(rt, back(session, 1), 0, Refusal::AtStart);
-    assert!(rt; session.pending().is_empty() && session.machine().position() == 0);
+    assert!(rt; session.pending().is_empty() && position(session) == 0);
     assert!(rt; run.memory.requests() == requests);
     run.memory.accept_all();
 }
