@@ -50,7 +50,8 @@ pub struct Followed<'a> {
 
 /// Goes back over up to `most` steps, as long as these carried the byte at a place, or the item of a form: until one made or
 /// read it, or has it from a form. The width of the session's numbers has to be given. Bytes that moved one by one are
-/// passed at once, as `Session::back` passes them. It takes no memory and cannot be refused (this project's profile).
+/// passed at once, as `Session::back` passes them. Only for a byte of the value of `in` it takes memory, for what that call
+/// searched; where that is refused it ends with `Unknown` (this project's profile).
 pub fn follow<'a, A: Allocator + Copy>(
     session: &mut Session<A>,
     width: Width,
