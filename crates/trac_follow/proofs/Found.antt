@@ -82,13 +82,6 @@ argument_stands s n k i kind arguments is l =
           ∙ ap (λ (texts : List (List ℕ)). byte_at i (get_or texts k [])) f.2 ∙ byte.1,
     )
 
-pub item_stands : (s : State) (name : List ℕ) (i : ℕ) (form : Form) → finite.get s.forms name ≡ Some form → IsTrue (is_some (slice_get (all_items form) i)) → Stands s (InForm name i)
-item_stands s name i form there some = go (slice_get (all_items form) i) refl some
-  where
-    go : (found : Option Item) → slice_get (all_items form) i ≡ found → IsTrue (is_some found) → Stands s (InForm name i)
-    go None is some = absurd (cc)
-    go (Some item) is some = (item, ap (λ (f : Option Form). slice_get (items_of f) i) there ∙ is)
-
 -- ---- past the current text
 
 pub past_base : (s : State) (i n : ℕ) → n + length s.base ≡ i → (fs : List Frame) → fs ≡ [] → InBase i ≡ in_current fs (length (current_text fs s) + n)
@@ -119,10 +112,3 @@ pub past_last_some : (s : State) (function argument byte : ℕ) (kind : Kind) (a
     IfSome found (λ n. InArgument function argument byte ≡ in_current fs (length (current_text fs s) + n))
 past_last_some s function argument byte kind arguments None is last sum = tt
 past_last_some s function argument byte kind arguments (Some n) is last sum = past_last s function argument byte n kind arguments is last sum
-
-pub past_base_some : (s : State) (i depth : ℕ) (found : Option ℕ) → depth ≡ 0 → IfSome found (λ n. n + length s.base ≡ i) →
-    let fs = drop (length s.frames - depth) s.frames in
-    IfSome found (λ n. InBase i ≡ in_current fs (length (current_text fs s) + n))
-past_base_some s i depth None none sum = tt
-past_base_some s i depth (Some n) none sum =
-    past_base s i n sum (drop (length s.frames - depth) s.frames) (drop_all (length s.frames - depth) s.frames (omega (arith, none)))

@@ -9,3 +9,5 @@ pub mod ShownTold
 pub mod FormCalls
 pub mod Staying
 pub mod RunsBack
+pub mod Fetching
+pub mod FetchedTold

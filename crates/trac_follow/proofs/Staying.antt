@@ -95,12 +95,6 @@ active_before n s i item within e =
       ap (λ (text : List ℕ). length text) (active-gathered_in s.frames (take n s.active) (deleted n s)),
     )
 
--- what is in no text is past none
-pub stored_past : (fs : List Frame) (s : State) (name : List ℕ) (number i : ℕ) →
-    (past_in fs s (InForm name i) ≡ None) × ((past_in fs s (InHeld number name i) ≡ None) × (past_in fs s (InOutput i) ≡ None))
-stored_past [] s name number i = (refl, (refl, refl))
-stored_past (f ∷ fs) s name number i = (refl, (refl, refl))
-
 -- what is measured stays
 measured_or : (bytes : ℕ) (gap : Bool) (s : State) (past : Option ℕ) (p : Place) → IsMeasured bytes gap s p → IsMeasured bytes gap s (in_active past p)
 measured_or bytes gap s None p m = m
@@ -120,24 +114,10 @@ measured_before n s (InOutput i) bytes gap m = measured_or bytes gap s (past_in 
 
 -- ---- past the current text
 
-pub base_inside : (fs : List Frame) (s : State) (i : ℕ) → 0 < length fs → None ≡ past_in fs s (InBase i)
-base_inside [] s i some = absurd (omega (arith, some))
-base_inside (f ∷ fs) s i some = refl
-
 pub base_past : (fs : List Frame) (s : State) (i : ℕ) (base : List ℕ) (found : Option ℕ) → length fs ≡ 0 → base ≡ s.base →
     found ≡ (if nat_lt i (length base) then None else Some (i - length base)) → found ≡ past_in fs s (InBase i)
 base_past [] s i base found none same is = is ∙ ap (λ (text : List ℕ). if nat_lt i (length text) then None else Some (i - length text)) same
 base_past (f ∷ fs) s i base found none same is = absurd (omega (arith, none))
-
-pub argument_outside : (fs : List Frame) (s : State) (n k i : ℕ) → length fs ≡ 0 → None ≡ past_in fs s (InArgument n k i)
-argument_outside [] s n k i none = refl
-argument_outside (f ∷ fs) s n k i none = absurd (omega (arith, none))
-
-pub argument_other : (fs : List Frame) (s : State) (n k i : ℕ) → (n + 1 ≡ length fs → ⊥) → None ≡ past_in fs s (InArgument n k i)
-argument_other [] s n k i other = refl
-argument_other (f ∷ fs) s n k i other =
-    let test : (n == length fs) ≡ false = ne_eqb n (length fs) (λ same. other (omega (arith, same))) in
-    sym (ap (λ t. if t && (k == length f.arguments) && not (nat_lt i (length f.gathered)) then Some (i - length f.gathered) else None) test)
 
 abbrev gives : ℕ → Bool → List ℕ → Option ℕ
 gives i last text = if last && not (nat_lt i (length text)) then Some (i - length text) else None

@@ -2,5 +2,6 @@
 pub mod Places
 pub mod Items
 pub mod Formed
+pub mod Fetched
 pub mod Following
 pub mod Running

@@ -10,6 +10,7 @@ ghost use Rattle.trac_follow.specs.declared.place.After.{After as Lengths};
 ghost use Rattle.trac_follow.specs.Formed.{ToldAsFormCut, ToldAsFormShown};
 ghost use Rattle.trac_follow.specs.Places.{TellsOf, ToldAsPrinted, ToldAsPut, ToldAsStored, place_of};
 
+use crate::fetched::before_fetch;
 use crate::formed::{cut_item, shown_byte};
 use crate::name::primitive_named;
 use crate::place::{After, Origin, Place};
@@ -186,6 +187,9 @@ fn of_form<'a, E: TwoEnds<u8, A>, M: TwoEnds<Mark, A>, A: Allocator + Copy>(
     if may_put(primitive, arguments.get(1), name) {
         return match primitive {
             Primitive::Handle(FormAction::Segment) => form_cut(before, name, after),
+            Primitive::HandleBlock(BlockAction::FetchBlock) => {
+                Origin::Carried(before_fetch(before.store(), arguments.get(1), name, i))
+            }
             _ => put_item(primitive, arguments.get(2).len(), function, i),
         };
     }

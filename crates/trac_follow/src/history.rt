@@ -21,7 +21,7 @@ use trac_step::{Core, Mark};
 /// What was found by following a byte back.
 #[derive(Clone, Copy)]
 pub enum Source<'a> {
-    /// Nothing stood at the place, or it is one of those that are not followed.
+    /// Nothing stood at the place.
     Nothing,
     /// All steps that were gone back over carried it; it stands at this place. There are no more steps, or as many were taken
     /// as were wanted.

@@ -2,6 +2,7 @@
 #![tactic(auto)]
 
 mod called;
+mod fetched;
 mod formed;
 mod front;
 pub mod history;

@@ -13,7 +13,8 @@ use trac_step::{Core, Mark};
 /// Where what stands at a place comes from after the next step of a machine, whose numbers are of this width, if that step
 /// leaves texts of these lengths: for any input the origin that the definitions of `trac_origins` say. Of some calls it does not
 /// tell. It takes memory only for a byte of the value of `in`, for what that call searched, and does not tell where that is
-/// refused; and time for the begun functions, for the arguments of the call, and for the form that is named.
+/// refused; and time for the begun functions, for the arguments of the call, for the form that is named, and where that call
+/// fetches a block for each block.
 pub fn origin_of<'a, A: Allocator + Copy>(
     before: &Machine<A>,
     width: Width,

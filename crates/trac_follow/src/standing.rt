@@ -1,17 +1,18 @@
 //! What stands at a place, and what is past the current text.
-ghost use Rattle.std.specs.Prelude.{◌≡◌, ◌+◌, ◌-◌, drop, length, true, Some, IfSome, IsTrue};
+ghost use Rattle.std.specs.Prelude.{◌≡◌, ◌+◌, ◌-◌, drop, length, slice_get, true, Some, IfSome, IsTrue};
 ghost use Rattle.trac_origins.specs.Lengths.{current_text, in_current, is_of_text, is_outside};
-ghost use Rattle.trac_origins.specs.Places.{byte_at, InArgument, InForm};
+ghost use Rattle.trac_origins.specs.Places.{byte_at, held_form, items_of, InArgument, InForm, InHeld};
 ghost use Rattle.trac_rules.specs.declared.item.Item.{Item};
 ghost use Rattle.trac_follow.specs.Places.{IsOutside, Stands, place_of};
 
+use crate::fetched::held_in;
 use crate::place::Place;
 use std::alloc::Allocator;
+use trac_forms::Block;
 use trac_gap::TwoEnds;
 use trac_step::{Core, Mark};
 
-// Whether a byte stands at a place of the texts or the output, or an item in a form: then something does. Of blocks it does
-// not tell.
+// Whether a byte stands at a place of the texts or the output, or an item in a form or in a block: then something does.
 pub(crate) fn stands<E: TwoEnds<u8, A>, M: TwoEnds<Mark, A>, A: Allocator + Copy>(
     machine: &Core<E, M, A>,
     place: Place<'_>,
@@ -39,8 +40,9 @@ pub(crate) fn stands_elsewhere<E: TwoEnds<u8, A>, M: TwoEnds<Mark, A>, A: Alloca
             byte,
         } => stands_in_argument(machine, function, argument, byte),
         Place::Form(name, i) => stands_in_form(machine, name, i),
+        Place::Held(number, name, i) => stands_in_block(machine, number, name, i),
         Place::Output(i) => has_byte(machine.output(), i),
-        Place::Active(_) | Place::Held(_, _, _) => false,
+        Place::Active(_) => false,
     }
 }
 
@@ -94,6 +96,31 @@ pub(crate) fn stands_in_form<E: TwoEnds<u8, A>, M: TwoEnds<Mark, A>, A: Allocato
     ensures { IsTrue result → Stands machine.now.state (InForm name.now i) }
 {
     match machine.store().get(name) {
+        Some(form) => form.item(i).is_some(),
+        None => false,
+    }
+}
+
+// Whether a block holds a form with such an item.
+fn stands_in_block<E: TwoEnds<u8, A>, M: TwoEnds<Mark, A>, A: Allocator + Copy>(
+    machine: &Core<E, M, A>,
+    number: usize,
+    name: &[u8],
+    i: usize,
+) -> bool
+    ensures { IsTrue result → Stands machine.now.state (InHeld number name.now i) }
+{
+    match machine.store().block(number) {
+        Some(block) => holds_item(block, name, i),
+        None => false,
+    }
+}
+
+// The same, of this block.
+fn holds_item<A: Allocator + Copy>(block: &Block<A>, name: &[u8], i: usize) -> bool
+    ensures { IsTrue result → (item : Item) × (slice_get (items_of (held_form name.now (Some block.now.held))) i ≡ Some item) }
+{
+    match held_in(block, name) {
         Some(form) => form.item(i).is_some(),
         None => false,
     }

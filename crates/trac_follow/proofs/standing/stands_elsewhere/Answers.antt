@@ -19,6 +19,10 @@ pub returns-in-Form : goal.returns-in-Form
 returns-in-Form g c = λ test.
     subst (λ p. Stands c.args.machine.now.state (place_of p) × (is_outside (place_of p) ≡ true)) (sym c.in-Form.is) (c.stands_in_form.ensures test, refl)
 
+pub returns-in-Held : goal.returns-in-Held
+returns-in-Held g c = λ test.
+    subst (λ p. Stands c.args.machine.now.state (place_of p) × (is_outside (place_of p) ≡ true)) (sym c.in-Held.is) (c.stands_in_block.ensures test, refl)
+
 pub returns-in-Output : goal.returns-in-Output
 returns-in-Output g c = λ test.
     subst (λ p. Stands c.args.machine.now.state (place_of p) × (is_outside (place_of p) ≡ true)) (sym c.in-Output.is)

@@ -1,0 +1,154 @@
+-- Forms that `fb` brings back, as the code tells them.
+use Rattle.std.proofs.Common.{◌≡◌, ℕ, Bool, true, false, cond, List, [], ◌∷◌, refl, sym, ap, ◌∙◌}
+use Rattle.std.specs.Prelude.{Option, None, Some, Ok, Err, bytes_eq, if◌then◌else◌, is_some, nat_le, slice_get}
+use Rattle.std.specs.Cmp.Lexicographic.{slice_cmp}
+use Rattle.std.specs.FinMap as finite
+use Rattle.std.specs.Ordering.{nat_cmp}
+use Rattle.trac_rules.specs.declared.item.Item.{Item}
+use Rattle.trac_rules.specs.declared.kind.Kind.{Kind}
+use Rattle.trac_rules.specs.declared.kind.Kind.TheVariants.{Active, Neutral}
+use Rattle.trac_rules.specs.declared.limit.TheConstants.{FORM_COUNT_LIMIT}
+use Rattle.trac_rules.specs.declared.primitive.BlockAction.TheVariants.{FetchBlock}
+use Rattle.trac_rules.specs.declared.primitive.Primitive.TheVariants.{HandleBlock}
+use Rattle.trac_rules.specs.declared.refusal.Refusal.TheVariants.{TooLong}
+use Rattle.trac_rules.specs.Blocks.{block_at, fetched, fetching, forms_in, named_block_number, on_block, with_all}
+use Rattle.trac_rules.specs.Effect.{Effect, argument, leaves}
+use Rattle.trac_rules.specs.Form.{Form}
+use Rattle.trac_rules.specs.Handling.{keeping}
+use Rattle.trac_rules.specs.Outcomes.{seen_as}
+use Rattle.trac_rules.specs.Performing.{after_call, changed_by, effect_of, performed, placed, primitive_of, printed_behind, trace_line}
+use Rattle.trac_rules.specs.Scanning.{Call, Calls, gathered_in, scan}
+use Rattle.trac_rules.specs.State.{Block, Environment, Forms, Frame, Held, State, storage_of}
+use Rattle.trac_rules.specs.Stepping.{step}
+use Rattle.trac_rules.proofs.Found.{put_get}
+use Rattle.trac_origins.specs.Lengths.{IsCallOf}
+use Rattle.trac_origins.specs.Places.{Place, InForm, InHeld, Carried, found_at, held_form, items_of}
+use Rattle.trac_origins.specs.Stepping.{origin}
+use Rattle.trac_origins.proofs.ToldCalls.{ended}
+use Rattle.trac_origins.proofs.ToldPut.{fetched_told, unaddressed_told, unfetched_told}
+use Rattle.trac_follow.specs.Fetched.{block_named, place_fetched}
+use Rattle.trac_follow.proofs.CallsTold.{blocks_are}
+use Rattle.trac_follow.proofs.ValuesTold.{call_does}
+
+-- ---- copies of the forms of a block
+
+-- the first of two, where it is there, else the second
+abbrev first_of : Option Form → Option Form → Option Form
+first_of None second = second
+first_of (Some form) second = Some form
+
+either : (b : Bool) (form : Form) (first second : Option Form) → cond b (Some form) (first_of first second) ≡ first_of (cond b (Some form) first) second
+either true form first second = refl
+either false form first second = refl
+
+copied : (held : Held) (m n forms : Forms) (q : List ℕ) → finite.get n q ≡ first_of (finite.get m q) (finite.get forms q) →
+    finite.get (with_all held n) q ≡ first_of (finite.get (with_all held m) q) (finite.get forms q)
+copied [] m n forms q e = e
+copied (entry ∷ held) m n forms q e =
+    copied held (finite.insert m entry.0 entry.1) (finite.insert n entry.0 entry.1) forms q
+    (put_get n entry.0 q entry.1
+    ∙ ap (λ (found : Option Form). cond (bytes_eq q entry.0) (Some entry.1) found) e
+    ∙ either (bytes_eq q entry.0) entry.1 (finite.get m q) (finite.get forms q)
+    ∙ ap (λ (found : Option Form). first_of found (finite.get forms q)) (sym (put_get m entry.0 q entry.1)))
+
+-- what is found among forms after that is the block's, or was there
+found_after : (block : Block) (forms : Forms) (q : List ℕ) (found : Option Form) → held_form q block ≡ found →
+    finite.get (with_all (forms_in block) forms) q ≡ first_of found (finite.get forms q)
+found_after block forms q found is =
+    copied (forms_in block) finite.empty forms forms q (ap (λ (f : Option Form). first_of f (finite.get forms q)) (sym (finite.get-empty (slice_cmp nat_cmp) q)))
+    ∙ ap (λ (f : Option Form). first_of f (finite.get forms q)) is
+
+-- ---- after the call
+
+forms-gathered : (fs : List Frame) (text : List ℕ) (u : State) → (gathered_in fs text u).forms ≡ u.forms
+forms-gathered [] text u = refl
+forms-gathered (f ∷ fs) text u = refl
+
+forms-placed : (kind : Kind) (forced : Bool) (value : List ℕ) (u : State) → (placed kind forced value u).forms ≡ u.forms
+forms-placed Active forced value u = refl
+forms-placed Neutral true value u = refl
+forms-placed Neutral false value u = forms-gathered u.frames value u
+
+module _ (environment : Environment) (s t : State) (call : Call) (e : Effect) (scans : scan s ≡ Calls call) (of : IsCallOf environment s call (HandleBlock FetchBlock) e) (after : t ≡ after_call call e) where
+  abbrev line : List ℕ
+  line = trace_line call.state.trace call.kind call.arguments
+
+  forms_are : t.forms ≡ e.storage.forms
+  forms_are = ap (λ (u : State). u.forms) after ∙ forms-placed call.kind e.forced e.value (changed_by e call.state)
+
+  -- what the primitive does
+  done_by : (found : Option ℕ) → named_block_number call.arguments (storage_of call.state) ≡ found →
+      seen_as (printed_behind line) (on_block found (λ number. fetching number (storage_of call.state)) (storage_of call.state)) ≡ Ok e
+  unfolding performed
+  done_by found is =
+      ap (λ (n : Option ℕ). seen_as (printed_behind line) (on_block n (λ number. fetching number (storage_of call.state)) (storage_of call.state))) (sym is)
+      ∙ (ap (λ p. seen_as (printed_behind line) (effect_of p environment call.arguments call.state)) (sym of.named) ∙ of.does)
+
+  left_by : seen_as (printed_behind line) (Ok (leaves (storage_of call.state))) ≡ Ok e → e.storage.forms ≡ call.state.forms
+  left_by done =
+      let same : printed_behind line (leaves (storage_of call.state)) ≡ e = cc in
+      ap (λ (f : Effect). f.storage.forms) (sym same)
+
+  fetched_by : (number : ℕ) (b : Bool) →
+      seen_as (printed_behind line) (cond b (Ok (leaves (keeping (fetched number (storage_of call.state)) (storage_of call.state)))) (Err TooLong)) ≡ Ok e →
+      e.storage.forms ≡ fetched number (storage_of call.state)
+  fetched_by number true done =
+      let same : printed_behind line (leaves (keeping (fetched number (storage_of call.state)) (storage_of call.state))) ≡ e = cc in
+      ap (λ (f : Effect). f.storage.forms) (sym same)
+  fetched_by number false done = absurd (cc)
+
+  -- the block is the one that the code finds
+  named_alike : (given : List ℕ) → given ≡ argument 1 call.arguments → block_named given (storage_of s) ≡ named_block_number call.arguments (storage_of call.state)
+  named_alike given same =
+      ap (λ (q : List ℕ). block_named q (storage_of s)) same
+      ∙ sym (ap (λ (u : State). block_named (argument 1 call.arguments) (storage_of u)) (ended s call scans).2.state)
+
+  module _ (given name : List ℕ) (i : ℕ) (item : Item) (place : Place) (same : given ≡ argument 1 call.arguments) (is : place ≡ place_fetched (block_named given (storage_of s)) name i (storage_of s))
+      (stands : found_at t (InForm name i) ≡ Some item) where
+    place_by : (found : Option ℕ) → named_block_number call.arguments (storage_of call.state) ≡ found → place ≡ place_fetched found name i (storage_of s)
+    place_by found named = is ∙ ap (λ (n : Option ℕ). place_fetched n name i (storage_of s)) (named_alike given same ∙ named)
+
+    unaddressed : named_block_number call.arguments (storage_of call.state) ≡ None → origin environment s (InForm name i) ≡ Carried place
+    unaddressed none =
+        let kept : t.forms ≡ call.state.forms = forms_are ∙ left_by (done_by None none) in
+        unaddressed_told environment s call e of none name i item (ap (λ (forms : Forms). slice_get (items_of (finite.get forms name)) i) (sym kept) ∙ stands)
+        ∙ ap Carried (sym (place_by None none))
+
+    module _ (number : ℕ) (some : named_block_number call.arguments (storage_of call.state) ≡ Some number) where
+      -- what is found under the name then
+      found_then : (found : Option Form) → held_form name (block_at number call.state.blocks) ≡ found → finite.get t.forms name ≡ first_of found (finite.get call.state.forms name)
+      found_then found there =
+          ap (λ (forms : Forms). finite.get forms name)
+          (forms_are ∙ fetched_by number (nat_le (finite.len (fetched number (storage_of call.state))) FORM_COUNT_LIMIT) (done_by (Some number) some))
+          ∙ found_after (block_at number call.state.blocks) call.state.forms name found there
+
+      held_so : (found : Option Form) → held_form name (block_at number call.state.blocks) ≡ found →
+          place ≡ (if is_some found then InHeld number name i else InForm name i)
+      held_so found there =
+          place_by (Some number) some
+          ∙ ap (λ (f : Option Form). if is_some f then InHeld number name i else InForm name i)
+          (ap (λ (blocks : List Block). held_form name (block_at number blocks)) (sym (blocks_are s call scans)) ∙ there)
+
+      by_held : (found : Option Form) → held_form name (block_at number call.state.blocks) ≡ found → origin environment s (InForm name i) ≡ Carried place
+      by_held (Some form) there =
+          fetched_told environment s call e of number some name i item
+          (ap (λ (f : Option Form). slice_get (items_of f) i) (there ∙ sym (found_then (Some form) there)) ∙ stands)
+          ∙ ap Carried (sym (held_so (Some form) there))
+      by_held None there =
+          unfetched_told environment s call e of number some name i item there
+          (ap (λ (f : Option Form). slice_get (items_of f) i) (sym (found_then None there)) ∙ stands)
+          ∙ ap Carried (sym (held_so None there))
+
+    by_block : (found : Option ℕ) → named_block_number call.arguments (storage_of call.state) ≡ found → origin environment s (InForm name i) ≡ Carried place
+    by_block None none = unaddressed none
+    by_block (Some number) some = by_held number some (held_form name (block_at number call.state.blocks)) refl
+
+    pub brought : origin environment s (InForm name i) ≡ Carried place
+    brought = by_block (named_block_number call.arguments (storage_of call.state)) refl
+
+pub fetched_tells : (environment : Environment) (s t : State) (call : Call) → step environment s ≡ Ok t → scan s ≡ Calls call → primitive_of (argument 0 call.arguments) ≡ HandleBlock FetchBlock →
+    (given name : List ℕ) (i : ℕ) (item : Item) (place : Place) → given ≡ argument 1 call.arguments → place ≡ place_fetched (block_named given (storage_of s)) name i (storage_of s) →
+    found_at t (InForm name i) ≡ Some item → origin environment s (InForm name i) ≡ Carried place
+fetched_tells environment s t call h scans named given name i item place same is stands =
+    let done = call_does environment s t call h scans (HandleBlock FetchBlock) named in
+    brought environment s t call done.0 scans done.1 done.2 given name i item place same is stands

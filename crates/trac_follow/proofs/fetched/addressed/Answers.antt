@@ -1,0 +1,20 @@
+use Rattle.std.proofs.Common.{length, sym, ◌∙◌, arith}
+use Rattle.trac_rules.specs.Blocks.{is_address}
+use Rattle.trac_rules.proofs.Addresses.{addressed_alone}
+use Rattle.trac_rules.proofs.Balanced.{first_place_none}
+use Rattle.trac_follow.proofs.Fetching.{none_below}
+use Rattle.trac_follow.proofs.fetched.addressed.Goals as goal
+
+pub loop-number-preserved : goal.loop-number-preserved
+loop-number-preserved g c =
+    none_below c.args.form.now c.args.store.now.blocks c.loop-number.number c.loop-number.invariant (sym c.is_address.ensures ∙ c.if-is_address.false)
+
+pub returns-then-is_address : goal.returns-then-is_address
+returns-then-is_address g c =
+    sym (addressed_alone c.args.form.now c.args.store.now.blocks c.loop-number.number (omega (arith, c.block_count-count.ensures.within))
+    (omega (arith, c.loop-number-test.true, c.block_count-count.ensures.count)) (sym c.is_address.ensures ∙ c.if-is_address.true))
+
+pub returns : goal.returns
+returns g c =
+    sym (first_place_none (is_address c.args.form.now c.args.store.now.blocks) (length c.args.store.now.blocks)
+    (λ k within. c.loop-number.invariant k (omega (arith, within, c.loop-number-test.false, c.block_count-count.ensures.count))))
