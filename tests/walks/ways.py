@@ -1,6 +1,6 @@
 """A model of `y` of trac-walk, written from the definition of the language: each byte has the way by which it came.
 
-It knows ds, ss, cl, cs, eq, gr, ad, su, ml, ps and rs. It was written before the program was tried, and not from it.
+It knows ds, ss, cl, cs, cc, eq, gr, ad, su, ml, sb, fb, eb, ps and rs. It was written before the program was tried, and not from it.
 """
 import re
 
@@ -63,6 +63,8 @@ class Machine:
         self.tape, self.position, self.step = tape, 0, 0
         self.active = [(byte, ()) for byte in IDLE]
         self.base, self.frames, self.forms, self.out = [], [], {}, []
+        # each the forms that it holds, by their names; an erased one is none
+        self.blocks = []
 
     def current(self):
         """The text that is gathered."""
@@ -166,6 +168,49 @@ class Machine:
         end = next((place for place in range(pointer, len(items)) if items[place][0] >= GAP), len(items))
         form[1] = min(end + 1, len(items))
         return moved(items[pointer:end], did("gives it")), False
+
+    def do_cc(self, arguments, did):
+        form = self.forms.get(plain(arguments[1]))
+        if not form:
+            return [], False
+        items, pointer = form
+        place = next((place for place in range(pointer, len(items)) if items[place][0] < GAP), None)
+        if place is None:
+            return moved(arguments[2], did("gives it")), True
+        form[1] = place + 1
+        return moved(items[place:place + 1], did("gives it")), False
+
+    def put(self, forms, names, did):
+        """Forms of these names with all that they hold, which the call puts elsewhere."""
+        return {name: [moved(forms[name][0], did("sets it")), forms[name][1]] for name in names if name in forms}
+
+    def do_sb(self, arguments, did):
+        held = self.put(self.forms, [plain(name) for name in arguments[2:]], did)
+        for name in held:
+            del self.forms[name]
+        self.forms[plain(arguments[1])] = [made(str(len(self.blocks)).encode(), did("makes it")), 0]
+        self.blocks.append(held)
+        return [], False
+
+    def named(self, name):
+        """The number of the block that a form names, by its bytes without its gaps."""
+        items = self.forms.get(name, [[], 0])[0]
+        text = plain(item for item in items if item[0] < GAP)
+        return next((n for n, block in enumerate(self.blocks) if block is not None and text == str(n).encode()), None)
+
+    def do_fb(self, arguments, did):
+        number = self.named(plain(arguments[1]))
+        if number is not None:
+            self.forms.update(self.put(self.blocks[number], list(self.blocks[number]), did))
+        return [], False
+
+    def do_eb(self, arguments, _):
+        name = plain(arguments[1])
+        number = self.named(name)
+        if number is not None:
+            self.blocks[number] = None
+            del self.forms[name]
+        return [], False
 
     def do_eq(self, arguments, did):
         chosen = 3 if plain(arguments[1]) == plain(arguments[2]) else 4
