@@ -1,8 +1,8 @@
 #!/usr/bin/env python3
 """native-hints.py TOP KIT FROM.ll TO.ll: puts the hints on inlining that stand in the sources into LLVM's text of a program.
 
-A function is known by its crate, its module and its name. `trac_gap` has a type of one module with methods in another, and there a
-name that is marked once is enough.
+A function is known by its crate, its module and its name. A type of one module may have methods in another, so a name that is
+marked once in a crate is enough.
 """
 import glob
 import os
@@ -41,7 +41,7 @@ def hint_of(found, symbol):
     parts = re.sub(r"::<.*$", "", symbol).split("::")
     marked = found.get((parts[0], parts[-1]), [])
     for module, hint in marked:
-        if parts[1 : 1 + len(module)] == module or (parts[0] == "trac_gap" and len(marked) == 1):
+        if parts[1 : 1 + len(module)] == module or len(marked) == 1:
             return hint
     return None
 

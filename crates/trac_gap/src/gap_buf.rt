@@ -37,6 +37,8 @@ fn grown(capacity: usize, wanted: usize) -> usize
 
 impl<T: Copy, A: Allocator + Copy> GapBuf<T, A> {
     // A block of `capacity` places with a copy of both lists.
+    #[cold]
+    #[inline(never)]
     fn copied(&self, capacity: usize) -> Result<RawGap<T, A>, AllocError>
         requires { item_count self.now ≤ capacity }
         ensures { IfOk result (λ b. b ≡ record self.now { capacity = capacity }) }
@@ -55,6 +57,7 @@ impl<T: Copy, A: Allocator + Copy> TwoEnds<T, A> for GapBuf<T, A> {
         GapBuf { alloc, block: None }
     }
 
+    #[inline]
     fn reserve(&mut self, n: usize) -> Result<(), GapError> {
         let room = self.room();
         if n <= room {

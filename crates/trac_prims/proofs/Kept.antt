@@ -1,6 +1,6 @@
 -- What was done where texts were added to those that were made before.
 use Rattle.std.proofs.Common.{◌≡◌, ℕ, ◌<◌, List, [], ◌∷◌, ◌++◌, length, take, Bool, true, refl, sym, ap, subst, ◌∙◌}
-use Rattle.std.specs.Prelude.{Result, Ok, Err, IfOk, MatchResult, nat_le, slice_get}
+use Rattle.std.specs.Prelude.{Result, Ok, Err, IfOk, MatchResult, OnOk, nat_le, slice_get}
 use Rattle.std.proofs.lemmas.Bool.{and_left, lt-leb}
 use Rattle.std.proofs.lemmas.List.{append-nil}
 use Rattle.trac_rules.specs.declared.limit.TheConstants.{OUTPUT_LIMIT, TEXT_LIMIT}
@@ -19,59 +19,60 @@ use Rattle.trac_change.specs.declared.change.Change.TheVariants.{Keep}
 use Rattle.trac_prims.specs.declared.effect.Deed.{Deed}
 use Rattle.trac_prims.specs.declared.effect.Made.{Made}
 use Rattle.trac_change.specs.Changes.{IsChangeOf}
-use Rattle.trac_prims.specs.Effects.{IsChanged, IsDone, changing, done_on, pieces_fit}
+use Rattle.trac_prims.specs.Effects.{IsChanged, IsDone, done_on, nothing, pieces_fit}
 use Rattle.trac_change.specs.Changed.{changed}
 
 module _ {A : Type 0} (arguments : List (List ℕ)) (storage : Storage) (old new : Made A) where
   -- the texts are longer by those of an effect, and all else is as it says
-  pub as_said : (e : Effect) (change : Change A) (d : Deed A) → new.value.items ≡ old.value.items ++ e.value → new.print.items ≡ old.print.items ++ e.printed →
-      changed arguments change storage ≡ e.storage → d ≡ record { forced = e.forced; read = e.read; meta = e.meta; trace = e.trace; change = change } →
-      IsDone arguments storage (Ok e) old new (Ok d)
+  pub as_said : (e : Effect) (change : Change A) (d : Deed) → new.value.items ≡ old.value.items ++ e.value → new.print.items ≡ old.print.items ++ e.printed →
+      changed arguments change storage ≡ e.storage → d ≡ record { forced = e.forced; read = e.read; meta = e.meta; trace = e.trace } →
+      IsDone arguments storage (Ok e) old new change (Ok d)
   as_said e change d value printed left is =
       let v = sym value in
       let p = sym printed in
       let s = sym left in
-      ap Ok ((λ i. record e { value = v i; printed = p i; storage = s i }) ∙ ap (λ (deed : Deed A). done_on arguments storage new deed) (sym is))
+      ap Ok ((λ i. record e { value = v i; printed = p i; storage = s i }) ∙ ap (λ (deed : Deed). done_on arguments storage new change deed) (sym is))
 
   -- a value, and no more
-  pub given : (text : List ℕ) (d : Deed A) → new.value.items ≡ old.value.items ++ text → new.print.items ≡ old.print.items → d ≡ changing Keep →
-      IsDone arguments storage (Ok (gives text storage)) old new (Ok d)
+  pub given : (text : List ℕ) (d : Deed) → new.value.items ≡ old.value.items ++ text → new.print.items ≡ old.print.items → d ≡ nothing →
+      IsDone arguments storage (Ok (gives text storage)) old new Keep (Ok d)
   given text d value same is = as_said (gives text storage) Keep d value (same ∙ sym (append-nil old.print.items)) refl is
 
   -- a printed text, and no more
-  pub printed : (text : List ℕ) (d : Deed A) → new.value.items ≡ old.value.items → new.print.items ≡ old.print.items ++ text → d ≡ changing Keep →
-      IsDone arguments storage (Ok (prints text storage)) old new (Ok d)
+  pub printed : (text : List ℕ) (d : Deed) → new.value.items ≡ old.value.items → new.print.items ≡ old.print.items ++ text → d ≡ nothing →
+      IsDone arguments storage (Ok (prints text storage)) old new Keep (Ok d)
   printed text d same print is = as_said (prints text storage) Keep d (same ∙ sym (append-nil old.value.items)) print refl is
 
 module _ {A : Type 0} (arguments : List (List ℕ)) (storage : Storage) (made : Made A) where
   -- nothing is made
-  pub left_so : (e : Effect) (change : Change A) (d : Deed A) → e.value ≡ [] → e.printed ≡ [] → changed arguments change storage ≡ e.storage →
-      d ≡ record { forced = e.forced; read = e.read; meta = e.meta; trace = e.trace; change = change } → IsDone arguments storage (Ok e) made made (Ok d)
+  pub left_so : (e : Effect) (change : Change A) (d : Deed) → e.value ≡ [] → e.printed ≡ [] → changed arguments change storage ≡ e.storage →
+      d ≡ record { forced = e.forced; read = e.read; meta = e.meta; trace = e.trace } → IsDone arguments storage (Ok e) made made change (Ok d)
   left_so e change d none silent left is =
       as_said arguments storage made made e change d (sym (append-nil made.value.items) ∙ ap (λ text. made.value.items ++ text) (sym none))
       (sym (append-nil made.print.items) ∙ ap (λ text. made.print.items ++ text) (sym silent)) left is
 
   -- a change of the forms, and no more
-  pub changed_so : (outcome : Result Effect Refusal) (change : Result (Change A) Refusal) (result : Result (Deed A) Refusal) →
-      MatchResult change (λ c. result ≡ Ok (changing c)) (λ refusal. result ≡ Err refusal) → IsChanged arguments storage outcome change → IsDone arguments storage outcome made made result
-  changed_so outcome (Ok change) result is said =
-      subst (IsDone arguments storage outcome made made) (sym is)
-      (subst (λ o. IsDone arguments storage o made made (Ok (changing change))) (sym said)
-      (left_so (leaves (changed arguments change storage)) change (changing change) refl refl refl refl))
-  changed_so outcome (Err refusal) result is said = subst (IsDone arguments storage outcome made made) (sym is) said
+  pub changed_so : (outcome : Result Effect Refusal) (planned : Result (Change A) Refusal) (change : Change A) (result : Result Deed Refusal) →
+      MatchResult planned (λ c. (change ≡ c) × (result ≡ Ok nothing)) (λ refusal. result ≡ Err refusal) → IsChanged arguments storage outcome planned →
+      IsDone arguments storage outcome made made change result
+  changed_so outcome (Ok c) change result is said =
+      rw (is.0, is.1)
+      (subst (λ o. IsDone arguments storage o made made c (Ok nothing)) (sym said)
+      (left_so (leaves (changed arguments c storage)) c nothing refl refl refl refl))
+  changed_so outcome (Err refusal) change result is said = subst (IsDone arguments storage outcome made made change) (sym is) said
 
--- what holds of a change holds of the deed that it is
-pub of_change : {A : Type 0} (P : Change A → Type 0) (change : Result (Change A) Refusal) (result : Result (Deed A) Refusal) →
-    MatchResult change (λ c. result ≡ Ok (changing c)) (λ refusal. result ≡ Err refusal) → IfOk change P → IfOk result (λ d. P d.change)
-of_change P (Ok change) result is holds = subst (λ r. IfOk r (λ d. P d.change)) (sym is) holds
-of_change P (Err refusal) result is holds = subst (λ r. IfOk r (λ d. P d.change)) (sym is) tt
+-- what holds of a change that is planned holds of the one that is made
+pub of_change : {A : Type 0} (P : Change A → Type 0) (planned : Result (Change A) Refusal) (change : Change A) (result : Result Deed Refusal) →
+    MatchResult planned (λ c. (change ≡ c) × (result ≡ Ok nothing)) (λ refusal. result ≡ Err refusal) → IfOk planned P → OnOk result (P change)
+of_change P (Ok c) change result is holds = rw (is.0, is.1) holds
+of_change P (Err refusal) change result is holds = rw is tt
 
 -- nothing is destroyed where the forms stay
-pub keeps_so : {A : Type 0} (primitive : Primitive) (arguments : List (List ℕ)) (storage : Storage) (result : Result (Deed A) Refusal) → undone_by primitive arguments storage ≡ Nothing →
-    IfOk result (λ d. d.change ≡ Keep) → IfOk result (λ d. IsChangeOf primitive arguments storage d.change)
-keeps_so primitive arguments storage (Ok d) nothing kept =
-    subst (λ (change : Change _). IsChangeOf primitive arguments storage change) (sym kept) (record { undone_is = sym nothing; names_are = tt })
-keeps_so primitive arguments storage (Err refusal) nothing kept = tt
+pub keeps_so : {A : Type 0} (primitive : Primitive) (arguments : List (List ℕ)) (storage : Storage) (change : Change A) (result : Result Deed Refusal) →
+    undone_by primitive arguments storage ≡ Nothing → change ≡ Keep → OnOk result (IsChangeOf primitive arguments storage change)
+keeps_so primitive arguments storage change (Ok d) none kept =
+    subst (λ (c : Change _). IsChangeOf primitive arguments storage c) (sym kept) (record { undone_is = sym none; names_are = tt })
+keeps_so primitive arguments storage change (Err refusal) none kept = tt
 
 -- the first byte of what is left to read
 pub byte_given : (text : List ℕ) (ended : Bool) (storage : Storage) → (length text ≡ 0 → ⊥) → byte_read text ended storage ≡ Ok (reads (take 1 text) 1 storage)

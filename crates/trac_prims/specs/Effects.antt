@@ -9,24 +9,24 @@ use Rattle.trac_rules.specs.State.{Storage}
 use Rattle.trac_change.specs.declared.change.Change as code
 use Rattle.trac_change.specs.Changed.{changed}
 use Rattle.trac_prims.specs.declared.effect.Effect as planned
-use Rattle.trac_prims.specs.declared.effect.Deed as deed
+use Rattle.trac_prims.specs.declared.effect.Deed.{Deed}
 use Rattle.trac_prims.specs.declared.effect.Made as made
 use Rattle.trac_prims.specs.declared.effect.Now.{Now}
 
--- a change, and nothing else
-abbrev pub changing : {A : Type 0} → code.Change A → deed.Deed A
-changing change = record { forced = false; read = 0; meta = None; trace = None; change = change }
+-- nothing is done beside texts and a change
+abbrev pub nothing : Deed
+nothing = record { forced = false; read = 0; meta = None; trace = None }
 
--- what a call of these arguments does where these texts were made, as an effect on a storage
-abbrev pub done_on : {A : Type 0} → List (List ℕ) → Storage → made.Made A → deed.Deed A → Effect
-done_on arguments storage texts d = record {
+-- what a call of these arguments does where these texts and this change were made, as an effect on a storage
+abbrev pub done_on : {A : Type 0} → List (List ℕ) → Storage → made.Made A → code.Change A → Deed → Effect
+done_on arguments storage texts change d = record {
   value = texts.value.items;
   forced = d.forced;
   printed = texts.print.items;
   read = d.read;
   meta = d.meta;
   trace = d.trace;
-  storage = changed arguments d.change storage;
+  storage = changed arguments change storage;
 }
 
 -- an effect with the texts that were made before it
@@ -85,7 +85,8 @@ abbrev pub IsChanged : {A : Type 0} → List (List ℕ) → Storage → Result E
 IsChanged arguments storage outcome (Ok change) = outcome ≡ Ok (leaves (changed arguments change storage))
 IsChanged arguments storage outcome (Err refusal) = MayFail outcome refusal
 
--- what is done with these arguments where this is the outcome of the definitions: its texts are added to those that were made before
-abbrev pub IsDone : {A : Type 0} → List (List ℕ) → Storage → Result Effect Refusal → made.Made A → made.Made A → Result (deed.Deed A) Refusal → Type 0
-IsDone arguments storage outcome old new (Ok d) = seen_as (added_to old) outcome ≡ Ok (done_on arguments storage new d)
-IsDone arguments storage outcome old new (Err refusal) = MayFail outcome refusal
+-- what is done with these arguments, this change among it, where this is the outcome of the definitions: its texts are added to those that
+-- were made before
+abbrev pub IsDone : {A : Type 0} → List (List ℕ) → Storage → Result Effect Refusal → made.Made A → made.Made A → code.Change A → Result Deed Refusal → Type 0
+IsDone arguments storage outcome old new change (Ok d) = seen_as (added_to old) outcome ≡ Ok (done_on arguments storage new change d)
+IsDone arguments storage outcome old new change (Err refusal) = MayFail outcome refusal

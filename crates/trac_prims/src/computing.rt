@@ -11,7 +11,6 @@ ghost use Rattle.trac_prims.specs.Effects.{IsDone};
 use crate::bits::{complement_of, meet_of, rotation_of, shift_of, union_of};
 use crate::effect::{Deed, Made};
 use std::alloc::Allocator;
-use trac_change::Change;
 use trac_num::{add, div, greater, mul, print_into, read_tail, sub, value};
 use trac_rules::primitive::{Computation, Operation};
 use trac_rules::refusal::Refusal;
@@ -25,9 +24,8 @@ pub(crate) fn compute<A: Allocator + Copy>(
     args: &Args<'_>,
     width: Width,
     made: &mut Made<A>,
-) -> Result<Deed<A>, Refusal>
-    ensures outcome { (storage : Storage) → IsDone args.now storage (Ok (computed computation width args.now storage)) made.old made.new result }
-    ensures change { IfOk result (λ d. d.change ≡ Keep) }
+) -> Result<Deed, Refusal>
+    ensures { (storage : Storage) → IsDone args.now storage (Ok (computed computation width args.now storage)) made.old made.new Keep result }
 {
     match computation {
         Computation::Equal => give(choose(args.get(1) == args.get(2), args), made),
@@ -42,16 +40,16 @@ pub(crate) fn compute<A: Allocator + Copy>(
 }
 
 // Gives a text as the value.
-fn give<A: Allocator + Copy>(text: &[u8], made: &mut Made<A>) -> Result<Deed<A>, Refusal>
-    ensures outcome { (arguments : List (List ℕ)) (storage : Storage) → IsDone arguments storage (Ok (gives text.now storage)) made.old made.new result }
-    ensures change { IfOk result (λ d. d.change ≡ Keep) }
+fn give<A: Allocator + Copy>(text: &[u8], made: &mut Made<A>) -> Result<Deed, Refusal>
+    ensures { (arguments : List (List ℕ)) (storage : Storage) → IsDone arguments storage (Ok (gives text.now storage)) made.old made.new Keep result }
 {
     made.value.extend_from_slice(text)?;
-    Ok(Deed::changing(Change::Keep))
+    Ok(Deed::nothing())
 }
 
-// The number of an argument, its prefix dropped; none where it does not fit the width.
-pub(crate) fn number_at(args: &Args<'_>, k: usize, width: Width) -> Option<i128>
+/// The number of the argument of this place, the name being at 0: its numeral, the prefix dropped; `None` where it does not fit
+/// the width. A text without a numeral has the number 0, as has an argument that is not given.
+pub fn number_at(args: &Args<'_>, k: usize, width: Width) -> Option<i128>
     ensures { result ≡ number_argument width k args.now }
 {
     value(read_tail(args.get(k)).numeral, width)
@@ -85,24 +83,24 @@ fn calculate<A: Allocator + Copy>(
     args: &Args<'_>,
     width: Width,
     made: &mut Made<A>,
-) -> Result<Deed<A>, Refusal>
-    ensures outcome { (storage : Storage) → IsDone args.now storage (Ok (computed (Calculate operation) width args.now storage)) made.old made.new result }
-    ensures change { IfOk result (λ d. d.change ≡ Keep) }
+) -> Result<Deed, Refusal>
+    ensures { (storage : Storage) → IsDone args.now storage (Ok (computed (Calculate operation) width args.now storage)) made.old made.new Keep result }
 {
     let Some(n) = result_on(operation, args, width) else {
         made.value.extend_from_slice(args.get(3))?;
         return Ok(Deed {
             forced: true,
-            ..Deed::changing(Change::Keep)
+            ..Deed::nothing()
         });
     };
     made.value.extend_from_slice(read_tail(args.get(1)).prefix)?;
     print_into(n, &mut made.value)?;
-    Ok(Deed::changing(Change::Keep))
+    Ok(Deed::nothing())
 }
 
-// The result of an operation on the numbers of the two arguments after the name, if it fits.
-fn result_on(operation: Operation, args: &Args<'_>, width: Width) -> Option<i128>
+/// The result of `ad`, `su`, `ml` or `dv` on the numbers of the two arguments after the name; `None` where one of them or the
+/// result does not fit the width, or the divisor is 0.
+pub fn result_on(operation: Operation, args: &Args<'_>, width: Width) -> Option<i128>
     ensures { result ≡ on_both (result_of operation width) (number_argument width 1 args.now) (number_argument width 2 args.now) }
 {
     operate(

@@ -1,7 +1,7 @@
 //! What a call will do, and what it has to know for that.
 ghost use Rattle.std.specs.Prelude.{◌≡◌, ◌+◌, ◌<◌, ◌^◌, [], List, ℕ};
 ghost use Rattle.trac_rules.specs.State.{Storage};
-ghost use Rattle.trac_prims.specs.Effects.{changing, done_on, planned_from, planned_on};
+ghost use Rattle.trac_prims.specs.Effects.{done_on, nothing, planned_from, planned_on};
 
 use std::alloc::{Allocator, Global};
 use trac_change::Change;
@@ -35,9 +35,9 @@ pub struct Made<A: Allocator + Copy = Global> {
     pub print: Vec<u8, A>,
 }
 
-/// What a call will do beside the texts that it makes.
-#[derive(Drop)]
-pub struct Deed<A: Allocator + Copy = Global> {
+/// What a call will do beside the texts that it makes, and the change that it makes of forms and blocks.
+#[derive(Clone, Copy)]
+pub struct Deed {
     /// Whether the value is scanned, though the function may be neutral.
     pub forced: bool,
     /// How many bytes of the tape are read.
@@ -46,8 +46,6 @@ pub struct Deed<A: Allocator + Copy = Global> {
     pub meta: Option<u8>,
     /// Whether each call is printed from then on, where that is set.
     pub trace: Option<bool>,
-    /// What becomes of the forms.
-    pub change: Change<A>,
 }
 
 /// What a call has to know of the machine.
@@ -80,28 +78,32 @@ impl<A: Allocator + Copy> Made<A> {
     }
 }
 
-impl<A: Allocator + Copy> Deed<A> {
-    // This change of the forms, and nothing else.
-    pub(crate) fn changing(change: Change<A>) -> Self
-        ensures { result ≡ changing change }
+impl Deed {
+    // Nothing.
+    pub(crate) fn nothing() -> Self
+        ensures { result ≡ nothing }
     {
         Deed {
             forced: false,
             read: 0,
             meta: None,
             trace: None,
-            change,
         }
     }
 
-    // What a call will do, from the texts that it made, and from what is so now.
-    pub(crate) fn complete(self, made: Made<A>, now: Now) -> Effect<A>
+    // What a call will do, from the texts and the change that it made, and from what is so now.
+    pub(crate) fn complete<A: Allocator + Copy>(
+        self,
+        made: Made<A>,
+        change: Change<A>,
+        now: Now,
+    ) -> Effect<A>
         requires { now.position + self.read < 2 ^ 64 }
-        ensures effect { (arguments : List (List ℕ)) (storage : Storage) → planned_on arguments storage result ≡ planned_from now (done_on arguments storage made self) }
+        ensures effect { (arguments : List (List ℕ)) (storage : Storage) → planned_on arguments storage result ≡ planned_from now (done_on arguments storage made change self) }
         ensures value { result.value ≡ made.value }
         ensures print { result.print ≡ made.print }
         ensures position { result.position ≡ now.position + self.read }
-        ensures change { result.change ≡ self.change }
+        ensures change { result.change ≡ change }
     {
         Effect {
             value: made.value,
@@ -110,7 +112,7 @@ impl<A: Allocator + Copy> Deed<A> {
             position: now.position + self.read,
             meta: self.meta.unwrap_or(now.meta),
             trace: self.trace.unwrap_or(now.trace),
-            change: self.change,
+            change,
         }
     }
 }

@@ -90,12 +90,11 @@ pub(crate) fn call<A: Allocator + Copy>(
     args: &Args<'_>,
     store: &Store<A>,
     made: &mut Made<A>,
-) -> Result<Deed<A>, Refusal>
-    ensures outcome { (width : Width) → IsDone args.now (storage_in store.now) (handled CallForm width args.now (storage_in store.now)) made.old made.new result }
-    ensures change { IfOk result (λ d. d.change ≡ Keep) }
+) -> Result<Deed, Refusal>
+    ensures { (width : Width) → IsDone args.now (storage_in store.now) (handled CallForm width args.now (storage_in store.now)) made.old made.new Keep result }
 {
     let Some(form) = store.get(args.get(1)) else {
-        return Ok(Deed::changing(Change::Keep));
+        return Ok(Deed::nothing());
     };
     let Some(room) = room_of(form, args) else {
         return Err(Refusal::TooLong);
@@ -103,7 +102,7 @@ pub(crate) fn call<A: Allocator + Copy>(
     let texts = after(args, 2);
     made.value.reserve(room)?;
     form.call_into(&texts, &mut made.value)?;
-    Ok(Deed::changing(Change::Keep))
+    Ok(Deed::nothing())
 }
 
 // `ln`: the names of all forms, each with a text before it.
@@ -111,9 +110,8 @@ pub(crate) fn list_names<A: Allocator + Copy>(
     args: &Args<'_>,
     store: &Store<A>,
     made: &mut Made<A>,
-) -> Result<Deed<A>, Refusal>
-    ensures outcome { (width : Width) → IsDone args.now (storage_in store.now) (handled ListNames width args.now (storage_in store.now)) made.old made.new result }
-    ensures change { IfOk result (λ d. d.change ≡ Keep) }
+) -> Result<Deed, Refusal>
+    ensures { (width : Width) → IsDone args.now (storage_in store.now) (handled ListNames width args.now (storage_in store.now)) made.old made.new Keep result }
 {
     let text = args.get(1);
     let names = store.names()?;
@@ -122,7 +120,7 @@ pub(crate) fn list_names<A: Allocator + Copy>(
     };
     made.value.reserve(len)?;
     list_into(text, names.as_slice(), &mut made.value)?;
-    Ok(Deed::changing(Change::Keep))
+    Ok(Deed::nothing())
 }
 
 // `pf`: a form is printed.
@@ -130,19 +128,18 @@ pub(crate) fn print_form<A: Allocator + Copy>(
     args: &Args<'_>,
     store: &Store<A>,
     made: &mut Made<A>,
-) -> Result<Deed<A>, Refusal>
-    ensures outcome { (width : Width) → IsDone args.now (storage_in store.now) (handled PrintForm width args.now (storage_in store.now)) made.old made.new result }
-    ensures change { IfOk result (λ d. d.change ≡ Keep) }
+) -> Result<Deed, Refusal>
+    ensures { (width : Width) → IsDone args.now (storage_in store.now) (handled PrintForm width args.now (storage_in store.now)) made.old made.new Keep result }
 {
     let Some(form) = store.get(args.get(1)) else {
-        return Ok(Deed::changing(Change::Keep));
+        return Ok(Deed::nothing());
     };
     let Some(len) = form.show_len() else {
         return Err(Refusal::TooLong);
     };
     made.print.reserve(len)?;
     form.show_into(&mut made.print)?;
-    Ok(Deed::changing(Change::Keep))
+    Ok(Deed::nothing())
 }
 
 // ---- pieces

@@ -10,7 +10,6 @@ use crate::effect::{Deed, Made};
 use crate::tape::Tape;
 use memchr::memchr;
 use std::alloc::Allocator;
-use trac_change::Change;
 use trac_rules::refusal::Refusal;
 use trac_text::Args;
 
@@ -18,12 +17,11 @@ use trac_text::Args;
 pub(crate) fn print_string<A: Allocator + Copy>(
     args: &Args<'_>,
     made: &mut Made<A>,
-) -> Result<Deed<A>, Refusal>
-    ensures outcome { (storage : Storage) → IsDone args.now storage (Ok (prints (argument 1 args.now) storage)) made.old made.new result }
-    ensures change { IfOk result (λ d. d.change ≡ Keep) }
+) -> Result<Deed, Refusal>
+    ensures { (storage : Storage) → IsDone args.now storage (Ok (prints (argument 1 args.now) storage)) made.old made.new Keep result }
 {
     made.print.extend_from_slice(args.get(1))?;
-    Ok(Deed::changing(Change::Keep))
+    Ok(Deed::nothing())
 }
 
 // `rs`: the input from this place on, up to the first meta character, or all of it at its end.
@@ -32,11 +30,10 @@ pub(crate) fn read_string<A: Allocator + Copy>(
     place: usize,
     meta: u8,
     made: &mut Made<A>,
-) -> Result<Deed<A>, Refusal>
+) -> Result<Deed, Refusal>
     requires { place ≤ length tape.bytes.now }
-    ensures outcome { (arguments : List (List ℕ)) (storage : Storage) → IsDone arguments storage (string_read (drop place tape.entry.bytes.now) tape.entry.ended meta storage) made.old made.new result }
+    ensures outcome { (arguments : List (List ℕ)) (storage : Storage) → IsDone arguments storage (string_read (drop place tape.entry.bytes.now) tape.entry.ended meta storage) made.old made.new Keep result }
     ensures within { IfOk result (λ d. place + d.read ≤ length tape.entry.bytes.now) }
-    ensures change { IfOk result (λ d. d.change ≡ Keep) }
 {
     let unread = tape.bytes.split_at(place).1;
     if let Some(k) = first_of(meta, unread) {
@@ -56,11 +53,10 @@ pub(crate) fn read_byte<A: Allocator + Copy>(
     tape: Tape<'_>,
     place: usize,
     made: &mut Made<A>,
-) -> Result<Deed<A>, Refusal>
+) -> Result<Deed, Refusal>
     requires { place ≤ length tape.bytes.now }
-    ensures outcome { (arguments : List (List ℕ)) (storage : Storage) → IsDone arguments storage (byte_read (drop place tape.entry.bytes.now) tape.entry.ended storage) made.old made.new result }
+    ensures outcome { (arguments : List (List ℕ)) (storage : Storage) → IsDone arguments storage (byte_read (drop place tape.entry.bytes.now) tape.entry.ended storage) made.old made.new Keep result }
     ensures within { IfOk result (λ d. place + d.read ≤ length tape.entry.bytes.now) }
-    ensures change { IfOk result (λ d. d.change ≡ Keep) }
 {
     let unread = tape.bytes.split_at(place).1;
     if unread.is_empty() {
@@ -74,19 +70,14 @@ pub(crate) fn read_byte<A: Allocator + Copy>(
 }
 
 // Gives a text as the value, for which so many bytes of the input are read.
-fn take<A: Allocator + Copy>(
-    text: &[u8],
-    read: usize,
-    made: &mut Made<A>,
-) -> Result<Deed<A>, Refusal>
-    ensures outcome { (arguments : List (List ℕ)) (storage : Storage) → IsDone arguments storage (Ok (reads text.now read storage)) made.old made.new result }
+fn take<A: Allocator + Copy>(text: &[u8], read: usize, made: &mut Made<A>) -> Result<Deed, Refusal>
+    ensures outcome { (arguments : List (List ℕ)) (storage : Storage) → IsDone arguments storage (Ok (reads text.now read storage)) made.old made.new Keep result }
     ensures read { IfOk result (λ d. d.read ≡ read) }
-    ensures change { IfOk result (λ d. d.change ≡ Keep) }
 {
     made.value.extend_from_slice(text)?;
     Ok(Deed {
         read,
-        ..Deed::changing(Change::Keep)
+        ..Deed::nothing()
     })
 }
 

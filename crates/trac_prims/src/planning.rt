@@ -1,5 +1,5 @@
 //! Planning a call.
-ghost use Rattle.std.specs.Prelude.{◌≡◌, ◌+◌, ◌≤◌, length, Err, Ok, ◌↔◌, IfOk, IsTrue, MatchResult};
+ghost use Rattle.std.specs.Prelude.{◌≡◌, ◌+◌, ◌≤◌, length, Err, Ok, ◌↔◌, IfOk, IsTrue, MatchResult, OnOk};
 ghost use Rattle.trac_forms.specs.Stored.{storage_in};
 ghost use Rattle.trac_rules.specs.Blocks.{block_handled};
 ghost use Rattle.trac_rules.specs.Handling.{handled};
@@ -9,8 +9,9 @@ ghost use Rattle.trac_rules.specs.Performing.{effect_of, performed, primitive_of
 ghost use Rattle.trac_rules.specs.Scanning.{Call};
 ghost use Rattle.trac_rules.specs.State.{State, storage_of};
 ghost use Rattle.trac_rules.specs.declared.primitive.Primitive.TheVariants as primitive;
+ghost use Rattle.trac_change.specs.declared.change.Change.TheVariants.{Keep};
 ghost use Rattle.trac_change.specs.Changes.{IsChangeOf};
-ghost use Rattle.trac_prims.specs.Effects.{IsChanged, IsDone, changing, done_on, planned_from, planned_on};
+ghost use Rattle.trac_prims.specs.Effects.{IsChanged, IsDone, done_on, nothing, planned_from, planned_on};
 ghost use Rattle.trac_prims.specs.Plans.{HasPlace, IsGiven, IsNow, fits_after};
 ghost use Rattle.trac_prims.specs.Tape.{environment_of};
 
@@ -60,12 +61,14 @@ pub fn plan<A: Allocator + Copy>(
     ensures change { IfOk result (λ e. IsChangeOf (primitive_of (argument 0 args.now)) args.now (storage_in store.now) e.change) }
 {
     let mut made = Made::new(alloc);
-    let deed = plan_into(alloc, args, kind, store, tape, now, &mut made)?;
-    Ok(deed.complete(made, now))
+    let mut change = Change::Keep;
+    let deed = plan_into(alloc, args, kind, store, tape, now, &mut made, &mut change)?;
+    Ok(deed.complete(made, change, now))
 }
 
 /// What `plan` says, its value and what it prints being made in buffers: what they held before is gone, and they take more
-/// memory only where they have too little. After a refusal they hold any texts; nothing else has changed.
+/// memory only where they have too little. The change of forms and blocks is put in place of one that keeps all. After a refusal
+/// the buffers hold any texts, and the change may be any; nothing else has changed.
 pub fn plan_into<A: Allocator + Copy>(
     alloc: A,
     args: &Args<'_>,
@@ -74,16 +77,18 @@ pub fn plan_into<A: Allocator + Copy>(
     tape: Tape<'_>,
     now: Now,
     made: &mut Made<A>,
-) -> Result<Deed<A>, Refusal>
+    change: &mut Change<A>,
+) -> Result<Deed, Refusal>
+    requires keeps { change.old ≡ Keep }
     requires position { now.position ≤ length tape.bytes.now }
     requires count { length args.now ≤ MARK_LIMIT }
     requires text { now.text ≤ TEXT_LIMIT }
     requires output { now.output ≤ OUTPUT_LIMIT }
     ensures outcome { (call : Call) → IsGiven call kind args.now store.now now →
-        MayAnswer (done_on args.now (storage_of call.state) made.new) (limited (fits_after call) (performed (environment_of now.width tape.entry) call)) result }
+        MayAnswer (done_on args.now (storage_of call.state) made.new change.new) (limited (fits_after call) (performed (environment_of now.width tape.entry) call)) result }
     ensures within { IfOk result (λ d. now.position + d.read ≤ length tape.entry.bytes.now) }
     ensures place { IfOk result (λ d. HasPlace now made.new.value.items made.new.print.items) }
-    ensures change { IfOk result (λ d. IsChangeOf (primitive_of (argument 0 args.now)) args.now (storage_in store.now) d.change) }
+    ensures change { OnOk result (IsChangeOf (primitive_of (argument 0 args.now)) args.now (storage_in store.now) change.new) }
 {
     made.value.clear();
     made.print.clear();
@@ -96,6 +101,7 @@ pub fn plan_into<A: Allocator + Copy>(
         tape,
         now,
         made,
+        change,
     )?;
     // A call that is refused anyway needs no line: so its own refusal comes first.
     line?;
@@ -123,12 +129,14 @@ fn perform<A: Allocator + Copy>(
     tape: Tape<'_>,
     now: Now,
     made: &mut Made<A>,
-) -> Result<Deed<A>, Refusal>
+    change: &mut Change<A>,
+) -> Result<Deed, Refusal>
+    requires keeps { change.old ≡ Keep }
     requires position { now.position ≤ length tape.bytes.now }
     requires count { length args.now ≤ MARK_LIMIT }
-    ensures outcome { (s : State) → IsNow s store.now now → IsDone args.now (storage_of s) (effect_of primitive (environment_of now.width tape.entry) args.now s) made.old made.new result }
+    ensures outcome { (s : State) → IsNow s store.now now → IsDone args.now (storage_of s) (effect_of primitive (environment_of now.width tape.entry) args.now s) made.old made.new change.new result }
     ensures within { IfOk result (λ d. now.position + d.read ≤ length tape.entry.bytes.now) }
-    ensures change { IfOk result (λ d. IsChangeOf primitive args.now (storage_in store.now) d.change) }
+    ensures change { OnOk result (IsChangeOf primitive args.now (storage_in store.now) change.new) }
 {
     match primitive {
         Primitive::PrintString => print_string(args, made),
@@ -137,16 +145,16 @@ fn perform<A: Allocator + Copy>(
         Primitive::Halt => Err(Refusal::Ended),
         Primitive::SetMeta => Ok(Deed {
             meta: args.get(1).first().copied(),
-            ..Deed::changing(Change::Keep)
+            ..Deed::nothing()
         }),
         Primitive::SetTrace(trace) => Ok(Deed {
             trace: Some(trace),
-            ..Deed::changing(Change::Keep)
+            ..Deed::nothing()
         }),
         Primitive::Compute(computation) => compute(alloc, computation, args, now.width, made),
-        Primitive::Handle(action) => handle(alloc, action, args, store, now.width, made),
-        Primitive::HandleBlock(action) => deed_of(handle_block(alloc, action, args, store)),
-        Primitive::Unknown => Ok(Deed::changing(Change::Keep)),
+        Primitive::Handle(action) => handle(alloc, action, args, store, now.width, made, change),
+        Primitive::HandleBlock(action) => make(handle_block(alloc, action, args, store), change),
+        Primitive::Unknown => Ok(Deed::nothing()),
     }
 }
 
@@ -158,19 +166,21 @@ fn handle<A: Allocator + Copy>(
     store: &Store<A>,
     width: Width,
     made: &mut Made<A>,
-) -> Result<Deed<A>, Refusal>
-    requires { length args.now ≤ MARK_LIMIT }
-    ensures outcome { IsDone args.now (storage_in store.now) (handled action width args.now (storage_in store.now)) made.old made.new result }
-    ensures change { IfOk result (λ d. IsChangeOf (primitive.Handle action) args.now (storage_in store.now) d.change) }
+    change: &mut Change<A>,
+) -> Result<Deed, Refusal>
+    requires keeps { change.old ≡ Keep }
+    requires count { length args.now ≤ MARK_LIMIT }
+    ensures outcome { IsDone args.now (storage_in store.now) (handled action width args.now (storage_in store.now)) made.old made.new change.new result }
+    ensures change { OnOk result (IsChangeOf (primitive.Handle action) args.now (storage_in store.now) change.new) }
 {
     match action {
-        FormAction::Define => deed_of(define(alloc, args, store)),
-        FormAction::Delete => deed_of(delete(alloc, args)),
-        FormAction::DeleteAll => Ok(Deed::changing(Change::Clear)),
-        FormAction::Segment => deed_of(segment(alloc, args, store)),
-        FormAction::Restore => deed_of(restore(alloc, args, store)),
+        FormAction::Define => make(define(alloc, args, store), change),
+        FormAction::Delete => make(delete(alloc, args), change),
+        FormAction::DeleteAll => make(Ok(Change::Clear), change),
+        FormAction::Segment => make(segment(alloc, args, store), change),
+        FormAction::Restore => make(restore(alloc, args, store), change),
         FormAction::Call => call(args, store, made),
-        FormAction::Read(reading) => read(alloc, reading, args, store, width, made),
+        FormAction::Read(reading) => read(alloc, reading, args, store, width, made, change),
         FormAction::ListNames => list_names(args, store, made),
         FormAction::PrintForm => print_form(args, store, made),
     }
@@ -193,9 +203,13 @@ fn handle_block<A: Allocator + Copy>(
     }
 }
 
-// A change of the forms as all that a call does.
-fn deed_of<A: Allocator + Copy>(change: Result<Change<A>, Refusal>) -> Result<Deed<A>, Refusal>
-    ensures { MatchResult change (λ made. result ≡ Ok (changing made)) (λ refusal. result ≡ Err refusal) }
+// A change of forms and blocks is all that a call does.
+fn make<A: Allocator + Copy>(
+    planned: Result<Change<A>, Refusal>,
+    change: &mut Change<A>,
+) -> Result<Deed, Refusal>
+    ensures { MatchResult planned (λ made. (change.new ≡ made) × (result ≡ Ok nothing)) (λ refusal. result ≡ Err refusal) }
 {
-    Ok(Deed::changing(change?))
+    *change = planned?;
+    Ok(Deed::nothing())
 }

@@ -1,5 +1,5 @@
 //! Calls that read a form at its pointer.
-ghost use Rattle.std.specs.Prelude.{◌≡◌, List, ℕ, Ok, Some, option_map, IfOk, IfSome, IsOkUnless};
+ghost use Rattle.std.specs.Prelude.{◌≡◌, List, ℕ, Ok, Some, option_map, IfOk, IfSome, IsOkUnless, OnOk};
 ghost use Rattle.std.specs.FinMap as finite;
 ghost use Rattle.trac_forms.specs.Taken.{IsThere, taken};
 ghost use Rattle.trac_forms.specs.Stored.{storage_in};
@@ -9,6 +9,7 @@ ghost use Rattle.trac_rules.specs.State.{Storage};
 ghost use Rattle.trac_rules.specs.declared.primitive.FormAction.TheVariants.{Read};
 ghost use Rattle.trac_rules.specs.declared.primitive.FormReading.{FormReading};
 ghost use Rattle.trac_rules.specs.declared.primitive.Primitive.TheVariants.{Handle};
+ghost use Rattle.trac_change.specs.declared.change.Change.TheVariants.{Keep};
 ghost use Rattle.trac_change.specs.Changes.{IsChangeOf};
 ghost use Rattle.trac_prims.specs.Effects.{IsDone};
 
@@ -31,17 +32,26 @@ pub(crate) fn read<A: Allocator + Copy>(
     store: &Store<A>,
     width: Width,
     made: &mut Made<A>,
-) -> Result<Deed<A>, Refusal>
-    ensures outcome { IsDone args.now (storage_in store.now) (handled (Read reading) width args.now (storage_in store.now)) made.old made.new result }
-    ensures change { IfOk result (λ d. IsChangeOf (Handle (Read reading)) args.now (storage_in store.now) d.change) }
+    change: &mut Change<A>,
+) -> Result<Deed, Refusal>
+    requires { change.old ≡ Keep }
+    ensures outcome { IsDone args.now (storage_in store.now) (handled (Read reading) width args.now (storage_in store.now)) made.old made.new change.new result }
+    ensures change { OnOk result (IsChangeOf (Handle (Read reading)) args.now (storage_in store.now) change.new) }
 {
     let name = args.get(1);
     let Some(form) = store.get(name) else {
-        return Ok(Deed::changing(Change::Keep));
+        return Ok(Deed::nothing());
     };
     match piece_of(reading, args, form, width)? {
-        Some(piece) => give_piece(alloc, name, form, &piece, made),
-        None => force(alloc, name, form, args.get(default_place(reading)), made),
+        Some(piece) => give_piece(alloc, name, form, &piece, made, change),
+        None => force(
+            alloc,
+            name,
+            form,
+            args.get(default_place(reading)),
+            made,
+            change,
+        ),
     }
 }
 
@@ -81,17 +91,19 @@ fn give_piece<A: Allocator + Copy>(
     form: &Form<A>,
     piece: &Piece,
     made: &mut Made<A>,
-) -> Result<Deed<A>, Refusal>
+    change: &mut Change<A>,
+) -> Result<Deed, Refusal>
     requires { IsThere form.now piece.now }
     ensures outcome { (other : List ℕ) (arguments : List (List ℕ)) (storage : Storage) → finite.get storage.forms name.now ≡ Some form.now →
-        IsDone arguments storage (Ok (gives_piece (Some (taken piece.now form.now)) other name.now form.now storage)) made.old made.new result }
+        IsDone arguments storage (Ok (gives_piece (Some (taken piece.now form.now)) other name.now form.now storage)) made.old made.new change.new result }
     ensures change { (reading : FormReading) (arguments : List (List ℕ)) (storage : Storage) → name.now ≡ argument 1 arguments →
-        IfOk result (λ d. IsChangeOf (Handle (Read reading)) arguments storage d.change) }
+        OnOk result (IsChangeOf (Handle (Read reading)) arguments storage change.new) }
 {
     made.value.reserve(piece.len)?;
     form.piece_into(piece, &mut made.value)?;
     let name = Vec::from_slice(alloc, name)?;
-    Ok(Deed::changing(Change::Point(name, piece.pointer)))
+    *change = Change::Point(name, piece.pointer);
+    Ok(Deed::nothing())
 }
 
 // Gives a text, forced; the pointer of the form of this name stays.
@@ -101,17 +113,18 @@ fn force<A: Allocator + Copy>(
     form: &Form<A>,
     text: &[u8],
     made: &mut Made<A>,
-) -> Result<Deed<A>, Refusal>
+    change: &mut Change<A>,
+) -> Result<Deed, Refusal>
     ensures outcome { (arguments : List (List ℕ)) (storage : Storage) → finite.get storage.forms name.now ≡ Some form.now →
-        IsDone arguments storage (Ok (forces text.now storage)) made.old made.new result }
+        IsDone arguments storage (Ok (forces text.now storage)) made.old made.new change.new result }
     ensures change { (reading : FormReading) (arguments : List (List ℕ)) (storage : Storage) → name.now ≡ argument 1 arguments →
-        IfOk result (λ d. IsChangeOf (Handle (Read reading)) arguments storage d.change) }
+        OnOk result (IsChangeOf (Handle (Read reading)) arguments storage change.new) }
 {
     made.value.extend_from_slice(text)?;
     let name = Vec::from_slice(alloc, name)?;
-    let change = Change::Point(name, form.pointer());
+    *change = Change::Point(name, form.pointer());
     Ok(Deed {
         forced: true,
-        ..Deed::changing(change)
+        ..Deed::nothing()
     })
 }

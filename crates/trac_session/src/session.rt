@@ -13,6 +13,7 @@ use std::alloc::{Allocator, Global};
 use std::marker::Model;
 use trac_gap::{SlidingBuf, TwoEnds};
 use trac_journal::Journal;
+use trac_prims::Made;
 use trac_rules::limit::{JOURNAL_LIMIT, TAPE_LIMIT};
 use trac_rules::refusal::Refusal;
 use trac_rules::width::Width;
@@ -26,6 +27,8 @@ pub struct Session<A: Allocator + Copy = Global> {
     ended: bool,
     pub(crate) machine: Machine<A>,
     pub(crate) journal: Journal<A>,
+    // the buffers in which calls make their texts, one after another: no part of what a session is
+    made: Made<A>,
     pub(crate) limit: usize,
 }
 
@@ -58,6 +61,7 @@ impl<A: Allocator + Copy> Session<A> {
             ended: false,
             machine: Machine::new(alloc, width)?,
             journal: Journal::new(alloc),
+            made: Made::new(alloc),
             limit,
         })
     }
@@ -91,6 +95,7 @@ impl<A: Allocator + Copy> Session<A> {
     /// Refused, with nothing changed, as `JournalFull` where the journal holds as many records as it may; else as
     /// `NeedInput` or `Ended` where the step reads input that is not there; else as `TooLong` where the state
     /// after the step passes a limit; and with `Memory` where there is not enough of it.
+    #[inline(never)]
     pub(crate) fn step(&mut self) -> Result<(), Refusal>
         ensures { Answers Step self.old (reply_of result) self.new }
     {
@@ -101,7 +106,7 @@ impl<A: Allocator + Copy> Session<A> {
             bytes: self.tape.as_slice(),
             ended: self.ended,
         };
-        self.machine.step_into(&mut self.journal, tape)
+        self.machine.step_into(&mut self.journal, tape, &mut self.made)
     }
 
     /// Goes back over the last step, which takes no memory.

@@ -15,6 +15,7 @@ use Rattle.trac_rules.specs.Stepping.{step}
 use Rattle.trac_rules.specs.Undone.{undone_by}
 use Rattle.trac_rules.proofs.Outcomes.{limited_Ok}
 use Rattle.trac_forms.specs.Stored.{Stored, storage_in}
+use Rattle.trac_change.specs.declared.change.Change.{Change}
 use Rattle.trac_prims.specs.declared.effect.Deed.{Deed}
 use Rattle.trac_prims.specs.declared.effect.Made.{Made}
 use Rattle.trac_prims.specs.declared.effect.Now.{Now}
@@ -37,48 +38,48 @@ arguments_found s m number place kind texts front same inner =
 
 module _ (environment : Environment) (s : State) (f : Frame) (fs : List Frame) (front : front_of s.active ≡ Closing) (is : s.frames ≡ f ∷ fs)
     (kind : Kind) (arguments : List (List ℕ)) (stored : Stored) (now : Now) (given : IsGiven (call_of s f fs) kind arguments stored now)
-    {A : Type 0} (made : Made A) (deed : Deed A) (planned : wanted environment s f fs front is ≡ Ok (done_on arguments (storage_of (call_of s f fs).state) made deed))
-    (change : IsChangeOf (primitive_of (argument 0 arguments)) arguments (storage_in stored) deed.change) where
+    {A : Type 0} (made : Made A) (change : Change A) (deed : Deed) (planned : wanted environment s f fs front is ≡ Ok (done_on arguments (storage_of (call_of s f fs).state) made change deed))
+    (named : IsChangeOf (primitive_of (argument 0 arguments)) arguments (storage_in stored) change) where
   abbrev call : Call
   call = call_of s f fs
 
   -- the effect is that of the call
   abbrev effect : Effect
-  effect = done_on call.arguments (storage_of call.state) made deed
+  effect = done_on call.arguments (storage_of call.state) made change deed
 
-  same : done_on arguments (storage_of call.state) made deed ≡ effect
-  same = ap (λ (ts : List (List ℕ)). done_on ts (storage_of call.state) made deed) (sym given.arguments_are)
+  same : done_on arguments (storage_of call.state) made change deed ≡ effect
+  same = ap (λ (ts : List (List ℕ)). done_on ts (storage_of call.state) made change deed) (sym given.arguments_are)
 
   performs : performed environment call ≡ Ok effect
-  performs = (limited_Ok (fits_after call) (performed environment call) (done_on arguments (storage_of call.state) made deed) planned).0 ∙ ap Ok same
+  performs = (limited_Ok (fits_after call) (performed environment call) (done_on arguments (storage_of call.state) made change deed) planned).0 ∙ ap Ok same
 
   -- what the change names is what the call gives
-  pub names_given : NamesGiven (arguments_in (scan s)) (storage_of s) deed.change
+  pub names_given : NamesGiven (arguments_in (scan s)) (storage_of s) change
   names_given =
-      subst (λ (x : Scanned). NamesGiven (arguments_in x) (storage_of s) deed.change) (sym (scan_call s f fs front is))
-      (subst (λ (ts : List (List ℕ)). NamesGiven ts (storage_of s) deed.change) (sym given.arguments_are)
-      (subst (λ (storage : Storage). NamesGiven arguments storage deed.change) (sym given.state_is.storage_is) change.names_are))
+      subst (λ (x : Scanned). NamesGiven (arguments_in x) (storage_of s) change) (sym (scan_call s f fs front is))
+      (subst (λ (ts : List (List ℕ)). NamesGiven ts (storage_of s) change) (sym given.arguments_are)
+      (subst (λ (storage : Storage). NamesGiven arguments storage change) (sym given.state_is.storage_is) named.names_are))
 
   -- what the change destroys is what the call's primitive destroys
-  undone_planned : undone_by (primitive_of (argument 0 call.arguments)) call.arguments (storage_of s) ≡ undone_of deed.change (storage_of s)
+  undone_planned : undone_by (primitive_of (argument 0 call.arguments)) call.arguments (storage_of s) ≡ undone_of change (storage_of s)
   undone_planned =
       ap (λ (ts : List (List ℕ)). undone_by (primitive_of (argument 0 ts)) ts (storage_of s)) given.arguments_are
       ∙ ap (undone_by (primitive_of (argument 0 arguments)) arguments) given.state_is.storage_is
-      ∙ sym change.undone_is
-      ∙ ap (undone_of deed.change) (sym given.state_is.storage_is)
+      ∙ sym named.undone_is
+      ∙ ap (undone_of change) (sym given.state_is.storage_is)
 
   module _ (plan : Plan) (kind_is : plan.called.kind ≡ kind) (value_is : plan.called.value ≡ length made.value.items) (scanned_is : plan.called.scanned ≡ is_scanned kind deed.forced)
       (printed_is : plan.called.printed ≡ length made.print.items) (read_is : plan.called.read ≡ deed.read) (meta_is : plan.called.meta ≡ option_map (λ _. now.meta) deed.meta)
       (trace_is : plan.called.trace ≡ now.trace) (forced_too : plan.forced ≡ deed.forced) (meta_too : plan.meta ≡ deed.meta) (trace_too : plan.trace ≡ deed.trace) where
     -- the step leads to the state after what is planned
-    pub planned_taken : step environment s ≡ Ok (state_after plan made deed.change (scan s))
+    pub planned_taken : step environment s ≡ Ok (state_after plan made change (scan s))
     planned_taken =
-        step_planned environment s f fs front is (done_on arguments (storage_of call.state) made deed) planned
+        step_planned environment s f fs front is (done_on arguments (storage_of call.state) made change deed) planned
         ∙ ap (λ (e : Effect). Ok (after_call call e)) same
         ∙ (λ i. Ok (after_call call (record effect { forced = sym forced_too i; read = sym read_is i; meta = sym meta_too i; trace = sym trace_too i })))
-        ∙ ap (λ (x : Scanned). Ok (state_after plan made deed.change x)) (sym (scan_call s f fs front is))
+        ∙ ap (λ (x : Scanned). Ok (state_after plan made change x)) (sym (scan_call s f fs front is))
 
-    told : call_recorded call effect ≡ record_with plan.called call.arguments (undone_of deed.change (storage_of s))
+    told : call_recorded call effect ≡ record_with plan.called call.arguments (undone_of change (storage_of s))
     told =
         let kinds = given.kind_is ∙ sym kind_is in
         let scans : is_scanned call.kind deed.forced ≡ plan.called.scanned = ap (λ (k : Kind). is_scanned k deed.forced) given.kind_is ∙ sym scanned_is in
@@ -97,9 +98,9 @@ module _ (environment : Environment) (s : State) (f : Frame) (fs : List Frame) (
         }
 
     -- and its record is what is planned
-    pub planned_recorded : record_of environment s ≡ Some (rules.Called (record_with plan.called (arguments_in (scan s)) (undone_of deed.change (storage_of s))))
+    pub planned_recorded : record_of environment s ≡ Some (rules.Called (record_with plan.called (arguments_in (scan s)) (undone_of change (storage_of s))))
     planned_recorded =
         ap (record_in environment s) (scan_call s f fs front is)
         ∙ ap (λ (o : Result Effect Refusal). option_map rules.Called (option_map (call_recorded call) (result_ok o))) performs
         ∙ ap (λ (c : CallRecord). let o : Option rules.Record = Some (rules.Called c) in o) told
-        ∙ ap (λ (x : Scanned). let o : Option rules.Record = Some (rules.Called (record_with plan.called (arguments_in x) (undone_of deed.change (storage_of s)))) in o) (sym (scan_call s f fs front is))
+        ∙ ap (λ (x : Scanned). let o : Option rules.Record = Some (rules.Called (record_with plan.called (arguments_in x) (undone_of change (storage_of s)))) in o) (sym (scan_call s f fs front is))

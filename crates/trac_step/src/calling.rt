@@ -11,6 +11,7 @@ ghost use Rattle.trac_rules.specs.State.{storage_of};
 ghost use Rattle.trac_rules.specs.Scanning.{front_of, scan};
 ghost use Rattle.trac_rules.specs.Stepping.{step};
 ghost use Rattle.trac_text.specs.Cuts.{cut};
+ghost use Rattle.trac_change.specs.declared.change.Change.TheVariants.{Keep};
 ghost use Rattle.trac_change.specs.Changed.{changed};
 ghost use Rattle.trac_prims.specs.Tape.{environment_of};
 ghost use Rattle.trac_change.specs.Changes.{undone_of};
@@ -60,13 +61,13 @@ pub(crate) struct Plan {
 }
 
 // What the record of a call says beside its arguments, and what was destroyed of forms and blocks.
-fn called_by<A: Allocator + Copy>(kind: Kind, now: Now, made: &Made<A>, deed: &Deed<A>) -> Called
+fn called_by<A: Allocator + Copy>(kind: Kind, now: Now, made: &Made<A>, deed: Deed) -> Called
     ensures kind { result.kind ≡ kind }
     ensures value { result.value ≡ length made.now.value.items }
-    ensures scanned { result.scanned ≡ is_scanned kind deed.now.forced }
+    ensures scanned { result.scanned ≡ is_scanned kind deed.forced }
     ensures printed { result.printed ≡ length made.now.print.items }
-    ensures read { result.read ≡ deed.now.read }
-    ensures meta { result.meta ≡ option_map (λ _. now.meta) deed.now.meta }
+    ensures read { result.read ≡ deed.read }
+    ensures meta { result.meta ≡ option_map (λ _. now.meta) deed.meta }
     ensures trace { result.trace ≡ now.trace }
 {
     Called {
@@ -105,28 +106,19 @@ fn put_printed<A: Allocator>(output: &mut SlidingBuf<u8, A>, printed: &[u8])
 }
 
 impl<E: TwoEnds<u8, A>, M: TwoEnds<Mark, A>, A: Allocator + Copy> Core<E, M, A> {
-    // The buffers in which calls make their texts, and the machine without them.
-    fn take_made(&mut self) -> Made<A>
-        ensures { self.new ≡ self.old }
-    {
-        let alloc = *self.output.allocator();
-        mem::replace(&mut self.made, Made::new(alloc))
-    }
-
-    // Keeps buffers for the calls to come.
-    fn put_made(&mut self, made: Made<A>)
-        ensures { self.new ≡ self.old }
-    {
-        self.made = made;
-    }
-
-    // Plans the call that the next step performs: its texts are made, and what becomes of forms and blocks is ready. Or why
-    // it is refused.
-    fn planned(&self, tape: Tape<'_>, made: &mut Made<A>) -> Result<(Plan, Change<A>), Refusal>
+    // Plans the call that the next step performs: its texts are made, and what becomes of forms and blocks is put in place of a
+    // change that keeps them. Or why it is refused.
+    fn planned(
+        &self,
+        tape: Tape<'_>,
+        made: &mut Made<A>,
+        change: &mut Change<A>,
+    ) -> Result<Plan, Refusal>
+        requires keeps { change.old ≡ Keep }
         requires front { front_of self.now.state.active ≡ Front.Closing }
         requires inside { 0 < length self.now.state.frames }
         requires within { self.now.state.position ≤ length tape.bytes.now }
-        ensures planned { IfOk result (λ r. IsPlanned (environment_of self.now.width tape.entry) self.now.state made.new r.0 r.1) }
+        ensures planned { IfOk result (λ plan. IsPlanned (environment_of self.now.width tape.entry) self.now.state made.new plan change.new) }
         ensures refused { IfErr result (MayRefuse (step (environment_of self.now.width tape.entry) self.now.state)) }
     {
         let Some(function) = self.neutral().innermost() else {
@@ -148,22 +140,22 @@ impl<E: TwoEnds<u8, A>, M: TwoEnds<Mark, A>, A: Allocator + Copy> Core<E, M, A> 
             tape,
             now,
             made,
+            change,
         )?;
-        let plan = Plan {
+        Ok(Plan {
             beginning: Beginning {
                 number: function.number,
                 place: function.place,
                 kind: function.kind,
             },
-            called: called_by(function.kind, now, made, &deed),
+            called: called_by(function.kind, now, made, deed),
             bytes: function.arguments.joined().len(),
             commas: function.arguments.comma_count(),
             forced: deed.forced,
             position: now.position + deed.read,
             meta: deed.meta,
             trace: deed.trace,
-        };
-        Ok((plan, deed.change))
+        })
     }
 
     // The arguments of the call that the next step performs, whose function begins here.
@@ -220,11 +212,11 @@ impl<E: TwoEnds<u8, A>, M: TwoEnds<Mark, A>, A: Allocator + Copy> Core<E, M, A> 
     fn change_storage(
         &mut self,
         beginning: Beginning,
-        change: Change<A>,
+        change: &mut Change<A>,
     ) -> Result<Undone<A>, Refusal>
-        requires { CanChange self.old.state beginning change }
-        ensures changed { OnOk result (self.new.state ≡ with_storage (changed (arguments_in (scan self.old.state)) change (storage_of self.old.state)) self.old.state) }
-        ensures undone { IfOk result (λ undone. undone_in undone ≡ undone_of change (storage_of self.old.state)) }
+        requires { CanChange self.old.state beginning change.old }
+        ensures changed { OnOk result (self.new.state ≡ with_storage (changed (arguments_in (scan self.old.state)) change.old (storage_of self.old.state)) self.old.state) }
+        ensures undone { IfOk result (λ undone. undone_in undone ≡ undone_of change.old (storage_of self.old.state)) }
         ensures unchanged { OnErr result (self.new.state ≡ self.old.state) }
         ensures room { IsNoLess self.old self.new }
         ensures err { IsOkUnless result Refusal.Memory }
@@ -232,6 +224,7 @@ impl<E: TwoEnds<u8, A>, M: TwoEnds<Mark, A>, A: Allocator + Copy> Core<E, M, A> 
         if let Change::Keep = change {
             return Ok(Undone::Nothing);
         }
+        let change = mem::replace(change, Change::Keep);
         let places = places_for(*self.output.allocator(), &self.store, &change)?;
         self.make_places(&change)?;
         Ok(self.put_change(beginning, change, places))
@@ -239,9 +232,9 @@ impl<E: TwoEnds<u8, A>, M: TwoEnds<Mark, A>, A: Allocator + Copy> Core<E, M, A> 
 
     // Ends the call whose change of forms and blocks is made: its function is gone, what it prints is printed, and its value
     // is where it goes. It takes no memory.
-    fn end_call(&mut self, plan: Plan, made: &Made<A>)
-        requires { CanEnd self.old made.now plan }
-        ensures state { self.new.state ≡ state_ended plan made.now (scan self.old.state) }
+    fn end_call(&mut self, plan: &Plan, made: &Made<A>)
+        requires { CanEnd self.old made.now plan.now }
+        ensures state { self.new.state ≡ state_ended plan.now made.now (scan self.old.state) }
         ensures room { IsNoLess self.old self.new }
     {
         cut_function(&mut self.text, &mut self.marks, plan.beginning);
@@ -273,13 +266,13 @@ impl<E: TwoEnds<u8, A>, M: TwoEnds<Mark, A>, A: Allocator + Copy> Core<E, M, A> 
     // Performs the call that is planned, and returns its record. It is refused memory alone, and then the state stays.
     fn perform(
         &mut self,
-        plan: Plan,
+        plan: &Plan,
         made: &Made<A>,
-        change: Change<A>,
+        change: &mut Change<A>,
     ) -> Result<Record<A>, Refusal>
-        requires { IsReady self.old.state made.now plan change }
-        ensures done { OnOk result (self.new.state ≡ state_after plan made.now change (scan self.old.state)) }
-        ensures recorded { IfOk result (λ r. recorded_by r ≡ recorded_after plan change self.old.state) }
+        requires { IsReady self.old.state made.now plan.now change.old }
+        ensures done { OnOk result (self.new.state ≡ state_after plan.now made.now change.old (scan self.old.state)) }
+        ensures recorded { IfOk result (λ r. recorded_by r ≡ recorded_after plan.now change.old self.old.state) }
         ensures unchanged { OnErr result (self.new.state ≡ self.old.state) }
         ensures err { IsOkUnless result Refusal.Memory }
         ensures room { IsNoLess self.old self.new }
@@ -303,19 +296,20 @@ impl<E: TwoEnds<u8, A>, M: TwoEnds<Mark, A>, A: Allocator + Copy> Core<E, M, A> 
         ensures room { IsNoLess self.old self.new }
     {
         let mut made = Made::new(*self.output.allocator());
-        let (plan, change) = self.planned(tape, &mut made)?;
-        self.perform(plan, &made, change)
+        let mut change = Change::Keep;
+        let plan = self.planned(tape, &mut made, &mut change)?;
+        self.perform(&plan, &made, &mut change)
     }
 
     // Keeps the record of the call that the next step performs in the journal, which has room for it: its arguments are copied
     // there. This is what it destroyed of forms and blocks.
-    fn keep_call(&self, journal: &mut Journal<A>, plan: Plan, undone: Undone<A>)
+    fn keep_call(&self, journal: &mut Journal<A>, plan: &Plan, undone: Undone<A>)
         requires front { front_of self.now.state.active ≡ Front.Closing }
-        requires begins { BeginsInnermost self.now.state plan.beginning }
+        requires begins { BeginsInnermost self.now.state plan.now.beginning }
         requires not_full { length journal.old.records < JOURNAL_LIMIT }
         requires place { HasPlaceForCall (length (concat (arguments_in (scan self.now.state)))) (length (arguments_in (scan self.now.state)) - 1) journal.old }
-        requires fits { FitsJournal plan.called (arguments_in (scan self.now.state)) (undone_in undone) }
-        ensures { journal.new.records ≡ rules.Called (record_with plan.called (arguments_in (scan self.now.state)) (undone_in undone)) ∷ journal.old.records }
+        requires fits { FitsJournal plan.now.called (arguments_in (scan self.now.state)) (undone_in undone) }
+        ensures { journal.new.records ≡ rules.Called (record_with plan.now.called (arguments_in (scan self.now.state)) (undone_in undone)) ∷ journal.old.records }
     {
         let arguments = self.arguments(plan.beginning);
         journal.push_call(plan.called, &arguments, undone);
@@ -326,15 +320,15 @@ impl<E: TwoEnds<u8, A>, M: TwoEnds<Mark, A>, A: Allocator + Copy> Core<E, M, A> 
     fn perform_into(
         &mut self,
         journal: &mut Journal<A>,
-        plan: Plan,
+        plan: &Plan,
         made: &Made<A>,
-        change: Change<A>,
+        change: &mut Change<A>,
     ) -> Result<(), Refusal>
-        requires ready { IsReady self.old.state made.now plan change }
+        requires ready { IsReady self.old.state made.now plan.now change.old }
         requires not_full { length journal.old.records < JOURNAL_LIMIT }
-        requires fits { FitsJournal plan.called (arguments_in (scan self.old.state)) (undone_of change (storage_of self.old.state)) }
-        ensures done { OnOk result (self.new.state ≡ state_after plan made.now change (scan self.old.state)) }
-        ensures kept { OnOk result (journal.new.records ≡ recorded_after plan change self.old.state ∷ journal.old.records) }
+        requires fits { FitsJournal plan.now.called (arguments_in (scan self.old.state)) (undone_of change.old (storage_of self.old.state)) }
+        ensures done { OnOk result (self.new.state ≡ state_after plan.now made.now change.old (scan self.old.state)) }
+        ensures kept { OnOk result (journal.new.records ≡ recorded_after plan.now change.old self.old.state ∷ journal.old.records) }
         ensures unchanged { OnErr result ((self.new.state ≡ self.old.state) × (journal.new.records ≡ journal.old.records)) }
         ensures err { IsOkUnless result Refusal.Memory }
         ensures room { IsNoLess self.old self.new }
@@ -348,7 +342,7 @@ impl<E: TwoEnds<u8, A>, M: TwoEnds<Mark, A>, A: Allocator + Copy> Core<E, M, A> 
     }
 
     // The next step, where it performs a function, and its record is kept. Its texts are made in these buffers.
-    fn call_step_in(
+    pub(crate) fn call_step_into(
         &mut self,
         journal: &mut Journal<A>,
         tape: Tape<'_>,
@@ -364,34 +358,11 @@ impl<E: TwoEnds<u8, A>, M: TwoEnds<Mark, A>, A: Allocator + Copy> Core<E, M, A> 
         ensures kept { OnOk result (IsAdded (record_of (environment_of self.old.width tape.entry) self.old.state) journal.old.records journal.new.records) }
         ensures refused { IfErr result (MayRefuse (step (environment_of self.old.width tape.entry) self.old.state)) }
         ensures unchanged { OnErr result ((self.new.state ≡ self.old.state) × (journal.new.records ≡ journal.old.records)) }
-        ensures room { IsNoLess self.old self.new }
-    {
-        let (plan, change) = self.planned(tape, made)?;
-        self.perform_into(journal, plan, made, change)
-    }
-
-    // The next step, where it performs a function, and its record is kept.
-    pub(crate) fn call_step_into(
-        &mut self,
-        journal: &mut Journal<A>,
-        tape: Tape<'_>,
-    ) -> Result<(), Refusal>
-        requires front { front_of self.old.state.active ≡ Front.Closing }
-        requires inside { 0 < length self.old.state.frames }
-        requires within { self.old.state.position ≤ length tape.bytes.now }
-        requires short { length tape.bytes.now < 2 ^ 32 }
-        requires proper { IsProper self.old.state }
-        requires not_full { length journal.old.records < JOURNAL_LIMIT }
-        ensures taken { OnOk result (step (environment_of self.old.width tape.entry) self.old.state ≡ Ok self.new.state) }
-        ensures kept { OnOk result (IsAdded (record_of (environment_of self.old.width tape.entry) self.old.state) journal.old.records journal.new.records) }
-        ensures refused { IfErr result (MayRefuse (step (environment_of self.old.width tape.entry) self.old.state)) }
-        ensures unchanged { OnErr result ((self.new.state ≡ self.old.state) × (journal.new.records ≡ journal.old.records)) }
         ensures lacking { LacksRoomAhead self.old }
         ensures room { IsNoLess self.old self.new }
     {
-        let mut made = self.take_made();
-        let taken = self.call_step_in(journal, tape, &mut made);
-        self.put_made(made);
-        taken
+        let mut change = Change::Keep;
+        let plan = self.planned(tape, made, &mut change)?;
+        self.perform_into(journal, &plan, made, &mut change)
     }
 }

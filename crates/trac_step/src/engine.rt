@@ -32,8 +32,6 @@ pub struct Core<E: TwoEnds<u8, A>, M: TwoEnds<Mark, A>, A: Allocator + Copy> {
     pub(crate) position: usize,
     pub(crate) output: SlidingBuf<u8, A>,
     pub(crate) width: Width,
-    // the buffers in which calls make their texts, one after another: no part of the state
-    pub(crate) made: Made<A>,
 }
 
 /// The machine: its texts in one block of memory, with the gap between neutral and active text, and its marks in another.
@@ -72,7 +70,6 @@ impl<E: TwoEnds<u8, A>, M: TwoEnds<Mark, A>, A: Allocator + Copy> Core<E, M, A> 
             position: 0,
             output: SlidingBuf::new(alloc),
             width,
-            made: Made::new(alloc),
         })
     }
 

@@ -69,7 +69,6 @@ impl<E: TwoEnds<u8, A>, M: TwoEnds<Mark, A>, A: Allocator + Copy> Core<E, M, A> 
             position: parts.position,
             output,
             width,
-            made: Made::new(alloc),
         })
     }
 }

@@ -22,6 +22,7 @@ use trac_text::front::plain_front;
 use trac_text::texts::{push_mark, take_first, take_protected};
 
 // Moves so many bytes of the active text, which has to have them, to the current text. After most steps there are none.
+#[inline(always)]
 fn gather_plain<E: TwoEnds<u8, A>, A: Allocator + Copy>(text: &mut E, count: usize)
     requires { count ≤ length (E.ends text.old).right }
     ensures { E.ends text.new ≡ record (E.ends text.old) { left = (E.ends text.old).left ++ take count (E.ends text.old).right; right = drop count (E.ends text.old).right } }
@@ -71,6 +72,7 @@ impl<E: TwoEnds<u8, A>, M: TwoEnds<Mark, A>, A: Allocator + Copy> Core<E, M, A> 
 
     // The first n bytes of the active text are deleted, and a function of this kind is begun, or, where none is named, a
     // further argument of the innermost one.
+    #[inline]
     pub(crate) fn mark(&mut self, n: usize, frame: Option<Kind>) -> Result<(), Refusal>
         requires front { n ≤ length self.old.state.active }
         requires inside { frame ≡ None → 0 < length self.old.state.frames }
@@ -98,6 +100,7 @@ impl<E: TwoEnds<u8, A>, M: TwoEnds<Mark, A>, A: Allocator + Copy> Core<E, M, A> 
     /// Moves the plain bytes with which the active text begins, counted up to `most`, to the current text, and returns how
     /// many these are: as many steps of T-64's rules of scanning, each of which would answer the record `Moved`. It takes no
     /// memory, and the machine has room for each state on the way (this project's profile).
+    #[inline(always)]
     pub fn move_plain(&mut self, most: usize) -> usize
         ensures moved { self.new ≡ record self.old { state = moved_on result self.old.state } }
         ensures plain { BeginsPlain result self.old.state }

@@ -20,7 +20,7 @@ use crate::record::Record;
 use std::alloc::Allocator;
 use trac_gap::TwoEnds;
 use trac_journal::Journal;
-use trac_prims::Tape;
+use trac_prims::{Made, Tape};
 use trac_rules::scan::Front;
 use trac_text::front::front_at;
 use trac_text::{Mark, Refusal};
@@ -59,8 +59,14 @@ impl<E: TwoEnds<u8, A>, M: TwoEnds<Mark, A>, A: Allocator + Copy> Core<E, M, A> 
     /// Takes the next step, as `step` does, and keeps its record in this journal, the newest of its records; or changes nothing
     /// but rooms. Refused as `step` is, and with `Memory` also where the journal cannot grow; then the state and the records
     /// are as they were. All memory is taken before anything changes. Where the journal has a place for one record more, a step
-    /// of scanning is refused memory only where `step` may be. The journal may not be full, and the tape has to have fewer than 2^32 bytes and at least as many as are read.
-    pub fn step_into(&mut self, journal: &mut Journal<A>, tape: Tape<'_>) -> Result<(), Refusal>
+    /// of scanning is refused memory only where `step` may be. A call makes its texts in these buffers, which serve one step after
+    /// another. The journal may not be full, and the tape has to have fewer than 2^32 bytes and at least as many as are read.
+    pub fn step_into(
+        &mut self,
+        journal: &mut Journal<A>,
+        tape: Tape<'_>,
+        made: &mut Made<A>,
+    ) -> Result<(), Refusal>
         requires position { self.old.state.position ≤ length tape.bytes.now }
         requires short { length tape.bytes.now < 2 ^ 32 }
         requires not_full { length journal.old.records < JOURNAL_LIMIT }
@@ -74,11 +80,16 @@ impl<E: TwoEnds<u8, A>, M: TwoEnds<Mark, A>, A: Allocator + Copy> Core<E, M, A> 
         ensures room { IsNoLess self.old self.new }
     {
         self.is_in_its_room();
-        self.next_step_into(journal, tape)
+        self.next_step_into(journal, tape, made)
     }
 
     // The next step, by whether it performs a function, with its record kept.
-    fn next_step_into(&mut self, journal: &mut Journal<A>, tape: Tape<'_>) -> Result<(), Refusal>
+    fn next_step_into(
+        &mut self,
+        journal: &mut Journal<A>,
+        tape: Tape<'_>,
+        made: &mut Made<A>,
+    ) -> Result<(), Refusal>
         requires position { self.old.state.position ≤ length tape.bytes.now }
         requires short { length tape.bytes.now < 2 ^ 32 }
         requires proper { IsProper self.old.state }
@@ -92,7 +103,7 @@ impl<E: TwoEnds<u8, A>, M: TwoEnds<Mark, A>, A: Allocator + Copy> Core<E, M, A> 
     {
         let front = front_at(self.text.right());
         if self.performs(front) {
-            return self.call_step_into(journal, tape);
+            return self.call_step_into(journal, tape, made);
         }
         self.move_step_into(journal, front)
     }

@@ -8,6 +8,7 @@ use trac_rules::refusal::Refusal;
 
 /// Makes room for n more items. What the lists hold stays. Refused with `Memory` where the allocator refuses, and then nothing
 /// changed (this project's profile).
+#[inline]
 pub fn reserve<T: Copy, A: Allocator + Copy, E: TwoEnds<T, A>>(
     list: &mut E,
     n: usize,

@@ -65,6 +65,7 @@ const GROUP: usize = 16;
 
 /// With how many plain bytes a text begins, counted up to `most`: bytes that go to the current text whatever stands after them
 /// (this project's profile).
+#[inline(always)]
 pub fn plain_front(text: &[u8], most: usize) -> usize
     ensures most { result ≤ most }
     ensures within { result ≤ length text.now }

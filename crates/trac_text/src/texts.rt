@@ -50,6 +50,7 @@ pub fn take_first<A: Allocator + Copy, E: TwoEnds<u8, A>>(text: &mut E) -> u8
 /// Takes the first n bytes on the right away, and puts a mark after all others, at the end of the text on the left: of a function
 /// of this kind, or, where none is named, of a further argument. Refused with `Memory` where the marks have no room and the
 /// allocator refuses; then nothing changed but that no mark is left on the right (this project's profile).
+#[inline]
 pub fn push_mark<A: Allocator + Copy, E: TwoEnds<u8, A>, M: TwoEnds<Mark, A>>(
     text: &mut E,
     marks: &mut M,

@@ -12,19 +12,19 @@ use Rattle.trac_prims.proofs.Calculated.{calculated-None, calculated-Some}
 use Rattle.trac_prims.proofs.Kept.{as_said, given}
 use Rattle.trac_prims.proofs.computing.calculate.Goals as goal
 
-pub returns-in_default-clause-outcome : goal.returns-in_default-clause-outcome
-returns-in_default-clause-outcome g c = λ storage.
+pub returns-in_default : goal.returns-in_default
+returns-in_default g c = λ storage.
     let none = calculated-None (result_of c.args.operation) c.args.width (argument 1 c.args.args.now) (argument 2 c.args.args.now) c.in_default.ensures in
     let old = c.args.made.now in
     let new = record old { value = c.extend_from_slice.new.self } in
     let other = argument 3 c.args.args.now in
     let added = c.in_ok-extend_from_slice.ensures.items ∙ ap (λ (text : List ℕ). old.value.items ++ text) c.get.ensures in
-    subst (λ o. IsDone c.args.args.now storage (Ok (gives_or_forces o other storage)) old new (Ok (record c.changing.result { forced = true }))) none
-    (as_said c.args.args.now storage old new (forces other storage) Keep (record c.changing.result { forced = true }) added (sym (append-nil old.print.items)) refl
-    (ap (λ (d : Deed _). record d { forced = true }) c.changing.ensures))
+    subst (λ o. IsDone c.args.args.now storage (Ok (gives_or_forces o other storage)) old new Keep (Ok (record c.nothing.result { forced = true }))) none
+    (as_said c.args.args.now storage old new (forces other storage) Keep (record c.nothing.result { forced = true }) added (sym (append-nil old.print.items)) refl
+    (ap (λ (d : Deed). record d { forced = true }) c.nothing.ensures))
 
-pub returns-clause-outcome : goal.returns-clause-outcome
-returns-clause-outcome g c = λ storage.
+pub returns : goal.returns
+returns g c = λ storage.
     let read_back : to_z w128 (of_z w128 c.in-Some.n) ≡ c.in-Some.n = to_z-of_z w128 c.in-Some.n search in
     let old = c.args.made.now in
     let new = record old { value = c.print_into.new.out } in
@@ -36,5 +36,5 @@ returns-clause-outcome g c = λ storage.
     ∙ ap (λ (before : List ℕ). before ++ number_text c.in-Some.n) (c.in_ok-extend_from_slice-2.ensures.items ∙ ap (λ (prefix : List ℕ). old.value.items ++ prefix) (c.read_tail.ensures.prefix ∙ ap prefix_of c.get-2.ensures))
     ∙ append_assoc old.value.items (prefix_of first) (number_text c.in-Some.n) in
     let some = calculated-Some (result_of c.args.operation) c.args.width first (argument 2 c.args.args.now) text c.in-Some.n c.in-Some.ensures refl in
-    subst (λ o. IsDone c.args.args.now storage (Ok (gives_or_forces o (argument 3 c.args.args.now) storage)) old new (Ok c.changing-2.result)) some
-    (given c.args.args.now storage old new text c.changing-2.result added refl c.changing-2.ensures)
+    subst (λ o. IsDone c.args.args.now storage (Ok (gives_or_forces o (argument 3 c.args.args.now) storage)) old new Keep (Ok c.nothing-2.result)) some
+    (given c.args.args.now storage old new text c.nothing-2.result added refl c.nothing-2.ensures)

@@ -11,24 +11,24 @@ use Rattle.trac_change.specs.declared.change.Change.TheVariants.{Keep}
 use Rattle.trac_prims.proofs.Kept.{given, left_so, value_beyond}
 use Rattle.trac_prims.proofs.forms.call.Goals as goal
 
-pub returns-in_default-room_of-clause-outcome : goal.returns-in_default-room_of-clause-outcome
-returns-in_default-room_of-clause-outcome g c = λ width.
+pub returns-in_default-room_of : goal.returns-in_default-room_of
+returns-in_default-room_of g c = λ width.
     let storage = storage_in c.args.store.now in
     let held : named_form c.args.args.now storage ≡ Some c.in-Some.form.now = ap (finite.get storage.forms) (sym c.get.ensures) ∙ sym c.in-Some.ensures.value in
     let long : TEXT_LIMIT < length (called (drop 2 c.args.args.now) c.in-Some.form.now) = c.in_default-room_of.ensures in
     ap (λ h. limited pieces_fit (on_form h (λ form. Ok (gives (called (drop 2 c.args.args.now) form) storage)) storage)) held
     ∙ value_beyond (called (drop 2 c.args.args.now) c.in-Some.form.now) storage long
 
-pub returns-in_default-clause-outcome : goal.returns-in_default-clause-outcome
-returns-in_default-clause-outcome g c = λ width.
+pub returns-in_default : goal.returns-in_default
+returns-in_default g c = λ width.
     let storage = storage_in c.args.store.now in
     let missing : named_form c.args.args.now storage ≡ None = ap (finite.get storage.forms) (sym c.get.ensures) ∙ sym c.in_default.ensures.value in
-    subst (λ o. IsDone c.args.args.now storage o c.args.made.now c.args.made.now (Ok c.changing.result))
+    subst (λ o. IsDone c.args.args.now storage o c.args.made.now c.args.made.now Keep (Ok c.nothing.result))
     (sym (ap (λ h. on_form h (λ form. Ok (gives (called (drop 2 c.args.args.now) form) storage)) storage) missing))
-    (left_so c.args.args.now storage c.args.made.now (leaves storage) Keep c.changing.result refl refl refl c.changing.ensures)
+    (left_so c.args.args.now storage c.args.made.now (leaves storage) Keep c.nothing.result refl refl refl c.nothing.ensures)
 
-pub returns-clause-outcome : goal.returns-clause-outcome
-returns-clause-outcome g c = λ width.
+pub returns : goal.returns
+returns g c = λ width.
     let storage = storage_in c.args.store.now in
     let held : named_form c.args.args.now storage ≡ Some c.in-Some.form.now = ap (finite.get storage.forms) (sym c.get.ensures) ∙ sym c.in-Some.ensures.value in
     let text = called (drop 2 c.args.args.now) c.in-Some.form.now in
@@ -37,6 +37,6 @@ returns-clause-outcome g c = λ width.
     ∙ ap (λ (before : List ℕ). before ++ called c.after-texts.result c.in-Some.form.now) c.in_ok-reserve.ensures.items
     ∙ ap (λ (texts : List (List ℕ)). c.args.made.now.value.items ++ called texts c.in-Some.form.now) c.after-texts.ensures in
     let new = record c.args.made.now { value = c.call_into.new.out } in
-    subst (λ o. IsDone c.args.args.now storage o c.args.made.now new (Ok c.changing-2.result))
+    subst (λ o. IsDone c.args.args.now storage o c.args.made.now new Keep (Ok c.nothing-2.result))
     (sym (ap (λ h. on_form h (λ form. Ok (gives (called (drop 2 c.args.args.now) form) storage)) storage) held))
-    (given c.args.args.now storage c.args.made.now new text c.changing-2.result added refl c.changing-2.ensures)
+    (given c.args.args.now storage c.args.made.now new text c.nothing-2.result added refl c.nothing-2.ensures)

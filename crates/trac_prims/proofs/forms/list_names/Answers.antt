@@ -7,8 +7,8 @@ use Rattle.trac_prims.proofs.Listed.{listed_names}
 use Rattle.trac_prims.proofs.Kept.{given, value_beyond}
 use Rattle.trac_prims.proofs.forms.list_names.Goals as goal
 
-pub returns-in_default-clause-outcome : goal.returns-in_default-clause-outcome
-returns-in_default-clause-outcome g c = λ width.
+pub returns-in_default : goal.returns-in_default
+returns-in_default g c = λ width.
     let all = listed (argument 1 c.args.args.now) c.args.store.now.forms in
     let same : flat_map (λ name. c.get-text.result.now ++ name.now) c.as_slice.result.now ≡ all =
     listed_names c.get-text.result.now c.in_ok-names.names.items c.as_slice.result.now c.args.store.now.forms c.in_ok-names.ensures.names c.as_slice.ensures.value
@@ -16,8 +16,8 @@ returns-in_default-clause-outcome g c = λ width.
     let long : TEXT_LIMIT < length all = omega (arith, c.in_default.ensures, ap length same) in
     value_beyond all (storage_in c.args.store.now) long
 
-pub returns-clause-outcome : goal.returns-clause-outcome
-returns-clause-outcome g c = λ width.
+pub returns : goal.returns
+returns g c = λ width.
     let storage = storage_in c.args.store.now in
     let old = c.args.made.now in
     let all = listed (argument 1 c.args.args.now) c.args.store.now.forms in
@@ -27,4 +27,4 @@ returns-clause-outcome g c = λ width.
     c.in_ok-list_into.ensures.ok
     ∙ ap (λ (before : List ℕ). before ++ flat_map (λ name. c.get-text.result.now ++ name.now) c.as_slice-2.result.now) c.in_ok-reserve.ensures.items
     ∙ ap (λ (text : List ℕ). old.value.items ++ text) same in
-    given c.args.args.now storage old (record old { value = c.list_into.new.out }) all c.changing.result added refl c.changing.ensures
+    given c.args.args.now storage old (record old { value = c.list_into.new.out }) all c.nothing.result added refl c.nothing.ensures

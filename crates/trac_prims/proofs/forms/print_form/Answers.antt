@@ -9,22 +9,22 @@ use Rattle.trac_prims.specs.Effects.{IsDone}
 use Rattle.trac_prims.proofs.Kept.{left_so, printed}
 use Rattle.trac_prims.proofs.forms.print_form.Goals as goal
 
-pub returns-in_default-clause-outcome : goal.returns-in_default-clause-outcome
-returns-in_default-clause-outcome g c = λ width.
+pub returns-in_default : goal.returns-in_default
+returns-in_default g c = λ width.
     let storage = storage_in c.args.store.now in
     let missing : named_form c.args.args.now storage ≡ None = ap (finite.get storage.forms) (sym c.get.ensures) ∙ sym c.in_default.ensures.value in
-    subst (λ o. IsDone c.args.args.now storage o c.args.made.now c.args.made.now (Ok c.changing.result))
+    subst (λ o. IsDone c.args.args.now storage o c.args.made.now c.args.made.now Keep (Ok c.nothing.result))
     (sym (ap (λ h. on_form h (λ form. Ok (prints (shown form) storage)) storage) missing))
-    (left_so c.args.args.now storage c.args.made.now (leaves storage) Keep c.changing.result refl refl refl c.changing.ensures)
+    (left_so c.args.args.now storage c.args.made.now (leaves storage) Keep c.nothing.result refl refl refl c.nothing.ensures)
 
-pub returns-clause-outcome : goal.returns-clause-outcome
-returns-clause-outcome g c = λ width.
+pub returns : goal.returns
+returns g c = λ width.
     let storage = storage_in c.args.store.now in
     let held : named_form c.args.args.now storage ≡ Some c.in-Some.form.now = ap (finite.get storage.forms) (sym c.get.ensures) ∙ sym c.in-Some.ensures.value in
     let old = c.args.made.now in
     let new = record old { print = c.show_into.new.out } in
     let added : c.show_into.new.out.items ≡ old.print.items ++ shown c.in-Some.form.now =
     c.in_ok-show_into.ensures.ok ∙ ap (λ (before : List ℕ). before ++ shown c.in-Some.form.now) c.in_ok-reserve.ensures.items in
-    subst (λ o. IsDone c.args.args.now storage o old new (Ok c.changing-2.result))
+    subst (λ o. IsDone c.args.args.now storage o old new Keep (Ok c.nothing-2.result))
     (sym (ap (λ h. on_form h (λ form. Ok (prints (shown form) storage)) storage) held))
-    (printed c.args.args.now storage old new (shown c.in-Some.form.now) c.changing-2.result refl added c.changing-2.ensures)
+    (printed c.args.args.now storage old new (shown c.in-Some.form.now) c.nothing-2.result refl added c.nothing-2.ensures)

@@ -9,8 +9,5 @@ use Rattle.trac_prims.proofs.io.take.Goals as goal
 pub returns-clause-outcome : goal.returns-clause-outcome
 returns-clause-outcome g c = λ arguments storage.
     let old = c.args.made.now in
-    as_said arguments storage old (record old { value = c.extend_from_slice.new.self }) (reads c.args.text.now c.args.read storage) Keep (record c.changing.result { read = c.args.read })
-    c.in_ok-extend_from_slice.ensures.items (sym (append-nil old.print.items)) refl (ap (λ (d : Deed _). record d { read = c.args.read }) c.changing.ensures)
-
-pub returns-clause-change : goal.returns-clause-change
-returns-clause-change g c = ap (λ (d : Deed _). d.change) c.changing.ensures
+    as_said arguments storage old (record old { value = c.extend_from_slice.new.self }) (reads c.args.text.now c.args.read storage) Keep (record c.nothing.result { read = c.args.read })
+    c.in_ok-extend_from_slice.ensures.items (sym (append-nil old.print.items)) refl (ap (λ (d : Deed). record d { read = c.args.read }) c.nothing.ensures)

@@ -24,66 +24,69 @@ each arguments (Err refusal) storage h = tt
 pub returns-in-Define-clause-outcome : goal.returns-in-Define-clause-outcome
 returns-in-Define-clause-outcome g c =
     let storage = storage_in c.args.store.now in
-    rw c.in-Define.is (changed_so c.args.args.now storage c.args.made.now (handled action.Define c.args.width c.args.args.now storage) c.define.result c.deed_of.result c.deed_of.ensures (c.define.ensures.outcome c.args.width))
+    rw c.in-Define.is (changed_so c.args.args.now storage c.args.made.now (handled action.Define c.args.width c.args.args.now storage) c.define.result c.make.new.change c.make.result c.make.ensures (c.define.ensures.outcome c.args.width))
 
 pub returns-in-Define-clause-change : goal.returns-in-Define-clause-change
 returns-in-Define-clause-change g c =
-    rw c.in-Define.is (of_change (IsChangeOf (Handle action.Define) c.args.args.now (storage_in c.args.store.now)) c.define.result c.deed_of.result c.deed_of.ensures c.define.ensures.change)
+    rw c.in-Define.is (of_change (IsChangeOf (Handle action.Define) c.args.args.now (storage_in c.args.store.now)) c.define.result c.make.new.change c.make.result c.make.ensures c.define.ensures.change)
 
 pub returns-in-Segment-clause-outcome : goal.returns-in-Segment-clause-outcome
 returns-in-Segment-clause-outcome g c =
     let storage = storage_in c.args.store.now in
-    rw c.in-Segment.is (changed_so c.args.args.now storage c.args.made.now (handled action.Segment c.args.width c.args.args.now storage) c.segment.result c.deed_of-in-Segment.result c.deed_of-in-Segment.ensures (c.segment.ensures.outcome c.args.width))
+    rw c.in-Segment.is (changed_so c.args.args.now storage c.args.made.now (handled action.Segment c.args.width c.args.args.now storage) c.segment.result c.make-in-Segment.new.change c.make-in-Segment.result c.make-in-Segment.ensures (c.segment.ensures.outcome c.args.width))
 
 pub returns-in-Segment-clause-change : goal.returns-in-Segment-clause-change
 returns-in-Segment-clause-change g c =
-    rw c.in-Segment.is (of_change (IsChangeOf (Handle action.Segment) c.args.args.now (storage_in c.args.store.now)) c.segment.result c.deed_of-in-Segment.result c.deed_of-in-Segment.ensures c.segment.ensures.change)
+    rw c.in-Segment.is (of_change (IsChangeOf (Handle action.Segment) c.args.args.now (storage_in c.args.store.now)) c.segment.result c.make-in-Segment.new.change c.make-in-Segment.result c.make-in-Segment.ensures c.segment.ensures.change)
 
 pub returns-in-Restore-clause-outcome : goal.returns-in-Restore-clause-outcome
 returns-in-Restore-clause-outcome g c =
     let storage = storage_in c.args.store.now in
-    rw c.in-Restore.is (changed_so c.args.args.now storage c.args.made.now (handled action.Restore c.args.width c.args.args.now storage) c.restore.result c.deed_of-in-Restore.result c.deed_of-in-Restore.ensures (c.restore.ensures.outcome c.args.width))
+    rw c.in-Restore.is (changed_so c.args.args.now storage c.args.made.now (handled action.Restore c.args.width c.args.args.now storage) c.restore.result c.make-in-Restore.new.change c.make-in-Restore.result c.make-in-Restore.ensures (c.restore.ensures.outcome c.args.width))
 
 pub returns-in-Restore-clause-change : goal.returns-in-Restore-clause-change
 returns-in-Restore-clause-change g c =
-    rw c.in-Restore.is (of_change (IsChangeOf (Handle action.Restore) c.args.args.now (storage_in c.args.store.now)) c.restore.result c.deed_of-in-Restore.result c.deed_of-in-Restore.ensures c.restore.ensures.change)
+    rw c.in-Restore.is (of_change (IsChangeOf (Handle action.Restore) c.args.args.now (storage_in c.args.store.now)) c.restore.result c.make-in-Restore.new.change c.make-in-Restore.result c.make-in-Restore.ensures c.restore.ensures.change)
 
 pub returns-in-Delete-clause-outcome : goal.returns-in-Delete-clause-outcome
 returns-in-Delete-clause-outcome g c =
     let storage = storage_in c.args.store.now in
-    rw c.in-Delete.is (changed_so c.args.args.now storage c.args.made.now (handled action.Delete c.args.width c.args.args.now storage) c.delete.result c.deed_of-in-Delete.result c.deed_of-in-Delete.ensures (c.delete.ensures.outcome c.args.width (storage_in c.args.store.now)))
+    rw c.in-Delete.is (changed_so c.args.args.now storage c.args.made.now (handled action.Delete c.args.width c.args.args.now storage) c.delete.result c.make-in-Delete.new.change c.make-in-Delete.result c.make-in-Delete.ensures (c.delete.ensures.outcome c.args.width (storage_in c.args.store.now)))
 
 pub returns-in-Delete-clause-change : goal.returns-in-Delete-clause-change
 returns-in-Delete-clause-change g c =
-    rw c.in-Delete.is (of_change (IsChangeOf (Handle action.Delete) c.args.args.now (storage_in c.args.store.now)) c.delete.result c.deed_of-in-Delete.result c.deed_of-in-Delete.ensures
+    rw c.in-Delete.is (of_change (IsChangeOf (Handle action.Delete) c.args.args.now (storage_in c.args.store.now)) c.delete.result c.make-in-Delete.new.change c.make-in-Delete.result c.make-in-Delete.ensures
     (each c.args.args.now c.delete.result (storage_in c.args.store.now) c.delete.ensures.change))
 
 pub returns-in-DeleteAll-clause-outcome : goal.returns-in-DeleteAll-clause-outcome
 returns-in-DeleteAll-clause-outcome g c =
     let storage = storage_in c.args.store.now in
-    rw c.in-DeleteAll.is (left_so c.args.args.now storage c.args.made.now (leaves (keeping finite.empty storage)) Clear c.changing.result refl refl refl c.changing.ensures)
+    rw c.in-DeleteAll.is
+    (changed_so c.args.args.now storage c.args.made.now (Ok (leaves (keeping finite.empty storage))) (Ok Clear) c.make-in-DeleteAll.new.change c.make-in-DeleteAll.result c.make-in-DeleteAll.ensures refl)
 
 pub returns-in-DeleteAll-clause-change : goal.returns-in-DeleteAll-clause-change
 returns-in-DeleteAll-clause-change g c =
-    rw c.in-DeleteAll.is (subst (λ (d : Deed _). IsChangeOf (Handle action.DeleteAll) c.args.args.now (storage_in c.args.store.now) d.change) (sym c.changing.ensures) (record { undone_is = refl; names_are = tt }))
+    rw c.in-DeleteAll.is
+    (of_change (IsChangeOf (Handle action.DeleteAll) c.args.args.now (storage_in c.args.store.now)) (Ok Clear) c.make-in-DeleteAll.new.change c.make-in-DeleteAll.result c.make-in-DeleteAll.ensures
+    (record { undone_is = refl; names_are = tt }))
 
 pub returns-in-Read : goal.returns-in-Read
 returns-in-Read g c = rw c.in-Read.is c.read.ensures
 
 pub returns-in-Call-clause-outcome : goal.returns-in-Call-clause-outcome
-returns-in-Call-clause-outcome g c = rw c.in-Call.is (c.call.ensures.outcome c.args.width)
+returns-in-Call-clause-outcome g c = rw (c.in-Call.is, c.requires.keeps) (c.call.ensures c.args.width)
 
 pub returns-in-Call-clause-change : goal.returns-in-Call-clause-change
-returns-in-Call-clause-change g c = rw c.in-Call.is (keeps_so (Handle action.Call) c.args.args.now (storage_in c.args.store.now) c.call.result refl c.call.ensures.change)
+returns-in-Call-clause-change g c = rw c.in-Call.is (keeps_so (Handle action.Call) c.args.args.now (storage_in c.args.store.now) c.args.change.now c.call.result refl c.requires.keeps)
 
 pub returns-in-ListNames-clause-outcome : goal.returns-in-ListNames-clause-outcome
-returns-in-ListNames-clause-outcome g c = rw c.in-ListNames.is (c.list_names.ensures.outcome c.args.width)
+returns-in-ListNames-clause-outcome g c = rw (c.in-ListNames.is, c.requires.keeps) (c.list_names.ensures c.args.width)
 
 pub returns-in-ListNames-clause-change : goal.returns-in-ListNames-clause-change
-returns-in-ListNames-clause-change g c = rw c.in-ListNames.is (keeps_so (Handle action.ListNames) c.args.args.now (storage_in c.args.store.now) c.list_names.result refl c.list_names.ensures.change)
+returns-in-ListNames-clause-change g c = rw c.in-ListNames.is (keeps_so (Handle action.ListNames) c.args.args.now (storage_in c.args.store.now) c.args.change.now c.list_names.result refl c.requires.keeps)
 
 pub returns-in-PrintForm-clause-outcome : goal.returns-in-PrintForm-clause-outcome
-returns-in-PrintForm-clause-outcome g c = rw c.in-PrintForm.is (c.print_form.ensures.outcome c.args.width)
+returns-in-PrintForm-clause-outcome g c = rw (c.in-PrintForm.is, c.requires.keeps) (c.print_form.ensures c.args.width)
 
 pub returns-in-PrintForm-clause-change : goal.returns-in-PrintForm-clause-change
-returns-in-PrintForm-clause-change g c = rw c.in-PrintForm.is (keeps_so (Handle action.PrintForm) c.args.args.now (storage_in c.args.store.now) c.print_form.result refl c.print_form.ensures.change)
+returns-in-PrintForm-clause-change g c = rw c.in-PrintForm.is (keeps_so (Handle action.PrintForm) c.args.args.now (storage_in c.args.store.now) c.args.change.now c.print_form.result refl c.requires.keeps)

@@ -27,14 +27,14 @@ returns-in_err-line-clause-outcome g c = λ call given.
     rw why.1
     (subst (MayRefuse (limited (fits_after call) (performed (environment_of c.args.now.width c.args.tape) call))) (sym (why.2 ∙ c.in_err-line.ensures.err))
     (lacks (environment_of c.args.now.width c.args.tape) call c.args.kind c.args.args.now c.args.store.now c.args.now given c.primitive_named.result named
-    (record c.args.made.now { value = c.clear.new.self; print = c.line_into-line.new.out }) c.perform.new.made c.in_ok-deed.deed (c.in_ok-deed.ensures.outcome call.state given.state_is)))
+    (record c.args.made.now { value = c.clear.new.self; print = c.line_into-line.new.out }) c.perform.new.made c.perform.new.change c.in_ok-deed.deed (c.in_ok-deed.ensures.outcome call.state given.state_is)))
 
 pub returns-then-not-has_place-clause-outcome : goal.returns-then-not-has_place-clause-outcome
 returns-then-not-has_place-clause-outcome g c = λ call given.
     let named : c.primitive_named.result ≡ primitive_of (argument 0 c.args.args.now) = c.primitive_named.ensures ∙ ap primitive_of c.get.ensures in
     let lined = c.in_ok-line.ensures.ok ∙ ap (λ (before : List ℕ). before ++ trace_line c.args.now.trace c.args.kind c.args.args.now) c.clear-2.ensures.items in
     beyond (environment_of c.args.now.width c.args.tape) call c.args.kind c.args.args.now c.args.store.now c.args.now given c.primitive_named.result named
-    (record c.args.made.now { value = c.clear.new.self; print = c.line_into-line.new.out }) c.perform.new.made c.in_ok-deed.deed (c.in_ok-deed.ensures.outcome call.state given.state_is)
+    (record c.args.made.now { value = c.clear.new.self; print = c.line_into-line.new.out }) c.perform.new.made c.perform.new.change c.in_ok-deed.deed (c.in_ok-deed.ensures.outcome call.state given.state_is)
     c.clear.ensures.items lined (λ place. false≢true (c.if-not-has_place.ensures.1 place))
 
 pub returns-clause-outcome : goal.returns-clause-outcome
@@ -42,10 +42,10 @@ returns-clause-outcome g c = λ call given.
     let named : c.primitive_named.result ≡ primitive_of (argument 0 c.args.args.now) = c.primitive_named.ensures ∙ ap primitive_of c.get.ensures in
     let lined = c.in_ok-line.ensures.ok ∙ ap (λ (before : List ℕ). before ++ trace_line c.args.now.trace c.args.kind c.args.args.now) c.clear-2.ensures.items in
     within (environment_of c.args.now.width c.args.tape) call c.args.kind c.args.args.now c.args.store.now c.args.now given c.primitive_named.result named
-    (record c.args.made.now { value = c.clear.new.self; print = c.line_into-line.new.out }) c.perform.new.made c.in_ok-deed.deed (c.in_ok-deed.ensures.outcome call.state given.state_is)
+    (record c.args.made.now { value = c.clear.new.self; print = c.line_into-line.new.out }) c.perform.new.made c.perform.new.change c.in_ok-deed.deed (c.in_ok-deed.ensures.outcome call.state given.state_is)
     c.clear.ensures.items lined (c.if-not-has_place.ensures.0 refl)
 
 pub returns-clause-change : goal.returns-clause-change
 returns-clause-change g c =
     let named : c.primitive_named.result ≡ primitive_of (argument 0 c.args.args.now) = c.primitive_named.ensures ∙ ap primitive_of c.get.ensures in
-    subst (λ (p : Primitive). IsChangeOf p c.args.args.now (storage_in c.args.store.now) c.in_ok-deed.deed.change) named c.in_ok-deed.ensures.change
+    subst (λ (p : Primitive). IsChangeOf p c.args.args.now (storage_in c.args.store.now) c.perform.new.change) named c.in_ok-deed.ensures.change

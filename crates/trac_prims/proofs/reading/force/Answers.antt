@@ -15,12 +15,11 @@ use Rattle.trac_prims.proofs.reading.force.Goals as goal
 pub returns-clause-outcome : goal.returns-clause-outcome
 returns-clause-outcome g c = λ arguments storage there.
     let old = c.args.made.now in
-    as_said arguments storage old (record old { value = c.extend_from_slice.new.self }) (forces c.args.text.now storage) (Point c.in_ok-name.name c.pointer.result) (record c.changing.result { forced = true })
+    as_said arguments storage old (record old { value = c.extend_from_slice.new.self }) (forces c.args.text.now storage) (Point c.in_ok-name.name c.pointer.result) (record c.nothing.result { forced = true })
     c.in_ok-extend_from_slice.ensures.items (sym (append-nil old.print.items))
     (unmoved_so arguments storage c.in_ok-name.name c.args.name.now c.in_ok-name.ensures.items c.args.form.now there c.pointer.result c.pointer.ensures)
-    (ap (λ (d : Deed _). record d { forced = true }) c.changing.ensures)
+    (ap (λ (d : Deed). record d { forced = true }) c.nothing.ensures)
 
 pub returns-clause-change : goal.returns-clause-change
 returns-clause-change g c = λ reading arguments storage named.
-    subst (λ (d : Deed _). IsChangeOf (Handle (Read reading)) arguments storage d.change) (sym c.changing.ensures)
-    (reads arguments storage c.in_ok-name.name (c.in_ok-name.ensures.items ∙ named) reading c.pointer.result)
+    reads arguments storage c.in_ok-name.name (c.in_ok-name.ensures.items ∙ named) reading c.pointer.result

@@ -18,11 +18,10 @@ returns-clause-outcome g c = λ other arguments storage there.
     let old = c.args.made.now in
     let piece = taken c.args.piece.now c.args.form.now in
     let added = c.in_ok-piece_into.ensures.ok ∙ ap (λ (before : List ℕ). before ++ piece.value) c.in_ok-reserve.ensures.items in
-    as_said arguments storage old (record old { value = c.piece_into.new.out }) (gives piece.value (pointing c.args.name.now piece.place c.args.form.now storage)) (Point c.in_ok-name.name piece.place) c.changing.result
+    as_said arguments storage old (record old { value = c.piece_into.new.out }) (gives piece.value (pointing c.args.name.now piece.place c.args.form.now storage)) (Point c.in_ok-name.name piece.place) c.nothing.result
     added (sym (append-nil old.print.items))
-    (pointed_so arguments storage c.in_ok-name.name c.args.name.now c.in_ok-name.ensures.items c.args.form.now there piece.place) c.changing.ensures
+    (pointed_so arguments storage c.in_ok-name.name c.args.name.now c.in_ok-name.ensures.items c.args.form.now there piece.place) c.nothing.ensures
 
 pub returns-clause-change : goal.returns-clause-change
 returns-clause-change g c = λ reading arguments storage named.
-    subst (λ (d : Deed _). IsChangeOf (Handle (Read reading)) arguments storage d.change) (sym c.changing.ensures)
-    (reads arguments storage c.in_ok-name.name (c.in_ok-name.ensures.items ∙ named) reading c.args.piece.now.pointer)
+    reads arguments storage c.in_ok-name.name (c.in_ok-name.ensures.items ∙ named) reading c.args.piece.now.pointer

@@ -18,8 +18,8 @@ returns-in-None-clause-outcome g c =
     let held : named_form arguments storage ≡ Some c.in-Some.form.now = ap (finite.get storage.forms) (sym c.get-name.ensures) ∙ sym c.in-Some.ensures.value in
     let outcome = form_is_read c.args.reading c.args.width arguments storage c.in-Some.form.now None held
     (ap (option_map (λ p. taken p c.in-Some.form.now)) (sym c.in-None.is) ∙ c.in_ok-piece.ensures.read) in
-    subst (λ o. IsDone arguments storage o c.args.made.now c.force.new.made c.force.result) (sym outcome)
-    (subst (λ (text : List ℕ). IsDone arguments storage (Ok (forces text storage)) c.args.made.now c.force.new.made c.force.result) (c.get-in-None.ensures ∙ c.default_place.ensures arguments)
+    subst (λ o. IsDone arguments storage o c.args.made.now c.force.new.made c.force.new.change c.force.result) (sym outcome)
+    (subst (λ (text : List ℕ). IsDone arguments storage (Ok (forces text storage)) c.args.made.now c.force.new.made c.force.new.change c.force.result) (c.get-in-None.ensures ∙ c.default_place.ensures arguments)
     (c.force.ensures.outcome arguments storage (sym c.in-Some.ensures.value)))
 
 pub returns-in-Some-2-clause-outcome : goal.returns-in-Some-2-clause-outcome
@@ -31,8 +31,8 @@ returns-in-Some-2-clause-outcome g c =
     let other = default_argument c.args.reading arguments in
     let outcome = form_is_read c.args.reading c.args.width arguments storage form (Some (taken c.in-Some-2.piece form)) held
     (ap (option_map (λ p. taken p form)) (sym c.in-Some-2.is) ∙ c.in_ok-piece.ensures.read) in
-    subst (λ o. IsDone arguments storage o c.args.made.now c.give_piece.new.made c.give_piece.result) (sym outcome)
-    (subst (λ (name : List ℕ). IsDone arguments storage (Ok (gives_piece (Some (taken c.in-Some-2.piece form)) other name form storage)) c.args.made.now c.give_piece.new.made c.give_piece.result) c.get-name.ensures
+    subst (λ o. IsDone arguments storage o c.args.made.now c.give_piece.new.made c.give_piece.new.change c.give_piece.result) (sym outcome)
+    (subst (λ (name : List ℕ). IsDone arguments storage (Ok (gives_piece (Some (taken c.in-Some-2.piece form)) other name form storage)) c.args.made.now c.give_piece.new.made c.give_piece.new.change c.give_piece.result) c.get-name.ensures
     (c.give_piece.ensures.outcome other arguments storage (sym c.in-Some.ensures.value)))
 
 pub returns-in-Some-2-clause-change : goal.returns-in-Some-2-clause-change
@@ -45,6 +45,7 @@ pub returns-in_default-clause-outcome : goal.returns-in_default-clause-outcome
 returns-in_default-clause-outcome g c =
     let storage = storage_in c.args.store.now in
     let missing : named_form c.args.args.now storage ≡ None = ap (finite.get storage.forms) (sym c.get-name.ensures) ∙ sym c.in_default.ensures.value in
-    subst (λ o. IsDone c.args.args.now storage o c.args.made.now c.args.made.now (Ok c.changing.result))
+    rw c.requires
+    (subst (λ o. IsDone c.args.args.now storage o c.args.made.now c.args.made.now Keep (Ok c.nothing.result))
     (sym (ap (λ h. on_form h (λ form. Ok (form_read c.args.reading c.args.width c.args.args.now form storage)) storage) missing))
-    (left_so c.args.args.now storage c.args.made.now (leaves storage) Keep c.changing.result refl refl refl c.changing.ensures)
+    (left_so c.args.args.now storage c.args.made.now (leaves storage) Keep c.nothing.result refl refl refl c.nothing.ensures))

@@ -25,19 +25,19 @@ perform-requires g c = c.in_ok-plan.ensures.planned.ready
 pub returns-clause-taken : goal.returns-clause-taken
 returns-clause-taken g c =
     let s = c.args.self.now.state in
-    taken_by c.perform.result (step (environment_of c.args.self.now.width c.args.tape) s) (state_after c.in_ok-plan.plan c.planned.new.made c.in_ok-plan.change (scan s)) c.perform.new.self.state
+    taken_by c.perform.result (step (environment_of c.args.self.now.width c.args.tape) s) (state_after c.in_ok-plan.plan c.planned.new.made c.planned.new.change (scan s)) c.perform.new.self.state
     c.in_ok-plan.ensures.planned.taken c.perform.ensures.done
 
 pub returns-clause-recorded : goal.returns-clause-recorded
 returns-clause-recorded g c =
-    recorded_as c.perform.result recorded_by (recorded_after c.in_ok-plan.plan c.in_ok-plan.change c.args.self.now.state) _ c.in_ok-plan.ensures.planned.recorded c.perform.ensures.recorded
+    recorded_as c.perform.result recorded_by (recorded_after c.in_ok-plan.plan c.planned.new.change c.args.self.now.state) _ c.in_ok-plan.ensures.planned.recorded c.perform.ensures.recorded
 
 pub returns-clause-refused : goal.returns-clause-refused
 returns-clause-refused g c =
     let s = c.args.self.now.state in
     let outcome = step (environment_of c.args.self.now.width c.args.tape) s in
     refused_for_memory c.perform.result (λ e. (c.perform.new.self.state ≡ s) × MayRefuse outcome e) c.perform.ensures.unchanged c.perform.ensures.err
-    (λ same. (same, taken_lacks outcome (state_after c.in_ok-plan.plan c.planned.new.made c.in_ok-plan.change (scan s)) c.in_ok-plan.ensures.planned.taken))
+    (λ same. (same, taken_lacks outcome (state_after c.in_ok-plan.plan c.planned.new.made c.planned.new.change (scan s)) c.in_ok-plan.ensures.planned.taken))
 
 pub returns-clause-lacking : goal.returns-clause-lacking
 returns-clause-lacking g c = call_lacks_nothing c.args.self.now c.requires.front c.requires.inside

@@ -11,10 +11,10 @@ use Rattle.trac_step.proofs.Rules.{text_bytes-parts}
 use Rattle.trac_step.proofs.engine.Core.end_call.Goals as goal
 
 pub cut_function-requires-clause-place : goal.cut_function-requires-clause-place
-cut_function-requires-clause-place g c = (begun_here (parts_of (g.E.TwoEnds.ends c.self.inside.text) (g.M.TwoEnds.ends c.self.inside.marks) c.self.inside.store c.self.inside.meta c.self.inside.trace c.self.inside.position c.self.inside.output) c.args.self.now c.args.plan.beginning c.self.invariant c.self.view_is c.requires.begins).innermost.place_within
+cut_function-requires-clause-place g c = (begun_here (parts_of (g.E.TwoEnds.ends c.self.inside.text) (g.M.TwoEnds.ends c.self.inside.marks) c.self.inside.store c.self.inside.meta c.self.inside.trace c.self.inside.position c.self.inside.output) c.args.self.now c.args.plan.now.beginning c.self.invariant c.self.view_is c.requires.begins).innermost.place_within
 
 pub cut_function-requires-clause-number : goal.cut_function-requires-clause-number
-cut_function-requires-clause-number g c = omega (arith, (begun_here (parts_of (g.E.TwoEnds.ends c.self.inside.text) (g.M.TwoEnds.ends c.self.inside.marks) c.self.inside.store c.self.inside.meta c.self.inside.trace c.self.inside.position c.self.inside.output) c.args.self.now c.args.plan.beginning c.self.invariant c.self.view_is c.requires.begins).innermost.within)
+cut_function-requires-clause-number g c = omega (arith, (begun_here (parts_of (g.E.TwoEnds.ends c.self.inside.text) (g.M.TwoEnds.ends c.self.inside.marks) c.self.inside.store c.self.inside.meta c.self.inside.trace c.self.inside.position c.self.inside.output) c.args.self.now c.args.plan.now.beginning c.self.invariant c.self.view_is c.requires.begins).innermost.within)
 
 pub put_value-requires : goal.put_value-requires
 put_value-requires g c =
@@ -27,7 +27,7 @@ put_value-requires g c =
       text_bytes-parts (parts_of (g.E.TwoEnds.ends c.self.inside.text) (g.M.TwoEnds.ends c.self.inside.marks) c.self.inside.store c.self.inside.meta c.self.inside.trace c.self.inside.position c.self.inside.output) c.self.invariant.ordered,
       ap item_count c.cut_function.ensures.text,
       ap (λ (x : Ends ℕ). x.capacity) c.cut_function.ensures.text,
-      length-take c.args.plan.beginning.place old.left,
+      length-take c.args.plan.now.beginning.place old.left,
       length-drop 1 old.right,
       ap (λ (xs : List ℕ). length xs) c.as_slice.ensures.value,
     )
@@ -36,7 +36,7 @@ pub invariant_of-self : goal.invariant_of-self
 invariant_of-self g c =
     let i = c.self.inside in
     (ended (g.E.TwoEnds.ends i.text) (g.E.TwoEnds.ends c.cut_function.new.text) (g.E.TwoEnds.ends c.put_value.new.text) (g.M.TwoEnds.ends i.marks) (g.M.TwoEnds.ends c.cut_function.new.marks) i.store
-    i.meta i.trace i.position i.output c.unwrap_or-meta.result c.unwrap_or-trace.result c.put_printed.new.output c.as_slice.result.now c.as_slice-2.result.now c.args.self.now c.args.plan c.args.made.now
+    i.meta i.trace i.position i.output c.unwrap_or-meta.result c.unwrap_or-trace.result c.put_printed.new.output c.as_slice.result.now c.as_slice-2.result.now c.args.self.now c.args.plan.now c.args.made.now
     c.self.invariant c.self.view_is c.requires c.cut_function.ensures.text c.put_value.ensures c.cut_function.ensures.marks c.unwrap_or-meta.ensures c.unwrap_or-trace.ensures c.put_printed.ensures.items
     c.as_slice.ensures.value c.as_slice-2.ensures.value).sound
 
@@ -44,14 +44,14 @@ pub returns-clause-state : goal.returns-clause-state
 returns-clause-state g c =
     let i = c.self.inside in
     (ended (g.E.TwoEnds.ends i.text) (g.E.TwoEnds.ends c.cut_function.new.text) (g.E.TwoEnds.ends c.put_value.new.text) (g.M.TwoEnds.ends i.marks) (g.M.TwoEnds.ends c.cut_function.new.marks) i.store
-    i.meta i.trace i.position i.output c.unwrap_or-meta.result c.unwrap_or-trace.result c.put_printed.new.output c.as_slice.result.now c.as_slice-2.result.now c.args.self.now c.args.plan c.args.made.now
+    i.meta i.trace i.position i.output c.unwrap_or-meta.result c.unwrap_or-trace.result c.put_printed.new.output c.as_slice.result.now c.as_slice-2.result.now c.args.self.now c.args.plan.now c.args.made.now
     c.self.invariant c.self.view_is c.requires c.cut_function.ensures.text c.put_value.ensures c.cut_function.ensures.marks c.unwrap_or-meta.ensures c.unwrap_or-trace.ensures c.put_printed.ensures.items
     c.as_slice.ensures.value c.as_slice-2.ensures.value).state
 
 pub returns-clause-room : goal.returns-clause-room
 returns-clause-room g c =
     let i = c.self.inside in
-    let plan = c.args.plan in
+    let plan = c.args.plan.now in
     let cut = g.E.TwoEnds.ends c.cut_function.new.text in
     let q = parts_of (g.E.TwoEnds.ends c.put_value.new.text) (g.M.TwoEnds.ends c.cut_function.new.marks) i.store c.unwrap_or-meta.result c.unwrap_or-trace.result plan.position c.put_printed.new.output in
     let kept = ap (λ (x : Ends ℕ). x.capacity) c.put_value.ensures ∙ value_capacity plan.beginning.kind plan.forced c.as_slice.result.now cut ∙ ap (λ (x : Ends ℕ). x.capacity) c.cut_function.ensures.text in

@@ -8,23 +8,23 @@ use Rattle.trac_step.proofs.Rooms.{no_less_then}
 use Rattle.trac_step.proofs.engine.Core.perform.Goals as goal
 
 pub change_storage-requires : goal.change_storage-requires
-change_storage-requires g c = can_change c.args.self.now.state c.make_room.new.self.state c.args.plan c.args.made.now c.args.change c.requires c.make_room.ensures.state
+change_storage-requires g c = can_change c.args.self.now.state c.make_room.new.self.state c.args.plan.now c.args.made.now c.args.change.now c.requires c.make_room.ensures.state
 
 pub end_call-requires : goal.end_call-requires
 end_call-requires g c =
-    can_end c.args.self.now.state c.make_room.new.self c.change_storage.new.self c.args.plan c.args.made.now c.args.change c.requires c.make_room.ensures.state c.in_ok-undone.ensures.changed
+    can_end c.args.self.now.state c.make_room.new.self c.change_storage.new.self c.args.plan.now c.args.made.now c.args.change.now c.requires c.make_room.ensures.state c.in_ok-undone.ensures.changed
     c.in_ok-make_room.ensures.ok c.change_storage.ensures.room
 
 pub returns-clause-done : goal.returns-clause-done
 returns-clause-done g c =
     c.end_call.ensures.state
-    ∙ ended_then c.args.self.now.state c.make_room.new.self c.change_storage.new.self c.args.plan c.args.made.now c.args.change c.requires c.make_room.ensures.state c.in_ok-undone.ensures.changed
+    ∙ ended_then c.args.self.now.state c.make_room.new.self c.change_storage.new.self c.args.plan.now c.args.made.now c.args.change.now c.requires c.make_room.ensures.state c.in_ok-undone.ensures.changed
 
 pub returns-clause-recorded : goal.returns-clause-recorded
 returns-clause-recorded g c =
     let given = c.in_ok-arguments.ensures.same in
-    let undone = c.in_ok-undone.ensures.undone ∙ ap (λ (s : State). undone_of c.args.change (storage_of s)) c.make_room.ensures.state in
-    c.of_call.ensures ∙ (λ i. Called (record_with c.args.plan.called (given i) (undone i)))
+    let undone = c.in_ok-undone.ensures.undone ∙ ap (λ (s : State). undone_of c.args.change.now (storage_of s)) c.make_room.ensures.state in
+    c.of_call.ensures ∙ (λ i. Called (record_with c.args.plan.now.called (given i) (undone i)))
 
 pub returns-clause-room : goal.returns-clause-room
 returns-clause-room g c =

@@ -91,9 +91,10 @@ returns-clause-planned g c =
     (ap (λ (t : State). length t.active - 1 + f.place) (sym state_is) ∙ ap (λ (xs : List ℕ). length xs - 1 + f.place) (sym c.right.ensures.right)) in
     let e = environment_of c.self.inside.width c.args.tape in
     let made = c.plan_into.new.made in
+    let change = c.plan_into.new.change in
     let deed = c.in_ok-deed.deed in
     let planned = c.in_ok-deed.ensures.outcome (call_of s inner.frame rest) given in
-    let change = c.in_ok-deed.ensures.change in
+    let named = c.in_ok-deed.ensures.change in
     let told = c.called_by.ensures in
     let plan : Plan = record {
       beginning = record { number = f.number; place = f.place; kind = f.kind };
@@ -106,7 +107,7 @@ returns-clause-planned g c =
       trace = deed.trace;
     } in
     let found = arguments_found s c.neutral.result f.number f.place f.kind f.arguments c.requires.front c.neutral.ensures inner in
-    let taken = planned_taken e s inner.frame rest c.requires.front frames f.kind f.arguments c.self.inside.store now given made deed planned change plan
+    let taken = planned_taken e s inner.frame rest c.requires.front frames f.kind f.arguments c.self.inside.store now given made change deed planned named plan
     told.kind told.value told.scanned told.printed told.read told.meta told.trace refl refl refl in
     rw width_is (record {
       ready = record {
@@ -115,10 +116,10 @@ returns-clause-planned g c =
         position = ap (λ (t : State). t.position + deed.read) state_is ∙ ap (λ (n : ℕ). s.position + n) (sym told.read);
         bytes = ap (λ (bytes : List ℕ). length bytes) c.joined.ensures ∙ ap (λ (texts : List (List ℕ)). length (concat texts)) found;
         commas = c.comma_count.ensures ∙ ap (λ (texts : List (List ℕ)). length texts) found;
-        given = names_given e s inner.frame rest c.requires.front frames f.kind f.arguments c.self.inside.store now given made deed planned change;
-        proper = step_proper e s (state_after plan made deed.change (scan s)) proper taken;
+        given = names_given e s inner.frame rest c.requires.front frames f.kind f.arguments c.self.inside.store now given made change deed planned named;
+        proper = step_proper e s (state_after plan made change (scan s)) proper taken;
       };
       taken = taken;
-      recorded = planned_recorded e s inner.frame rest c.requires.front frames f.kind f.arguments c.self.inside.store now given made deed planned change plan
+      recorded = planned_recorded e s inner.frame rest c.requires.front frames f.kind f.arguments c.self.inside.store now given made change deed planned named plan
           told.kind told.value told.scanned told.printed told.read told.meta told.trace refl refl refl;
     })
