@@ -13,7 +13,7 @@ use Rattle.trac_session.specs.Goals.{is_call_of, outcome}
 use Rattle.trac_session.proofs.Walked.{GoesOn, Back_answered, Back_refused_same, Step_refused_same, goes_on_first, goes_on_more, stopped_walk, met_walk, whole_walk}
 use Rattle.trac_streams.specs.declared.ending.Ending.{Ending}
 use Rattle.trac_streams.specs.declared.ending.Ending.TheVariants as endings
-use Rattle.trac_debug.specs.Commands.{Command, Forward, Back, Until, Return, Print, Commit, Quit}
+use Rattle.trac_debug.specs.Commands.{LineCommand, Forward, Back, Until, Return, Print, Commit, Quit}
 use Rattle.trac_show.specs.StateLines.{state_text}
 use Rattle.trac_streams.specs.Escapes.{text_line}
 use Rattle.trac_debug.specs.Replies.{Replies, RepliesWithMemory, walk_line}
@@ -120,7 +120,7 @@ search_otherwise true None other says = cc
 search_otherwise false None other says = cc
 
 -- there is a reply to each command that does not say that memory was refused
-pub some_reply_with : (command : Command) (old : PlainSession) → (reply : List ℕ) × (new : PlainSession) × RepliesWithMemory command old reply new
+pub some_reply_with : (command : LineCommand) (old : PlainSession) → (reply : List ℕ) × (new : PlainSession) × RepliesWithMemory command old reply new
 some_reply_with (Forward n) old =
     let walk = some_walk session.Step Step_plain no_goal n old in
     (walk_line (codes "forward") walk.0 walk.1, walk.2, (walk.0, walk.1, (walk.3, walk.4), refl))
@@ -141,7 +141,7 @@ some_reply_with (Commit keep) old = (text_line (codes "commit") (first_kept keep
 some_reply_with Quit old = ([], old, (refl, refl))
 
 -- it is one of those that there may be
-pub reply_allowed : (command : Command) (old new : PlainSession) (reply : List ℕ) → RepliesWithMemory command old reply new → Replies command old reply new
+pub reply_allowed : (command : LineCommand) (old new : PlainSession) (reply : List ℕ) → RepliesWithMemory command old reply new → Replies command old reply new
 reply_allowed (Forward n) old new reply is = (is.0, is.1, is.2.0, is.3)
 reply_allowed (Back n) old new reply is = is
 reply_allowed (Until name n) old new reply is = (is.0, is.1, is.2.0, is.3)
@@ -151,14 +151,14 @@ reply_allowed (Commit keep) old new reply is = is
 reply_allowed Quit old new reply is = is
 
 -- so there is a reply to each command
-pub some_reply : (command : Command) (old : PlainSession) → (reply : List ℕ) × (new : PlainSession) × Replies command old reply new
+pub some_reply : (command : LineCommand) (old : PlainSession) → (reply : List ℕ) × (new : PlainSession) × Replies command old reply new
 some_reply command old =
     let some = some_reply_with command old in
     (some.0, some.1, reply_allowed command old some.1 some.0 some.2)
 
 -- ---- texts
 
-module _ (Replied : Command → PlainSession → List ℕ → PlainSession → Type 0) (reply : (command : Command) (old : PlainSession) → (text : List ℕ) × (new : PlainSession) × Replied command old text new) where
+module _ (Replied : LineCommand → PlainSession → List ℕ → PlainSession → Type 0) (reply : (command : LineCommand) (old : PlainSession) → (text : List ℕ) × (new : PlainSession) × Replied command old text new) where
   -- a turn may write something, where the lines after it may
   takes_some : (turn : Turn) (lines : List (List ℕ)) (number : ℕ) (p : PlainSession) →
       ((q : PlainSession) → (text : List ℕ) × (stop : Ending) × WritesBy Replied lines number q text stop) →

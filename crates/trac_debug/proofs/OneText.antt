@@ -15,7 +15,7 @@ use Rattle.trac_rules.proofs.Replies.{Commit_done, accepted_done, done_of_refuse
 use Rattle.trac_session.specs.Goals.{IsSearch, is_call_of, outcome}
 use Rattle.trac_streams.specs.declared.ending.Ending.{Ending}
 use Rattle.trac_streams.specs.declared.ending.Ending.TheVariants as endings
-use Rattle.trac_debug.specs.Commands.{Command, Forward, Back, Until, Return, Print, Commit, Quit}
+use Rattle.trac_debug.specs.Commands.{LineCommand, Forward, Back, Until, Return, Print, Commit, Quit}
 use Rattle.trac_streams.specs.Lines.{lines_of}
 use Rattle.trac_debug.specs.Replies.{HasMemoryReply, Replies, RepliesWithMemory, SaysMemory, walk_line}
 use Rattle.trac_debug.specs.Debugging.{Turn, Passes, Does, Ends, TakesBy, WritesBy, MayWrite, MayShow, ShowsWithMemory, ready, shown_by, shown_where, turn_at}
@@ -169,7 +169,7 @@ not_ended_so : (met : Bool) (ended why : Option Refusal) → why ≡ outcome met
 not_ended_so met ended why is other so = other (is ∙ ap (outcome met) so)
 
 -- there is one reply to a command that does not say that memory was refused
-one_reply : (command : Command) (old new last : PlainSession) (reply other : List ℕ) → RepliesWithMemory command old reply new → RepliesWithMemory command old other last → IsOne reply other new last
+one_reply : (command : LineCommand) (old new last : PlainSession) (reply other : List ℕ) → RepliesWithMemory command old reply new → RepliesWithMemory command old other last → IsOne reply other new last
 one_reply (Forward n) old new last reply other a b =
     walks_alike (codes "forward") a.0 b.0 a.1 b.1 new last reply other
     (one_walk session.Step no_goal n old a.0 b.0 a.1 b.1 new last (forward_ruled no_goal n old a.0 a.1 new a.2.1 a.2.0) (forward_ruled no_goal n old b.0 b.1 last b.2.1 b.2.0))
@@ -213,7 +213,7 @@ for_memory (Some Closed) = inr (λ e. cc)
 for_memory (Some NotMet) = inr (λ e. cc)
 
 -- a reply that there may be does not say that memory was refused, or says so
-pub with_or_said : (command : Command) (old new : PlainSession) (reply : List ℕ) → Replies command old reply new → RepliesWithMemory command old reply new ⊎ SaysMemory reply
+pub with_or_said : (command : LineCommand) (old new : PlainSession) (reply : List ℕ) → Replies command old reply new → RepliesWithMemory command old reply new ⊎ SaysMemory reply
 with_or_said (Forward n) old new reply is = ⊎_elim
     (λ (so : is.1 ≡ Some Memory). inr (codes "forward", is.0, is.3 ∙ ap (walk_line (codes "forward") is.0) so))
     (λ (other : is.1 ≡ Some Memory → ⊥). inl (is.0, is.1, (is.2, other), is.3))

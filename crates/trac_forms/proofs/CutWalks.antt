@@ -15,7 +15,7 @@ use Rattle.trac_rules.specs.Cuts.{cut_between, cut_of, fitting, joined, joined_f
 use Rattle.trac_rules.specs.Filling.{text_numbered}
 use Rattle.trac_rules.specs.Form.{Form, IsWide, all_items, as_items, at_start, extent}
 use Rattle.trac_rules.specs.Segmenting.{segmented}
-use Rattle.trac_rules.proofs.Cuts.{IsCut, done, kept, made, between_kept, between_made, cut_extent, cut_wide, fits_gap, mapped_some, one_behind, same_items, segmented_is_cut}
+use Rattle.trac_rules.proofs.Cuts.{IsCut, done, kept, made, between_kept, between_made, cut_extent, cut_wide, fits_gap, mapped_some, one_after, same_items, segmented_is_cut}
 use Rattle.trac_rules.proofs.Cutting.{count_within_extent, extent-append, extent-segmented, wide-segmented_from}
 use Rattle.trac_forms.specs.Layout.{IsKept, divided}
 use Rattle.trac_forms.proofs.Divided.{kept_again}
@@ -49,7 +49,7 @@ pub record IsNext (texts : List (List ℕ)) (place : ℕ) (old new : List Item) 
   pub new_is : new ≡ front ++ Gap gap.ordinal (length (text_numbered gap.ordinal texts)) ∷ new_rest
   pub place_is : gap.place ≡ place + length front
   pub some : 0 < length (text_numbered gap.ordinal texts)
-  pub behind : IsCut texts old_rest new_rest
+  pub after : IsCut texts old_rest new_rest
   pub others : cut ≡ cut_between (gap.place + 1) old_rest new_rest
 
 -- an item before it
@@ -63,7 +63,7 @@ one_before texts place item old new gap cut n = record {
   new_is = ap (λ (xs : List Item). item ∷ xs) n.new_is;
   place_is = omega (arith, n.place_is);
   some = n.some;
-  behind = n.behind;
+  after = n.after;
   others = n.others;
 }
 
@@ -85,7 +85,7 @@ next_made texts place gap cut (made k {old = old} {new = new} some h) e =
       new_is = refl;
       place_is = omega arith;
       some = some;
-      behind = h;
+      after = h;
       others = ap (λ (xs : List CutGap). drop 1 xs) both;
     })
 
@@ -134,8 +134,8 @@ next_to_come texts new old gap cut so_far = next_made texts (length old.left) ga
 module _ (texts : List (List ℕ)) (new : List Item) (old : Ends Item) (gap : CutGap) (cut : List CutGap) (so_far : IsCutSoFar texts new old (gap ∷ cut))
     (next : IsNext texts (length old.left) old.right so_far.rest gap cut) where
   -- stands after what is done
-  pub made_behind : length old.left ≤ gap.place
-  made_behind = omega (arith, next.place_is)
+  pub made_after : length old.left ≤ gap.place
+  made_after = omega (arith, next.place_is)
 
   -- its text stands there
   pub made_there : gap.place - length old.left + length (text_numbered gap.ordinal texts) ≤ length old.right
@@ -198,7 +198,7 @@ module _ (texts : List (List ℕ)) (new : List Item) (old : Ends Item) (gap : Cu
           whole =
               ap (λ (xs : List Item). xs ++ next.new_rest) made_left ∙ append_assoc old.left (next.front ++ last) next.new_rest
               ∙ ap (λ (xs : List Item). old.left ++ xs) (append_assoc next.front last next.new_rest ∙ sym next.new_is) ∙ so_far.whole;
-          ahead = subst (λ (xs : List Item). IsCut texts xs next.new_rest) (sym made_right) next.behind;
+          ahead = subst (λ (xs : List Item). IsCut texts xs next.new_rest) (sym made_right) next.after;
           to_come =
               next.others ∙ ap (λ (n : ℕ). cut_between n next.old_rest next.new_rest) (sym made_count)
               ∙ ap (λ (xs : List Item). cut_between (length items.left) xs next.new_rest) (sym made_right);
@@ -240,7 +240,7 @@ pub record IsNextFilled (texts : List (List ℕ)) (place : ℕ) (items full : Li
   pub full_is : full ≡ front ++ (as_items (text_numbered gap.ordinal texts) ++ full_rest)
   pub place_is : gap.place ≡ place + length front
   pub some : 0 < length (text_numbered gap.ordinal texts)
-  pub behind : joined_from texts (gap.place + 1) cut rest ≡ Some full_rest
+  pub after : joined_from texts (gap.place + 1) cut rest ≡ Some full_rest
 
 -- an item before it, or the gap itself
 first_filled : (texts : List (List ℕ)) (place : ℕ) (gap : CutGap) (cut : List CutGap) (item : Item) (items full : List Item) (here : Bool) → (place == gap.place) ≡ here →
@@ -262,7 +262,7 @@ first_filled texts place gap cut item items full true e further h =
       full_is = sym rest.2 ∙ ap (λ (t : List ℕ). as_items t ++ rest.0) (sym named.0);
       place_is = omega (arith, here);
       some = omega (arith, named.2, ap length named.0);
-      behind = ap (λ (n : ℕ). joined_from texts (n + 1) cut items) (sym here) ∙ rest.1;
+      after = ap (λ (n : ℕ). joined_from texts (n + 1) cut items) (sym here) ∙ rest.1;
     })
 first_filled texts place gap cut item items full false e further h =
     let rest = mapped_some (λ (xs : List Item). item ∷ xs) (joined_from texts (place + 1) (gap ∷ cut) items) full h in
@@ -275,7 +275,7 @@ first_filled texts place gap cut item items full false e further h =
       full_is = sym rest.2 ∙ ap (λ (xs : List Item). item ∷ xs) n.full_is;
       place_is = omega (arith, n.place_is);
       some = n.some;
-      behind = n.behind;
+      after = n.after;
     }
 
 pub next_filled : (texts : List (List ℕ)) (place : ℕ) (gap : CutGap) (cut : List CutGap) (items full : List Item) → joined_from texts place (gap ∷ cut) items ≡ Some full →
@@ -322,8 +322,8 @@ fill_begins texts old items gaps l r capacity fits there =
 module _ (texts : List (List ℕ)) (full : List Item) (place : ℕ) (old : Ends Item) (gap : CutGap) (cut : List CutGap) (so_far : IsFilledSoFar texts full place old (gap ∷ cut))
     (next : IsNextFilled texts place old.right so_far.rest gap cut) where
   -- stands no sooner than what is still to be walked
-  pub filled_behind : place ≤ gap.place
-  filled_behind = omega (arith, next.place_is)
+  pub filled_after : place ≤ gap.place
+  filled_after = omega (arith, next.place_is)
 
   right_count : length old.right ≡ length next.front + (length next.rest + 1)
   right_count =
@@ -344,7 +344,7 @@ module _ (texts : List (List ℕ)) (full : List Item) (place : ℕ) (old : Ends 
   filled_is_cut : IsCut texts filled_all (old.left ++ old.right)
   filled_is_cut =
       subst (λ (xs : List Item). IsCut texts filled_all (old.left ++ xs)) (sym next.items_are)
-      (one_behind texts (same_items texts old.left) (one_behind texts (same_items texts next.front) (made gap.ordinal next.some (same_items texts next.rest))))
+      (one_after texts (same_items texts old.left) (one_after texts (same_items texts next.front) (made gap.ordinal next.some (same_items texts next.rest))))
 
   filled_extent : extent filled_all ≡ extent (old.left ++ old.right)
   filled_extent = cut_extent texts filled_is_cut
@@ -404,7 +404,7 @@ module _ (texts : List (List ℕ)) (full : List Item) (place : ℕ) (old : Ends 
           whole =
               ap (λ (xs : List Item). xs ++ next.full_rest) filled_left ∙ append_assoc old.left (next.front ++ filling) next.full_rest
               ∙ ap (λ (xs : List Item). old.left ++ xs) (append_assoc next.front filling next.full_rest ∙ sym next.full_is) ∙ so_far.whole;
-          ahead = ap (λ (xs : List Item). joined_from texts (gap.place + 1) cut xs) filled_right ∙ next.behind;
+          ahead = ap (λ (xs : List Item). joined_from texts (gap.place + 1) cut xs) filled_right ∙ next.after;
           held = record {
             within = omega (arith, size, so_far.held.within);
             wide = subst (λ (xs : List Item). All IsWide xs) (sym filled_same) filled_wide;

@@ -46,15 +46,15 @@ take_past (x ∷ xs) ys k =
     ap (λ j. take j (x ∷ xs ++ ys)) e ∙ ap (λ (rest : List ℕ). x ∷ rest) (take_past xs ys k)
 
 -- with others in front
-pub last-behind : (xs ys : List ℕ) (n : ℕ) → n ≤ length ys → last_of n (xs ++ ys) ≡ last_of n ys
-last-behind xs ys n few =
+pub last-after : (xs ys : List ℕ) (n : ℕ) → n ≤ length ys → last_of n (xs ++ ys) ≡ last_of n ys
+last-after xs ys n few =
     let e : length (xs ++ ys) - n ≡ length xs + (length ys - n) = omega (arith, few, length-append xs ys) in
     ap (λ j. drop j (xs ++ ys)) e
     ∙ sym (drop-drop (length ys - n) (length xs) (xs ++ ys))
     ∙ ap (drop (length ys - n)) (drop_at xs ys (length xs) refl)
 
-pub before-behind : (xs ys : List ℕ) (n : ℕ) → n ≤ length ys → all_before_last n (xs ++ ys) ≡ xs ++ all_before_last n ys
-before-behind xs ys n few =
+pub before-after : (xs ys : List ℕ) (n : ℕ) → n ≤ length ys → all_before_last n (xs ++ ys) ≡ xs ++ all_before_last n ys
+before-after xs ys n few =
     let e : length (xs ++ ys) - n ≡ length xs + (length ys - n) = omega (arith, few, length-append xs ys) in
     ap (λ j. take j (xs ++ ys)) e ∙ take_past xs ys (length ys - n)
 

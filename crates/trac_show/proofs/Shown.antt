@@ -67,10 +67,10 @@ form_there forms i e there = finite.get-entries forms e.0 ∙ entry_found (finit
 -- ---- parts of a list
 
 -- what stands at a place of a rest
-get_behind : {X : Type 0} (a k : ℕ) (xs : List X) → slice_get (drop a xs) k ≡ slice_get xs (a + k)
-get_behind zero k xs = let same : k ≡ 0 + k = omega arith in ap (slice_get xs) same
-get_behind (suc a) k [] = refl
-get_behind (suc a) k (x ∷ xs) = let next : suc (a + k) ≡ suc a + k = omega arith in get_behind a k xs ∙ ap (slice_get (x ∷ xs)) next
+get_after : {X : Type 0} (a k : ℕ) (xs : List X) → slice_get (drop a xs) k ≡ slice_get xs (a + k)
+get_after zero k xs = let same : k ≡ 0 + k = omega arith in ap (slice_get xs) same
+get_after (suc a) k [] = refl
+get_after (suc a) k (x ∷ xs) = let next : suc (a + k) ≡ suc a + k = omega arith in get_after a k xs ∙ ap (slice_get (x ∷ xs)) next
 
 -- one more of a part
 pub shown_part : {X : Type 0} (f : X → List ℕ) (xs : List X) (from place : ℕ) (x : X) (old now after : List ℕ) → from ≤ place → slice_get xs place ≡ Some x →
@@ -78,7 +78,7 @@ pub shown_part : {X : Type 0} (f : X → List ℕ) (xs : List X) (from place : �
 shown_part f xs from place x old now after l there so_far adds =
     let here : from + (place - from) ≡ place = omega arith in
     let count : (place - from) + 1 ≡ place + 1 - from = omega arith in
-    shown_more f (drop from xs) (place - from) x old now after (get_behind from (place - from) xs ∙ ap (slice_get xs) here ∙ there) so_far adds
+    shown_more f (drop from xs) (place - from) x old now after (get_after from (place - from) xs ∙ ap (slice_get xs) here ∙ there) so_far adds
     ∙ ap (λ n. old ++ flat_map f (take n (drop from xs))) count
 
 -- all of a list

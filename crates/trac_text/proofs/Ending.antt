@@ -99,31 +99,31 @@ module _ (m : MarkedText) (k : ℕ) (kind : Kind) (ordered : IsOrdered m) (begin
   abbrev first : Mark
   first = get_or m.marks k no_mark
 
-  abbrev behind : List Mark
-  behind = drop (k + 1) m.marks
+  abbrev after : List Mark
+  after = drop (k + 1) m.marks
 
   abbrev before : List Mark
   before = reverse (take k m.marks)
 
-  split_marks : AreMarks (length m.text) (reverse behind ++ first ∷ before)
+  split_marks : AreMarks (length m.text) (reverse after ++ first ∷ before)
   split_marks = subst (λ ms. AreMarks (length m.text) ms) (reverse_at m.marks k begins.within) ordered
 
-  pub cuts_behind : AreCuts first.place behind (length m.text)
-  cuts_behind = subst (λ ms. AreCuts first.place ms (length m.text)) (reverse-reverse behind) (cuts_of_marks (length m.text) (reverse behind) first before split_marks)
+  pub cuts_after : AreCuts first.place after (length m.text)
+  cuts_after = subst (λ ms. AreCuts first.place ms (length m.text)) (reverse-reverse after) (cuts_of_marks (length m.text) (reverse after) first before split_marks)
 
-  ends : EndsWith (neutral_of m) kind (cut first.place behind m.text) (neutral (take first.place m.text) before)
+  ends : EndsWith (neutral_of m) kind (cut first.place after m.text) (neutral (take first.place m.text) before)
   ends =
-      let found = ends_with m.text (reverse behind) first before kind (AreArguments-reverse behind begins.behind) begins.begins split_marks in
-      let P : List Mark → Type 0 = λ ms. EndsWith (neutral m.text ms) kind (cut first.place behind m.text) (neutral (take first.place m.text) before) in
-      let Q : List Mark → Type 0 = λ ms. EndsWith (neutral m.text (reverse behind ++ first ∷ before)) kind (cut first.place ms m.text) (neutral (take first.place m.text) before) in
-      subst P (sym (reverse_at m.marks k begins.within)) (subst Q (reverse-reverse behind) found)
+      let found = ends_with m.text (reverse after) first before kind (AreArguments-reverse after begins.after) begins.begins split_marks in
+      let P : List Mark → Type 0 = λ ms. EndsWith (neutral m.text ms) kind (cut first.place after m.text) (neutral (take first.place m.text) before) in
+      let Q : List Mark → Type 0 = λ ms. EndsWith (neutral m.text (reverse after ++ first ∷ before)) kind (cut first.place ms m.text) (neutral (take first.place m.text) before) in
+      subst P (sym (reverse_at m.marks k begins.within)) (subst Q (reverse-reverse after) found)
 
-  pub is_innermost : (place : ℕ) (texts : List (List ℕ)) → place ≡ first.place → texts ≡ cut place behind m.text → IsInnermost m k place kind texts
+  pub is_innermost : (place : ℕ) (texts : List (List ℕ)) → place ≡ first.place → texts ≡ cut place after m.text → IsInnermost m k place kind texts
   is_innermost place texts at cut_so =
-      let within : first.place ≤ length m.text = AreCuts-within first.place behind (length m.text) cuts_behind in
-      let in_front : AreMarks first.place before = marks_before (length m.text) (reverse behind) first before split_marks in
+      let within : first.place ≤ length m.text = AreCuts-within first.place after (length m.text) cuts_after in
+      let in_front : AreMarks first.place before = marks_before (length m.text) (reverse after) first before split_marks in
       let here : length (take place m.text) ≡ first.place = length-take-le place m.text (rw at within) ∙ at in
-      let counted : length texts ≡ length behind + 1 = ap length cut_so ∙ length-cut place behind m.text in
+      let counted : length texts ≡ length after + 1 = ap length cut_so ∙ length-cut place after m.text in
       let rest : neutral (take place m.text) before ≡ neutral (take first.place m.text) before = ap (λ (p : ℕ). neutral (take p m.text) before) at in
       record {
         within = begins.within;
@@ -132,7 +132,7 @@ module _ (m : MarkedText) (k : ℕ) (kind : Kind) (ordered : IsOrdered m) (begin
         count = omega (arith, counted, length-drop (k + 1) m.marks, begins.within);
         frame = record { kind = kind; arguments = ends.arguments; gathered = ends.gathered };
         kind_is = refl;
-        arguments_are = ends.texts_are ∙ ap (λ (p : ℕ). cut p behind m.text) (sym at) ∙ sym cut_so;
+        arguments_are = ends.texts_are ∙ ap (λ (p : ℕ). cut p after m.text) (sym at) ∙ sym cut_so;
         base_is = ap (λ (n : Neutral). n.base) ends.neutral_is ∙ ap (λ (n : Neutral). n.base) (sym rest);
         frames_are =
             ap (λ (n : Neutral). n.frames) ends.neutral_is

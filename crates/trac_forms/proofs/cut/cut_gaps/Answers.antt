@@ -6,7 +6,7 @@ use Rattle.trac_rules.specs.Form.{all_items}
 use Rattle.trac_rules.specs.Segmenting.{segmented}
 use Rattle.trac_rules.proofs.Cutting.{extent-segmented}
 use Rattle.trac_forms.specs.Layout.{divided}
-use Rattle.trac_forms.proofs.CutWalks.{cut_begins, cut_ends, cut_kept, cut_more, gap_to_come, left_is, made_behind, made_fits, made_there, next_to_come, no_cut_gap, right_is}
+use Rattle.trac_forms.proofs.CutWalks.{cut_begins, cut_ends, cut_kept, cut_more, gap_to_come, left_is, made_after, made_fits, made_there, next_to_come, no_cut_gap, right_is}
 use Rattle.trac_forms.proofs.cut.cut_gaps.Goals as goal
 
 pub loop-gap-init : goal.loop-gap-init
@@ -28,7 +28,7 @@ overflow_sub-passed g c =
     let gap = get_or gaps i no_cut_gap in
     let cut = drop (i + 1) gaps in
     let s = gap_to_come texts new c.loop-gap.items gaps i c.loop-gap-test.true c.loop-gap.invariant.cut in
-    omega (arith, made_behind texts new c.loop-gap.items gap cut s (next_to_come texts new c.loop-gap.items gap cut s), ap length c.left.ensures.left)
+    omega (arith, made_after texts new c.loop-gap.items gap cut s (next_to_come texts new c.loop-gap.items gap cut s), ap length c.left.ensures.left)
 
 pub cut_gap-requires-clause-some : goal.cut_gap-requires-clause-some
 cut_gap-requires-clause-some g c =

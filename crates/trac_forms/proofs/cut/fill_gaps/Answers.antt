@@ -6,7 +6,7 @@ use Rattle.trac_rules.specs.declared.item.Item.{Item}
 use Rattle.trac_rules.specs.Cuts.{joined}
 use Rattle.trac_rules.specs.Form.{all_items}
 use Rattle.trac_forms.specs.Layout.{divided}
-use Rattle.trac_forms.proofs.CutWalks.{fill_begins, fill_ends, fill_kept, fill_more, filled_behind, filled_counted, filled_room, filled_there, gap_to_fill, left_is, next_to_fill, no_cut_gap, right_is}
+use Rattle.trac_forms.proofs.CutWalks.{fill_begins, fill_ends, fill_kept, fill_more, filled_after, filled_counted, filled_room, filled_there, gap_to_fill, left_is, next_to_fill, no_cut_gap, right_is}
 use Rattle.trac_forms.proofs.cut.fill_gaps.Goals as goal
 
 pub loop-gap-init : goal.loop-gap-init
@@ -24,7 +24,7 @@ overflow_sub-gap g c =
     let gap = get_or gaps i no_cut_gap in
     let cut = drop (i + 1) gaps in
     let s = gap_to_fill texts full c.loop-gap.place c.loop-gap.items gaps i c.loop-gap-test.true c.loop-gap.invariant in
-    filled_behind texts full c.loop-gap.place c.loop-gap.items gap cut s (next_to_fill texts full c.loop-gap.place c.loop-gap.items gap cut s)
+    filled_after texts full c.loop-gap.place c.loop-gap.items gap cut s (next_to_fill texts full c.loop-gap.place c.loop-gap.items gap cut s)
 
 pub fill_gap-requires-clause-there : goal.fill_gap-requires-clause-there
 fill_gap-requires-clause-there g c =
