@@ -123,16 +123,18 @@ cut_begins texts form items gaps l r g =
     }
 
 -- the first of the gaps that are to come
-pub gap_to_come : (texts : List (List ℕ)) (new : List Item) (old : Ends Item) (gaps : List CutGap) (i : ℕ) → i < length gaps → IsCutSoFar texts new old (drop i gaps) →
+pub gap_to_come : {texts : List (List ℕ)} {new : List Item} {old : Ends Item} (gaps : List CutGap) (i : ℕ) → i < length gaps → IsCutSoFar texts new old (drop i gaps) →
     IsCutSoFar texts new old (get_or gaps i no_cut_gap ∷ drop (i + 1) gaps)
-gap_to_come texts new old gaps i l so_far = subst (IsCutSoFar texts new old) (drop_more gaps i no_cut_gap l) so_far
+gap_to_come {texts} {new} {old} gaps i l so_far = subst (IsCutSoFar texts new old) (drop_more gaps i no_cut_gap l) so_far
 
-pub next_to_come : (texts : List (List ℕ)) (new : List Item) (old : Ends Item) (gap : CutGap) (cut : List CutGap) (so_far : IsCutSoFar texts new old (gap ∷ cut)) →
-    IsNext texts (length old.left) old.right so_far.rest gap cut
-next_to_come texts new old gap cut so_far = next_made texts (length old.left) gap cut so_far.ahead so_far.to_come
+module _ {texts : List (List ℕ)} {new : List Item} {old : Ends Item} {gap : CutGap} {cut : List CutGap} (so_far : IsCutSoFar texts new old (gap ∷ cut)) where
+  next : IsNext texts (length old.left) old.right so_far.rest gap cut
+  next = next_made texts (length old.left) gap cut so_far.ahead so_far.to_come
 
-module _ (texts : List (List ℕ)) (new : List Item) (old : Ends Item) (gap : CutGap) (cut : List CutGap) (so_far : IsCutSoFar texts new old (gap ∷ cut))
-    (next : IsNext texts (length old.left) old.right so_far.rest gap cut) where
+  -- has a text
+  pub made_some : 0 < length (text_numbered gap.ordinal texts)
+  made_some = next.some
+
   -- stands after what is done
   pub made_after : length old.left ≤ gap.place
   made_after = omega (arith, next.place_is)
@@ -296,13 +298,9 @@ pub record IsFilledSoFar (texts : List (List ℕ)) (full : List Item) (place : �
   pub counted : place + length items.right ≤ FORM_LIMIT
 
 -- the first of the gaps that are to come
-pub gap_to_fill : (texts : List (List ℕ)) (full : List Item) (place : ℕ) (old : Ends Item) (gaps : List CutGap) (i : ℕ) → i < length gaps → IsFilledSoFar texts full place old (drop i gaps) →
+pub gap_to_fill : {texts : List (List ℕ)} {full : List Item} {place : ℕ} {old : Ends Item} (gaps : List CutGap) (i : ℕ) → i < length gaps → IsFilledSoFar texts full place old (drop i gaps) →
     IsFilledSoFar texts full place old (get_or gaps i no_cut_gap ∷ drop (i + 1) gaps)
-gap_to_fill texts full place old gaps i l so_far = subst (IsFilledSoFar texts full place old) (drop_more gaps i no_cut_gap l) so_far
-
-pub next_to_fill : (texts : List (List ℕ)) (full : List Item) (place : ℕ) (old : Ends Item) (gap : CutGap) (cut : List CutGap) (so_far : IsFilledSoFar texts full place old (gap ∷ cut)) →
-    IsNextFilled texts place old.right so_far.rest gap cut
-next_to_fill texts full place old gap cut so_far = next_filled texts place gap cut old.right so_far.rest so_far.ahead
+gap_to_fill {texts} {full} {place} {old} gaps i l so_far = subst (IsFilledSoFar texts full place old) (drop_more gaps i no_cut_gap l) so_far
 
 -- at the start
 pub fill_begins : (texts : List (List ℕ)) (old items : Ends Item) (gaps : List CutGap) → items.left ≡ [] → items.right ≡ old.left ++ old.right → items.capacity ≡ old.capacity → IsKept old →
@@ -319,32 +317,34 @@ fill_begins texts old items gaps l r capacity fits there =
     }
 
 -- the next gap
-module _ (texts : List (List ℕ)) (full : List Item) (place : ℕ) (old : Ends Item) (gap : CutGap) (cut : List CutGap) (so_far : IsFilledSoFar texts full place old (gap ∷ cut))
-    (next : IsNextFilled texts place old.right so_far.rest gap cut) where
+module _ {texts : List (List ℕ)} {full : List Item} {place : ℕ} {old : Ends Item} {gap : CutGap} {cut : List CutGap} (so_far : IsFilledSoFar texts full place old (gap ∷ cut)) where
+  pub hole : IsNextFilled texts place old.right so_far.rest gap cut
+  hole = next_filled texts place gap cut old.right so_far.rest so_far.ahead
+
   -- stands no sooner than what is still to be walked
   pub filled_after : place ≤ gap.place
-  filled_after = omega (arith, next.place_is)
+  filled_after = omega (arith, hole.place_is)
 
-  right_count : length old.right ≡ length next.front + (length next.rest + 1)
+  right_count : length old.right ≡ length hole.front + (length hole.rest + 1)
   right_count =
-      omega (arith, ap length next.items_are, length-append next.front (Gap gap.ordinal (length (text_numbered gap.ordinal texts)) ∷ next.rest))
+      omega (arith, ap length hole.items_are, length-append hole.front (Gap gap.ordinal (length (text_numbered gap.ordinal texts)) ∷ hole.rest))
 
   -- stands there
   pub filled_there : gap.place - place < length old.right
-  filled_there = omega (arith, next.place_is, right_count)
+  filled_there = omega (arith, hole.place_is, right_count)
 
   -- has a place after it
-  pub filled_counted : gap.place + 1 + length next.rest ≤ FORM_LIMIT
-  filled_counted = omega (arith, next.place_is, right_count, so_far.counted)
+  pub filled_counted : gap.place + 1 + length hole.rest ≤ FORM_LIMIT
+  filled_counted = omega (arith, hole.place_is, right_count, so_far.counted)
 
   -- all items, once it is filled
   abbrev filled_all : List Item
-  filled_all = old.left ++ (next.front ++ (as_items (text_numbered gap.ordinal texts) ++ next.rest))
+  filled_all = old.left ++ (hole.front ++ (as_items (text_numbered gap.ordinal texts) ++ hole.rest))
 
   filled_is_cut : IsCut texts filled_all (old.left ++ old.right)
   filled_is_cut =
-      subst (λ (xs : List Item). IsCut texts filled_all (old.left ++ xs)) (sym next.items_are)
-      (one_after texts (same_items texts old.left) (one_after texts (same_items texts next.front) (made gap.ordinal next.some (same_items texts next.rest))))
+      subst (λ (xs : List Item). IsCut texts filled_all (old.left ++ xs)) (sym hole.items_are)
+      (one_after texts (same_items texts old.left) (one_after texts (same_items texts hole.front) (made gap.ordinal hole.some (same_items texts hole.rest))))
 
   filled_extent : extent filled_all ≡ extent (old.left ++ old.right)
   filled_extent = cut_extent texts filled_is_cut
@@ -362,49 +362,49 @@ module _ (texts : List (List ℕ)) (full : List Item) (place : ℕ) (old : Ends 
         filled_extent,
         so_far.held.room,
         right_count,
-        length-append old.left (next.front ++ (as_items text ++ next.rest)),
-        length-append next.front (as_items text ++ next.rest),
-        length-append (as_items text) next.rest,
+        length-append old.left (hole.front ++ (as_items text ++ hole.rest)),
+        length-append hole.front (as_items text ++ hole.rest),
+        length-append (as_items text) hole.rest,
         length-map text Byte,
       )
 
   -- once it is filled
   module _ (items : Ends Item) (passed : ℕ) (text : List ℕ) (count : passed ≡ gap.place - place) (named : text ≡ text_numbered gap.ordinal texts)
       (moved : items ≡ record old { left = old.left ++ (take passed old.right ++ as_items text); right = drop (passed + 1) old.right }) where
-    front_passed : passed ≡ length next.front
-    front_passed = omega (arith, next.place_is, count)
+    front_passed : passed ≡ length hole.front
+    front_passed = omega (arith, hole.place_is, count)
 
-    filled_left : items.left ≡ old.left ++ (next.front ++ as_items (text_numbered gap.ordinal texts))
+    filled_left : items.left ≡ old.left ++ (hole.front ++ as_items (text_numbered gap.ordinal texts))
     filled_left =
-        let last = Gap gap.ordinal (length (text_numbered gap.ordinal texts)) ∷ next.rest in
+        let last = Gap gap.ordinal (length (text_numbered gap.ordinal texts)) ∷ hole.rest in
         ap (λ (e : Ends Item). e.left) moved
-        ∙ (λ j. old.left ++ (take (front_passed j) (next.items_are j) ++ as_items (named j)))
-        ∙ ap (λ (xs : List Item). old.left ++ (xs ++ as_items (text_numbered gap.ordinal texts))) (take_at next.front last (length next.front) refl)
+        ∙ (λ j. old.left ++ (take (front_passed j) (hole.items_are j) ++ as_items (named j)))
+        ∙ ap (λ (xs : List Item). old.left ++ (xs ++ as_items (text_numbered gap.ordinal texts))) (take_at hole.front last (length hole.front) refl)
 
-    filled_right : items.right ≡ next.rest
+    filled_right : items.right ≡ hole.rest
     filled_right =
-        let last = Gap gap.ordinal (length (text_numbered gap.ordinal texts)) ∷ next.rest in
+        let last = Gap gap.ordinal (length (text_numbered gap.ordinal texts)) ∷ hole.rest in
         ap (λ (e : Ends Item). e.right) moved
-        ∙ (λ j. drop (front_passed j + 1) (next.items_are j))
-        ∙ sym (drop-drop 1 (length next.front) (next.front ++ last))
-        ∙ ap (drop 1) (drop_at next.front last (length next.front) refl)
+        ∙ (λ j. drop (front_passed j + 1) (hole.items_are j))
+        ∙ sym (drop-drop 1 (length hole.front) (hole.front ++ last))
+        ∙ ap (drop 1) (drop_at hole.front last (length hole.front) refl)
 
     filled_same : items.left ++ items.right ≡ filled_all
     filled_same =
         let filling = as_items (text_numbered gap.ordinal texts) in
-        (λ j. filled_left j ++ filled_right j) ∙ append_assoc old.left (next.front ++ filling) next.rest
-        ∙ ap (λ (xs : List Item). old.left ++ xs) (append_assoc next.front filling next.rest)
+        (λ j. filled_left j ++ filled_right j) ∙ append_assoc old.left (hole.front ++ filling) hole.rest
+        ∙ ap (λ (xs : List Item). old.left ++ xs) (append_assoc hole.front filling hole.rest)
 
     pub fill_more : IsFilledSoFar texts full (gap.place + 1) items cut
     fill_more =
         let filling = as_items (text_numbered gap.ordinal texts) in
         let size : extent (items.left ++ items.right) ≡ extent (old.left ++ old.right) = ap extent filled_same ∙ filled_extent in
         record {
-          rest = next.full_rest;
+          rest = hole.full_rest;
           whole =
-              ap (λ (xs : List Item). xs ++ next.full_rest) filled_left ∙ append_assoc old.left (next.front ++ filling) next.full_rest
-              ∙ ap (λ (xs : List Item). old.left ++ xs) (append_assoc next.front filling next.full_rest ∙ sym next.full_is) ∙ so_far.whole;
-          ahead = ap (λ (xs : List Item). joined_from texts (gap.place + 1) cut xs) filled_right ∙ next.after;
+              ap (λ (xs : List Item). xs ++ hole.full_rest) filled_left ∙ append_assoc old.left (hole.front ++ filling) hole.full_rest
+              ∙ ap (λ (xs : List Item). old.left ++ xs) (append_assoc hole.front filling hole.full_rest ∙ sym hole.full_is) ∙ so_far.whole;
+          ahead = ap (λ (xs : List Item). joined_from texts (gap.place + 1) cut xs) filled_right ∙ hole.after;
           held = record {
             within = omega (arith, size, so_far.held.within);
             wide = subst (λ (xs : List Item). All IsWide xs) (sym filled_same) filled_wide;
