@@ -1,5 +1,5 @@
 -- Each function is put after those further out, in the room that there is for all.
-use Rattle.std.proofs.Common.{◌≡◌, ◌∷◌, ◌++◌, [], List, ℕ, length, sym, ap, ◌∙◌, subst, arith}
+use Rattle.std.proofs.Common.{◌≡◌, ◌+◌, ◌≤◌, ◌∷◌, ◌++◌, [], List, ℕ, length, sym, ap, ◌∙◌, subst, arith}
 use Rattle.std.specs.List.{concat}
 use Rattle.std.proofs.lemmas.List.{append-nil, append_assoc}
 use Rattle.trac_gap.specs.Ends.{Ends}
@@ -24,41 +24,30 @@ loop-kind-init g c = record {
 }
 
 -- the function that is put back now, before those that are put back already
-next_back : (left fewer back all : List (Kind × Arguments)) (kind : Kind) (a : Arguments) → left ≡ fewer ++ (kind, a) ∷ [] → left ++ back ≡ all → fewer ++ (kind, a) ∷ back ≡ all
-next_back left fewer back all kind a popped whole =
-    sym (append_assoc fewer ((kind, a) ∷ []) back) ∙ ap (λ (functions : List (Kind × Arguments)). functions ++ back) (sym popped) ∙ whole
+next_back : (left fewer back all : List (Kind × Arguments)) (kind : Kind) {popped lent : Arguments} → left ≡ fewer ++ (kind, popped) ∷ [] → lent ≡ popped → left ++ back ≡ all →
+    fewer ++ (kind, lent) ∷ back ≡ all
+next_back left fewer back all kind {popped} {lent} last is whole =
+    ap (λ (a : Arguments). fewer ++ (kind, a) ∷ back) is ∙ sym (append_assoc fewer ((kind, popped) ∷ []) back)
+    ∙ ap (λ (functions : List (Kind × Arguments)). functions ++ back) (sym last) ∙ whole
+
+-- and it fits where all do
+next_fits : (left fewer back all : List (Kind × Arguments)) (kind : Kind) {popped lent : Arguments} → left ≡ fewer ++ (kind, popped) ∷ [] → lent ≡ popped → left ++ back ≡ all →
+    (length (concat (all_texts lent)) + argument_bytes (frames_in back) ≤ argument_bytes (frames_in all)) × (1 + length lent.finished + marks (frames_in back) ≤ marks (frames_in all))
+next_fits left fewer back all kind {popped} {lent} last is whole =
+    subst (λ (functions : List (Kind × Arguments)). (length (concat (all_texts lent)) + argument_bytes (frames_in back) ≤ argument_bytes (frames_in functions))
+    × (1 + length lent.finished + marks (frames_in back) ≤ marks (frames_in functions))) (next_back left fewer back all kind last is whole) (function_fits fewer back kind lent)
 
 pub put_function-requires-clause-text_room : goal.put_function-requires-clause-text_room
 put_function-requires-clause-text_room g c =
     let held = c.loop-kind.invariant in
-    let a = c.lend.result in
-    let fits = function_fits c.pop.new.self.items held.back c.in-Some.kind a in
-    let whole = next_back c.loop-kind.functions.items c.pop.new.self.items held.back c.args.functions.items c.in-Some.kind a (c.in-Some.ensures.items ∙ ap (λ (x : Arguments). c.pop.new.self.items ++ (c.in-Some.kind, x) ∷ []) (sym c.lend.ensures)) held.all in
-    omega (
-      arith,
-      fits.0,
-      ap (λ (functions : List (Kind × Arguments)). argument_bytes (frames_in functions)) whole,
-      text_size (g.E.TwoEnds.ends c.loop-kind.text).left (g.M.TwoEnds.ends c.loop-kind.marks).left _ held.shows,
-      ap length held.text_right,
-      held.text_room,
-      c.requires.text_room,
-    )
+    let fits = next_fits c.loop-kind.functions.items c.pop.new.self.items held.back c.args.functions.items c.in-Some.kind c.in-Some.ensures.items c.lend.ensures held.all in
+    omega (arith, fits.0, text_size (g.E.TwoEnds.ends c.loop-kind.text).left (g.M.TwoEnds.ends c.loop-kind.marks).left _ held.shows, ap length held.text_right, held.text_room, c.requires.text_room)
 
 pub put_function-requires-clause-mark_room : goal.put_function-requires-clause-mark_room
 put_function-requires-clause-mark_room g c =
     let held = c.loop-kind.invariant in
-    let a = c.lend.result in
-    let fits = function_fits c.pop.new.self.items held.back c.in-Some.kind a in
-    let whole = next_back c.loop-kind.functions.items c.pop.new.self.items held.back c.args.functions.items c.in-Some.kind a (c.in-Some.ensures.items ∙ ap (λ (x : Arguments). c.pop.new.self.items ++ (c.in-Some.kind, x) ∷ []) (sym c.lend.ensures)) held.all in
-    omega (
-      arith,
-      fits.1,
-      ap (λ (functions : List (Kind × Arguments)). marks (frames_in functions)) whole,
-      mark_size (g.E.TwoEnds.ends c.loop-kind.text).left (g.M.TwoEnds.ends c.loop-kind.marks).left _ held.shows,
-      ap length held.mark_right,
-      held.mark_room,
-      c.requires.mark_room,
-    )
+    let fits = next_fits c.loop-kind.functions.items c.pop.new.self.items held.back c.args.functions.items c.in-Some.kind c.in-Some.ensures.items c.lend.ensures held.all in
+    omega (arith, fits.1, mark_size (g.E.TwoEnds.ends c.loop-kind.text).left (g.M.TwoEnds.ends c.loop-kind.marks).left _ held.shows, ap length held.mark_right, held.mark_room, c.requires.mark_room)
 
 pub loop-kind-preserved : goal.loop-kind-preserved
 loop-kind-preserved g c =
@@ -71,7 +60,7 @@ loop-kind-preserved g c =
     let frames = frames_in ((kind, a) ∷ held.back) in
     record {
       back = (kind, a) ∷ held.back;
-      all = next_back c.loop-kind.functions.items c.pop.new.self.items held.back c.args.functions.items kind a (c.in-Some.ensures.items ∙ ap (λ (x : Arguments). c.pop.new.self.items ++ (c.in-Some.kind, x) ∷ []) (sym c.lend.ensures)) held.all;
+      all = next_back c.loop-kind.functions.items c.pop.new.self.items held.back c.args.functions.items kind c.in-Some.ensures.items c.lend.ensures held.all;
       shows =
           subst (λ (e : Ends ℕ). Shows e.left (g.M.TwoEnds.ends c.put_function.new.marks).left (record { base = base; frames = frames })) (sym c.put_function.ensures.text)
           (subst (λ (e : Ends Mark). Shows (text ++ concat (all_texts a)) e.left (record { base = base; frames = frames })) (sym c.put_function.ensures.marks)
