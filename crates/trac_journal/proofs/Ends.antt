@@ -18,10 +18,10 @@ last_apart {X} (y ∷ xs) x (suc n) many is = ap (λ (rest : List X). y ∷ rest
 pub last_first : {X : Type 0} (xs : List X) (x : X) (n : ℕ) → length xs ≡ n + 1 → x ≡ get_or xs n x → reverse xs ≡ x ∷ reverse (take n xs)
 last_first xs x n many is = ap reverse (last_apart xs x n many is) ∙ reverse_push (take n xs) x
 
--- the same of a list that is seen through a function
-pub last_seen : {X Y : Type 0} (f : X → Y) (xs : List X) (x : X) (n : ℕ) (ys : List Y) → map f (reverse xs) ≡ ys → length xs ≡ n + 1 → x ≡ get_or xs n x →
-    ys ≡ f x ∷ map f (reverse (take n xs))
-last_seen f xs x n ys seen many is = sym seen ∙ ap (map f) (last_first xs x n many is)
+-- of a list that is seen through a function, the newest first, the last item is the newest
+pub newest_seen : {X Y Z : Type 0} (f : X → Y) (newest : List Y → Z) (xs : List X) (x : X) (count : ℕ) {ys : List Y} → map f (reverse xs) ≡ ys → 0 < count → count ≡ length xs →
+    x ≡ get_or xs (count - 1) x → newest ys ≡ newest (f x ∷ map f (reverse (take (count - 1) xs)))
+newest_seen f newest xs x count seen some many is = ap newest (sym seen ∙ ap (map f) (last_first xs x (count - 1) (omega (arith, some, many)) is))
 
 -- and where it stands after the others
 pub push_seen : {X Y : Type 0} (f : X → Y) (xs others : List X) (x : X) (ys : List Y) → map f (reverse xs) ≡ ys → xs ≡ others ++ x ∷ [] →
