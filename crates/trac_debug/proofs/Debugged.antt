@@ -1,6 +1,6 @@
 -- A session of the debugger, line by line.
 use Rattle.std.proofs.Common.{◌≡◌, ℕ, ◌+◌, ◌-◌, ◌*◌, ◌==◌, ◌<◌, ◌≤◌, not, Bool, true, false, List, [], ◌∷◌, ◌++◌, length, take, drop, refl, sym, ap, subst, ◌∙◌, arith, inl, inr, ⊎_elim}
-use Rattle.std.specs.Prelude.{Option, Some, Result, Ok, Err, IfErr, IsOkUnless, nat_le, if◌then◌else◌}
+use Rattle.std.specs.Prelude.{Option, Result, Ok, Err, IfErr, IsOkUnless, nat_le, if◌then◌else◌}
 use Rattle.std.specs.Io.KnownBytes.{Appends, Consumes, IsAtEnd, Keeps}
 use Rattle.std.proofs.lemmas.Bool.{false≢true, cond-true, cond-false, le-leb, lt-leb, cases_lt}
 use Rattle.std.proofs.lemmas.Bool.Decides.{nat_tests}
@@ -15,7 +15,6 @@ use Rattle.trac_streams.specs.Written.{WritesFront}
 use Rattle.trac_streams.specs.declared.ending.Ending.{Ending}
 use Rattle.trac_streams.specs.declared.ending.Ending.TheVariants.{Ended, Budget, Limit, Memory, Read, Write, NotUnderstood}
 use Rattle.trac_streams.proofs.Known.{Appends-nothing, Appends-both, Appends-kept, Consumes-nothing, Consumes-both, front_after, front_of_front, front_of_nothing}
-use Rattle.trac_debug.specs.declared.command.LineCommand as code
 use Rattle.trac_streams.specs.declared.lines.NextLine.TheVariants.{Line, TooLong}
 use Rattle.trac_streams.specs.declared.lines.TheConstants.{LINE_LIMIT, LINE_COUNT_LIMIT}
 use Rattle.trac_streams.specs.Lines.{lines_of, is_within}
@@ -25,7 +24,6 @@ use Rattle.trac_debug.specs.Debugging.{Turn, Passes, Does, Ends, Takes, MayWrite
 use Rattle.trac_debug.specs.Debugs.{UnlessFault, UnlessWrite, Debugs, IsReady, MayRefuseTape, IsNotReplied, Settles, Stops, Advances, Halts}
 use Rattle.trac_streams.specs.Pending.{Pending}
 use Rattle.trac_streams.specs.Reading.{HELD_LIMIT, IsFront, Gathers, MayFail}
-use Rattle.trac_debug.specs.Views.{command_seen}
 use Rattle.trac_debug.proofs.Existing.{some_reply, some_text}
 use Rattle.trac_streams.proofs.Splitting.{first_line}
 

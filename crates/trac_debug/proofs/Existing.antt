@@ -32,16 +32,21 @@ step_not_Memory p q h = ⊎_elim
     (λ (d : Memory ≡ Ended). cc) s) r)
     (Step_refusals p q Memory h)
 
--- so what they say may be answered
+-- any other refusal is answered where the definitions say it
+pub answered_as_said : (command : session.Command) (p q : PlainSession) (refusal : Refusal) → (refusal ≡ Memory → ⊥) →
+    (Answers command p (Refused refusal) q → answer command p ≡ refused refusal q) × (answer command p ≡ refused refusal q → Answers command p (Refused refusal) q)
+answered_as_said command p q Memory other = absurd (other refl)
+answered_as_said command p q TooLong other = (λ h. h, λ h. h)
+answered_as_said command p q NeedInput other = (λ h. h, λ h. h)
+answered_as_said command p q Ended other = (λ h. h, λ h. h)
+answered_as_said command p q JournalFull other = (λ h. h, λ h. h)
+answered_as_said command p q AtStart other = (λ h. h, λ h. h)
+answered_as_said command p q Closed other = (λ h. h, λ h. h)
+answered_as_said command p q NotMet other = (λ h. h, λ h. h)
+
 step_refused_as : (p q : PlainSession) (refusal : Refusal) → answer session.Step p ≡ refused refusal q → Answers session.Step p (Refused refusal) q
-step_refused_as p q Memory h = absurd (step_not_Memory p q h)
-step_refused_as p q TooLong h = h
-step_refused_as p q NeedInput h = h
-step_refused_as p q Ended h = h
-step_refused_as p q JournalFull h = h
-step_refused_as p q AtStart h = h
-step_refused_as p q Closed h = h
-step_refused_as p q NotMet h = h
+step_refused_as p q refusal h =
+    (answered_as_said session.Step p q refusal (λ is. step_not_Memory p q (subst (λ (r : Refusal). answer session.Step p ≡ refused r q) is h))).1 h
 
 -- a command whose refusals are those of the definitions, never for memory, and change nothing
 record IsPlain (command : session.Command) : Type 0 where
