@@ -10,7 +10,7 @@ use Rattle.std.proofs.lemmas.Option.{option_and_then_some, same_Some}
 use Rattle.trac_rules.specs.declared.item.CutGap.{CutGap}
 use Rattle.trac_rules.specs.declared.item.Item.{Item}
 use Rattle.trac_rules.specs.declared.item.Item.TheVariants.{Byte, Gap}
-use Rattle.trac_rules.specs.Cuts.{begins_with_gap, cut_between, cut_of, fitting, joined_from, joined}
+use Rattle.trac_rules.specs.Cuts.{cut_between, cut_of, fitting, joined_from, joined}
 use Rattle.trac_rules.specs.Filling.{text_numbered}
 use Rattle.trac_rules.specs.Form.{Form, IsWide, all_items, as_items, extent, width_of}
 use Rattle.trac_rules.specs.Segmenting.{leftmost, cut_at, cut_up_to, part, runs_of, replaced, cut_out, segmented_from, segmented}

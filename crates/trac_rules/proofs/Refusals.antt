@@ -23,7 +23,7 @@ use Rattle.trac_rules.specs.Stepping.{carried_out, step}
 use Rattle.trac_rules.specs.Running.{silent}
 use Rattle.trac_rules.proofs.Outcomes.{limited_beyond, limited_Err, seen_as-Err}
 use Rattle.trac_rules.proofs.Positions.{position-append_None}
-use Rattle.trac_rules.proofs.Scans.{ScanShows, gathered_in_shows, place_of, scan_keeps_place}
+use Rattle.trac_rules.proofs.Scans.{ScanShows, place_of, scan_keeps_place}
 use Rattle.trac_rules.proofs.LongerTapes.{lengthened, unread-whole}
 use Rattle.trac_rules.proofs.Steps.{LooksAtForms, block_handled_looks, handled_looks, step-silent_Err}
 
