@@ -39,12 +39,6 @@ last-append xs ys n is = drop_at xs ys (length (xs ++ ys) - n) (omega (arith, is
 pub before-append : (xs ys : List ℕ) (n : ℕ) → n ≡ length ys → all_before_last n (xs ++ ys) ≡ xs
 before-append xs ys n is = take_at xs ys (length (xs ++ ys) - n) (omega (arith, is, length-append xs ys))
 
-take_past : (xs ys : List ℕ) (k : ℕ) → take (length xs + k) (xs ++ ys) ≡ xs ++ take k ys
-take_past [] ys k = let e : 0 + k ≡ k = omega arith in ap (λ j. take j ys) e
-take_past (x ∷ xs) ys k =
-    let e : suc (length xs) + k ≡ suc (length xs + k) = omega arith in
-    ap (λ j. take j (x ∷ xs ++ ys)) e ∙ ap (λ (rest : List ℕ). x ∷ rest) (take_past xs ys k)
-
 -- with others in front
 pub last-after : (xs ys : List ℕ) (n : ℕ) → n ≤ length ys → last_of n (xs ++ ys) ≡ last_of n ys
 last-after xs ys n few =
@@ -52,11 +46,6 @@ last-after xs ys n few =
     ap (λ j. drop j (xs ++ ys)) e
     ∙ sym (drop-drop (length ys - n) (length xs) (xs ++ ys))
     ∙ ap (drop (length ys - n)) (drop_at xs ys (length xs) refl)
-
-pub before-after : (xs ys : List ℕ) (n : ℕ) → n ≤ length ys → all_before_last n (xs ++ ys) ≡ xs ++ all_before_last n ys
-before-after xs ys n few =
-    let e : length (xs ++ ys) - n ≡ length xs + (length ys - n) = omega (arith, few, length-append xs ys) in
-    ap (λ j. take j (xs ++ ys)) e ∙ take_past xs ys (length ys - n)
 
 -- both make the list
 pub ends_joined : (n : ℕ) (xs : List ℕ) → all_before_last n xs ++ last_of n xs ≡ xs

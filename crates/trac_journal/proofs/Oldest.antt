@@ -5,6 +5,7 @@ use Rattle.std.proofs.lemmas.List.{append-nil, append_assoc, length-append, leng
 use Rattle.trac_rules.specs.Records.{Record, Called, Moved, last_of}
 use Rattle.trac_rules.specs.State.{Frame}
 use Rattle.trac_rules.specs.Undone.{Undone, Nothing, Point}
+use Rattle.trac_rules.proofs.FurtherOn.{all_before_last-further}
 use Rattle.trac_journal.specs.Dropped.{joined, IsOldest}
 use Rattle.trac_journal.specs.Journaled.{unpacked, AreListed}
 use Rattle.trac_journal.specs.Listed.{Listed, call_of, called_in, first_undone, idle_of, newest_in, nothing_listed, older_in, without_call, HasCall, Holds}
@@ -15,7 +16,7 @@ use Rattle.trac_journal.specs.declared.entry.Entry.{Entry}
 use Rattle.trac_journal.specs.declared.entry.Kept.{Kept}
 use Rattle.trac_journal.specs.declared.entry.Kept.TheVariants as kept
 use Rattle.trac_journal.proofs.Calls.{undone_stays}
-use Rattle.trac_journal.proofs.Ends.{before-after, before-last, ends_joined, last-after, last-last, length-last}
+use Rattle.trac_journal.proofs.Ends.{before-last, ends_joined, last-after, last-last, length-last}
 
 -- ---- lists with older ones after them
 
@@ -53,8 +54,8 @@ call_after (c ∷ calls) older l has =
       same = λ undone. (λ i. Called (record_with (called_in c) (all_texts (cut_at (lengths i) (text i))) undone));
       rest = λ i. record {
         calls = calls ++ older.calls;
-        bytes = before-after older.bytes l.bytes c.bytes has.0 i;
-        commas = before-after older.commas l.commas c.commas has.1 i;
+        bytes = all_before_last-further older.bytes l.bytes c.bytes has.0 i;
+        commas = all_before_last-further older.commas l.commas c.commas has.1 i;
         undone = l.undone ++ older.undone;
         emptied = l.emptied ++ older.emptied;
       };

@@ -9,17 +9,13 @@ use Rattle.trac_text.specs.declared.mark.Mark.{Mark}
 use Rattle.trac_text.specs.Cuts.{AreCuts, AreArguments, BeginsFunction, cut, no_mark}
 use Rattle.trac_text.specs.Neutral.{Neutral, neutral, AreMarks, MarkedText, IsOrdered, neutral_of}
 use Rattle.trac_text.specs.Frames.{IsInnermost}
-use Rattle.trac_text.proofs.Cutting.{length-cut}
+use Rattle.trac_text.proofs.Cutting.{length-cut, start_within}
 
 -- ---- cuts
 
 AreCuts-push : (from : ℕ) (ms : List Mark) (m : Mark) (n : ℕ) → AreCuts from ms m.place → m.place ≤ n → AreCuts from (ms ++ m ∷ []) n
 AreCuts-push from [] m n cuts h = (cuts, h)
 AreCuts-push from (k ∷ ms) m n cuts h = (cuts.0, AreCuts-push k.place ms m n cuts.1 h)
-
-AreCuts-within : (from : ℕ) (ms : List Mark) (n : ℕ) → AreCuts from ms n → from ≤ n
-AreCuts-within from [] n cuts = cuts
-AreCuts-within from (k ∷ ms) n cuts = let rest : k.place ≤ n = AreCuts-within k.place ms n cuts.1 in omega (arith, cuts.0)
 
 between_short : (text : List ℕ) (from place end : ℕ) → place ≤ end → take (place - from) (drop from (take end text)) ≡ take (place - from) (drop from text)
 between_short text from place end h = between_is (take end text) from place ∙ ap (drop from) (take-take place end text h) ∙ sym (between_is text from place)
@@ -29,7 +25,7 @@ cut-push : (from : ℕ) (ms : List Mark) (m : Mark) (text : List ℕ) → AreCut
     cut from (ms ++ m ∷ []) text ≡ cut from ms (take m.place text) ++ drop m.place text ∷ []
 cut-push from [] m text cuts = ap (λ (first : List ℕ). first ∷ drop m.place text ∷ []) (between_is text from m.place)
 cut-push from (k ∷ ms) m text cuts =
-    ap (λ (first : List ℕ). first ∷ cut k.place (ms ++ m ∷ []) text) (sym (between_short text from k.place m.place (AreCuts-within k.place ms m.place cuts.1)))
+    ap (λ (first : List ℕ). first ∷ cut k.place (ms ++ m ∷ []) text) (sym (between_short text from k.place m.place (start_within k.place ms m.place cuts.1)))
     ∙ ap (λ (rest : List (List ℕ)). take (k.place - from) (drop from (take m.place text)) ∷ rest) (cut-push k.place ms m text cuts.1)
 
 -- ---- marks the other way round
@@ -82,7 +78,7 @@ ends_with text (m ∷ args) f before kind args_are is a =
     let front : length (take m.place text) ≡ m.place = length-take-le m.place text a.0 in
     let inner_marks : AreMarks (length (take m.place text)) (args ++ f ∷ before) = subst (λ (k : ℕ). AreMarks k (args ++ f ∷ before)) (sym front) a.2 in
     let inner = ends_with (take m.place text) args f before kind args_are.1 is inner_marks in
-    let below : f.place ≤ m.place = AreCuts-within f.place (reverse args) m.place (cuts_of_marks m.place args f before a.2) in
+    let below : f.place ≤ m.place = start_within f.place (reverse args) m.place (cuts_of_marks m.place args f before a.2) in
     record {
       arguments = inner.arguments ++ inner.gathered ∷ [];
       gathered = drop m.place text;
@@ -120,7 +116,7 @@ module _ (m : MarkedText) (k : ℕ) (kind : Kind) (ordered : IsOrdered m) (begin
 
   pub is_innermost : (place : ℕ) (texts : List (List ℕ)) → place ≡ first.place → texts ≡ cut place after m.text → IsInnermost m k place kind texts
   is_innermost place texts at cut_so =
-      let within : first.place ≤ length m.text = AreCuts-within first.place after (length m.text) cuts_after in
+      let within : first.place ≤ length m.text = start_within first.place after (length m.text) cuts_after in
       let in_front : AreMarks first.place before = marks_before (length m.text) (reverse after) first before split_marks in
       let here : length (take place m.text) ≡ first.place = length-take-le place m.text (rw at within) ∙ at in
       let counted : length texts ≡ length after + 1 = ap length cut_so ∙ length-cut place after m.text in
