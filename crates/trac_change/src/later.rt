@@ -7,28 +7,28 @@ use trac_text::Args;
 
 /// Arguments without the first of them: seen as the list of those that are left.
 #[derive(Drop)]
-pub struct Behind<'a> {
+pub struct LaterArguments<'a> {
     args: &'a Args<'a>,
     passed: usize,
 }
 
-impl<'a> Model for Behind<'a> {
+impl<'a> Model for LaterArguments<'a> {
     ghost use Rattle.std.specs.Prelude.{ℕ, List, drop};
 
     ghost Value = { List (List ℕ) };
 
-    ghost view = { λ b. drop b.passed b.args.now };
+    ghost view = { λ later. drop later.passed later.args.now };
 }
 
 /// All arguments but the first n; none where there are no more than n. Nothing is copied (this project's profile).
-pub fn after<'a>(args: &'a Args<'a>, n: usize) -> Behind<'a>
+pub fn after<'a>(args: &'a Args<'a>, n: usize) -> LaterArguments<'a>
     ensures { result ≡ drop n args.now }
 {
-    Behind { args, passed: n }
+    LaterArguments { args, passed: n }
 }
 
-impl<'a> Texts for Behind<'a> {
-    ghost texts = { λ behind. behind };
+impl<'a> Texts for LaterArguments<'a> {
+    ghost texts = { λ later. later };
 
     fn count(&self) -> usize {
         self.args.count().saturating_sub(self.passed)

@@ -8,5 +8,5 @@ pub mod undone;
 mod weighing;
 
 pub use change::Change;
-pub use later::{Behind, after};
+pub use later::{LaterArguments, after};
 pub use undone::Undone;

@@ -1,6 +1,6 @@
 -- A session of the debugger, line by line.
 use Rattle.std.proofs.Common.{◌≡◌, ℕ, ◌+◌, ◌-◌, ◌*◌, ◌==◌, ◌<◌, ◌≤◌, not, Bool, true, false, List, [], ◌∷◌, ◌++◌, length, take, drop, refl, sym, ap, subst, ◌∙◌, arith, inl, inr, ⊎_elim}
-use Rattle.std.specs.Prelude.{Option, Some, Result, Ok, Err, IfErr, IsOkUnless, nat_le, if◌then◌else◌}
+use Rattle.std.specs.Prelude.{Option, Result, Ok, Err, IfErr, IsOkUnless, nat_le, if◌then◌else◌}
 use Rattle.std.specs.Io.KnownBytes.{Appends, Consumes, IsAtEnd, Keeps}
 use Rattle.std.proofs.lemmas.Bool.{false≢true, cond-true, cond-false, le-leb, lt-leb, cases_lt}
 use Rattle.std.proofs.lemmas.Bool.Decides.{nat_tests}
@@ -14,18 +14,16 @@ use Rattle.trac_rules.proofs.Replies.{End_done, Feed_done, with_end, with_more}
 use Rattle.trac_streams.specs.Written.{WritesFront}
 use Rattle.trac_streams.specs.declared.ending.Ending.{Ending}
 use Rattle.trac_streams.specs.declared.ending.Ending.TheVariants.{Ended, Budget, Limit, Memory, Read, Write, NotUnderstood}
-use Rattle.trac_streams.proofs.Known.{Appends-nothing, Appends-both, Appends-kept, Consumes-nothing, Consumes-both, front_behind, front_of_front, front_of_nothing}
-use Rattle.trac_debug.specs.declared.command.Command as code
+use Rattle.trac_streams.proofs.Known.{Appends-nothing, Appends-both, Appends-kept, Consumes-nothing, Consumes-both, front_after, front_of_front, front_of_nothing}
 use Rattle.trac_streams.specs.declared.lines.NextLine.TheVariants.{Line, TooLong}
 use Rattle.trac_streams.specs.declared.lines.TheConstants.{LINE_LIMIT, LINE_COUNT_LIMIT}
 use Rattle.trac_streams.specs.Lines.{lines_of, is_within}
-use Rattle.trac_debug.specs.Commands.{Command, command_of}
+use Rattle.trac_debug.specs.Commands.{LineCommand, command_of}
 use Rattle.trac_debug.specs.Replies.{Replies}
 use Rattle.trac_debug.specs.Debugging.{Turn, Passes, Does, Ends, Takes, MayWrite, MayFollow, FollowsFirst, MayShow, RepliesToFirst, ready, shown_where, turn_at, turn_of}
 use Rattle.trac_debug.specs.Debugs.{UnlessFault, UnlessWrite, Debugs, IsReady, MayRefuseTape, IsNotReplied, Settles, Stops, Advances, Halts}
 use Rattle.trac_streams.specs.Pending.{Pending}
 use Rattle.trac_streams.specs.Reading.{HELD_LIMIT, IsFront, Gathers, MayFail}
-use Rattle.trac_debug.specs.Views.{command_seen}
 use Rattle.trac_debug.proofs.Existing.{some_reply, some_text}
 use Rattle.trac_streams.proofs.Splitting.{first_line}
 
@@ -108,14 +106,14 @@ always_unless Read Fact fact = fact
 always_unless Write Fact fact = tt
 always_unless (NotUnderstood line) Fact fact = fact
 
-behind_unless : (ending : Ending) (Fact Other : Type 0) → (Fact → Other) → UnlessWrite ending Fact → UnlessWrite ending Other
-behind_unless Ended Fact Other go fact = go fact
-behind_unless Budget Fact Other go fact = go fact
-behind_unless Limit Fact Other go fact = go fact
-behind_unless Memory Fact Other go fact = go fact
-behind_unless Read Fact Other go fact = go fact
-behind_unless Write Fact Other go fact = tt
-behind_unless (NotUnderstood line) Fact Other go fact = go fact
+also_unless : (ending : Ending) (Fact Other : Type 0) → (Fact → Other) → UnlessWrite ending Fact → UnlessWrite ending Other
+also_unless Ended Fact Other go fact = go fact
+also_unless Budget Fact Other go fact = go fact
+also_unless Limit Fact Other go fact = go fact
+also_unless Memory Fact Other go fact = go fact
+also_unless Read Fact Other go fact = go fact
+also_unless Write Fact Other go fact = tt
+also_unless (NotUnderstood line) Fact Other go fact = go fact
 
 write_unless : (ending : Ending) (Fact : Type 0) → ending ≡ Write → UnlessWrite ending Fact
 write_unless ending Fact is = subst (λ e. UnlessWrite e Fact) (sym is) tt
@@ -321,7 +319,7 @@ pub record SoFar (in_old in_now out_old out_now : Option (List ℕ)) (start : Pl
   pub at_end : lines.ended ≡ true → IsAtEnd in_now
   pub before : List (List ℕ)
   pub splits : (more : List ℕ) → (lines.ended ≡ true → more ≡ []) → lines_of (got ++ more) ≡ before ++ lines_of (lines.bytes ++ more)
-  pub rest : (behind : List (List ℕ)) → (text : List ℕ) → (stop : Ending) → MayWrite behind number p text stop → MayWrite (before ++ behind) 1 start (written ++ text) stop
+  pub rest : (later : List (List ℕ)) → (text : List ℕ) → (stop : Ending) → MayWrite later number p text stop → MayWrite (before ++ later) 1 start (written ++ text) stop
   pub count : length before + 1 ≡ number
   pub few : length got ≤ length before * (LINE_LIMIT + 2) + length lines.bytes
   pub held : length lines.bytes ≤ HELD_LIMIT
@@ -347,7 +345,7 @@ so_far_none input output lines p none = record {
   at_end = λ over. absurd (false≢true (sym (ap (λ (l : Pending). l.ended) none) ∙ over));
   before = [];
   splits = λ more _. ap (λ (l : Pending). lines_of (l.bytes ++ more)) (sym none);
-  rest = λ behind text stop may. may;
+  rest = λ later text stop may. may;
   count = refl;
   few = omega arith;
   held = omega (arith, ap (λ (l : Pending). length l.bytes) none);
@@ -367,31 +365,31 @@ so_far_more in_old in_now in_new out_old out_now out_new start number lines afte
   splits = λ more none.
       ap lines_of (append_assoc far.got on.got more) ∙ far.splits (on.got ++ more) (λ over. let at = on.closed over in ap (λ g. g ++ more) at.0 ∙ none at.1)
       ∙ ap (λ ls. far.before ++ ls) (on.splits more none) ∙ sym (append_assoc far.before (on.line ∷ []) (lines_of (after.bytes ++ more)));
-  rest = λ behind text stop may.
-      let here = far.rest (on.line ∷ behind) (on.written ++ text) stop (on.rest behind text stop may) in
-      subst (λ ls. MayWrite ls 1 start ((far.written ++ on.written) ++ text) stop) (sym (append_assoc far.before (on.line ∷ []) behind))
-      (subst (λ w. MayWrite (far.before ++ (on.line ∷ behind)) 1 start w stop) (sym (append_assoc far.written on.written text)) here);
+  rest = λ later text stop may.
+      let here = far.rest (on.line ∷ later) (on.written ++ text) stop (on.rest later text stop may) in
+      subst (λ ls. MayWrite ls 1 start ((far.written ++ on.written) ++ text) stop) (sym (append_assoc far.before (on.line ∷ []) later))
+      (subst (λ w. MayWrite (far.before ++ (on.line ∷ later)) 1 start w stop) (sym (append_assoc far.written on.written text)) here);
   count = omega (arith, length-append far.before (on.line ∷ []), far.count);
   few = omega (arith, length-append far.got on.got, length-append far.before (on.line ∷ []), far.few, on.few);
   held = on.held far.held;
 }
 
 -- what is said of an ending without a fault, after what was written
-unless_behind : (ending : Ending) (Fact Other : Type 0) → (Fact → Other) → UnlessFault ending Fact → UnlessFault ending Other
-unless_behind Ended Fact Other go fact = go fact
-unless_behind Budget Fact Other go fact = go fact
-unless_behind Limit Fact Other go fact = go fact
-unless_behind Memory Fact Other go fact = tt
-unless_behind Read Fact Other go fact = tt
-unless_behind Write Fact Other go fact = tt
-unless_behind (NotUnderstood line) Fact Other go fact = go fact
+unless_also : (ending : Ending) (Fact Other : Type 0) → (Fact → Other) → UnlessFault ending Fact → UnlessFault ending Other
+unless_also Ended Fact Other go fact = go fact
+unless_also Budget Fact Other go fact = go fact
+unless_also Limit Fact Other go fact = go fact
+unless_also Memory Fact Other go fact = tt
+unless_also Read Fact Other go fact = tt
+unless_also Write Fact Other go fact = tt
+unless_also (NotUnderstood line) Fact Other go fact = go fact
 
 -- the first lines of all, and nothing after the replies to them
-first_replied : (start : PlainSession) (before behind lines : List (List ℕ)) (written nothing : List ℕ) → lines ≡ before ++ behind → nothing ≡ [] →
+first_replied : (start : PlainSession) (before later lines : List (List ℕ)) (written nothing : List ℕ) → lines ≡ before ++ later → nothing ≡ [] →
     MayWrite (before ++ []) 1 start (written ++ []) Ended → MayWrite (take (length before) lines) 1 start (written ++ nothing) Ended
-first_replied start before behind lines written nothing splits none may =
+first_replied start before later lines written nothing splits none may =
     subst (λ ls. MayWrite ls 1 start (written ++ nothing) Ended)
-    (append-nil before ∙ sym (take-append_seam before behind) ∙ ap (take (length before)) (sym splits))
+    (append-nil before ∙ sym (take-append_seam before later) ∙ ap (take (length before)) (sym splits))
     (subst (λ t. MayWrite (before ++ []) 1 start (written ++ t) Ended) (sym none) may)
 
 -- the end
@@ -417,15 +415,15 @@ debugged in_old in_now in_new out_old out_now out_new start number lines p endin
       at_end = last.at_end;
       front = λ more none.
           let some = last.front more none in
-          (far.written ++ some.0, some.1, all more none some.0 some.1 some.2, front_behind far.written last.written some.0 some.3);
+          (far.written ++ some.0, some.1, all more none some.0 some.1 some.2, front_after far.written last.written some.0 some.3);
       whole = λ more none.
-          unless_behind ending (MayWrite (lines_of (lines.bytes ++ (last.got ++ more))) number p last.written ending)
+          unless_also ending (MayWrite (lines_of (lines.bytes ++ (last.got ++ more))) number p last.written ending)
           (MayFollow start ((far.got ++ last.got) ++ more) (far.written ++ last.written) ending)
           (λ may. all more none last.written ending may) (last.whole more none);
       replied = length far.before;
       few_lines = omega (arith, far.count, few_lines);
       replies = λ more none.
-          behind_unless ending (last.written ≡ []) (FollowsFirst start (length far.before) ((far.got ++ last.got) ++ more) (far.written ++ last.written))
+          also_unless ending (last.written ≡ []) (FollowsFirst start (length far.before) ((far.got ++ last.got) ++ more) (far.written ++ last.written))
           (λ nothing. first_replied start far.before (lines_of (lines.bytes ++ (last.got ++ more))) (lines_of ((far.got ++ last.got) ++ more)) far.written last.written (splits more none) nothing
           (far.rest [] [] Ended (refl, refl)))
           last.nothing;
@@ -447,12 +445,12 @@ debugged_over in_old in_new out_old out_new tape limit width p ending is all =
       at_end = all.at_end;
       front = λ more none. let some = all.front more none in (some.0, some.1, shown (all.got ++ more) some.0 some.1 some.2, some.3);
       whole = λ more none.
-          unless_behind ending (MayFollow p (all.got ++ more) all.written ending) (MayShow tape limit width (all.got ++ more) all.written ending) (shown (all.got ++ more) all.written ending)
+          unless_also ending (MayFollow p (all.got ++ more) all.written ending) (MayShow tape limit width (all.got ++ more) all.written ending) (shown (all.got ++ more) all.written ending)
           (all.whole more none);
       replied = all.replied;
       few_lines = all.few_lines;
       replies = λ more none.
-          behind_unless ending (FollowsFirst p all.replied (all.got ++ more) all.written) (RepliesToFirst tape limit width all.replied (all.got ++ more) all.written)
+          also_unless ending (FollowsFirst p all.replied (all.got ++ more) all.written) (RepliesToFirst tape limit width all.replied (all.got ++ more) all.written)
           (λ first. subst (λ q. FollowsFirst q all.replied (all.got ++ more) all.written) is.is first) (all.replies more none);
     }
 
@@ -489,7 +487,7 @@ debugged_not input output tape limit width ending why = record {
 -- ---- replies
 
 -- no reply could be made
-pub not_made : (command : Command) (old : PlainSession) (output : Option (List ℕ)) → IsNotReplied command old output output Memory
+pub not_made : (command : LineCommand) (old : PlainSession) (output : Option (List ℕ)) → IsNotReplied command old output output Memory
 not_made command old output =
     let some = some_reply command old in
     record {
@@ -503,7 +501,7 @@ not_made command old output =
     }
 
 -- a reply could not be written
-pub not_written : (command : Command) (old new : PlainSession) (reply : List ℕ) (a b : Option (List ℕ)) (ending : Ending) → Replies command old reply new → ending ≡ Write → WritesFront a b reply →
+pub not_written : (command : LineCommand) (old new : PlainSession) (reply : List ℕ) (a b : Option (List ℕ)) (ending : Ending) → Replies command old reply new → ending ≡ Write → WritesFront a b reply →
     IsNotReplied command old a b ending
 not_written command old new reply a b ending replies fault front = record {
   fault = inr fault;
@@ -516,7 +514,7 @@ not_written command old new reply a b ending replies fault front = record {
 }
 
 -- a reply was written, and could not be flushed
-pub not_flushed : (command : Command) (old new : PlainSession) (reply : List ℕ) (a b c : Option (List ℕ)) (flushed : Result (Unit {0}) Ending) → Replies command old reply new →
+pub not_flushed : (command : LineCommand) (old new : PlainSession) (reply : List ℕ) (a b c : Option (List ℕ)) (flushed : Result (Unit {0}) Ending) → Replies command old reply new →
     Appends a b reply → Keeps b c → IsOkUnless flushed Write → IfErr flushed (IsNotReplied command old a c)
 not_flushed command old new reply a b c (Ok none) replies gave kept fault = tt
 not_flushed command old new reply a b c (Err ending) replies gave kept fault =

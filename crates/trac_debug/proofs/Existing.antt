@@ -13,7 +13,7 @@ use Rattle.trac_session.specs.Goals.{is_call_of, outcome}
 use Rattle.trac_session.proofs.Walked.{GoesOn, Back_answered, Back_refused_same, Step_refused_same, goes_on_first, goes_on_more, stopped_walk, met_walk, whole_walk}
 use Rattle.trac_streams.specs.declared.ending.Ending.{Ending}
 use Rattle.trac_streams.specs.declared.ending.Ending.TheVariants as endings
-use Rattle.trac_debug.specs.Commands.{Command, Forward, Back, Until, Return, Print, Commit, Quit}
+use Rattle.trac_debug.specs.Commands.{LineCommand, Forward, Back, Until, Return, Print, Commit, Quit}
 use Rattle.trac_show.specs.StateLines.{state_text}
 use Rattle.trac_streams.specs.Escapes.{text_line}
 use Rattle.trac_debug.specs.Replies.{Replies, RepliesWithMemory, walk_line}
@@ -32,16 +32,21 @@ step_not_Memory p q h = ⊎_elim
     (λ (d : Memory ≡ Ended). cc) s) r)
     (Step_refusals p q Memory h)
 
--- so what they say may be answered
+-- any other refusal is answered where the definitions say it
+pub answered_as_said : (command : session.Command) (p q : PlainSession) (refusal : Refusal) → (refusal ≡ Memory → ⊥) →
+    (Answers command p (Refused refusal) q → answer command p ≡ refused refusal q) × (answer command p ≡ refused refusal q → Answers command p (Refused refusal) q)
+answered_as_said command p q Memory other = absurd (other refl)
+answered_as_said command p q TooLong other = (λ h. h, λ h. h)
+answered_as_said command p q NeedInput other = (λ h. h, λ h. h)
+answered_as_said command p q Ended other = (λ h. h, λ h. h)
+answered_as_said command p q JournalFull other = (λ h. h, λ h. h)
+answered_as_said command p q AtStart other = (λ h. h, λ h. h)
+answered_as_said command p q Closed other = (λ h. h, λ h. h)
+answered_as_said command p q NotMet other = (λ h. h, λ h. h)
+
 step_refused_as : (p q : PlainSession) (refusal : Refusal) → answer session.Step p ≡ refused refusal q → Answers session.Step p (Refused refusal) q
-step_refused_as p q Memory h = absurd (step_not_Memory p q h)
-step_refused_as p q TooLong h = h
-step_refused_as p q NeedInput h = h
-step_refused_as p q Ended h = h
-step_refused_as p q JournalFull h = h
-step_refused_as p q AtStart h = h
-step_refused_as p q Closed h = h
-step_refused_as p q NotMet h = h
+step_refused_as p q refusal h =
+    (answered_as_said session.Step p q refusal (λ is. step_not_Memory p q (subst (λ (r : Refusal). answer session.Step p ≡ refused r q) is h))).1 h
 
 -- a command whose refusals are those of the definitions, never for memory, and change nothing
 record IsPlain (command : session.Command) : Type 0 where
@@ -120,7 +125,7 @@ search_otherwise true None other says = cc
 search_otherwise false None other says = cc
 
 -- there is a reply to each command that does not say that memory was refused
-pub some_reply_with : (command : Command) (old : PlainSession) → (reply : List ℕ) × (new : PlainSession) × RepliesWithMemory command old reply new
+pub some_reply_with : (command : LineCommand) (old : PlainSession) → (reply : List ℕ) × (new : PlainSession) × RepliesWithMemory command old reply new
 some_reply_with (Forward n) old =
     let walk = some_walk session.Step Step_plain no_goal n old in
     (walk_line (codes "forward") walk.0 walk.1, walk.2, (walk.0, walk.1, (walk.3, walk.4), refl))
@@ -141,7 +146,7 @@ some_reply_with (Commit keep) old = (text_line (codes "commit") (first_kept keep
 some_reply_with Quit old = ([], old, (refl, refl))
 
 -- it is one of those that there may be
-pub reply_allowed : (command : Command) (old new : PlainSession) (reply : List ℕ) → RepliesWithMemory command old reply new → Replies command old reply new
+pub reply_allowed : (command : LineCommand) (old new : PlainSession) (reply : List ℕ) → RepliesWithMemory command old reply new → Replies command old reply new
 reply_allowed (Forward n) old new reply is = (is.0, is.1, is.2.0, is.3)
 reply_allowed (Back n) old new reply is = is
 reply_allowed (Until name n) old new reply is = (is.0, is.1, is.2.0, is.3)
@@ -151,14 +156,14 @@ reply_allowed (Commit keep) old new reply is = is
 reply_allowed Quit old new reply is = is
 
 -- so there is a reply to each command
-pub some_reply : (command : Command) (old : PlainSession) → (reply : List ℕ) × (new : PlainSession) × Replies command old reply new
+pub some_reply : (command : LineCommand) (old : PlainSession) → (reply : List ℕ) × (new : PlainSession) × Replies command old reply new
 some_reply command old =
     let some = some_reply_with command old in
     (some.0, some.1, reply_allowed command old some.1 some.0 some.2)
 
 -- ---- texts
 
-module _ (Replied : Command → PlainSession → List ℕ → PlainSession → Type 0) (reply : (command : Command) (old : PlainSession) → (text : List ℕ) × (new : PlainSession) × Replied command old text new) where
+module _ (Replied : LineCommand → PlainSession → List ℕ → PlainSession → Type 0) (reply : (command : LineCommand) (old : PlainSession) → (text : List ℕ) × (new : PlainSession) × Replied command old text new) where
   -- a turn may write something, where the lines after it may
   takes_some : (turn : Turn) (lines : List (List ℕ)) (number : ℕ) (p : PlainSession) →
       ((q : PlainSession) → (text : List ℕ) × (stop : Ending) × WritesBy Replied lines number q text stop) →

@@ -15,11 +15,11 @@ use Rattle.trac_rules.proofs.Replies.{Commit_done, accepted_done, done_of_refuse
 use Rattle.trac_session.specs.Goals.{IsSearch, is_call_of, outcome}
 use Rattle.trac_streams.specs.declared.ending.Ending.{Ending}
 use Rattle.trac_streams.specs.declared.ending.Ending.TheVariants as endings
-use Rattle.trac_debug.specs.Commands.{Command, Forward, Back, Until, Return, Print, Commit, Quit}
+use Rattle.trac_debug.specs.Commands.{LineCommand, Forward, Back, Until, Return, Print, Commit, Quit}
 use Rattle.trac_streams.specs.Lines.{lines_of}
 use Rattle.trac_debug.specs.Replies.{HasMemoryReply, Replies, RepliesWithMemory, SaysMemory, walk_line}
 use Rattle.trac_debug.specs.Debugging.{Turn, Passes, Does, Ends, TakesBy, WritesBy, MayWrite, MayShow, ShowsWithMemory, ready, shown_by, shown_where, turn_at}
-use Rattle.trac_debug.proofs.Existing.{reply_allowed, some_text_with}
+use Rattle.trac_debug.proofs.Existing.{answered_as_said, reply_allowed, some_text_with}
 
 -- ---- walks
 
@@ -100,27 +100,10 @@ one_walk command goal n old steps count why because new other first second =
 
 -- ---- walks forward and back
 
--- a step that was not refused for memory was refused as the definitions say
-step_said : (p : PlainSession) (refusal : Refusal) → (refusal ≡ Memory → ⊥) → Answers session.Step p (Refused refusal) p → answer session.Step p ≡ refused refusal p
-step_said p Memory other h = absurd (other refl)
-step_said p TooLong other h = h
-step_said p NeedInput other h = h
-step_said p Ended other h = h
-step_said p JournalFull other h = h
-step_said p AtStart other h = h
-step_said p Closed other h = h
-step_said p NotMet other h = h
-
 -- a step back is never refused for memory
 back_said : (p : PlainSession) (refusal : Refusal) → Answers session.Back p (Refused refusal) p → answer session.Back p ≡ refused refusal p
-back_said p Memory h = absurd h.0
-back_said p TooLong h = h
-back_said p NeedInput h = h
-back_said p Ended h = h
-back_said p JournalFull h = h
-back_said p AtStart h = h
-back_said p Closed h = h
-back_said p NotMet h = h
+back_said p refusal h =
+    (answered_as_said session.Back p p refusal (λ is. absurd ((subst (λ (r : Refusal). Answers session.Back p (Refused r) p) is h).0))).0 h
 
 forward_ruled : (goal : Goal) (n : ℕ) (old : PlainSession) (steps : ℕ) (why : Option Refusal) (new : PlainSession) → (why ≡ Some Memory → ⊥) → IsWalk session.Step goal n old steps why new →
     IsRuled session.Step goal n old steps why new
@@ -129,7 +112,7 @@ forward_ruled goal n old steps (Some second) new other walk = record {
   walk = walk;
   said = λ refusal is.
       let same : second ≡ refusal = cc in
-      step_said new second (λ e. other (ap Some e)) walk.stopped.2 ∙ ap (λ r. refused r new) same;
+      (answered_as_said session.Step new new second (λ e. other (ap Some e))).0 walk.stopped.2 ∙ ap (λ r. refused r new) same;
 }
 
 back_ruled : (goal : Goal) (n : ℕ) (old : PlainSession) (steps : ℕ) (why : Option Refusal) (new : PlainSession) → IsWalk session.Back goal n old steps why new →
@@ -169,7 +152,7 @@ not_ended_so : (met : Bool) (ended why : Option Refusal) → why ≡ outcome met
 not_ended_so met ended why is other so = other (is ∙ ap (outcome met) so)
 
 -- there is one reply to a command that does not say that memory was refused
-one_reply : (command : Command) (old new last : PlainSession) (reply other : List ℕ) → RepliesWithMemory command old reply new → RepliesWithMemory command old other last → IsOne reply other new last
+one_reply : (command : LineCommand) (old new last : PlainSession) (reply other : List ℕ) → RepliesWithMemory command old reply new → RepliesWithMemory command old other last → IsOne reply other new last
 one_reply (Forward n) old new last reply other a b =
     walks_alike (codes "forward") a.0 b.0 a.1 b.1 new last reply other
     (one_walk session.Step no_goal n old a.0 b.0 a.1 b.1 new last (forward_ruled no_goal n old a.0 a.1 new a.2.1 a.2.0) (forward_ruled no_goal n old b.0 b.1 last b.2.1 b.2.0))
@@ -213,7 +196,7 @@ for_memory (Some Closed) = inr (λ e. cc)
 for_memory (Some NotMet) = inr (λ e. cc)
 
 -- a reply that there may be does not say that memory was refused, or says so
-pub with_or_said : (command : Command) (old new : PlainSession) (reply : List ℕ) → Replies command old reply new → RepliesWithMemory command old reply new ⊎ SaysMemory reply
+pub with_or_said : (command : LineCommand) (old new : PlainSession) (reply : List ℕ) → Replies command old reply new → RepliesWithMemory command old reply new ⊎ SaysMemory reply
 with_or_said (Forward n) old new reply is = ⊎_elim
     (λ (so : is.1 ≡ Some Memory). inr (codes "forward", is.0, is.3 ∙ ap (walk_line (codes "forward") is.0) so))
     (λ (other : is.1 ≡ Some Memory → ⊥). inl (is.0, is.1, (is.2, other), is.3))

@@ -67,8 +67,8 @@ some_words (b ∷ bs) = ⊎_elim
 -- so four words and more say nothing
 said_by_more : (word first last : List ℕ) (third : ℕ) → IsPlace SPACE last (Some third) → said_by (word ∷ first ∷ words_of last) ≡ None
 said_by_more word first last third found =
-    let behind = some_words (drop (third + 1) last) in
-    ap (λ ws. said_by (word ∷ first ∷ ws)) (words_at last third found) ∙ ap (λ ws. said_by (word ∷ first ∷ take third last ∷ ws)) behind.2
+    let after = some_words (drop (third + 1) last) in
+    ap (λ ws. said_by (word ∷ first ∷ ws)) (words_at last third found) ∙ ap (λ ws. said_by (word ∷ first ∷ take third last ∷ ws)) after.2
 
 pub said_with_more : (line word rest first last : List ℕ) (place second : ℕ) (third : Option ℕ) → IsPlace SPACE line (Some place) → word ≡ take place line → rest ≡ drop (place + 1) line →
     IsPlace SPACE rest (Some second) → first ≡ take second rest → last ≡ drop (second + 1) rest → is_some third ≡ true → IsPlace SPACE last third → command_of line ≡ None

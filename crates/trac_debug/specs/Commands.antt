@@ -6,20 +6,20 @@ use Rattle.std.specs.Str.Parse.{digits_value}
 use Rattle.trac_debug.specs.declared.command.TheConstants.{SPACE, DIGIT_LIMIT}
 
 -- what the debugger can be told to do
-pub data Command : Type 0 where
+pub data LineCommand : Type 0 where
   -- so many steps forward
-  Forward : ℕ → Command
+  Forward : ℕ → LineCommand
   -- so many steps back
-  Back : ℕ → Command
+  Back : ℕ → LineCommand
   -- forward to a call of this name, by so many steps at most
-  Until : List ℕ → ℕ → Command
+  Until : List ℕ → ℕ → LineCommand
   -- back to a call of this name
-  Return : List ℕ → Command
+  Return : List ℕ → LineCommand
   -- show the state
-  Print : Command
+  Print : LineCommand
   -- keep so many steps, and show what was released
-  Commit : ℕ → Command
-  Quit : Command
+  Commit : ℕ → LineCommand
+  Quit : LineCommand
 
 -- ---- words
 
@@ -43,7 +43,7 @@ name_of (b ∷ bs) = Some (b ∷ bs)
 -- ---- commands
 
 -- a command of a letter alone
-abbrev pub alone : List ℕ → Option Command
+abbrev pub alone : List ℕ → Option LineCommand
 alone word =
     if bytes_eq word (codes "p") then Some Print else
     if bytes_eq word (codes "c") then Some (Commit 0) else
@@ -51,7 +51,7 @@ alone word =
     None
 
 -- a command of a letter and one word
-abbrev pub with_one : List ℕ → List ℕ → Option Command
+abbrev pub with_one : List ℕ → List ℕ → Option LineCommand
 with_one word first =
     if bytes_eq word (codes "s") then option_map Forward (count_of first) else
     if bytes_eq word (codes "b") then option_map Back (count_of first) else
@@ -60,19 +60,19 @@ with_one word first =
     None
 
 -- until a name is met: where there are both a name and a count
-abbrev pub until_met : Option (List ℕ) → Option ℕ → Option Command
+abbrev pub until_met : Option (List ℕ) → Option ℕ → Option LineCommand
 until_met None count = None
 until_met (Some name) None = None
 until_met (Some name) (Some n) = Some (Until name n)
 
 -- a command of a letter and two words
-abbrev pub with_two : List ℕ → List ℕ → List ℕ → Option Command
+abbrev pub with_two : List ℕ → List ℕ → List ℕ → Option LineCommand
 with_two word first second =
     if bytes_eq word (codes "u") then until_met (name_of first) (count_of second) else
     None
 
 -- the command that these words say, if they say one
-abbrev pub said_by : List (List ℕ) → Option Command
+abbrev pub said_by : List (List ℕ) → Option LineCommand
 said_by [] = None
 said_by (word ∷ []) = alone word
 said_by (word ∷ first ∷ []) = with_one word first
@@ -80,5 +80,5 @@ said_by (word ∷ first ∷ second ∷ []) = with_two word first second
 said_by (word ∷ first ∷ second ∷ third ∷ rest) = None
 
 -- the command that a line says, if it says one
-unfoldable pub command_of : List ℕ → Option Command
+unfoldable pub command_of : List ℕ → Option LineCommand
 command_of line = said_by (words_of line)

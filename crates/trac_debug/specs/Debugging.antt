@@ -7,7 +7,7 @@ use Rattle.trac_streams.specs.declared.ending.Ending.{Ending}
 use Rattle.trac_streams.specs.declared.ending.Ending.TheVariants.{Ended, Budget, Limit, NotUnderstood}
 use Rattle.trac_streams.specs.declared.lines.TheConstants.{LINE_COUNT_LIMIT}
 use Rattle.trac_streams.specs.Lines.{is_within, lines_of}
-use Rattle.trac_debug.specs.Commands.{Command, Quit, command_of}
+use Rattle.trac_debug.specs.Commands.{LineCommand, Quit, command_of}
 use Rattle.trac_debug.specs.Replies.{Replies, RepliesWithMemory}
 
 -- ---- one line
@@ -17,12 +17,12 @@ pub data Turn : Type 0 where
   -- it is passed over
   Passes : Turn
   -- the command is carried out
-  Does : Command → Turn
+  Does : LineCommand → Turn
   -- the session ends so
   Ends : Ending → Turn
 
 -- what a command asks for; without one the line of this number is not understood
-abbrev pub turn_of : ℕ → Option Command → Turn
+abbrev pub turn_of : ℕ → Option LineCommand → Turn
 turn_of number None = Ends (NotUnderstood number)
 turn_of number (Some Quit) = Ends Ended
 turn_of number (Some command) = Does command
@@ -39,7 +39,7 @@ turn_at number (b ∷ bs) =
 
 -- where the next line comes to this turn, this text in all may be written from this session on, and then the session ends so; `Replied` says
 -- how a command may be replied to, and `Rest` the same of the lines after, from the session after the turn
-abbrev pub TakesBy : (Command → PlainSession → List ℕ → PlainSession → Type 0) → Turn → PlainSession → (PlainSession → List ℕ → Type 0) → List ℕ → Ending → Type 0
+abbrev pub TakesBy : (LineCommand → PlainSession → List ℕ → PlainSession → Type 0) → Turn → PlainSession → (PlainSession → List ℕ → Type 0) → List ℕ → Ending → Type 0
 TakesBy Replied Passes p Rest text ending = Rest p text
 TakesBy Replied (Does command) p Rest text ending =
     (reply : List ℕ) × (q : PlainSession) × (rest : List ℕ) × Replied command p reply q × (text ≡ reply ++ rest) × Rest q rest
@@ -47,7 +47,7 @@ TakesBy Replied (Ends stop) p Rest text ending = (text ≡ []) × (ending ≡ st
 
 -- from this session, where the lines from this number on are these and commands are replied to so, this text may be written, and then the
 -- session ends so: at the end of the lines as if asked to
-abbrev pub WritesBy : (Command → PlainSession → List ℕ → PlainSession → Type 0) → List (List ℕ) → ℕ → PlainSession → List ℕ → Ending → Type 0
+abbrev pub WritesBy : (LineCommand → PlainSession → List ℕ → PlainSession → Type 0) → List (List ℕ) → ℕ → PlainSession → List ℕ → Ending → Type 0
 WritesBy Replied [] number p text ending = (text ≡ []) × (ending ≡ Ended)
 WritesBy Replied (line ∷ lines) number p text ending =
     TakesBy Replied (turn_at number line) p (λ q rest. WritesBy Replied lines (number + 1) q rest ending) text ending

@@ -8,7 +8,7 @@ use Rattle.trac_rules.specs.Session.{PlainSession}
 use Rattle.trac_streams.specs.declared.ending.Ending.{Ending}
 use Rattle.trac_streams.specs.declared.ending.Ending.TheVariants.{Memory, Read, Write, Limit}
 use Rattle.trac_streams.specs.Lines.{lines_of}
-use Rattle.trac_debug.specs.Commands.{Command}
+use Rattle.trac_debug.specs.Commands.{LineCommand}
 use Rattle.trac_debug.specs.Replies.{Replies}
 use Rattle.trac_debug.specs.Debugging.{Turn, Passes, Does, Ends, MayWrite, ready}
 use Rattle.trac_streams.specs.declared.lines.TheConstants.{LINE_LIMIT, LINE_COUNT_LIMIT}
@@ -64,13 +64,13 @@ abbrev pub MayRefuseTape : List ℕ → Ending → Type 0
 MayRefuseTape tape ending = (ending ≡ Memory) ⊎ ((ending ≡ Limit) × (TAPE_LIMIT < length tape))
 
 -- a command is replied to: all of a reply was written
-pub record IsReplied (command : Command) (old new : PlainSession) (out_old out_new : Option (List ℕ)) : Type 0 where
+pub record IsReplied (command : LineCommand) (old new : PlainSession) (out_old out_new : Option (List ℕ)) : Type 0 where
   pub reply : List ℕ
   pub replies : Replies command old reply new
   pub gave : Appends out_old out_new reply
 
 -- a reply could not be made, and nothing was written; or it could not be written: then a front of it was
-pub record IsNotReplied (command : Command) (old : PlainSession) (out_old out_new : Option (List ℕ)) (ending : Ending) : Type 0 where
+pub record IsNotReplied (command : LineCommand) (old : PlainSession) (out_old out_new : Option (List ℕ)) (ending : Ending) : Type 0 where
   pub written : List ℕ
   pub fault : ((ending ≡ Memory) × (written ≡ [])) ⊎ (ending ≡ Write)
   pub gave : Appends out_old out_new written

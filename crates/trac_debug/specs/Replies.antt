@@ -5,7 +5,7 @@ use Rattle.trac_rules.specs.declared.refusal.Refusal.TheVariants as refusals
 use Rattle.trac_rules.specs.Session as session
 use Rattle.trac_rules.specs.Session.{PlainSession, IsWalk, answer, done, first_kept, no_goal}
 use Rattle.trac_session.specs.Goals.{IsSearch, is_call_of}
-use Rattle.trac_debug.specs.Commands.{Command, Forward, Back, Until, Return, Print, Commit, Quit}
+use Rattle.trac_debug.specs.Commands.{LineCommand, Forward, Back, Until, Return, Print, Commit, Quit}
 use Rattle.trac_show.specs.StateLines.{state_text}
 use Rattle.trac_streams.specs.Escapes.{feed, text_line}
 
@@ -38,7 +38,7 @@ ShowsWalk Walked word reply = (steps : ℕ) × (why : Option Refusal) × Walked 
 
 -- to this command there may be this reply, and then the session is `new`: there is one reply, but that a step forward may be refused
 -- for memory
-abbrev pub Replies : Command → PlainSession → List ℕ → PlainSession → Type 0
+abbrev pub Replies : LineCommand → PlainSession → List ℕ → PlainSession → Type 0
 Replies (Forward n) old reply new = ShowsWalk (λ steps why. IsWalk session.Step no_goal n old steps why new) (codes "forward") reply
 Replies (Back n) old reply new = ShowsWalk (λ steps why. IsWalk session.Back no_goal n old steps why new) (codes "back") reply
 Replies (Until name n) old reply new = ShowsWalk (λ steps why. IsSearch session.Step (is_call_of name) n old steps why new) (codes "until") reply
@@ -52,7 +52,7 @@ Replies (Commit keep) old reply new = (reply ≡ text_line (codes "commit") (fir
 Replies Quit old reply new = (reply ≡ []) × (new ≡ old)
 
 -- the same where there is memory for each step: then a walk says of no step that memory was refused for it
-abbrev pub RepliesWithMemory : Command → PlainSession → List ℕ → PlainSession → Type 0
+abbrev pub RepliesWithMemory : LineCommand → PlainSession → List ℕ → PlainSession → Type 0
 RepliesWithMemory (Forward n) old reply new =
     ShowsWalk (λ steps why. IsWalk session.Step no_goal n old steps why new × (why ≡ Some refusals.Memory → ⊥)) (codes "forward") reply
 RepliesWithMemory (Until name n) old reply new =
@@ -69,6 +69,6 @@ HasMemoryReply text = (before : List ℕ) × (reply : List ℕ) × (after : List
 
 -- what stands where memory is refused for the reply to this command: it is carried out, and there is a reply to that; but nothing is
 -- committed
-abbrev pub StandsUnreplied : Command → PlainSession → PlainSession → Type 0
+abbrev pub StandsUnreplied : LineCommand → PlainSession → PlainSession → Type 0
 StandsUnreplied (Commit keep) old new = new ≡ old
 StandsUnreplied command old new = (reply : List ℕ) × Replies command old reply new

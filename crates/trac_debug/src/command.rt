@@ -14,7 +14,7 @@ pub const DIGIT_LIMIT: usize = 9;
 
 /// What the debugger is told to do.
 #[derive(Clone, Copy)]
-pub enum Command<'a> {
+pub enum LineCommand<'a> {
     /// Go forward by so many steps.
     Forward(u64),
     /// Go back over so many steps.
@@ -33,7 +33,7 @@ pub enum Command<'a> {
 
 /// The command that a line says, without what ends it; none where it is not understood. Words are separated by exactly one
 /// space (this project's profile). It takes no memory.
-pub fn command_in(line: &[u8]) -> Option<Command<'_>>
+pub fn command_in(line: &[u8]) -> Option<LineCommand<'_>>
     ensures { option_map command_seen result ≡ command_of line.now }
 {
     let Some(end) = place_of(SPACE, line) else {
@@ -53,36 +53,36 @@ pub fn command_in(line: &[u8]) -> Option<Command<'_>>
 }
 
 // The command of a letter alone.
-fn command_alone(word: &[u8]) -> Option<Command<'static>>
+fn command_alone(word: &[u8]) -> Option<LineCommand<'static>>
     ensures { option_map command_seen result ≡ alone word.now }
 {
     match word {
-        b"p" => Some(Command::Print),
-        b"c" => Some(Command::Commit(0)),
-        b"q" => Some(Command::Quit),
+        b"p" => Some(LineCommand::Print),
+        b"c" => Some(LineCommand::Commit(0)),
+        b"q" => Some(LineCommand::Quit),
         _ => None,
     }
 }
 
 // The command of a letter and one word.
-fn command_with_one<'a>(word: &[u8], first: &'a [u8]) -> Option<Command<'a>>
+fn command_with_one<'a>(word: &[u8], first: &'a [u8]) -> Option<LineCommand<'a>>
     ensures { option_map command_seen result ≡ with_one word.now first.now }
 {
     match word {
-        b"s" => Some(Command::Forward(count(first)?)),
-        b"b" => Some(Command::Back(count(first)?)),
-        b"r" => Some(Command::Return(name(first)?)),
-        b"c" => Some(Command::Commit(count(first)?)),
+        b"s" => Some(LineCommand::Forward(count(first)?)),
+        b"b" => Some(LineCommand::Back(count(first)?)),
+        b"r" => Some(LineCommand::Return(name(first)?)),
+        b"c" => Some(LineCommand::Commit(count(first)?)),
         _ => None,
     }
 }
 
 // The command of a letter and two words.
-fn command_with_two<'a>(word: &[u8], first: &'a [u8], second: &[u8]) -> Option<Command<'a>>
+fn command_with_two<'a>(word: &[u8], first: &'a [u8], second: &[u8]) -> Option<LineCommand<'a>>
     ensures { option_map command_seen result ≡ with_two word.now first.now second.now }
 {
     match word {
-        b"u" => Some(Command::Until(name(first)?, count(second)?)),
+        b"u" => Some(LineCommand::Until(name(first)?, count(second)?)),
         _ => None,
     }
 }

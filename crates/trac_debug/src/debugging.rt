@@ -5,7 +5,7 @@ ghost use Rattle.trac_debug.specs.Debugging.{FollowsFirst, MayFollow, MayShow, R
 ghost use Rattle.trac_debug.specs.Debugs.{Advances, Debugs, Halts, IsReady, MayRefuseTape, IsReplied, IsNotReplied, Settles, Stops};
 ghost use Rattle.trac_debug.specs.Views.{command_seen};
 
-use crate::command::{Command, command_in};
+use crate::command::{LineCommand, command_in};
 use crate::replies::reply_to;
 use std::alloc::Allocator;
 use std::io::{Read, Write};
@@ -142,7 +142,7 @@ fn carry_out<W: Write, A: Allocator + Copy>(
         return Err(Ending::NotUnderstood { line: number });
     };
     match command {
-        Command::Quit => Err(Ending::Ended),
+        LineCommand::Quit => Err(Ending::Ended),
         _ => reply(alloc, session, command, output),
     }
 }
@@ -151,7 +151,7 @@ fn carry_out<W: Write, A: Allocator + Copy>(
 fn reply<W: Write, A: Allocator + Copy>(
     alloc: A,
     session: &mut Session<A>,
-    command: Command<'_>,
+    command: LineCommand<'_>,
     output: &mut W,
 ) -> Result<(), Ending>
     ensures ok { OnOk result (IsReplied (command_seen command.entry) session.old session.new (W.contents output.old) (W.contents output.new)) }

@@ -3,7 +3,7 @@ ghost use Rattle.std.specs.Prelude.{◌≡◌, ◌⊎◌, List, ℕ};
 ghost use Rattle.trac_rules.specs.Session.{PlainSession};
 ghost use Rattle.trac_rules.specs.declared.width.Width.{Width};
 ghost use Rattle.trac_streams.specs.declared.ending.Ending.{Ending};
-ghost use Rattle.trac_debug.specs.Commands.{Command};
+ghost use Rattle.trac_debug.specs.Commands.{LineCommand};
 ghost use Rattle.trac_debug.specs.Debugging.{MayShow, ShowsWithMemory};
 ghost use Rattle.trac_debug.specs.Replies.{HasMemoryReply, Replies, RepliesWithMemory, SaysMemory};
 
@@ -17,7 +17,7 @@ pub fn one_text_has_no_refused_memory()
         ShowsWithMemory tape limit width commands text stop → ShowsWithMemory tape limit width commands other last → (text ≡ other) × (stop ≡ last) }
     ensures among { (tape : List ℕ) (limit : ℕ) (width : Width) (commands text : List ℕ) (stop : Ending) →
         ShowsWithMemory tape limit width commands text stop → MayShow tape limit width commands text stop }
-    ensures else_said { (command : Command) (old new : PlainSession) (reply : List ℕ) → Replies command old reply new →
+    ensures else_said { (command : LineCommand) (old new : PlainSession) (reply : List ℕ) → Replies command old reply new →
         RepliesWithMemory command old reply new ⊎ SaysMemory reply }
     ensures else_has { (tape : List ℕ) (limit : ℕ) (width : Width) (commands text : List ℕ) (stop : Ending) → MayShow tape limit width commands text stop →
         ShowsWithMemory tape limit width commands text stop ⊎ HasMemoryReply text }

@@ -6,7 +6,7 @@ ghost use Rattle.trac_show.specs.StateLines.{state_text};
 ghost use Rattle.trac_streams.specs.Escapes.{text_line};
 ghost use Rattle.trac_debug.specs.Views.{command_seen};
 
-use crate::command::Command;
+use crate::command::LineCommand;
 use std::alloc::{AllocError, Allocator};
 use trac_rules::byte::LINE_FEED;
 use trac_session::{Refusal, Session, Walk};
@@ -19,19 +19,19 @@ use trac_streams::{number_into, text_line_into};
 pub fn reply_to<A: Allocator + Copy>(
     alloc: A,
     session: &mut Session<A>,
-    command: Command<'_>,
+    command: LineCommand<'_>,
 ) -> Result<Vec<u8, A>, AllocError>
     ensures replied { IfOk result (λ reply. Replies (command_seen command.entry) session.old reply.items session.new) }
     ensures unreplied { OnErr result (StandsUnreplied (command_seen command.entry) session.old session.new) }
 {
     match command {
-        Command::Forward(count) => walk_reply(alloc, b"forward", session.forward(count)),
-        Command::Back(count) => walk_reply(alloc, b"back", session.back(count)),
-        Command::Until(name, count) => walk_reply(alloc, b"until", session.until(name, count)),
-        Command::Return(name) => walk_reply(alloc, b"return", session.back_until(name)),
-        Command::Print => state_lines(alloc, session),
-        Command::Commit(keep) => commit_reply(alloc, session, keep as usize),
-        Command::Quit => Ok(Vec::new(alloc)),
+        LineCommand::Forward(count) => walk_reply(alloc, b"forward", session.forward(count)),
+        LineCommand::Back(count) => walk_reply(alloc, b"back", session.back(count)),
+        LineCommand::Until(name, count) => walk_reply(alloc, b"until", session.until(name, count)),
+        LineCommand::Return(name) => walk_reply(alloc, b"return", session.back_until(name)),
+        LineCommand::Print => state_lines(alloc, session),
+        LineCommand::Commit(keep) => commit_reply(alloc, session, keep as usize),
+        LineCommand::Quit => Ok(Vec::new(alloc)),
     }
 }
 

@@ -3,7 +3,7 @@ use Rattle.std.specs.Prelude.{◌≡◌, ℕ, ◌^◌, ◌-◌, Bool, true, fals
 use Rattle.std.specs.Borrow.{Bor}
 use Rattle.std.specs.declared.io.ErrorKind.{ErrorKind}
 use Rattle.std.specs.declared.io.ErrorKind.TheVariants.{Other}
-use Rattle.trac_faults.specs.declared.reading.FaultyReader.{FaultyReader}
+use Rattle.trac_faults.specs.declared.faulty_reader.FaultyReader.{FaultyReader}
 use Rattle.trac_faults.specs.Lines.{first_line_len}
 use Rattle.trac_faults.specs.Schedule.{counted, is_chosen}
 

@@ -2,7 +2,7 @@
 use Rattle.std.specs.Prelude.{◌≡◌, ℕ, ◌^◌, ◌-◌, Bool, min, if◌then◌else◌, List, [], None, Some, vec_items}
 use Rattle.std.specs.declared.io.ErrorKind.{ErrorKind}
 use Rattle.std.specs.declared.io.ErrorKind.TheVariants.{Other}
-use Rattle.trac_faults.specs.declared.writing.FaultyWriter.{FaultyWriter}
+use Rattle.trac_faults.specs.declared.faulty_writer.FaultyWriter.{FaultyWriter}
 use Rattle.trac_faults.specs.Schedule.{counted, is_chosen}
 
 -- the bytes that it took, in order

@@ -32,14 +32,14 @@
 //! holds no clause can say, so the counts and the log are shown by tests alone.
 #![tactic(auto)]
 
+mod faulty_reader;
+mod faulty_writer;
 mod logging;
 mod memory;
-mod reading;
 mod requests;
 mod schedule;
-mod writing;
 
+pub use faulty_reader::FaultyReader;
+pub use faulty_writer::FaultyWriter;
 pub use logging::{CallLog, Logged, LoggedCall};
 pub use memory::Refusing;
-pub use reading::FaultyReader;
-pub use writing::FaultyWriter;

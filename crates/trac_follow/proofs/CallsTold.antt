@@ -20,7 +20,8 @@ use Rattle.trac_origins.specs.Places.{Place, InActive, InBase, InArgument, InFor
 use Rattle.trac_origins.specs.Stepping.{origin}
 use Rattle.trac_origins.proofs.ToldCalls.{call_rest, call_stays, ended}
 use Rattle.trac_origins.proofs.ToldForms.{call_forms}
-use Rattle.trac_origins.proofs.ToldSteps.{active-gathered_in, length-current, within_current, within_gathered}
+use Rattle.trac_rules.proofs.MovedOn.{active-gathered}
+use Rattle.trac_origins.proofs.ToldSteps.{length-current, within_current, within_gathered}
 use Rattle.trac_follow.specs.declared.place.Origin as code_origin
 use Rattle.trac_follow.specs.Places.{IsOutside, Tells, TellsValue}
 use Rattle.trac_follow.proofs.Found.{byte_there}
@@ -127,7 +128,7 @@ value_before : (kind : Kind) (forced : Bool) (value : List ℕ) (u v : State) (i
     (InActive i ≡ value_at kind forced v i) × (i < length value)
 value_before Active forced value u v i l = (refl, omega (arith, l, length-append value u.active))
 value_before Neutral true value u v i l = (refl, omega (arith, l, length-append value u.active))
-value_before Neutral false value u v i l = absurd (omega (arith, l, ap (λ (text : List ℕ). length text) (active-gathered_in u.frames value u)))
+value_before Neutral false value u v i l = absurd (omega (arith, l, ap (λ (text : List ℕ). length text) (active-gathered u.frames value u)))
 
 -- after the current text
 same_current : (fs : List Frame) (e : Effect) (v : State) → current_text fs (changed_by e v) ≡ current_text fs v

@@ -16,7 +16,7 @@ use Rattle.trac_rules.specs.Effect.{Effect, argument, leaves}
 use Rattle.trac_rules.specs.Form.{Form}
 use Rattle.trac_rules.specs.Handling.{keeping}
 use Rattle.trac_rules.specs.Outcomes.{seen_as}
-use Rattle.trac_rules.specs.Performing.{after_call, changed_by, effect_of, performed, placed, primitive_of, printed_behind, trace_line}
+use Rattle.trac_rules.specs.Performing.{after_call, changed_by, effect_of, performed, placed, primitive_of, printed_after, trace_line}
 use Rattle.trac_rules.specs.Scanning.{Call, Calls, gathered_in, scan}
 use Rattle.trac_rules.specs.State.{Block, Environment, Forms, Frame, Held, State, storage_of}
 use Rattle.trac_rules.specs.Stepping.{step}
@@ -78,22 +78,22 @@ module _ (environment : Environment) (s t : State) (call : Call) (e : Effect) (s
 
   -- what the primitive does
   done_by : (found : Option ℕ) → named_block_number call.arguments (storage_of call.state) ≡ found →
-      seen_as (printed_behind line) (on_block found (λ number. fetching number (storage_of call.state)) (storage_of call.state)) ≡ Ok e
+      seen_as (printed_after line) (on_block found (λ number. fetching number (storage_of call.state)) (storage_of call.state)) ≡ Ok e
   unfolding performed
   done_by found is =
-      ap (λ (n : Option ℕ). seen_as (printed_behind line) (on_block n (λ number. fetching number (storage_of call.state)) (storage_of call.state))) (sym is)
-      ∙ (ap (λ p. seen_as (printed_behind line) (effect_of p environment call.arguments call.state)) (sym of.named) ∙ of.does)
+      ap (λ (n : Option ℕ). seen_as (printed_after line) (on_block n (λ number. fetching number (storage_of call.state)) (storage_of call.state))) (sym is)
+      ∙ (ap (λ p. seen_as (printed_after line) (effect_of p environment call.arguments call.state)) (sym of.named) ∙ of.does)
 
-  left_by : seen_as (printed_behind line) (Ok (leaves (storage_of call.state))) ≡ Ok e → e.storage.forms ≡ call.state.forms
+  left_by : seen_as (printed_after line) (Ok (leaves (storage_of call.state))) ≡ Ok e → e.storage.forms ≡ call.state.forms
   left_by done =
-      let same : printed_behind line (leaves (storage_of call.state)) ≡ e = cc in
+      let same : printed_after line (leaves (storage_of call.state)) ≡ e = cc in
       ap (λ (f : Effect). f.storage.forms) (sym same)
 
   fetched_by : (number : ℕ) (b : Bool) →
-      seen_as (printed_behind line) (cond b (Ok (leaves (keeping (fetched number (storage_of call.state)) (storage_of call.state)))) (Err TooLong)) ≡ Ok e →
+      seen_as (printed_after line) (cond b (Ok (leaves (keeping (fetched number (storage_of call.state)) (storage_of call.state)))) (Err TooLong)) ≡ Ok e →
       e.storage.forms ≡ fetched number (storage_of call.state)
   fetched_by number true done =
-      let same : printed_behind line (leaves (keeping (fetched number (storage_of call.state)) (storage_of call.state))) ≡ e = cc in
+      let same : printed_after line (leaves (keeping (fetched number (storage_of call.state)) (storage_of call.state))) ≡ e = cc in
       ap (λ (f : Effect). f.storage.forms) (sym same)
   fetched_by number false done = absurd (cc)
 

@@ -24,7 +24,7 @@ use Rattle.trac_rules.specs.Form.{Form, all_items, extent}
 use Rattle.trac_rules.specs.Handling.{keeping, named_form, on_form, piece_read, putting}
 use Rattle.trac_rules.specs.Limits.{may_be_put}
 use Rattle.trac_rules.specs.Outcomes.{seen_as}
-use Rattle.trac_rules.specs.Performing.{after_call, changed_by, effect_of, performed, placed, primitive_of, printed_behind, trace_line}
+use Rattle.trac_rules.specs.Performing.{after_call, changed_by, effect_of, performed, placed, primitive_of, printed_after, trace_line}
 use Rattle.trac_rules.specs.Pieces.{Piece, bytes_in, is_gap}
 use Rattle.trac_rules.specs.Scanning.{Call, Calls, gathered_in, scan}
 use Rattle.trac_rules.specs.Segmenting.{segmented}
@@ -137,10 +137,10 @@ module _ (environment : Environment) (s t : State) (call : Call) (e : Effect) (f
 
   -- what the primitive does
   done_by : (primitive : Primitive) → primitive_of (argument 0 call.arguments) ≡ primitive →
-      seen_as (printed_behind (trace_line call.state.trace call.kind call.arguments)) (effect_of primitive environment call.arguments call.state) ≡ Ok e
+      seen_as (printed_after (trace_line call.state.trace call.kind call.arguments)) (effect_of primitive environment call.arguments call.state) ≡ Ok e
   unfolding performed
   done_by primitive named =
-      ap (λ p. seen_as (printed_behind (trace_line call.state.trace call.kind call.arguments)) (effect_of p environment call.arguments call.state)) (sym named) ∙ does
+      ap (λ p. seen_as (printed_after (trace_line call.state.trace call.kind call.arguments)) (effect_of p environment call.arguments call.state)) (sym named) ∙ does
 
   -- ---- `pf`
 
@@ -153,9 +153,9 @@ module _ (environment : Environment) (s t : State) (call : Call) (e : Effect) (f
     printed_is =
         let text = trace_line call.state.trace call.kind call.arguments in
         let storage = storage_of call.state in
-        let done : Ok (printed_behind text (prints (shown form) storage)) ≡ Ok e =
-        ap (λ (found : Option Form). seen_as (printed_behind text) (on_form found (λ f. Ok (prints (shown f) storage)) storage)) (sym names) ∙ done_by (Handle action.PrintForm) of.named in
-        let same : printed_behind text (prints (shown form) storage) ≡ e = cc in
+        let done : Ok (printed_after text (prints (shown form) storage)) ≡ Ok e =
+        ap (λ (found : Option Form). seen_as (printed_after text) (on_form found (λ f. Ok (prints (shown f) storage)) storage)) (sym names) ∙ done_by (Handle action.PrintForm) of.named in
+        let same : printed_after text (prints (shown form) storage) ≡ e = cc in
         ap (λ (f : Effect). length f.printed) (sym same) ∙ length-append text (shown form)
 
     output_then : length t.output ≡ length s.output + (line + length (shown form))
@@ -241,8 +241,8 @@ module _ (environment : Environment) (s t : State) (call : Call) (e : Effect) (f
         let storage = storage_of call.state in
         let name = argument 1 call.arguments in
         let line = trace_line call.state.trace call.kind call.arguments in
-        let done : seen_as (printed_behind line) (putting name (segmented texts form) storage) ≡ Ok e =
-        ap (λ (found : Option Form). seen_as (printed_behind line) (on_form found (λ f. putting name (segmented texts f) storage) storage)) (sym names) ∙ done_by (Handle action.Segment) of.named in
+        let done : seen_as (printed_after line) (putting name (segmented texts form) storage) ≡ Ok e =
+        ap (λ (found : Option Form). seen_as (printed_after line) (on_form found (λ f. putting name (segmented texts f) storage) storage)) (sym names) ∙ done_by (Handle action.Segment) of.named in
         ap (λ (u : State). finite.get u.forms name) after
         ∙ ap (λ forms. finite.get forms name) (forms-after call.kind e.forced e.value (changed_by e call.state))
         ∙ ap (λ forms. finite.get forms name) (put_by (may_be_put name (segmented texts form) storage.forms) done)
@@ -259,12 +259,12 @@ module _ (environment : Environment) (s t : State) (call : Call) (e : Effect) (f
             go (f ∷ fs) = refl
 
         put_by : (b : Bool) →
-            seen_as (printed_behind (trace_line call.state.trace call.kind call.arguments))
+            seen_as (printed_after (trace_line call.state.trace call.kind call.arguments))
             (cond b (Ok (leaves (keeping (finite.insert call.state.forms (argument 1 call.arguments) (segmented texts form)) (storage_of call.state)))) (Err TooLong)) ≡ Ok e →
             e.storage.forms ≡ finite.insert call.state.forms (argument 1 call.arguments) (segmented texts form)
         put_by true done =
             let put = finite.insert call.state.forms (argument 1 call.arguments) (segmented texts form) in
-            let same : printed_behind (trace_line call.state.trace call.kind call.arguments) (leaves (keeping put (storage_of call.state))) ≡ e = cc in
+            let same : printed_after (trace_line call.state.trace call.kind call.arguments) (leaves (keeping put (storage_of call.state))) ≡ e = cc in
             ap (λ (f : Effect). f.storage.forms) (sym same)
         put_by false done = absurd (cc)
 

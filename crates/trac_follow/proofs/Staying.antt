@@ -21,7 +21,7 @@ use Rattle.trac_rules.proofs.Scans.{gathered_in_shows}
 use Rattle.trac_origins.specs.Lengths.{before_moved, in_active, may_put, past_in}
 use Rattle.trac_origins.specs.Places.{Place, InActive, InBase, InArgument, InForm, InHeld, InOutput, found_at, items_of}
 use Rattle.trac_origins.proofs.Told.{byte_within}
-use Rattle.trac_origins.proofs.ToldSteps.{active-gathered_in}
+use Rattle.trac_rules.proofs.MovedOn.{active-gathered}
 use Rattle.trac_origins.proofs.Unchanged.{calls_held, calls_unchanged, moves_held, moves_unchanged}
 use Rattle.trac_text.specs.Frames.{IsFrame}
 use Rattle.trac_follow.specs.Items.{IsMeasured}
@@ -92,7 +92,7 @@ active_before n s i item within e =
       within,
       byte_within i (moved_on n s).active item e,
       length-drop n s.active,
-      ap (λ (text : List ℕ). length text) (active-gathered_in s.frames (take n s.active) (deleted n s)),
+      ap (λ (text : List ℕ). length text) (active-gathered s.frames (take n s.active) (deleted n s)),
     )
 
 -- what is measured stays

@@ -17,9 +17,9 @@ use Rattle.trac_rules.specs.declared.width.Width.{Width}
 use Rattle.trac_rules.specs.Computing.{computed, number_argument, result_of}
 use Rattle.trac_rules.specs.Effect.{Effect, argument, gives_or_forces}
 use Rattle.trac_rules.specs.Goals.{IsCall, next_call}
-use Rattle.trac_rules.specs.Number.{behind_prefix, calculated, is_greater, numeral_of, on_both, prefix_of}
+use Rattle.trac_rules.specs.Number.{after_prefix, calculated, is_greater, numeral_of, on_both, prefix_of}
 use Rattle.trac_rules.specs.Outcomes.{seen_as}
-use Rattle.trac_rules.specs.Performing.{after_call, changed_by, effect_of, performed, placed, primitive_of, printed_behind, trace_line}
+use Rattle.trac_rules.specs.Performing.{after_call, changed_by, effect_of, performed, placed, primitive_of, printed_after, trace_line}
 use Rattle.trac_rules.specs.Scanning.{Call, Calls, gathered_in, scan}
 use Rattle.trac_rules.specs.State.{Block, Environment, Frame, State, Storage, storage_of}
 use Rattle.trac_rules.specs.Stepping.{step}
@@ -124,12 +124,12 @@ module _ (arguments : List (List ℕ)) (function : ℕ) (width : Width) (i : ℕ
   unfolding performed
   effect_is environment s call e computation is =
       let line = trace_line call.state.trace call.kind call.arguments in
-      let done : Ok (printed_behind line (computed computation environment.width call.arguments (storage_of call.state))) ≡ Ok e =
-      ap (λ p. seen_as (printed_behind line) (effect_of p environment call.arguments call.state)) (sym is.named) ∙ is.does in
-      let same : printed_behind line (computed computation environment.width call.arguments (storage_of call.state)) ≡ e = cc in
+      let done : Ok (printed_after line (computed computation environment.width call.arguments (storage_of call.state))) ≡ Ok e =
+      ap (λ p. seen_as (printed_after line) (effect_of p environment call.arguments call.state)) (sym is.named) ∙ is.does in
+      let same : printed_after line (computed computation environment.width call.arguments (storage_of call.state)) ≡ e = cc in
       ap (λ (f : Effect). f.forced) (sym same)
 
-  forced_is : (found : Option ℤ) (prefix other : List ℕ) (storage : Storage) → (gives_or_forces (behind_prefix prefix found) other storage).forced ≡ is_none found
+  forced_is : (found : Option ℤ) (prefix other : List ℕ) (storage : Storage) → (gives_or_forces (after_prefix prefix found) other storage).forced ≡ is_none found
   forced_is None prefix other storage = refl
   forced_is (Some n) prefix other storage = refl
 

@@ -59,21 +59,21 @@ run_length texts (Byte b ∷ run) h = omega (arith, run_length texts run h)
 run_length texts (Gap k w ∷ run) h = omega (arith, h)
 
 -- what items give that a run begins
-module _ (texts : List (List ℕ)) (items run behind : List Item) (seam : items ≡ run ++ behind) (bytes : gap_count run ≡ 0) where
-  both : all_filled texts items ≡ all_filled texts run ++ all_filled texts behind
-  both = ap (λ (xs : List Item). all_filled texts xs) seam ∙ flat_map-append (filled texts) run behind
+module _ (texts : List (List ℕ)) (items run after : List Item) (seam : items ≡ run ++ after) (bytes : gap_count run ≡ 0) where
+  both : all_filled texts items ≡ all_filled texts run ++ all_filled texts after
+  both = ap (λ (xs : List Item). all_filled texts xs) seam ∙ flat_map-append (filled texts) run after
 
-  pub run_counted : length (all_filled texts items) ≡ length run + length (all_filled texts behind)
-  run_counted = omega (arith, ap length both, length-append (all_filled texts run) (all_filled texts behind), run_length texts run bytes)
+  pub run_counted : length (all_filled texts items) ≡ length run + length (all_filled texts after)
+  run_counted = omega (arith, ap length both, length-append (all_filled texts run) (all_filled texts after), run_length texts run bytes)
 
   -- after what was put so far
-  pub run_put : (old middle : List ℕ) → middle ≡ old ++ bytes_in run → old ++ all_filled texts items ≡ middle ++ all_filled texts behind
+  pub run_put : (old middle : List ℕ) → middle ≡ old ++ bytes_in run → old ++ all_filled texts items ≡ middle ++ all_filled texts after
   run_put old middle put =
-      ap (λ (xs : List ℕ). old ++ xs) (both ∙ ap (λ (xs : List ℕ). xs ++ all_filled texts behind) (run_filled texts run bytes))
-      ∙ sym (append_assoc old (bytes_in run) (all_filled texts behind)) ∙ ap (λ (xs : List ℕ). xs ++ all_filled texts behind) (sym put)
+      ap (λ (xs : List ℕ). old ++ xs) (both ∙ ap (λ (xs : List ℕ). xs ++ all_filled texts after) (run_filled texts run bytes))
+      ∙ sym (append_assoc old (bytes_in run) (all_filled texts after)) ∙ ap (λ (xs : List ℕ). xs ++ all_filled texts after) (sym put)
 
   -- one item more
-  module _ (item : Item) (left : List Item) (next : behind ≡ item ∷ left) where
+  module _ (item : Item) (left : List Item) (next : after ≡ item ∷ left) where
     pub item_counted : length (all_filled texts items) ≡ length run + length (filled texts item) + length (all_filled texts left)
     item_counted =
         omega (arith, run_counted, ap (λ (xs : List Item). length (all_filled texts xs)) next, length-append (filled texts item) (all_filled texts left))

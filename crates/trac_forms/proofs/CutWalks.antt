@@ -15,7 +15,7 @@ use Rattle.trac_rules.specs.Cuts.{cut_between, cut_of, fitting, joined, joined_f
 use Rattle.trac_rules.specs.Filling.{text_numbered}
 use Rattle.trac_rules.specs.Form.{Form, IsWide, all_items, as_items, at_start, extent}
 use Rattle.trac_rules.specs.Segmenting.{segmented}
-use Rattle.trac_rules.proofs.Cuts.{IsCut, done, kept, made, between_kept, between_made, cut_extent, cut_wide, fits_gap, mapped_some, one_behind, same_items, segmented_is_cut}
+use Rattle.trac_rules.proofs.Cuts.{IsCut, done, kept, made, between_kept, between_made, cut_extent, cut_wide, fits_gap, mapped_some, one_after, same_items, segmented_is_cut}
 use Rattle.trac_rules.proofs.Cutting.{count_within_extent, extent-append, extent-segmented, wide-segmented_from}
 use Rattle.trac_forms.specs.Layout.{IsKept, divided}
 use Rattle.trac_forms.proofs.Divided.{kept_again}
@@ -49,7 +49,7 @@ pub record IsNext (texts : List (List ℕ)) (place : ℕ) (old new : List Item) 
   pub new_is : new ≡ front ++ Gap gap.ordinal (length (text_numbered gap.ordinal texts)) ∷ new_rest
   pub place_is : gap.place ≡ place + length front
   pub some : 0 < length (text_numbered gap.ordinal texts)
-  pub behind : IsCut texts old_rest new_rest
+  pub after : IsCut texts old_rest new_rest
   pub others : cut ≡ cut_between (gap.place + 1) old_rest new_rest
 
 -- an item before it
@@ -63,7 +63,7 @@ one_before texts place item old new gap cut n = record {
   new_is = ap (λ (xs : List Item). item ∷ xs) n.new_is;
   place_is = omega (arith, n.place_is);
   some = n.some;
-  behind = n.behind;
+  after = n.after;
   others = n.others;
 }
 
@@ -85,7 +85,7 @@ next_made texts place gap cut (made k {old = old} {new = new} some h) e =
       new_is = refl;
       place_is = omega arith;
       some = some;
-      behind = h;
+      after = h;
       others = ap (λ (xs : List CutGap). drop 1 xs) both;
     })
 
@@ -123,19 +123,21 @@ cut_begins texts form items gaps l r g =
     }
 
 -- the first of the gaps that are to come
-pub gap_to_come : (texts : List (List ℕ)) (new : List Item) (old : Ends Item) (gaps : List CutGap) (i : ℕ) → i < length gaps → IsCutSoFar texts new old (drop i gaps) →
+pub gap_to_come : {texts : List (List ℕ)} {new : List Item} {old : Ends Item} (gaps : List CutGap) (i : ℕ) → i < length gaps → IsCutSoFar texts new old (drop i gaps) →
     IsCutSoFar texts new old (get_or gaps i no_cut_gap ∷ drop (i + 1) gaps)
-gap_to_come texts new old gaps i l so_far = subst (IsCutSoFar texts new old) (drop_more gaps i no_cut_gap l) so_far
+gap_to_come {texts} {new} {old} gaps i l so_far = subst (IsCutSoFar texts new old) (drop_more gaps i no_cut_gap l) so_far
 
-pub next_to_come : (texts : List (List ℕ)) (new : List Item) (old : Ends Item) (gap : CutGap) (cut : List CutGap) (so_far : IsCutSoFar texts new old (gap ∷ cut)) →
-    IsNext texts (length old.left) old.right so_far.rest gap cut
-next_to_come texts new old gap cut so_far = next_made texts (length old.left) gap cut so_far.ahead so_far.to_come
+module _ {texts : List (List ℕ)} {new : List Item} {old : Ends Item} {gap : CutGap} {cut : List CutGap} (so_far : IsCutSoFar texts new old (gap ∷ cut)) where
+  next : IsNext texts (length old.left) old.right so_far.rest gap cut
+  next = next_made texts (length old.left) gap cut so_far.ahead so_far.to_come
 
-module _ (texts : List (List ℕ)) (new : List Item) (old : Ends Item) (gap : CutGap) (cut : List CutGap) (so_far : IsCutSoFar texts new old (gap ∷ cut))
-    (next : IsNext texts (length old.left) old.right so_far.rest gap cut) where
+  -- has a text
+  pub made_some : 0 < length (text_numbered gap.ordinal texts)
+  made_some = next.some
+
   -- stands after what is done
-  pub made_behind : length old.left ≤ gap.place
-  made_behind = omega (arith, next.place_is)
+  pub made_after : length old.left ≤ gap.place
+  made_after = omega (arith, next.place_is)
 
   -- its text stands there
   pub made_there : gap.place - length old.left + length (text_numbered gap.ordinal texts) ≤ length old.right
@@ -198,7 +200,7 @@ module _ (texts : List (List ℕ)) (new : List Item) (old : Ends Item) (gap : Cu
           whole =
               ap (λ (xs : List Item). xs ++ next.new_rest) made_left ∙ append_assoc old.left (next.front ++ last) next.new_rest
               ∙ ap (λ (xs : List Item). old.left ++ xs) (append_assoc next.front last next.new_rest ∙ sym next.new_is) ∙ so_far.whole;
-          ahead = subst (λ (xs : List Item). IsCut texts xs next.new_rest) (sym made_right) next.behind;
+          ahead = subst (λ (xs : List Item). IsCut texts xs next.new_rest) (sym made_right) next.after;
           to_come =
               next.others ∙ ap (λ (n : ℕ). cut_between n next.old_rest next.new_rest) (sym made_count)
               ∙ ap (λ (xs : List Item). cut_between (length items.left) xs next.new_rest) (sym made_right);
@@ -240,7 +242,7 @@ pub record IsNextFilled (texts : List (List ℕ)) (place : ℕ) (items full : Li
   pub full_is : full ≡ front ++ (as_items (text_numbered gap.ordinal texts) ++ full_rest)
   pub place_is : gap.place ≡ place + length front
   pub some : 0 < length (text_numbered gap.ordinal texts)
-  pub behind : joined_from texts (gap.place + 1) cut rest ≡ Some full_rest
+  pub after : joined_from texts (gap.place + 1) cut rest ≡ Some full_rest
 
 -- an item before it, or the gap itself
 first_filled : (texts : List (List ℕ)) (place : ℕ) (gap : CutGap) (cut : List CutGap) (item : Item) (items full : List Item) (here : Bool) → (place == gap.place) ≡ here →
@@ -262,7 +264,7 @@ first_filled texts place gap cut item items full true e further h =
       full_is = sym rest.2 ∙ ap (λ (t : List ℕ). as_items t ++ rest.0) (sym named.0);
       place_is = omega (arith, here);
       some = omega (arith, named.2, ap length named.0);
-      behind = ap (λ (n : ℕ). joined_from texts (n + 1) cut items) (sym here) ∙ rest.1;
+      after = ap (λ (n : ℕ). joined_from texts (n + 1) cut items) (sym here) ∙ rest.1;
     })
 first_filled texts place gap cut item items full false e further h =
     let rest = mapped_some (λ (xs : List Item). item ∷ xs) (joined_from texts (place + 1) (gap ∷ cut) items) full h in
@@ -275,7 +277,7 @@ first_filled texts place gap cut item items full false e further h =
       full_is = sym rest.2 ∙ ap (λ (xs : List Item). item ∷ xs) n.full_is;
       place_is = omega (arith, n.place_is);
       some = n.some;
-      behind = n.behind;
+      after = n.after;
     }
 
 pub next_filled : (texts : List (List ℕ)) (place : ℕ) (gap : CutGap) (cut : List CutGap) (items full : List Item) → joined_from texts place (gap ∷ cut) items ≡ Some full →
@@ -296,13 +298,9 @@ pub record IsFilledSoFar (texts : List (List ℕ)) (full : List Item) (place : �
   pub counted : place + length items.right ≤ FORM_LIMIT
 
 -- the first of the gaps that are to come
-pub gap_to_fill : (texts : List (List ℕ)) (full : List Item) (place : ℕ) (old : Ends Item) (gaps : List CutGap) (i : ℕ) → i < length gaps → IsFilledSoFar texts full place old (drop i gaps) →
+pub gap_to_fill : {texts : List (List ℕ)} {full : List Item} {place : ℕ} {old : Ends Item} (gaps : List CutGap) (i : ℕ) → i < length gaps → IsFilledSoFar texts full place old (drop i gaps) →
     IsFilledSoFar texts full place old (get_or gaps i no_cut_gap ∷ drop (i + 1) gaps)
-gap_to_fill texts full place old gaps i l so_far = subst (IsFilledSoFar texts full place old) (drop_more gaps i no_cut_gap l) so_far
-
-pub next_to_fill : (texts : List (List ℕ)) (full : List Item) (place : ℕ) (old : Ends Item) (gap : CutGap) (cut : List CutGap) (so_far : IsFilledSoFar texts full place old (gap ∷ cut)) →
-    IsNextFilled texts place old.right so_far.rest gap cut
-next_to_fill texts full place old gap cut so_far = next_filled texts place gap cut old.right so_far.rest so_far.ahead
+gap_to_fill {texts} {full} {place} {old} gaps i l so_far = subst (IsFilledSoFar texts full place old) (drop_more gaps i no_cut_gap l) so_far
 
 -- at the start
 pub fill_begins : (texts : List (List ℕ)) (old items : Ends Item) (gaps : List CutGap) → items.left ≡ [] → items.right ≡ old.left ++ old.right → items.capacity ≡ old.capacity → IsKept old →
@@ -319,32 +317,34 @@ fill_begins texts old items gaps l r capacity fits there =
     }
 
 -- the next gap
-module _ (texts : List (List ℕ)) (full : List Item) (place : ℕ) (old : Ends Item) (gap : CutGap) (cut : List CutGap) (so_far : IsFilledSoFar texts full place old (gap ∷ cut))
-    (next : IsNextFilled texts place old.right so_far.rest gap cut) where
-  -- stands no sooner than what is still to be walked
-  pub filled_behind : place ≤ gap.place
-  filled_behind = omega (arith, next.place_is)
+module _ {texts : List (List ℕ)} {full : List Item} {place : ℕ} {old : Ends Item} {gap : CutGap} {cut : List CutGap} (so_far : IsFilledSoFar texts full place old (gap ∷ cut)) where
+  pub hole : IsNextFilled texts place old.right so_far.rest gap cut
+  hole = next_filled texts place gap cut old.right so_far.rest so_far.ahead
 
-  right_count : length old.right ≡ length next.front + (length next.rest + 1)
+  -- stands no sooner than what is still to be walked
+  pub filled_after : place ≤ gap.place
+  filled_after = omega (arith, hole.place_is)
+
+  right_count : length old.right ≡ length hole.front + (length hole.rest + 1)
   right_count =
-      omega (arith, ap length next.items_are, length-append next.front (Gap gap.ordinal (length (text_numbered gap.ordinal texts)) ∷ next.rest))
+      omega (arith, ap length hole.items_are, length-append hole.front (Gap gap.ordinal (length (text_numbered gap.ordinal texts)) ∷ hole.rest))
 
   -- stands there
   pub filled_there : gap.place - place < length old.right
-  filled_there = omega (arith, next.place_is, right_count)
+  filled_there = omega (arith, hole.place_is, right_count)
 
   -- has a place after it
-  pub filled_counted : gap.place + 1 + length next.rest ≤ FORM_LIMIT
-  filled_counted = omega (arith, next.place_is, right_count, so_far.counted)
+  pub filled_counted : gap.place + 1 + length hole.rest ≤ FORM_LIMIT
+  filled_counted = omega (arith, hole.place_is, right_count, so_far.counted)
 
   -- all items, once it is filled
   abbrev filled_all : List Item
-  filled_all = old.left ++ (next.front ++ (as_items (text_numbered gap.ordinal texts) ++ next.rest))
+  filled_all = old.left ++ (hole.front ++ (as_items (text_numbered gap.ordinal texts) ++ hole.rest))
 
   filled_is_cut : IsCut texts filled_all (old.left ++ old.right)
   filled_is_cut =
-      subst (λ (xs : List Item). IsCut texts filled_all (old.left ++ xs)) (sym next.items_are)
-      (one_behind texts (same_items texts old.left) (one_behind texts (same_items texts next.front) (made gap.ordinal next.some (same_items texts next.rest))))
+      subst (λ (xs : List Item). IsCut texts filled_all (old.left ++ xs)) (sym hole.items_are)
+      (one_after texts (same_items texts old.left) (one_after texts (same_items texts hole.front) (made gap.ordinal hole.some (same_items texts hole.rest))))
 
   filled_extent : extent filled_all ≡ extent (old.left ++ old.right)
   filled_extent = cut_extent texts filled_is_cut
@@ -362,49 +362,49 @@ module _ (texts : List (List ℕ)) (full : List Item) (place : ℕ) (old : Ends 
         filled_extent,
         so_far.held.room,
         right_count,
-        length-append old.left (next.front ++ (as_items text ++ next.rest)),
-        length-append next.front (as_items text ++ next.rest),
-        length-append (as_items text) next.rest,
+        length-append old.left (hole.front ++ (as_items text ++ hole.rest)),
+        length-append hole.front (as_items text ++ hole.rest),
+        length-append (as_items text) hole.rest,
         length-map text Byte,
       )
 
   -- once it is filled
   module _ (items : Ends Item) (passed : ℕ) (text : List ℕ) (count : passed ≡ gap.place - place) (named : text ≡ text_numbered gap.ordinal texts)
       (moved : items ≡ record old { left = old.left ++ (take passed old.right ++ as_items text); right = drop (passed + 1) old.right }) where
-    front_passed : passed ≡ length next.front
-    front_passed = omega (arith, next.place_is, count)
+    front_passed : passed ≡ length hole.front
+    front_passed = omega (arith, hole.place_is, count)
 
-    filled_left : items.left ≡ old.left ++ (next.front ++ as_items (text_numbered gap.ordinal texts))
+    filled_left : items.left ≡ old.left ++ (hole.front ++ as_items (text_numbered gap.ordinal texts))
     filled_left =
-        let last = Gap gap.ordinal (length (text_numbered gap.ordinal texts)) ∷ next.rest in
+        let last = Gap gap.ordinal (length (text_numbered gap.ordinal texts)) ∷ hole.rest in
         ap (λ (e : Ends Item). e.left) moved
-        ∙ (λ j. old.left ++ (take (front_passed j) (next.items_are j) ++ as_items (named j)))
-        ∙ ap (λ (xs : List Item). old.left ++ (xs ++ as_items (text_numbered gap.ordinal texts))) (take_at next.front last (length next.front) refl)
+        ∙ (λ j. old.left ++ (take (front_passed j) (hole.items_are j) ++ as_items (named j)))
+        ∙ ap (λ (xs : List Item). old.left ++ (xs ++ as_items (text_numbered gap.ordinal texts))) (take_at hole.front last (length hole.front) refl)
 
-    filled_right : items.right ≡ next.rest
+    filled_right : items.right ≡ hole.rest
     filled_right =
-        let last = Gap gap.ordinal (length (text_numbered gap.ordinal texts)) ∷ next.rest in
+        let last = Gap gap.ordinal (length (text_numbered gap.ordinal texts)) ∷ hole.rest in
         ap (λ (e : Ends Item). e.right) moved
-        ∙ (λ j. drop (front_passed j + 1) (next.items_are j))
-        ∙ sym (drop-drop 1 (length next.front) (next.front ++ last))
-        ∙ ap (drop 1) (drop_at next.front last (length next.front) refl)
+        ∙ (λ j. drop (front_passed j + 1) (hole.items_are j))
+        ∙ sym (drop-drop 1 (length hole.front) (hole.front ++ last))
+        ∙ ap (drop 1) (drop_at hole.front last (length hole.front) refl)
 
     filled_same : items.left ++ items.right ≡ filled_all
     filled_same =
         let filling = as_items (text_numbered gap.ordinal texts) in
-        (λ j. filled_left j ++ filled_right j) ∙ append_assoc old.left (next.front ++ filling) next.rest
-        ∙ ap (λ (xs : List Item). old.left ++ xs) (append_assoc next.front filling next.rest)
+        (λ j. filled_left j ++ filled_right j) ∙ append_assoc old.left (hole.front ++ filling) hole.rest
+        ∙ ap (λ (xs : List Item). old.left ++ xs) (append_assoc hole.front filling hole.rest)
 
     pub fill_more : IsFilledSoFar texts full (gap.place + 1) items cut
     fill_more =
         let filling = as_items (text_numbered gap.ordinal texts) in
         let size : extent (items.left ++ items.right) ≡ extent (old.left ++ old.right) = ap extent filled_same ∙ filled_extent in
         record {
-          rest = next.full_rest;
+          rest = hole.full_rest;
           whole =
-              ap (λ (xs : List Item). xs ++ next.full_rest) filled_left ∙ append_assoc old.left (next.front ++ filling) next.full_rest
-              ∙ ap (λ (xs : List Item). old.left ++ xs) (append_assoc next.front filling next.full_rest ∙ sym next.full_is) ∙ so_far.whole;
-          ahead = ap (λ (xs : List Item). joined_from texts (gap.place + 1) cut xs) filled_right ∙ next.behind;
+              ap (λ (xs : List Item). xs ++ hole.full_rest) filled_left ∙ append_assoc old.left (hole.front ++ filling) hole.full_rest
+              ∙ ap (λ (xs : List Item). old.left ++ xs) (append_assoc hole.front filling hole.full_rest ∙ sym hole.full_is) ∙ so_far.whole;
+          ahead = ap (λ (xs : List Item). joined_from texts (gap.place + 1) cut xs) filled_right ∙ hole.after;
           held = record {
             within = omega (arith, size, so_far.held.within);
             wide = subst (λ (xs : List Item). All IsWide xs) (sym filled_same) filled_wide;

@@ -14,14 +14,14 @@ use Rattle.trac_rules.proofs.Cutting.{part_found, part_without, cut_out_gap, cut
 -- ---- a run
 
 -- a text occurs after what is before it
-occurs_behind : (front text back : List ℕ) → OccursAt (front ++ (text ++ back)) text (length front)
-occurs_behind front text back = record {
+occurs_after : (front text back : List ℕ) → OccursAt (front ++ (text ++ back)) text (length front)
+occurs_after front text back = record {
   fits = omega (arith, length-append front (text ++ back), length-append text back);
   reads = λ j l. get_or-append-add front (text ++ back) j 0 ∙ get_or_append_left text back 0 j l;
 }
 
 pub occurs_in : (run front text back : List ℕ) → run ≡ front ++ (text ++ back) → OccursAt run text (length front)
-occurs_in run front text back e = subst (λ r. OccursAt r text (length front)) (sym e) (occurs_behind front text back)
+occurs_in run front text back e = subst (λ r. OccursAt r text (length front)) (sym e) (occurs_after front text back)
 
 -- a run splits where a text occurs
 split_at : (run text : List ℕ) (place : ℕ) → OccursAt run text place → run ≡ take place run ++ (text ++ drop (place + length text) run)

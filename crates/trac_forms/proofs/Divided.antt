@@ -84,14 +84,14 @@ module _ (old new : Ends Item) (text : List ℕ) (whole : old.left ≡ as_items 
   none : length old.left - length text ≡ 0
   none = omega (arith, ap length whole, length-map text Byte)
 
-  pub defined_behind : divided new ≡ defined text
-  defined_behind =
+  pub defined_after : divided new ≡ defined text
+  defined_after =
       let front : new.left ≡ [] = ap (λ (e : Ends Item). e.left) moved ∙ ap (λ k. take k old.left) none in
       let back : new.right ≡ as_items text = ap (λ (e : Ends Item). e.right) moved ∙ (λ j. drop (none j) (whole j) ++ right j) ∙ append-nil (as_items text) in
       λ j. record { before = front j; after = back j }
 
-  pub kept_behind : length text ≤ FORM_LIMIT → length text ≤ old.capacity → IsKept new
-  kept_behind short roomy = kept_text new text defined_behind short (omega (arith, ap (λ (e : Ends Item). e.capacity) moved))
+  pub kept_after : length text ≤ FORM_LIMIT → length text ≤ old.capacity → IsKept new
+  kept_after short roomy = kept_text new text defined_after short (omega (arith, ap (λ (e : Ends Item). e.capacity) moved))
 
 -- wide items are no more than the bytes that they stand for
 pub count_within : (before after : List Item) (bytes : ℕ) → bytes ≡ extent (before ++ after) → All IsWide (before ++ after) → length before + length after ≤ bytes
@@ -108,14 +108,14 @@ module _ (start first second out : Ends Item) (before after : List Item) (no_lef
   seam : length second.left - length after ≡ length before
   seam = omega (arith, ap length both_put, length-append before after)
 
-  nothing_behind : second.right ≡ []
-  nothing_behind = ap (λ (e : Ends Item). e.right) more ∙ ap (λ (e : Ends Item). e.right) put ∙ no_right
+  nothing_after : second.right ≡ []
+  nothing_after = ap (λ (e : Ends Item). e.right) more ∙ ap (λ (e : Ends Item). e.right) put ∙ no_right
 
   pub divided_put : divided out ≡ record { before = before; after = after }
   divided_put =
       let front : out.left ≡ before = ap (λ (e : Ends Item). e.left) moved ∙ (λ i. take (seam i) (both_put i)) ∙ take-append_seam before after in
       let back : out.right ≡ after =
-      ap (λ (e : Ends Item). e.right) moved ∙ (λ i. drop (seam i) (both_put i) ++ nothing_behind i) ∙ append-nil (drop (length before) (before ++ after)) ∙ drop-append_seam before after in
+      ap (λ (e : Ends Item). e.right) moved ∙ (λ i. drop (seam i) (both_put i) ++ nothing_after i) ∙ append-nil (drop (length before) (before ++ after)) ∙ drop-append_seam before after in
       λ i. record { before = front i; after = back i }
 
   pub kept_put : (bytes : ℕ) → bytes ≡ extent (before ++ after) → bytes ≤ FORM_LIMIT → All IsWide (before ++ after) → bytes ≤ start.capacity → IsKept out

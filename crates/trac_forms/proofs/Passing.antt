@@ -12,7 +12,7 @@ use Rattle.trac_rules.specs.declared.item.Item.{Item}
 use Rattle.trac_rules.specs.declared.item.Item.TheVariants.{Byte, Gap}
 use Rattle.trac_rules.specs.Bytes.{last_place}
 use Rattle.trac_rules.specs.Form.{Form}
-use Rattle.trac_rules.specs.Pieces.{Piece, at_most_all, byte_of, bytes_in, count_read, is_gap, last_bytes, next_bytes, place_before, place_behind, place_of_text, read_back, read_on, segment_items, segment_read, until_read, where_any}
+use Rattle.trac_rules.specs.Pieces.{Piece, at_most_all, byte_of, bytes_in, count_read, is_gap, last_bytes, next_bytes, place_before, place_after, place_of_text, read_back, read_on, segment_items, segment_read, until_read, where_any}
 use Rattle.trac_rules.proofs.Balanced.{first_place_some}
 use Rattle.trac_rules.proofs.Items.{bytes_in-append}
 use Rattle.trac_forms.specs.declared.piece.Piece.{Piece as Measured}
@@ -43,7 +43,7 @@ at_most_clamped m n most items e l = omega (arith, e, l, count_within_length ite
 
 -- as many bytes on a side are the same piece
 pub next_bytes_same : (m n : ℕ) (form : Form) → at_most_all m form.after ≡ at_most_all n form.after → next_bytes m form ≡ next_bytes n form
-next_bytes_same m n form e = ap (λ k. where_any (bytes_in form.after) (option_map (λ j. read_on j form) (place_behind k form.after))) e
+next_bytes_same m n form e = ap (λ k. where_any (bytes_in form.after) (option_map (λ j. read_on j form) (place_after k form.after))) e
 
 pub last_bytes_same : (m n : ℕ) (form : Form) → at_most_all m form.before ≡ at_most_all n form.before → last_bytes m form ≡ last_bytes n form
 last_bytes_same m n form e = ap (λ k. where_any (bytes_in form.before) (option_map (λ j. read_back j form) (place_before k form.before))) e
@@ -130,17 +130,17 @@ count_falls items j k h = omega (arith, count-split j items, count-split k items
 -- ---- the place after the first n bytes, and the place before the last n
 
 -- a place with so many bytes before it, and with fewer before each earlier one, is the first such
-pub place_behind_is : (n place : ℕ) (items : List Item) → place ≤ length items → count (take place items) ≡ n → ((k : ℕ) → k < place → count (take k items) < n) → Some place ≡ place_behind n items
-place_behind_is n place items within here before =
+pub place_after_is : (n place : ℕ) (items : List Item) → place ≤ length items → count (take place items) ≡ n → ((k : ℕ) → k < place → count (take k items) < n) → Some place ≡ place_after n items
+place_after_is n place items within here before =
     sym (first_place_some _ (length items + 1) place (omega arith) (eq-eqb (count (take place items)) n here)
     (λ k l. false_from_ne_true _ (λ e. absurd (let same = eqb-true (count (take k items)) n e in let less = before k l in omega arith))))
 
 last_place_some : (passes : ℕ → Bool) (n k : ℕ) → k < n → passes k ≡ true → ((j : ℕ) → k < j → j < n → passes j ≡ false) → last_place passes n ≡ Some k
-last_place_some passes zero k l here behind = absurd (omega arith)
-last_place_some passes (suc n) k l here behind =
+last_place_some passes zero k l here after = absurd (omega arith)
+last_place_some passes (suc n) k l here after =
     ⊎_elim
     (λ (less : k < n).
-    cond-false (passes n) (Some n) (last_place passes n) (behind n less (omega arith)) ∙ last_place_some passes n k less here (λ j a b. behind j a (omega arith)))
+    cond-false (passes n) (Some n) (last_place passes n) (after n less (omega arith)) ∙ last_place_some passes n k less here (λ j a b. after j a (omega arith)))
     (λ (more : n ≤ k).
     let same : k ≡ n = omega arith in
     cond-true (passes n) (Some n) (last_place passes n) (subst (λ m. passes m ≡ true) same here) ∙ ap Some (sym same))
@@ -149,9 +149,9 @@ last_place_some passes (suc n) k l here behind =
 -- a place with so many bytes after it, and with fewer after each later one, is the last such
 pub place_before_is : (n place : ℕ) (items : List Item) → place ≤ length items → count (drop place items) ≡ n → ((k : ℕ) → place < k → k ≤ length items → count (drop k items) < n) →
     Some place ≡ place_before n items
-place_before_is n place items within here behind =
+place_before_is n place items within here after =
     sym (last_place_some _ (length items + 1) place (omega arith) (eq-eqb (count (drop place items)) n here)
-    (λ k l m. false_from_ne_true _ (λ e. absurd (let same = eqb-true (count (drop k items)) n e in let less = behind k l (omega arith) in omega arith))))
+    (λ k l m. false_from_ne_true _ (λ e. absurd (let same = eqb-true (count (drop k items)) n e in let less = after k l (omega arith) in omega arith))))
 
 -- ---- what is read, by what was reached
 
@@ -165,7 +165,7 @@ module _ (n : ℕ) (form : Form) (some : 0 < n) where
   pub nothing_next : at_most_all n form.after ≡ 0 → None ≡ next_bytes n form
   nothing_next e =
       let none : bytes_in form.after ≡ [] = nil_from_length (bytes_in form.after) (omega arith) in
-      ap (λ (bytes : List ℕ). where_any bytes (option_map (λ k. read_on k form) (place_behind (at_most_all n form.after) form.after))) (sym none)
+      ap (λ (bytes : List ℕ). where_any bytes (option_map (λ k. read_on k form) (place_after (at_most_all n form.after) form.after))) (sym none)
 
   pub nothing_last : at_most_all n form.before ≡ 0 → None ≡ last_bytes n form
   nothing_last e =
@@ -173,12 +173,12 @@ module _ (n : ℕ) (form : Form) (some : 0 < n) where
       ap (λ (bytes : List ℕ). where_any bytes (option_map (λ k. read_back k form) (place_before (at_most_all n form.before) form.before))) (sym none)
 
   -- a byte at least
-  pub something_next : (k : ℕ) (piece : Piece) → (at_most_all n form.after ≡ 0 → ⊥) → Some k ≡ place_behind (at_most_all n form.after) form.after → piece ≡ read_on k form →
+  pub something_next : (k : ℕ) (piece : Piece) → (at_most_all n form.after ≡ 0 → ⊥) → Some k ≡ place_after (at_most_all n form.after) form.after → piece ≡ read_on k form →
       Some piece ≡ next_bytes n form
   something_next k piece bytes reached e =
       ap Some e
       ∙ ap (option_map (λ j. read_on j form)) reached
-      ∙ sym (any_there (bytes_in form.after) (option_map (λ j. read_on j form) (place_behind (at_most_all n form.after) form.after)) (λ none. bytes (omega arith)))
+      ∙ sym (any_there (bytes_in form.after) (option_map (λ j. read_on j form) (place_after (at_most_all n form.after) form.after)) (λ none. bytes (omega arith)))
 
   pub something_last : (k : ℕ) (piece : Piece) → (at_most_all n form.before ≡ 0 → ⊥) → Some k ≡ place_before (at_most_all n form.before) form.before → piece ≡ read_back k form →
       Some piece ≡ last_bytes n form
@@ -248,15 +248,15 @@ piece_added form piece back put old middle new is most first then =
 -- ---- what was reached
 
 -- the place of the last of n bytes, or of the last of all
-pub reached_behind : (items : List Item) (n place bytes : ℕ) → place ≤ length items → bytes ≡ count (take place items) → ((k : ℕ) → k < place → count (take k items) < bytes) → bytes ≡ at_most_all n items →
-    Some place ≡ place_behind (at_most_all n items) items
-reached_behind items n place bytes within here before e =
-    place_behind_is (at_most_all n items) place items within (sym here ∙ e) (λ k l. let less = before k l in omega arith)
+pub reached_after : (items : List Item) (n place bytes : ℕ) → place ≤ length items → bytes ≡ count (take place items) → ((k : ℕ) → k < place → count (take k items) < bytes) → bytes ≡ at_most_all n items →
+    Some place ≡ place_after (at_most_all n items) items
+reached_after items n place bytes within here before e =
+    place_after_is (at_most_all n items) place items within (sym here ∙ e) (λ k l. let less = before k l in omega arith)
 
 pub reached_before : (items : List Item) (n place bytes : ℕ) → place ≤ length items → bytes ≡ count (drop place items) → ((k : ℕ) → place < k → k ≤ length items → count (drop k items) < bytes) → bytes ≡ at_most_all n items →
     Some place ≡ place_before (at_most_all n items) items
-reached_before items n place bytes within here behind e =
-    place_before_is (at_most_all n items) place items within (sym here ∙ e) (λ k l m. let less = behind k l m in omega arith)
+reached_before items n place bytes within here after e =
+    place_before_is (at_most_all n items) place items within (sym here ∙ e) (λ k l m. let less = after k l m in omega arith)
 
 -- ---- what each call reads, by what it reached
 
@@ -281,10 +281,10 @@ module _ (form : Form) (piece : Measured) (items : List Item) (same : items ≡ 
       ap Some (taken_on ∙ ap (λ j. read_on j form) here)
       ∙ sym (any_there form.after (Some (read_on (segment_items (position is_gap form.after) form.after) form)) (λ none. some (omega (arith, ap length same))))
 
-  pub reads_next : (n : ℕ) → 0 < n → (bytes ≡ 0 → ⊥) → bytes ≡ at_most_all n items → Some k ≡ place_behind (at_most_all n items) items → Some (taken piece form) ≡ next_bytes n form
+  pub reads_next : (n : ℕ) → 0 < n → (bytes ≡ 0 → ⊥) → bytes ≡ at_most_all n items → Some k ≡ place_after (at_most_all n items) items → Some (taken piece form) ≡ next_bytes n form
   reads_next n some any e reached =
       let here : at_most_all n items ≡ at_most_all n form.after = ap (at_most_all n) same in
-      something_next n form some k (taken piece form) (λ none. any (omega (arith, here))) (reached ∙ ap (λ xs. place_behind (at_most_all n xs) xs) same) taken_on
+      something_next n form some k (taken piece form) (λ none. any (omega (arith, here))) (reached ∙ ap (λ xs. place_after (at_most_all n xs) xs) same) taken_on
 
 -- so many items back
 module _ (form : Form) (piece : Measured) (items : List Item) (same : items ≡ form.before) (k bytes : ℕ) (within : k ≤ length items) (passed : bytes ≡ count (drop k items)) (long : piece.len ≡ bytes)

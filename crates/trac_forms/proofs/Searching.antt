@@ -126,33 +126,33 @@ module _ (text : List ℕ) (items : List Item) (start : ℕ) (run : List ℕ) (t
     (before : (k : ℕ) → k < start → begin_with text (drop k items) ≡ false) where
   -- it occurs there first
   pub reached_in_run : (at : Reached) → FindsNeedle run text 0 (Some (at.items - start)) → start ≤ at.items → Some at.items ≡ place_of_text text items
-  reached_in_run at finds behind =
+  reached_in_run at finds after =
       let same : at.items ≡ start + (at.items - start) = omega arith in
       ap Some same ∙ found_in_run text items start run tail within rest (at.items - start) finds before
 
   -- the bytes before it
   pub passed_in_run : (at : Reached) (bytes : ℕ) → FindsNeedle run text 0 (Some (at.items - start)) → start ≤ at.items → bytes ≡ count (take start items) → at.bytes + start ≡ bytes + at.items →
       at.bytes ≡ count (take at.items items)
-  passed_in_run at bytes finds behind counted passed =
+  passed_in_run at bytes finds after counted passed =
       let same : at.items ≡ start + (at.items - start) = omega arith in
       omega (arith, count_at text items start run tail within rest (at.items - start) (omega (arith, finds.1.fits)), ap (λ k. count (take k items)) same)
 
   -- there is room for it
   pub fits_in_run : (at : Reached) → FindsNeedle run text 0 (Some (at.items - start)) → start ≤ at.items → at.items + length text ≤ length items
-  fits_in_run at finds behind = omega (arith, finds.1.fits, as_long text items start run tail within rest)
+  fits_in_run at finds after = omega (arith, finds.1.fits, as_long text items start run tail within rest)
 
   -- the last run
   pub in_last_run : (found : Option Reached) → FindsNeedle run text 0 (option_map (λ at. at.items - start) found) → IfSome found (λ at. start ≤ at.items) → tail ≡ [] →
       option_map (λ at. at.items) found ≡ place_of_text text items
-  in_last_run None none behind end =
+  in_last_run None none after end =
       nowhere text items (λ k l.
       nowhere_yet text items start run tail within rest (λ b more e. absurd (omega (arith, ap length (sym end ∙ e)))) none before k (omega (arith, as_long text items start run tail within rest, ap length end)))
-  in_last_run (Some at) finds behind end = reached_in_run at finds behind
+  in_last_run (Some at) finds after end = reached_in_run at finds after
 
   pub passed_in_last_run : (found : Option Reached) (bytes : ℕ) → FindsNeedle run text 0 (option_map (λ at. at.items - start) found) → IfSome found (λ at. start ≤ at.items) →
       bytes ≡ count (take start items) → IfSome found (λ at. at.bytes + start ≡ bytes + at.items) → IfSome found (λ at. at.bytes ≡ count (take at.items items))
-  passed_in_last_run None bytes none behind counted passed = tt
-  passed_in_last_run (Some at) bytes finds behind counted passed = passed_in_run at bytes finds behind counted passed
+  passed_in_last_run None bytes none after counted passed = tt
+  passed_in_last_run (Some at) bytes finds after counted passed = passed_in_run at bytes finds after counted passed
 
 pub bound_gap : (items : List Item) (i : ℕ) (gap : Item) → i < length items → gap ≡ get_or items i (Byte 0) → ((b : ℕ) → gap ≡ Byte b → ⊥) → IsBound (drop i items)
 bound_gap items i gap l is other b rest e = let next = drop_more items i (Byte 0) l in other b (let same : get_or items i (Byte 0) ≡ Byte b = cc in is ∙ same)

@@ -1,4 +1,5 @@
-//! Blocks: forms that were put aside together, with their names.
+//! Blocks: forms that were put aside together, with their names. Only the room of a block takes memory, and that when the
+//! block is made (this project's profile).
 ghost use Rattle.std.specs.Prelude.{◌≡◌, ◌-◌, ◌==◌, ◌<◌, ◌≤◌, ◌++◌, ◌∷◌, [], false, length, slice_get, IfOk, IsOkUnless, MatchOption, Some};
 ghost use Rattle.std.specs.List.{list_any};
 ghost use Rattle.std.specs.Str.{bytes_eq};
@@ -42,7 +43,7 @@ impl<A: Allocator + Copy> Block<A> {
         })
     }
 
-    /// How many forms the block holds. It takes no memory (this project's profile).
+    /// How many forms the block holds.
     pub fn len(&self) -> usize
         ensures len { result ≡ length self.now.held }
         ensures distinct { AreApart self.now.held }
@@ -50,15 +51,14 @@ impl<A: Allocator + Copy> Block<A> {
         self.entries.len()
     }
 
-    /// Whether the block holds no form. It takes no memory (this project's profile).
+    /// Whether the block holds no form.
     pub fn is_empty(&self) -> bool
         ensures { result ≡ (length self.now.held == 0) }
     {
         self.len() == 0
     }
 
-    /// The form of this number, from 0 on, in the block's order, and its name; `None` past the last. It takes no memory
-    /// (this project's profile).
+    /// The form of this number, from 0 on, in the block's order, and its name; `None` past the last.
     pub fn get(&self, i: usize) -> Option<(&[u8], &Form<A>)>
         ensures { MatchOption result (length self.now.held ≤ i) (λ entry. slice_get self.now.held i ≡ Some (entry.0.now, entry.1.now)) }
     {
@@ -67,7 +67,7 @@ impl<A: Allocator + Copy> Block<A> {
     }
 
     /// Puts a form under a name after all others. A place has to be spare, which it takes, and no form of the block may
-    /// have this name. It takes no memory (this project's profile).
+    /// have this name.
     pub fn push(&mut self, name: Vec<u8, A>, form: Form<A>)
         requires room { 0 < self.old.room }
         requires other { list_any (λ entry. bytes_eq name.items entry.0) self.old.held ≡ false }
@@ -76,8 +76,8 @@ impl<A: Allocator + Copy> Block<A> {
         self.entries.push_reserved((name, form));
     }
 
-    /// Takes the last form away with its name, and returns both; `None` where the block holds no forms. It takes no memory,
-    /// and no spare place (this project's profile).
+    /// Takes the last form away with its name, and returns both; `None` where the block holds no forms. It takes no
+    /// spare place (this project's profile).
     pub fn pop(&mut self) -> Option<(Vec<u8, A>, Form<A>)>
         ensures last { MatchOption result ((self.old.held ≡ []) × (self.new.held ≡ [])) (λ entry. self.old.held ≡ self.new.held ++ (entry.0.items, entry.1) ∷ []) }
         ensures room { self.old.room ≤ self.new.room }

@@ -81,9 +81,9 @@ pub(crate) fn put_text<A: Allocator + Copy>(text: &[u8], items: &mut Items<A>)
 {
     let mut rest = text;
     'chunks: while CHUNK <= rest.len() {
-        let (chunk, behind) = rest.split_at(CHUNK);
+        let (chunk, after) = rest.split_at(CHUNK);
         items.put_left(&packed(chunk));
-        rest = behind;
+        rest = after;
     }
     put_bytes(rest, items);
 }
@@ -118,14 +118,14 @@ pub(crate) fn run_into<B: Allocator>(run: &[PackedItem], out: &mut Vec<u8, B>)
 {
     let mut rest = run;
     'chunks: while CHUNK <= rest.len() {
-        let (chunk, behind) = rest.split_at(CHUNK);
+        let (chunk, after) = rest.split_at(CHUNK);
         chunk_into::<CHUNK, B>(chunk, out);
-        rest = behind;
+        rest = after;
     }
     'groups: while GROUP <= rest.len() {
-        let (group, behind) = rest.split_at(GROUP);
+        let (group, after) = rest.split_at(GROUP);
         chunk_into::<GROUP, B>(group, out);
-        rest = behind;
+        rest = after;
     }
     bytes_into(rest, out);
 }

@@ -15,7 +15,7 @@ use crate::error::FormError;
 use crate::filling::text;
 use crate::form::{Form, Items};
 use crate::packed::PackedItem;
-use crate::texts::Texts;
+use crate::text_lists::Texts;
 use std::alloc::{Allocator, Global};
 use std::marker::Model;
 use trac_gap::TwoEnds;

@@ -7,7 +7,7 @@ ghost use Rattle.trac_rules.specs.Segmenting.{cut_out, part, segmented_from};
 use crate::error::FormError;
 use crate::form::Form;
 use crate::packed::PackedItem;
-use crate::texts::Texts;
+use crate::text_lists::Texts;
 use memchr::memmem::Finder;
 use std::alloc::Allocator;
 use trac_rules::item::Item;

@@ -7,7 +7,7 @@ use crate::byte_runs::{run_into, run_len};
 use crate::error::FormError;
 use crate::form::Form;
 use crate::packed::PackedItem;
-use crate::texts::Texts;
+use crate::text_lists::Texts;
 use std::alloc::Allocator;
 use trac_rules::item::Item;
 use trac_rules::limit::TEXT_LIMIT;
@@ -21,12 +21,12 @@ impl<A: Allocator + Copy> Form<A> {
         let mut total = 0;
         let mut rest = self.after();
         'runs: loop {
-            let (run, behind) = rest.split_at(run_len(rest));
+            let (run, after) = rest.split_at(run_len(rest));
             if run.len() > TEXT_LIMIT - total {
                 return None;
             }
             total += run.len();
-            let Some((item, behind)) = behind.split_first() else {
+            let Some((item, after)) = after.split_first() else {
                 return Some(total);
             };
             let len = filled_len(*item, args);
@@ -34,7 +34,7 @@ impl<A: Allocator + Copy> Form<A> {
                 return None;
             }
             total += len;
-            rest = behind;
+            rest = after;
         }
     }
 
@@ -54,14 +54,14 @@ impl<A: Allocator + Copy> Form<A> {
     {
         let mut rest = self.after();
         'runs: loop {
-            let (run, behind) = rest.split_at(run_len(rest));
+            let (run, after) = rest.split_at(run_len(rest));
             out.reserve(run.len())?;
             run_into(run, out);
-            let Some((item, behind)) = behind.split_first() else {
+            let Some((item, after)) = after.split_first() else {
                 return Ok(());
             };
             fill_into(*item, args, out)?;
-            rest = behind;
+            rest = after;
         }
     }
 }

@@ -13,7 +13,7 @@ mod packed;
 pub mod piece;
 mod showing;
 pub mod store;
-pub mod texts;
+pub mod text_lists;
 
 pub use block::Block;
 pub use cut::Cut;
@@ -21,5 +21,5 @@ pub use error::FormError;
 pub use form::Form;
 pub use piece::Piece;
 pub use store::Store;
-pub use texts::Texts;
+pub use text_lists::Texts;
 pub use trac_rules::item::{CutGap, Item};

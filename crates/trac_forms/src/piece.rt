@@ -3,7 +3,7 @@
 ghost use Rattle.std.specs.Prelude.{◌≡◌, ◌+◌, ◌-◌, ◌^◌, ◌++◌, ◌∷◌, [], ◌≤◌, ◌<◌, length, take, drop, position, option_map, IfOk, IfSome, OnOk, OnErr, IsOkUnless};
 ghost use Rattle.memchr.specs.Find.{FindsNeedle};
 ghost use Rattle.trac_rules.specs.Fronts.{IsFrontOf};
-ghost use Rattle.trac_rules.specs.Pieces.{at_most_all, bytes_in, char_read, count_read, is_gap, last_bytes, next_bytes, place_before, place_behind, place_of_text, segment_items, segment_read, until_read};
+ghost use Rattle.trac_rules.specs.Pieces.{at_most_all, bytes_in, char_read, count_read, is_gap, last_bytes, next_bytes, place_before, place_after, place_of_text, segment_items, segment_read, until_read};
 ghost use Rattle.trac_forms.specs.Taken.{IsThere, taken};
 
 use crate::cutting::end_run;
@@ -109,8 +109,8 @@ impl<A: Allocator + Copy> Form<A> {
         ensures err { IsOkUnless result FormError.Memory }
     {
         let before = self.before();
-        let behind = before.split_at(piece.pointer.min(before.len())).1;
-        let put = first_bytes_into(behind, piece.len, out)?;
+        let rest = before.split_at(piece.pointer.min(before.len())).1;
+        let put = first_bytes_into(rest, piece.len, out)?;
         first_bytes_into(self.after(), piece.len - put, out)?;
         Ok(())
     }
@@ -198,7 +198,7 @@ fn segment(items: &[PackedItem]) -> Reached
 
 // The place right after the first `n` bytes of these items, or after all bytes where there are fewer.
 fn reach(items: &[PackedItem], n: usize) -> Reached
-    ensures place { Some result.items ≡ place_behind (at_most_all n items.now) items.now }
+    ensures place { Some result.items ≡ place_after (at_most_all n items.now) items.now }
     ensures bytes { result.bytes ≡ at_most_all n items.now }
     ensures passed { result.bytes ≡ length (bytes_in (take result.items items.now)) }
     ensures within { result.items ≤ length items.now }
@@ -314,7 +314,7 @@ fn place_in_run(finder: &Finder<'_>, run: &[u8], start: Reached) -> Option<Reach
     requires items { start.items + length run.now < 2 ^ 64 }
     requires bytes { start.bytes ≤ start.items }
     ensures place { FindsNeedle run.now finder.now 0 (option_map (λ at. at.items - start.items) result) }
-    ensures behind { IfSome result (λ at. start.items ≤ at.items) }
+    ensures after { IfSome result (λ at. start.items ≤ at.items) }
     ensures bytes { IfSome result (λ at. at.bytes + start.items ≡ start.bytes + at.items) }
 {
     let place = finder.find(run)?;

@@ -19,7 +19,7 @@ use crate::block::Block;
 use crate::cut::Cut;
 use crate::error::FormError;
 use crate::form::Form;
-use crate::texts::Texts;
+use crate::text_lists::Texts;
 use indexmap::IndexMap;
 use std::alloc::{Allocator, Global};
 use std::hash::{BuildHasher, BuildHasherDefault, FoldHasher, Hash};

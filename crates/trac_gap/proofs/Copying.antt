@@ -3,7 +3,7 @@ use Rattle.std.proofs.Common.{◌≡◌, ℕ, ◌+◌, ◌≤◌, ◌<◌, ◌++
 use Rattle.std.proofs.lemmas.List.{map-append, length-map}
 use Rattle.std.proofs.Math.Seq.{length-take-le, take-suc}
 use Rattle.trac_gap.specs.Slots.{pasted}
-use Rattle.trac_gap.proofs.Pasted.{length-pasted, set-pasted_behind}
+use Rattle.trac_gap.proofs.Pasted.{length-pasted, set-pasted_after}
 
 module _ {X : Type 0} (old now new : List (Option X)) where
   -- of a slice, into the places from at on
@@ -19,4 +19,4 @@ module _ {X : Type 0} (old now new : List (Option X)) where
         let ws = map Some (take i xs) in
         let next : take (i + 1) xs ≡ take i xs ++ x ∷ [] = ap (λ k. take k xs) (add-one i) ∙ take-suc xs i x more ∙ ap (λ y. take i xs ++ y ∷ []) (sym is) in
         let all : map Some (take (i + 1) xs) ≡ ws ++ Some x ∷ [] = ap (map Some) next ∙ map-append Some (take i xs) (x ∷ []) in
-        e ∙ ap (λ l. set l (at + i) (Some x)) before ∙ set-pasted_behind old at ws (Some x) (at + i) (ap (λ k. at + k) (sym wrote)) (omega arith) ∙ ap (pasted old at) (sym all)
+        e ∙ ap (λ l. set l (at + i) (Some x)) before ∙ set-pasted_after old at ws (Some x) (at + i) (ap (λ k. at + k) (sym wrote)) (omega arith) ∙ ap (pasted old at) (sym all)

@@ -32,14 +32,14 @@ module _ {X : Type 0} where
   no_item cs [] e = cc
   no_item cs (x ∷ xs) e = cc
 
-  behind : (x : X) (cs : List (Option X)) → IsFull (Some x ∷ cs) → IsFull cs
-  behind x cs e = cc
+  after : (x : X) (cs : List (Option X)) → IsFull (Some x ∷ cs) → IsFull cs
+  after x cs e = cc
 
   -- the parts of a full row are full
   pub full_parts : (a b : List (Option X)) → IsFull (a ++ b) → IsFull a × IsFull b
   full_parts [] b full = (refl, full)
   full_parts (None ∷ a) b full = absurd (no_item (a ++ b) (items_of (a ++ b)) full)
-  full_parts (Some x ∷ a) b full = let rest = full_parts a b (behind x (a ++ b) full) in (ap (λ cs. Some x ∷ cs) rest.0, rest.1)
+  full_parts (Some x ∷ a) b full = let rest = full_parts a b (after x (a ++ b) full) in (ap (λ cs. Some x ∷ cs) rest.0, rest.1)
 
   -- the first k places of a full row, and the others
   module _ (k : ℕ) (cs : List (Option X)) (full : IsFull cs) where
@@ -70,4 +70,4 @@ module _ {X : Type 0} where
   some_at [] i full h = absurd (omega arith)
   some_at (None ∷ cs) i full h = absurd (no_item cs (items_of cs) full)
   some_at (Some x ∷ cs) zero full h = refl
-  some_at (Some x ∷ cs) (suc i) full h = some_at cs i (behind x cs full) (omega arith)
+  some_at (Some x ∷ cs) (suc i) full h = some_at cs i (after x cs full) (omega arith)

@@ -8,7 +8,7 @@ use Rattle.trac_gap.specs.Ends.{item_count}
 use Rattle.trac_gap.specs.RawGap.{block_ends, IsBlock}
 use Rattle.trac_gap.specs.Slots.{items_of, IsFull, IsShifted, run, pasted}
 use Rattle.trac_gap.proofs.Full.{items_of-map, IsFull-map, length-items_of, full_both, IsFull-take, IsFull-drop, items_of-take, items_of-drop, some_at}
-use Rattle.trac_gap.proofs.Pasted.{length-pasted, take-pasted, drop-pasted, take-pasted_before, drop-pasted_behind}
+use Rattle.trac_gap.proofs.Pasted.{length-pasted, take-pasted, drop-pasted, take-pasted_before, drop-pasted_after}
 
 -- the row is full, with these items
 abbrev pub Holds : {T : Type 0} → List (Option T) → List T → Type 0
@@ -19,8 +19,8 @@ module _ {T : Type 0} where
   same_row cs ds e full = (subst IsFull (sym e) full, ap items_of e)
 
   -- a row that is xs after or before what another has
-  behind : (cs ds : List (Option T)) (xs : List T) → ds ≡ cs ++ map Some xs → IsFull cs → Holds ds (items_of cs ++ xs)
-  behind cs ds xs e full = let both = full_both cs (map Some xs) ds e full (IsFull-map xs) in (both.0, both.1 ∙ ap (λ ys. items_of cs ++ ys) (items_of-map xs))
+  after : (cs ds : List (Option T)) (xs : List T) → ds ≡ cs ++ map Some xs → IsFull cs → Holds ds (items_of cs ++ xs)
+  after cs ds xs e full = let both = full_both cs (map Some xs) ds e full (IsFull-map xs) in (both.0, both.1 ∙ ap (λ ys. items_of cs ++ ys) (items_of-map xs))
 
   before : (cs ds : List (Option T)) (xs : List T) → ds ≡ map Some xs ++ cs → IsFull cs → Holds ds (xs ++ items_of cs)
   before cs ds xs e full = let both = full_both (map Some xs) cs ds e (IsFull-map xs) full in (both.0, both.1 ∙ ap (λ ys. ys ++ items_of cs) (items_of-map xs))
@@ -77,7 +77,7 @@ module _ {T A : Type 0} (b : Inside T A) (ok : IsBlock b) where
         let front : take (b.gap_start + 1) p.slots ≡ take b.gap_start cs ++ map Some (x ∷ []) = ap (λ l. take (b.gap_start + 1) l) e ∙ ap (λ k. take k (set cs b.gap_start (Some x))) (add-one b.gap_start) ∙ take-suc-set cs b.gap_start (Some x) in_row in
         let back : drop b.gap_end p.slots ≡ drop b.gap_end cs = ap (drop b.gap_end) e ∙ drop-set-lt b.gap_end cs b.gap_start (Some x) free in
         becomes p (b.gap_start + 1) b.gap_end (L ++ x ∷ []) R at (ap length e ∙ length-set cs b.gap_start (Some x)) (omega (arith, free)) ok.within
-        (behind (take b.gap_start cs) _ (x ∷ []) front ok.left_full) (same_row (drop b.gap_end cs) _ back ok.right_full)
+        (after (take b.gap_start cs) _ (x ∷ []) front ok.left_full) (same_row (drop b.gap_end cs) _ back ok.right_full)
 
   -- a run of items at either side
   module _ (p : Slots T) (xs : List T) (at : p.at ≡ b.places.at) (room : item_count (block_ends b) + length xs ≤ b.capacity) where
@@ -94,9 +94,9 @@ module _ {T A : Type 0} (b : Inside T A) (ok : IsBlock b) where
     put_left e =
         let fits : b.gap_start + length ws ≤ length cs = omega (arith, long, free_run, ok.within, ok.places_count) in
         let front : take (b.gap_start + length xs) p.slots ≡ take b.gap_start cs ++ ws = ap (take (b.gap_start + length xs)) e ∙ ap (λ k. take (b.gap_start + k) (pasted cs b.gap_start ws)) (sym long) ∙ take-pasted cs b.gap_start ws fits in
-        let back : drop b.gap_end p.slots ≡ drop b.gap_end cs = ap (drop b.gap_end) e ∙ drop-pasted_behind cs b.gap_start ws fits b.gap_end (omega (arith, long, free_run)) in
+        let back : drop b.gap_end p.slots ≡ drop b.gap_end cs = ap (drop b.gap_end) e ∙ drop-pasted_after cs b.gap_start ws fits b.gap_end (omega (arith, long, free_run)) in
         becomes p (b.gap_start + length xs) b.gap_end (L ++ xs) R at (ap length e ∙ length-pasted cs b.gap_start ws fits) free_run ok.within
-        (behind (take b.gap_start cs) _ xs front ok.left_full) (same_row (drop b.gap_end cs) _ back ok.right_full)
+        (after (take b.gap_start cs) _ xs front ok.left_full) (same_row (drop b.gap_end cs) _ back ok.right_full)
 
     pub put_right : p.slots ≡ pasted cs (b.gap_end - length xs) ws → Becomes p b.gap_start (b.gap_end - length xs) L (xs ++ R)
     put_right e =
@@ -146,7 +146,7 @@ module _ {T A : Type 0} (b : Inside T A) (ok : IsBlock b) where
         let part = left_part last (omega arith) in
         let at : b.gap_start ≡ suc last = omega arith in
         let row : take b.gap_start cs ≡ take last cs ++ map Some (x ∷ []) = ap (λ k. take k cs) at ∙ take-suc cs last None last_some.0 ∙ ap (λ c. take last cs ++ c ∷ []) is in
-        ((becomes b.places last b.gap_end _ R refl refl (omega (arith, ok.gap)) ok.within part (ok.right_full, refl)).0, (behind (take last cs) _ (x ∷ []) row part.0).1)
+        ((becomes b.places last b.gap_end _ R refl refl (omega (arith, ok.gap)) ok.within part (ok.right_full, refl)).0, (after (take last cs) _ (x ∷ []) row part.0).1)
 
   module _ (some : b.gap_end < b.capacity) where
     pub first_some : (b.gap_end < length cs) × IsSome (get_or cs b.gap_end None)
@@ -203,8 +203,8 @@ module _ {T A : Type 0} (b : Inside T A) (ok : IsBlock b) where
 
       pub shifted_right : IsShifted cs low (b.gap_end - n) n p.slots → Becomes p low (b.gap_end - n) (take (length L - n) L) (drop (length L - n) L ++ R)
       shifted_right is =
-          let to = b.gap_end - n in let behind_it : to + n ≡ b.gap_end = omega (arith, low_within, ok.gap) in
-          let next : drop (to + n) p.slots ≡ drop b.gap_end cs = is.above (to + n) (omega (arith, low_within, ok.gap)) (omega arith) ∙ ap (λ k. drop k cs) behind_it in
+          let to = b.gap_end - n in let after_it : to + n ≡ b.gap_end = omega (arith, low_within, ok.gap) in
+          let next : drop (to + n) p.slots ≡ drop b.gap_end cs = is.above (to + n) (omega (arith, low_within, ok.gap)) (omega arith) ∙ ap (λ k. drop k cs) after_it in
           let back : drop to p.slots ≡ tail ++ drop b.gap_end cs = sym (take-append-drop n (drop to p.slots)) ∙ (λ k. is.moved k ++ (drop-drop n to p.slots ∙ next) k) in
           let front : take low p.slots ≡ take low cs = is.below low (omega arith) (omega (arith, low_within, ok.gap)) in
           let both = full_both tail (drop b.gap_end cs) _ back tail_holds.0 ok.right_full in

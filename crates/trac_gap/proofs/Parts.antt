@@ -4,17 +4,17 @@ use Rattle.std.proofs.lemmas.List.{take-append-drop, take-take, drop-take, drop-
 use Rattle.std.proofs.Math.Seq.{length-take-le, take-add}
 use Rattle.trac_gap.specs.Slots.{IsFull, run, pasted}
 use Rattle.trac_gap.proofs.Full.{IsFull-take, IsFull-drop}
-use Rattle.trac_gap.proofs.Pasted.{length-pasted, take-pasted, drop-pasted, take-pasted_before, drop-pasted_behind}
+use Rattle.trac_gap.proofs.Pasted.{length-pasted, take-pasted, drop-pasted, take-pasted_before, drop-pasted_after}
 
 -- one part is written right after others, or right before them
 module _ {X : Type 0} (cs : List X) (ws vs : List X) where
-  pasted_behind : (i j : ℕ) → j ≡ i + length ws → i + length (ws ++ vs) ≤ length cs → pasted (pasted cs i ws) j vs ≡ pasted cs i (ws ++ vs)
+  pasted_after : (i j : ℕ) → j ≡ i + length ws → i + length (ws ++ vs) ≤ length cs → pasted (pasted cs i ws) j vs ≡ pasted cs i (ws ++ vs)
   unfolding pasted
-  pasted_behind i j at within =
+  pasted_after i j at within =
       let both = length-append ws vs in let fits : i + length ws ≤ length cs = omega (arith, both) in
       let front : take j (pasted cs i ws) ≡ take i cs ++ ws = ap (λ k. take k (pasted cs i ws)) at ∙ take-pasted cs i ws fits in
       let more : j + length vs ≡ i + length (ws ++ vs) = omega (arith, both) in
-      let back : drop (j + length vs) (pasted cs i ws) ≡ drop (i + length (ws ++ vs)) cs = drop-pasted_behind cs i ws fits (j + length vs) (omega arith) ∙ ap (λ k. drop k cs) more in
+      let back : drop (j + length vs) (pasted cs i ws) ≡ drop (i + length (ws ++ vs)) cs = drop-pasted_after cs i ws fits (j + length vs) (omega arith) ∙ ap (λ k. drop k cs) more in
       (λ n. front n ++ (vs ++ back n)) ∙ append_assoc (take i cs) ws (vs ++ drop (i + length (ws ++ vs)) cs)
       ∙ ap (λ l. take i cs ++ l) (sym (append_assoc ws vs (drop (i + length (ws ++ vs)) cs)))
 
@@ -55,7 +55,7 @@ module _ {X : Type 0} (old now new : List (Option X)) (from to count : ℕ) (ful
     same = ap length before ∙ length-pasted old to (take i ws) (omega (arith, copied))
 
     kept : run (from + i) n now ≡ part
-    kept = ap (run (from + i) n) before ∙ ap (take n) (drop-pasted_behind old to (take i ws) (omega (arith, copied)) (from + i) (omega (arith, copied))) ∙ part_is more
+    kept = ap (run (from + i) n) before ∙ ap (take n) (drop-pasted_after old to (take i ws) (omega (arith, copied)) (from + i) (omega (arith, copied))) ∙ part_is more
 
     pub part_down : (from + i + n ≤ length now) × (to + i + n ≤ length now) × (length now ≡ length old) × IsFull (run (from + i) n now)
     part_down = (omega (arith, same), omega (arith, same), same, subst IsFull (sym kept) part_full)
@@ -64,7 +64,7 @@ module _ {X : Type 0} (old now new : List (Option X)) (from to count : ℕ) (ful
     joined_down e =
         let whole = take-add i n ws in
         e ∙ (λ k. pasted (before k) (to + i) (kept k))
-        ∙ pasted_behind old (take i ws) part to (to + i) (omega (arith, copied)) (omega (arith, ap length whole, length-take-le (i + n) ws (omega (arith, long))))
+        ∙ pasted_after old (take i ws) part to (to + i) (omega (arith, copied)) (omega (arith, ap length whole, length-take-le (i + n) ws (omega (arith, long))))
         ∙ ap (pasted old to) (sym whole)
 
     pub joined_first : (m : ℕ) → n ≤ m → new ≡ pasted now (to + i) (take n (run (from + i) m now)) → new ≡ pasted old to (take (i + n) ws)
@@ -95,10 +95,10 @@ module _ {X : Type 0} (old now new : List (Option X)) (from to count : ℕ) (ful
 
     pub joined_up : new ≡ pasted now z (run a n now) → new ≡ pasted old z (drop i ws)
     joined_up e =
-        let behind : drop left ws ≡ drop n (drop i ws) = ap (λ k. drop k ws) ends ∙ sym (drop-drop n i ws) in
+        let after : drop left ws ≡ drop n (drop i ws) = ap (λ k. drop k ws) ends ∙ sym (drop-drop n i ws) in
         e ∙ (λ k. pasted (before k) z (kept_up k))
         ∙ pasted_before old (drop left ws) part z (to + left) (omega (arith, part_long)) (omega (arith, others))
-        ∙ ap (λ l. pasted old z (part ++ l)) behind ∙ ap (pasted old z) (take-append-drop n (drop i ws))
+        ∙ ap (λ l. pasted old z (part ++ l)) after ∙ ap (pasted old z) (take-append-drop n (drop i ws))
 
     pub joined_last : new ≡ pasted now z (drop i (run from left now)) → new ≡ pasted old z (drop i ws)
     joined_last e =

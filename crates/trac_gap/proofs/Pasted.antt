@@ -31,9 +31,9 @@ module _ {X : Type 0} (cs : List X) (i : ℕ) (ws : List X) (fits : i + length w
       let long : j ≤ length (take i cs) = omega (arith, front) in
       take-append-le j (take i cs) (ws ++ rest) long ∙ take-take j i cs h
 
-  pub drop-pasted_behind : (j : ℕ) → i + length ws ≤ j → drop j (pasted cs i ws) ≡ drop j cs
+  pub drop-pasted_after : (j : ℕ) → i + length ws ≤ j → drop j (pasted cs i ws) ≡ drop j cs
   unfolding pasted
-  drop-pasted_behind j h =
+  drop-pasted_after j h =
       let m = j - (i + length ws) in let A = take i cs ++ ws in
       let long : length A ≡ i + length ws = omega (arith, front, length-append (take i cs) ws) in
       let at : j ≡ length A + m = omega arith in let again : i + length ws + m ≡ j = omega arith in
@@ -46,14 +46,14 @@ pasted_none cs i = ap (λ k. take i cs ++ drop k cs) (add-zero i) ∙ take-appen
 
 module _ {X : Type 0} (cs : List X) (i : ℕ) (ws : List X) (c : X) where
   -- one more place is written, after those that were
-  pub set-pasted_behind : (j : ℕ) → j ≡ i + length ws → j < length cs → set (pasted cs i ws) j c ≡ pasted cs i (ws ++ c ∷ [])
+  pub set-pasted_after : (j : ℕ) → j ≡ i + length ws → j < length cs → set (pasted cs i ws) j c ≡ pasted cs i (ws ++ c ∷ [])
   unfolding pasted
-  set-pasted_behind j at within =
+  set-pasted_after j at within =
       let fits : i + length ws ≤ length cs = omega arith in
       let same = length-pasted cs i ws fits in
       let more : suc j ≡ i + length (ws ++ c ∷ []) = omega (arith, length-append ws (c ∷ [])) in
       let front : take j (pasted cs i ws) ≡ take i cs ++ ws = ap (λ k. take k (pasted cs i ws)) at ∙ take-pasted cs i ws fits in
-      let back : drop (suc j) (pasted cs i ws) ≡ drop (i + length (ws ++ c ∷ [])) cs = drop-pasted_behind cs i ws fits (suc j) (omega arith) ∙ ap (λ k. drop k cs) more in
+      let back : drop (suc j) (pasted cs i ws) ≡ drop (i + length (ws ++ c ∷ [])) cs = drop-pasted_after cs i ws fits (suc j) (omega arith) ∙ ap (λ k. drop k cs) more in
       set_split (pasted cs i ws) j c (omega arith) ∙ (λ n. front n ++ c ∷ back n)
       ∙ append_assoc (take i cs) ws (c ∷ drop (i + length (ws ++ c ∷ [])) cs)
       ∙ ap (λ l. take i cs ++ l) (sym (append_assoc ws (c ∷ []) (drop (i + length (ws ++ c ∷ [])) cs)))

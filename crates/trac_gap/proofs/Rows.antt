@@ -1,5 +1,5 @@
 -- What the walks of the raw functions share. Assumes `Logic`.
---     origin_had, origin_made, mark_had, mark_made     a value of one pointer, and one of no bytes
+--     start_had, origin_made, mark_had, mark_made     a value of one pointer, and one of no bytes
 --     item_had     the one machine value of an item
 --     place_out, place_in     one place is taken out of a row, and put back
 --     cut, glue     a row in two
@@ -38,14 +38,14 @@ use Rattle.core.proofs.slice.Rows.{el_out, el_in}
 use Rattle.std_alloc.proofs.RcSteps.{Good, word}
 use Rattle.trac_gap.specs.Ownership.{place_owns, row_owns, place_lent, row_lent}
 use Rattle.trac_gap.specs.contracts.slots.Slots as P-type
-use Rattle.trac_gap.specs.contracts.slots.Origin as O-type
+use Rattle.trac_gap.specs.contracts.slots.BlockStart as O-type
 
 module _ (E : El) where
   abbrev pub PlacesRow : RattleType
   PlacesRow = P-type.the_row (R E)
 
-  abbrev pub OriginRow : RattleType
-  OriginRow = O-type.the_row (R E)
+  abbrev pub StartRow : RattleType
+  StartRow = O-type.the_row (R E)
 
   -- the one field of `Slots`, which takes no bytes
   abbrev pub Mark : RattleType
@@ -71,8 +71,8 @@ pub mark_made : (E : El) {M : Type 1} {𝓤 : Ura M} (𝓛 : Logic 𝓤) → ent
 mark_made E 𝓛 = makes_shadow 𝓛 ((Mark E).own_val (tt, tt) (mark ∷ [])) (λ vss. (tt, ((λ uss. (tt, tt)), tt))) ((vstruct vnil ∷ [], tt), (refl, ((tt, (refl, tt)), tt)))
 
 module _ {M : Type 1} {𝓤 : Ura M} {𝓛 : Logic 𝓤} {K : Type 0} {Γ : List (Item 𝓤)} {G : Goal 𝓤 𝓛.H} where
-  pub origin_had : K → (c : Ptr) (vs : List Val) → (vs ≡ word c ∷ [] → Seq K 𝓛 Γ G) → Seq K 𝓛 (‵ (Word.own_val (c, tt) vs) ∷ Γ) G
-  origin_had t c vs k = fpick t (λ vss. fsplit t $ feq_l t (λ outer. fsplit t $ feq_l t (λ inner. skip t $
+  pub start_had : K → (c : Ptr) (vs : List Val) → (vs ≡ word c ∷ [] → Seq K 𝓛 Γ G) → Seq K 𝓛 (‵ (Word.own_val (c, tt) vs) ∷ Γ) G
+  start_had t c vs k = fpick t (λ vss. fsplit t $ feq_l t (λ outer. fsplit t $ feq_l t (λ inner. skip t $
       k (subst (λ (ws : List Val). vs ≡ vstruct (of_list (ws ++ [])) ∷ []) inner outer))))
 
   pub origin_made : K → (c : Ptr) → Step K 𝓛 (‵ (Word.own_val (c, tt) (word c ∷ [])) ∷ Γ) G Γ G

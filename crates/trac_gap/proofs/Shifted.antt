@@ -3,7 +3,7 @@ use Rattle.std.proofs.Common.{◌≡◌, ℕ, ◌+◌, ◌-◌, ◌≤◌, ◌++
 use Rattle.std.proofs.lemmas.List.{take-append-drop, drop-take, drop-drop}
 use Rattle.std.proofs.Math.Seq.{length-take-le, take-add, take-append_seam}
 use Rattle.trac_gap.specs.Slots.{IsShifted, run, pasted}
-use Rattle.trac_gap.proofs.Pasted.{length-pasted, take-pasted, drop-pasted, take-pasted_before, drop-pasted_behind}
+use Rattle.trac_gap.proofs.Pasted.{length-pasted, take-pasted, drop-pasted, take-pasted_before, drop-pasted_after}
 
 module _ {X : Type 0} (cs : List X) where
   run_long : (i n : ℕ) → i + n ≤ length cs → length (run i n cs) ≡ n
@@ -20,7 +20,7 @@ module _ {X : Type 0} (cs : List X) where
         count = length-pasted cs j ws fits;
         moved = run_pasted j n ws p g;
         below = λ k a b. take-pasted_before cs j ws fits k b;
-        above = λ k a b. drop-pasted_behind cs j ws fits k (omega (arith, p));
+        above = λ k a b. drop-pasted_after cs j ws fits k (omega (arith, p));
       }
 
   -- a run stays where it is
@@ -54,7 +54,7 @@ module _ {X : Type 0} (cs : List X) where
     both_below k h = take-pasted_before (pasted cs low ws) high vs fits_high k (omega arith) ∙ take-pasted_before cs low ws fits_low k h
 
     both_above : (k : ℕ) → high + n ≤ k → drop k both ≡ drop k cs
-    both_above k h = drop-pasted_behind (pasted cs low ws) high vs fits_high k (omega (arith, q)) ∙ drop-pasted_behind cs low ws fits_low k (omega (arith, p))
+    both_above k h = drop-pasted_after (pasted cs low ws) high vs fits_high k (omega (arith, q)) ∙ drop-pasted_after cs low ws fits_low k (omega (arith, p))
 
     pub at_high : run high n both ≡ vs
     at_high = ap (λ k. take k (drop high both)) (sym q) ∙ ap (take (length vs)) (drop-pasted (pasted cs low ws) high vs fits_high) ∙ take-append_seam vs (drop (high + length vs) (pasted cs low ws))
@@ -77,9 +77,9 @@ module _ {X : Type 0} (cs : List X) where
     both_is =
         let P = pasted cs low ws in let g = high - (low + n) in
         let at : high ≡ low + length ws + g = omega (arith, p) in let seam : low + length ws ≡ low + n = ap (λ k. low + k) p in
-        let middle : take g (drop (low + length ws) P) ≡ between = ap (take g) (drop-pasted_behind cs low ws fits_low (low + length ws) (omega arith)) ∙ ap (λ k. run k g cs) seam in
+        let middle : take g (drop (low + length ws) P) ≡ between = ap (take g) (drop-pasted_after cs low ws fits_low (low + length ws) (omega arith)) ∙ ap (λ k. run k g cs) seam in
         let front : take high P ≡ (take low cs ++ ws) ++ between = ap (λ k. take k P) at ∙ take-add (low + length ws) g P ∙ (λ k. take-pasted cs low ws fits_low k ++ middle k) in
-        let back : drop (high + length vs) P ≡ drop (high + n) cs = drop-pasted_behind cs low ws fits_low (high + length vs) (omega (arith, p)) ∙ ap (λ k. drop (high + k) cs) q in
+        let back : drop (high + length vs) P ≡ drop (high + n) cs = drop-pasted_after cs low ws fits_low (high + length vs) (omega (arith, p)) ∙ ap (λ k. drop (high + k) cs) q in
         (λ k. front k ++ (vs ++ back k)) ∙ append_assoc (take low cs ++ ws) between (vs ++ drop (high + n) cs) ∙ append_assoc (take low cs) ws (between ++ (vs ++ drop (high + n) cs))
 
   -- the row itself in five pieces

@@ -15,8 +15,8 @@ module _ {T A : Type 0} where
 
   -- the pointer, the places and the right to give them back belong together, and only the gap may be empty
   pub record IsBlock (b : Inside T A) : Type 0 where
-    pub places_at : b.places.at ≡ b.origin.ptr
-    pub lease_at : b.lease.at ≡ b.origin.ptr
+    pub places_at : b.places.at ≡ b.start.ptr
+    pub lease_at : b.lease.at ≡ b.start.ptr
     pub lease_count : b.lease.count ≡ b.capacity
     pub lease_alloc : b.lease.alloc ≡ b.alloc
     pub places_count : length b.places.slots ≡ b.capacity

@@ -19,5 +19,5 @@ pub use plain::PlainEnds;
 pub use raw_gap::RawGap;
 pub use sliding::SlidingBuf;
 #[doc(hidden)]
-pub use slots::{Lease, Origin, Slots};
+pub use slots::{BlockStart, Lease, Slots};
 pub use two_ends::TwoEnds;

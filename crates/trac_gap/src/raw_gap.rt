@@ -2,7 +2,7 @@
 ghost use Rattle.std.specs.Prelude.{◌≡◌, ◌+◌, ◌-◌, ◌^◌, ◌<◌, ◌≤◌, [], ◌∷◌, ◌++◌, length, take, drop, IfOk, MatchOption};
 ghost use Rattle.trac_gap.specs.Ends.{item_count};
 
-use crate::slots::{Lease, Origin, Slots, allocate, deallocate};
+use crate::slots::{BlockStart, Lease, Slots, allocate, deallocate};
 use std::alloc::{AllocError, Allocator};
 use std::marker::Model;
 use std_alloc::room::may_hold;
@@ -10,7 +10,7 @@ use std_alloc::room::may_hold;
 /// The left list lies at the begin of the block, and the right one at its end. The places from
 /// `gap_start` up to `gap_end` are the gap. What lies there is of no use: cutting moves nothing.
 pub struct RawGap<T: Copy, A: Allocator + Copy> {
-    origin: Origin<T>,
+    start: BlockStart<T>,
     places: Slots<T>,
     lease: Lease<T, A>,
     alloc: A,
@@ -34,7 +34,7 @@ impl<T: Copy, A: Allocator + Copy> Model for RawGap<T, A> {
 impl<T: Copy, A: Allocator + Copy> Drop for RawGap<T, A> {
     fn drop(self) {
         let RawGap {
-            origin,
+            start,
             places,
             lease,
             alloc,
@@ -42,7 +42,7 @@ impl<T: Copy, A: Allocator + Copy> Drop for RawGap<T, A> {
             gap_start: _,
             gap_end: _,
         } = self;
-        deallocate(&alloc, origin, capacity, places, lease);
+        deallocate(&alloc, start, capacity, places, lease);
     }
 }
 
@@ -54,9 +54,9 @@ impl<T: Copy, A: Allocator + Copy> RawGap<T, A> {
         if !may_hold::<T>(capacity) {
             return Err(AllocError);
         }
-        let (origin, places, lease) = allocate(&alloc, capacity)?;
+        let (start, places, lease) = allocate(&alloc, capacity)?;
         Ok(RawGap {
-            origin,
+            start,
             places,
             lease,
             alloc,
@@ -80,7 +80,7 @@ impl<T: Copy, A: Allocator + Copy> RawGap<T, A> {
         ensures left { result.now ≡ self.now.left }
         ensures within { item_count self.now ≤ self.now.capacity }
     {
-        self.places.items(self.origin, 0, self.gap_start)
+        self.places.items(self.start, 0, self.gap_start)
     }
 
     #[inline]
@@ -89,7 +89,7 @@ impl<T: Copy, A: Allocator + Copy> RawGap<T, A> {
         ensures within { item_count self.now ≤ self.now.capacity }
     {
         self.places
-            .items(self.origin, self.gap_end, self.capacity - self.gap_end)
+            .items(self.start, self.gap_end, self.capacity - self.gap_end)
     }
 
     #[inline]
@@ -97,7 +97,7 @@ impl<T: Copy, A: Allocator + Copy> RawGap<T, A> {
         requires { item_count self.old < self.old.capacity }
         ensures { self.new ≡ record self.old { left = self.old.left ++ x ∷ [] } }
     {
-        self.places.put(self.origin, self.gap_start, x);
+        self.places.put(self.start, self.gap_start, x);
         self.gap_start += 1;
     }
 
@@ -105,7 +105,7 @@ impl<T: Copy, A: Allocator + Copy> RawGap<T, A> {
         requires { item_count self.old + length items.now ≤ self.old.capacity }
         ensures { self.new ≡ record self.old { left = self.old.left ++ items.now } }
     {
-        self.places.copy_in(self.origin, self.gap_start, items);
+        self.places.copy_in(self.start, self.gap_start, items);
         self.gap_start += items.len();
     }
 
@@ -115,7 +115,7 @@ impl<T: Copy, A: Allocator + Copy> RawGap<T, A> {
         ensures { self.new ≡ record self.old { right = x ∷ self.old.right } }
     {
         self.gap_end -= 1;
-        self.places.put(self.origin, self.gap_end, x);
+        self.places.put(self.start, self.gap_end, x);
     }
 
     pub(crate) fn put_right(&mut self, items: &[T])
@@ -123,7 +123,7 @@ impl<T: Copy, A: Allocator + Copy> RawGap<T, A> {
         ensures { self.new ≡ record self.old { right = items.now ++ self.old.right } }
     {
         self.gap_end -= items.len();
-        self.places.copy_in(self.origin, self.gap_end, items);
+        self.places.copy_in(self.start, self.gap_end, items);
     }
 
     #[inline]
@@ -136,7 +136,7 @@ impl<T: Copy, A: Allocator + Copy> RawGap<T, A> {
             return None;
         }
         self.gap_start -= 1;
-        Some(self.places.item(self.origin, self.gap_start))
+        Some(self.places.item(self.start, self.gap_start))
     }
 
     #[inline]
@@ -148,7 +148,7 @@ impl<T: Copy, A: Allocator + Copy> RawGap<T, A> {
         if self.gap_end == self.capacity {
             return None;
         }
-        let first = self.places.item(self.origin, self.gap_end);
+        let first = self.places.item(self.start, self.gap_end);
         self.gap_end += 1;
         Some(first)
     }
@@ -178,7 +178,7 @@ impl<T: Copy, A: Allocator + Copy> RawGap<T, A> {
         } }
     {
         self.places
-            .shift(self.origin, self.gap_end, self.gap_start, n);
+            .shift(self.start, self.gap_end, self.gap_start, n);
         self.gap_start += n;
         self.gap_end += n;
     }
@@ -195,6 +195,6 @@ impl<T: Copy, A: Allocator + Copy> RawGap<T, A> {
         self.gap_start -= n;
         self.gap_end -= n;
         self.places
-            .shift(self.origin, self.gap_start, self.gap_end, n);
+            .shift(self.start, self.gap_start, self.gap_end, n);
     }
 }

@@ -2,7 +2,7 @@
 ghost use Rattle.std.specs.Prelude.{◌≡◌, ℕ, ◌+◌, ◌-◌, ◌^◌, ◌<◌, ◌≤◌, Some, None, length, take, drop, map, get_or, IsSome};
 ghost use Rattle.trac_gap.specs.Slots.{IsFull, IsShifted, run, pasted};
 
-use crate::slots::{Origin, Slots};
+use crate::slots::{BlockStart, Slots};
 
 // How many items a run that overlaps its target moves by at a time: first, and then.
 const LONG: usize = 2048;
@@ -12,31 +12,31 @@ const SHORT: usize = 32;
 impl<T: Copy> Slots<T> {
     /// The item in the place `index`, which has one.
     #[inline]
-    pub(crate) fn item(&self, origin: Origin<T>, index: usize) -> T
-        requires { (origin.ptr ≡ self.now.at) × (index < length self.now.slots)
+    pub(crate) fn item(&self, start: BlockStart<T>, index: usize) -> T
+        requires { (start.ptr ≡ self.now.at) × (index < length self.now.slots)
             × IsSome (get_or self.now.slots index None) }
         ensures { get_or self.now.slots index None ≡ Some result }
     {
-        self.items(origin, index, 1)[0]
+        self.items(start, index, 1)[0]
     }
 
     /// Copies `items` to the places from `at` on.
-    pub(crate) fn copy_in(&mut self, origin: Origin<T>, at: usize, items: &[T])
-        requires { (origin.ptr ≡ self.old.at) × (at + length items.now ≤ length self.old.slots)
+    pub(crate) fn copy_in(&mut self, start: BlockStart<T>, at: usize, items: &[T])
+        requires { (start.ptr ≡ self.old.at) × (at + length items.now ≤ length self.old.slots)
             × (length self.old.slots < 2 ^ 64) }
         ensures { (self.new.at ≡ self.old.at)
             × (self.new.slots ≡ pasted self.old.slots at (map Some items.now)) }
     {
         for i in 0..items.len() {
-            self.put(origin, at + i, items[i]);
+            self.put(start, at + i, items[i]);
         }
     }
 
     /// Moves the `count` items from the place `from` on to the places from `to` on, which may
     /// overlap them. What the other places of both runs hold afterwards is of no use.
     #[inline(always)]
-    pub(crate) fn shift(&mut self, origin: Origin<T>, from: usize, to: usize, count: usize)
-        requires { (origin.ptr ≡ self.old.at) × (from + count ≤ length self.old.slots)
+    pub(crate) fn shift(&mut self, start: BlockStart<T>, from: usize, to: usize, count: usize)
+        requires { (start.ptr ≡ self.old.at) × (from + count ≤ length self.old.slots)
             × (to + count ≤ length self.old.slots) × (length self.old.slots < 2 ^ 64)
             × IsFull (run from count self.old.slots) }
         ensures { (self.new.at ≡ self.old.at)
@@ -51,53 +51,53 @@ impl<T: Copy> Slots<T> {
             return;
         }
         if count <= from.abs_diff(to) {
-            self.move_apart(origin, from, to, count);
+            self.move_apart(start, from, to, count);
         } else if to <= from {
-            self.shift_down(origin, from, to, count);
+            self.shift_down(start, from, to, count);
         } else {
-            self.shift_up(origin, from, to, count);
+            self.shift_up(start, from, to, count);
         }
     }
 
     // `shift` to lower places, the first items first. Its parts lie on the stack, so it is no part of the frame of `shift`.
     #[inline(never)]
-    fn shift_down(&mut self, origin: Origin<T>, from: usize, to: usize, count: usize)
-        requires { (origin.ptr ≡ self.old.at) × (from + count ≤ length self.old.slots)
+    fn shift_down(&mut self, start: BlockStart<T>, from: usize, to: usize, count: usize)
+        requires { (start.ptr ≡ self.old.at) × (from + count ≤ length self.old.slots)
             × (to ≤ from) × (length self.old.slots < 2 ^ 64)
             × IsFull (run from count self.old.slots) }
         ensures { (self.new.at ≡ self.old.at)
             × (self.new.slots ≡ pasted self.old.slots to (run from count self.old.slots)) }
     {
-        let long = self.parts_down::<LONG>(origin, from, to, count);
-        let more = self.parts_down::<SHORT>(origin, from + long, to + long, count - long);
+        let long = self.parts_down::<LONG>(start, from, to, count);
+        let more = self.parts_down::<SHORT>(start, from + long, to + long, count - long);
         let done = long + more;
-        self.parts_down::<1>(origin, from + done, to + done, count - done);
+        self.parts_down::<1>(start, from + done, to + done, count - done);
     }
 
     // `shift` to higher places, the last items first.
     #[inline(never)]
-    fn shift_up(&mut self, origin: Origin<T>, from: usize, to: usize, count: usize)
-        requires { (origin.ptr ≡ self.old.at) × (to + count ≤ length self.old.slots)
+    fn shift_up(&mut self, start: BlockStart<T>, from: usize, to: usize, count: usize)
+        requires { (start.ptr ≡ self.old.at) × (to + count ≤ length self.old.slots)
             × (from ≤ to) × (length self.old.slots < 2 ^ 64)
             × IsFull (run from count self.old.slots) }
         ensures { (self.new.at ≡ self.old.at)
             × (self.new.slots ≡ pasted self.old.slots to (run from count self.old.slots)) }
     {
-        let left = self.parts_up::<LONG>(origin, from, to, count);
-        let few = self.parts_up::<SHORT>(origin, from, to, left);
-        self.parts_up::<1>(origin, from, to, few);
+        let left = self.parts_up::<LONG>(start, from, to, count);
+        let few = self.parts_up::<SHORT>(start, from, to, left);
+        self.parts_up::<1>(start, from, to, few);
     }
 
     // Copies the first items of the run to lower places, `N` at a time while so many are left.
     // Returns how many it copied.
     fn parts_down<const N: usize>(
         &mut self,
-        origin: Origin<T>,
+        start: BlockStart<T>,
         from: usize,
         to: usize,
         count: usize,
     ) -> usize
-        requires { (origin.ptr ≡ self.old.at) × (from + count ≤ length self.old.slots)
+        requires { (start.ptr ≡ self.old.at) × (from + count ≤ length self.old.slots)
             × (to ≤ from) × (length self.old.slots < 2 ^ 64)
             × IsFull (run from count self.old.slots) × (0 < N) }
         ensures copied { (self.new.at ≡ self.old.at) × (self.new.slots
@@ -106,7 +106,7 @@ impl<T: Copy> Slots<T> {
     {
         let mut done = 0;
         while N <= count - done {
-            self.shift_part::<N>(origin, from + done, to + done);
+            self.shift_part::<N>(start, from + done, to + done);
             done += N;
         }
         done
@@ -116,12 +116,12 @@ impl<T: Copy> Slots<T> {
     // Returns how many are left.
     fn parts_up<const N: usize>(
         &mut self,
-        origin: Origin<T>,
+        start: BlockStart<T>,
         from: usize,
         to: usize,
         count: usize,
     ) -> usize
-        requires { (origin.ptr ≡ self.old.at) × (to + count ≤ length self.old.slots)
+        requires { (start.ptr ≡ self.old.at) × (to + count ≤ length self.old.slots)
             × (from ≤ to) × (length self.old.slots < 2 ^ 64)
             × IsFull (run from count self.old.slots) × (0 < N) }
         ensures copied { (self.new.at ≡ self.old.at) × (self.new.slots
@@ -131,7 +131,7 @@ impl<T: Copy> Slots<T> {
         let mut left = count;
         while N <= left {
             left -= N;
-            self.shift_part::<N>(origin, from + left, to + left);
+            self.shift_part::<N>(start, from + left, to + left);
         }
         left
     }
@@ -139,17 +139,17 @@ impl<T: Copy> Slots<T> {
     // `shift` of `N` items. All are read before one is written, so this is one copy of memory
     // also where the places overlap.
     #[inline]
-    fn shift_part<const N: usize>(&mut self, origin: Origin<T>, from: usize, to: usize)
-        requires { (origin.ptr ≡ self.old.at) × (from + N ≤ length self.old.slots)
+    fn shift_part<const N: usize>(&mut self, start: BlockStart<T>, from: usize, to: usize)
+        requires { (start.ptr ≡ self.old.at) × (from + N ≤ length self.old.slots)
             × (to + N ≤ length self.old.slots) × (length self.old.slots < 2 ^ 64)
             × IsFull (run from N self.old.slots) }
         ensures { (self.new.at ≡ self.old.at)
             × (self.new.slots ≡ pasted self.old.slots to (run from N self.old.slots)) }
     {
-        let Some(part) = self.items(origin, from, N).as_array::<N>() else {
+        let Some(part) = self.items(start, from, N).as_array::<N>() else {
             unreachable!()
         };
         let part = *part;
-        self.copy_in(origin, to, &part);
+        self.copy_in(start, to, &part);
     }
 }

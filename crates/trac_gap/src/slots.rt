@@ -14,23 +14,23 @@ use std::ptr::copy_nonoverlapping;
 use std::slice;
 
 /// Where a block begins. It owns nothing.
-pub struct Origin<T> {
+pub struct BlockStart<T> {
     ptr: *mut T,
 }
 
-impl<T> Clone for Origin<T> {
+impl<T> Clone for BlockStart<T> {
     ghost is_clone = { λ x y. y ≡ x };
 
     ghost is_infallible = { λ _. ⊤ };
 
-    fn clone(&self) -> Result<Origin<T>, AllocError> {
+    fn clone(&self) -> Result<BlockStart<T>, AllocError> {
         Ok(*self)
     }
 }
 
-impl<T> Copy for Origin<T> {}
+impl<T> Copy for BlockStart<T> {}
 
-/// The places of a block with the items in them. It takes no bytes: `Origin` has the pointer.
+/// The places of a block with the items in them. It takes no bytes: `BlockStart` has the pointer.
 pub struct Slots<T> {
     mark: PhantomData<*const T>,
     ghost at: { Ptr },
@@ -61,7 +61,7 @@ impl<T, A: Allocator> Model for Lease<T, A> {
 pub(crate) fn allocate<T, A: Allocator>(
     alloc: &A,
     count: usize,
-) -> Result<(Origin<T>, Slots<T>, Lease<T, A>), AllocError>
+) -> Result<(BlockStart<T>, Slots<T>, Lease<T, A>), AllocError>
     requires { FitsInBlock T.row count }
     ensures { IfOk result (λ r.
         (r.1.at ≡ r.0.ptr) × (r.1.slots ≡ replicate count None)
@@ -69,11 +69,11 @@ pub(crate) fn allocate<T, A: Allocator>(
 {
     match alloc.allocate(count * size_of::<T>(), align_of::<T>()) {
         Ok(block) => {
-            let origin = Origin {
+            let start = BlockStart {
                 ptr: block as *mut T,
             };
             Ok((
-                origin,
+                start,
                 Slots { mark: PhantomData },
                 Lease { mark: PhantomData },
             ))
@@ -85,19 +85,19 @@ pub(crate) fn allocate<T, A: Allocator>(
 /// Gives the block of `count` places back. The items in it are forgotten.
 pub(crate) fn deallocate<T, A: Allocator>(
     alloc: &A,
-    origin: Origin<T>,
+    start: BlockStart<T>,
     count: usize,
     places: Slots<T>,
     lease: Lease<T, A>,
 )
-    requires { (places.at ≡ origin.ptr) × (length places.slots ≡ count)
-        × (lease.at ≡ origin.ptr) × (lease.count ≡ count) × (lease.alloc ≡ alloc.now) }
+    requires { (places.at ≡ start.ptr) × (length places.slots ≡ count)
+        × (lease.at ≡ start.ptr) × (lease.count ≡ count) × (lease.alloc ≡ alloc.now) }
 {
     let Slots { mark: _ } = places;
     let Lease { mark: _ } = lease;
     unsafe {
         alloc.deallocate(
-            origin.ptr as *mut u8,
+            start.ptr as *mut u8,
             count * size_of::<T>(),
             align_of::<T>(),
         );
@@ -107,35 +107,35 @@ pub(crate) fn deallocate<T, A: Allocator>(
 impl<T> Slots<T> {
     /// Puts `item` into the place `index`. An item that was there is forgotten.
     #[inline]
-    pub(crate) fn put(&mut self, origin: Origin<T>, index: usize, item: T)
-        requires { (origin.ptr ≡ self.old.at) × (index < length self.old.slots) }
+    pub(crate) fn put(&mut self, start: BlockStart<T>, index: usize, item: T)
+        requires { (start.ptr ≡ self.old.at) × (index < length self.old.slots) }
         ensures { (self.new.at ≡ self.old.at)
             × (self.new.slots ≡ slice_set self.old.slots index (Some item)) }
     {
-        unsafe { origin.ptr.add(index).write(item) }
+        unsafe { start.ptr.add(index).write(item) }
     }
 
     /// The items in the `count` places from `from` on, each of which has one.
     #[inline]
-    pub(crate) fn items(&self, origin: Origin<T>, from: usize, count: usize) -> &[T]
-        requires { (origin.ptr ≡ self.now.at) × (from + count ≤ length self.now.slots)
+    pub(crate) fn items(&self, start: BlockStart<T>, from: usize, count: usize) -> &[T]
+        requires { (start.ptr ≡ self.now.at) × (from + count ≤ length self.now.slots)
             × IsFull (run from count self.now.slots) }
         ensures { result.now ≡ items_of (run from count self.now.slots) }
     {
-        unsafe { slice::from_raw_parts(origin.ptr.add(from), count) }
+        unsafe { slice::from_raw_parts(start.ptr.add(from), count) }
     }
 
     /// Moves the `count` items from the place `from` on to the places from `to` on, which lie apart
     /// from them, by one copy of memory.
     #[inline]
-    pub(crate) fn move_apart(&mut self, origin: Origin<T>, from: usize, to: usize, count: usize)
-        requires { (origin.ptr ≡ self.old.at) × (from + count ≤ length self.old.slots)
+    pub(crate) fn move_apart(&mut self, start: BlockStart<T>, from: usize, to: usize, count: usize)
+        requires { (start.ptr ≡ self.old.at) × (from + count ≤ length self.old.slots)
             × (to + count ≤ length self.old.slots)
             × ((from + count ≤ to) ⊎ (to + count ≤ from))
             × IsFull (run from count self.old.slots) }
         ensures { (self.new.at ≡ self.old.at)
             × IsShifted self.old.slots from to count self.new.slots }
     {
-        unsafe { copy_nonoverlapping(origin.ptr.add(from), origin.ptr.add(to), count) }
+        unsafe { copy_nonoverlapping(start.ptr.add(from), start.ptr.add(to), count) }
     }
 }

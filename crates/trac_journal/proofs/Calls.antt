@@ -1,26 +1,20 @@
 -- Calls in the lists of a journal: the newest one lent, taken out and put there.
-use Rattle.std.proofs.Common.{◌≡◌, ℕ, ◌+◌, ◌≤◌, List, [], ◌∷◌, ◌++◌, length, map, take, drop, get_or, refl, sym, ap, subst, ◌∙◌, arith}
-use Rattle.std.specs.Prelude.{reverse}
+use Rattle.std.proofs.Common.{◌≡◌, ℕ, ◌+◌, ◌≤◌, List, [], ◌∷◌, ◌++◌, length, map, take, drop, refl, sym, ap, subst, ◌∙◌, arith}
 use Rattle.std.specs.List.{concat, sum}
 use Rattle.std.proofs.lemmas.List.{length-append, length-map, length-take-le}
-use Rattle.trac_rules.specs.Records.{Called, Idle, all_before_last, last_of}
+use Rattle.trac_rules.specs.Records.{Called, Idle, last_of}
 use Rattle.trac_rules.specs.State.{Frame}
 use Rattle.trac_rules.specs.Undone.{Undone, Nothing, Point}
 use Rattle.trac_rules.specs.Weights.{meta_weight, undone_weight, weight}
 use Rattle.trac_journal.specs.Listed.{Listed, call_of, called_in, first_undone, idle_of, newest_in, without_call, HasCall, HasMore, Holds, IsKept}
 use Rattle.trac_text.specs.Pieces.{Arguments, all_texts, cut_at}
-use Rattle.trac_journal.specs.Told.{record_with, IsLost, IsTold}
-use Rattle.trac_journal.specs.Emptied.{texts_in}
-use Rattle.trac_change.specs.Undone.{undone_in}
+use Rattle.trac_journal.specs.Told.{record_with, IsTold}
 use Rattle.trac_journal.specs.declared.called.Called as code
-use Rattle.trac_journal.specs.declared.emptied.Emptied.{Emptied}
 use Rattle.trac_journal.specs.declared.entry.CallEntry.{CallEntry}
 use Rattle.trac_journal.specs.declared.entry.Kept.{Kept}
 use Rattle.trac_journal.specs.declared.entry.Kept.TheVariants as kept
-use Rattle.trac_journal.specs.declared.told.Lost.TheVariants as lost
 use Rattle.trac_journal.specs.declared.told.Newest.TheVariants as newest
-use Rattle.trac_change.specs.declared.undone.Undone as destroyed
-use Rattle.trac_journal.proofs.Ends.{before-append, last-append, last_first, length-last}
+use Rattle.trac_journal.proofs.Ends.{before-append, last-append, length-last}
 use Rattle.trac_text.proofs.Joined.{count-cut, cut-joined, joined-cut, lengths_within, total-joined}
 
 -- ---- the newest call

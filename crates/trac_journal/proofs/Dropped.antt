@@ -1,7 +1,7 @@
 -- What the oldest record has in the lists, dropped.
 use Rattle.std.proofs.Common.{◌≡◌, ℕ, ◌+◌, ◌-◌, ◌<◌, ◌≤◌, ◌^◌, List, [], ◌∷◌, ◌++◌, length, map, take, drop, refl, sym, ap, subst, ◌∙◌, arith}
 use Rattle.std.specs.Prelude.{min, replicate, reverse}
-use Rattle.std.proofs.lemmas.List.{append-nil, append_assoc, drop-append-le, drop-drop, drop_all, drop_at, drop_min, length-append, length-replicate, length-take, map-append, replicate-append-replicate, reverse-append, take-append-drop, take-take, take_all, take_at, take_min}
+use Rattle.std.proofs.lemmas.List.{append-nil, append_assoc, drop-append-le, drop-drop, drop_all, drop_at, drop_min, length-append, length-replicate, length-take, map-append, nil_from_length, replicate-append-replicate, reverse-append, take-append-drop, take-take, take_all, take_at, take_min}
 use Rattle.std.proofs.lemmas.List.Elements.{All-drop, All-head, All-same, All-take}
 use Rattle.trac_rules.specs.Records.{Record, Idle, Moved}
 use Rattle.trac_rules.specs.State.{Frame}
@@ -299,21 +299,30 @@ are_left old new gone count weighed n own cut at is counted =
       };
     }
 
+-- the same of records that are seen as these
+pub seen_left : {old seen new gone : List Record} {count weighed n own : ℕ} → old ≡ seen → AreLeft old new gone count weighed n own → AreLeft seen new gone count weighed n own
+seen_left {old} {seen} {new} {gone} {count} {weighed} {n} {own} is left = subst (λ (rs : List Record). AreLeft rs new gone count weighed n own) is left
+
 -- without an entry some moved bytes are left out
-pub last_left : (moved n count weighed : ℕ) (entries now : List Entry) (l : Listed) → entries ≡ [] → now ≡ [] → n ≤ length (unpacked moved (reverse entries) l) →
-    AreCounted (unpacked moved (reverse entries) l) count weighed →
-    (n ≤ moved) × AreLeft (unpacked moved (reverse entries) l) (unpacked (moved - n) (reverse now) l) (replicate n Moved) count weighed n 0
-last_left moved n count weighed entries now l none still few counted =
-    let old : unpacked moved (reverse entries) l ≡ replicate moved Moved = ap (λ (es : List Entry). unpacked moved (reverse es) l) none in
-    let new : unpacked (moved - n) (reverse now) l ≡ replicate (moved - n) Moved = ap (λ (es : List Entry). unpacked (moved - n) (reverse es) l) still in
-    let within : n ≤ moved = omega (arith, few, ap (λ (rs : List Record). length rs) old, length-replicate moved Moved) in
-    let whole : moved ≡ (moved - n) + n = omega (arith, within) in
-    let cut : unpacked moved (reverse entries) l ≡ unpacked (moved - n) (reverse now) l ++ replicate n Moved =
-    old ∙ ap (λ k. replicate k Moved) whole ∙ sym (replicate-append-replicate (moved - n) n Moved) ∙ ap (λ (rs : List Record). rs ++ replicate n Moved) (sym new) in (
-      within,
+module _ (moved n : ℕ) (entries now : List Entry) (l : Listed) (none : length entries ≡ 0) (still : length now ≡ 0) where
+  pub last_listed : AreListed (reverse entries) l → AreListed (reverse now) l
+  last_listed listed = subst (λ (es : List Entry). AreListed (reverse es) l) (nil_from_length entries none ∙ sym (nil_from_length now still)) listed
+
+  old_moved : unpacked moved (reverse entries) l ≡ replicate moved Moved
+  old_moved = ap (λ (es : List Entry). unpacked moved (reverse es) l) (nil_from_length entries none)
+
+  pub last_within : n ≤ length (unpacked moved (reverse entries) l) → n ≤ moved
+  last_within few = omega (arith, few, ap (λ (rs : List Record). length rs) old_moved, length-replicate moved Moved)
+
+  pub last_left : {count weighed : ℕ} → n ≤ length (unpacked moved (reverse entries) l) → AreCounted (unpacked moved (reverse entries) l) count weighed →
+      AreLeft (unpacked moved (reverse entries) l) (unpacked (moved - n) (reverse now) l) (replicate n Moved) count weighed n 0
+  last_left {count} {weighed} few counted =
+      let new : unpacked (moved - n) (reverse now) l ≡ replicate (moved - n) Moved = ap (λ (es : List Entry). unpacked (moved - n) (reverse es) l) (nil_from_length now still) in
+      let whole : moved ≡ (moved - n) + n = omega (arith, last_within few) in
+      let cut : unpacked moved (reverse entries) l ≡ unpacked (moved - n) (reverse now) l ++ replicate n Moved =
+      old_moved ∙ ap (λ k. replicate k Moved) whole ∙ sym (replicate-append-replicate (moved - n) n Moved) ∙ ap (λ (rs : List Record). rs ++ replicate n Moved) (sym new) in
       are_left (unpacked moved (reverse entries) l) (unpacked (moved - n) (reverse now) l) (replicate n Moved) count weighed n 0 cut
-          (sym (length-replicate n Moved)) (sym (moved_sum weight n refl)) counted,
-    )
+      (sym (length-replicate n Moved)) (sym (moved_sum weight n refl)) counted
 
 reverse_first : (entries left : List Entry) (e : Entry) → entries ≡ e ∷ left → reverse entries ≡ reverse left ++ e ∷ []
 reverse_first entries left e first = ap reverse first ∙ reverse-append (e ∷ []) left
@@ -333,17 +342,17 @@ same_listed : (entries : List Entry) (e other : Entry) (l : Listed) → other.ke
 same_listed [] e other l same listed = subst (λ (k : Kept). Holds k l × (older_in k l ≡ nothing_listed)) (sym same) listed
 same_listed (first ∷ entries) e other l same listed = (listed.0, same_listed entries e other (older_in first.kept l) same listed.1)
 
-pub moved_listed : (entries now left : List Entry) (e other : Entry) (l : Listed) → entries ≡ e ∷ left → now ≡ other ∷ left → other.kept ≡ e.kept → AreListed (reverse entries) l →
+pub moved_listed : {entries now left : List Entry} {e other : Entry} (l : Listed) → entries ≡ e ∷ left → now ≡ other ∷ left → other.kept ≡ e.kept → AreListed (reverse entries) l →
     AreListed (reverse now) l
-moved_listed entries now left e other l first fewer same listed =
+moved_listed {entries} {now} {left} {e} {other} l first fewer same listed =
     subst (λ (es : List Entry). AreListed es l) (sym (reverse_first now left other fewer))
     (same_listed (reverse left) e other l same (subst (λ (es : List Entry). AreListed es l) (reverse_first entries left e first) listed))
 
 -- some of the bytes that were moved before the oldest entry's step
-pub moved_left : (moved n count weighed : ℕ) (entries now left : List Entry) (e other : Entry) (l : Listed) → entries ≡ e ∷ left → now ≡ other ∷ left → other.kept ≡ e.kept →
+pub moved_left : (moved n : ℕ) {count weighed : ℕ} {entries now left : List Entry} {e other : Entry} (l : Listed) → entries ≡ e ∷ left → now ≡ other ∷ left → other.kept ≡ e.kept →
     e.moved ≡ other.moved + n → AreListed (reverse entries) l → AreCounted (unpacked moved (reverse entries) l) count weighed →
     AreLeft (unpacked moved (reverse entries) l) (unpacked moved (reverse now) l) (replicate n Moved) count weighed n 0
-moved_left moved n count weighed entries now left e other l first fewer same parts listed counted =
+moved_left moved n {count} {weighed} {entries} {now} {left} {e} {other} l first fewer same parts listed counted =
     let apart = first_apart entries left e l first listed in
     let newer : List Record = unpacked moved (reverse left) apart.others in
     let old = first_last moved entries left e apart.own apart.others l first apart.listed apart.oldest.together in
@@ -358,36 +367,53 @@ moved_left moved n count weighed entries now left e other l first fewer same par
     are_left (unpacked moved (reverse entries) l) (unpacked moved (reverse now) l) (replicate n Moved) count weighed n 0 cut
     (sym (length-replicate n Moved)) (sym (moved_sum weight n refl)) counted
 
--- all of these, and the record of the oldest entry
-pub entry_left : (moved n count weighed own : ℕ) (entries now : List Entry) (e : Entry) (l new : Listed) → entries ≡ e ∷ now → (apart : OldestApart (reverse now) e l) →
-    new ≡ apart.others → own ≡ weight (newest_in e.kept apart.own) → n ≡ e.moved + 1 → AreCounted (unpacked moved (reverse entries) l) count weighed →
-    AreListed (reverse now) new
-    × AreLeft (unpacked moved (reverse entries) l) (unpacked moved (reverse now) new) (newest_in e.kept apart.own ∷ replicate e.moved Moved) count weighed n own
-entry_left moved n count weighed own entries now e l new first apart others is at counted =
-    let gone : List Record = newest_in e.kept apart.own ∷ replicate e.moved Moved in
-    let cut : unpacked moved (reverse entries) l ≡ unpacked moved (reverse now) new ++ gone =
-    first_last moved entries now e apart.own apart.others l first apart.listed apart.oldest.together
-    ∙ ap (λ (x : Listed). unpacked moved (reverse now) x ++ gone) (sym others) in (
-      subst (AreListed (reverse now)) (sym others) apart.listed,
-      are_left (unpacked moved (reverse entries) l) (unpacked moved (reverse now) new) gone count weighed n own cut
-          (omega (arith, at, length-replicate e.moved Moved)) (omega (arith, is, moved_sum weight e.moved refl)) counted,
-    )
+-- what it is to drop the oldest entry's own
+abbrev pub DropsOldest : Kept → Gone → Listed → Listed → Type 0
+DropsOldest k gone all new = (own others : Listed) → IsOldest k own others all → IsGone gone (newest_in k own) × (new ≡ others)
 
--- the record of the oldest entry is a light one
-pub oldest_light : (moved count weighed : ℕ) (entries left : List Entry) (e : Entry) (l : Listed) → entries ≡ e ∷ left → (apart : OldestApart (reverse left) e l) →
-    AreCounted (unpacked moved (reverse entries) l) count weighed → weight (newest_in e.kept apart.own) ≤ 2 ^ 42
-oldest_light moved count weighed entries left e l first apart counted =
-    let all : List Record = unpacked moved (reverse entries) l in
-    let newer : List Record = unpacked moved (reverse left) apart.others in
-    let r : Record = newest_in e.kept apart.own in
-    let run : List Record = replicate e.moved Moved in
-    let cut : all ≡ newer ++ r ∷ run = first_last moved entries left e apart.own apart.others l first apart.listed apart.oldest.together in
-    let last : r ∷ run ≡ drop (length newer) all = sym (ap (drop (length newer)) cut ∙ drop_at newer (r ∷ run) (length newer) refl) in
-    All-head IsLight r run (All-same IsLight (r ∷ run) (drop (length newer) all) last (All-drop IsLight (length newer) all counted.light))
+-- all of these, and the record of the oldest entry
+module _ (moved : ℕ) (l : Listed) {count weighed : ℕ} {entries now : List Entry} {e : Entry} (first : entries ≡ e ∷ now) (listed : AreListed (reverse entries) l)
+    (counted : AreCounted (unpacked moved (reverse entries) l) count weighed) where
+  abbrev pub entry_apart : OldestApart (reverse now) e l
+  entry_apart = first_apart entries now e l first listed
+
+  abbrev pub entry_gone : List Record
+  entry_gone = newest_in e.kept entry_apart.own ∷ replicate e.moved Moved
+
+  entry_last : unpacked moved (reverse entries) l ≡ unpacked moved (reverse now) entry_apart.others ++ entry_gone
+  entry_last = first_last moved entries now e entry_apart.own entry_apart.others l first entry_apart.listed entry_apart.oldest.together
+
+  -- that record is a light one
+  pub oldest_light : weight (newest_in e.kept entry_apart.own) ≤ 2 ^ 42
+  oldest_light =
+      let all : List Record = unpacked moved (reverse entries) l in
+      let newer : List Record = unpacked moved (reverse now) entry_apart.others in
+      let last : entry_gone ≡ drop (length newer) all = sym (ap (drop (length newer)) entry_last ∙ drop_at newer entry_gone (length newer) refl) in
+      All-head IsLight (newest_in e.kept entry_apart.own) (replicate e.moved Moved)
+      (All-same IsLight entry_gone (drop (length newer) all) last (All-drop IsLight (length newer) all counted.light))
+
+  module _ {gone : Gone} {new : Listed} (drops : DropsOldest e.kept gone l new) where
+    is_gone : IsGone gone (newest_in e.kept entry_apart.own) × (new ≡ entry_apart.others)
+    is_gone = drops entry_apart.own entry_apart.others entry_apart.oldest
+
+    pub entry_listed : AreListed (reverse now) new
+    entry_listed = subst (AreListed (reverse now)) (sym is_gone.1) entry_apart.listed
+
+    pub entry_left : AreLeft (unpacked moved (reverse entries) l) (unpacked moved (reverse now) new) entry_gone count weighed (e.moved + 1) gone.weight
+    entry_left =
+        are_left (unpacked moved (reverse entries) l) (unpacked moved (reverse now) new) entry_gone count weighed (e.moved + 1) gone.weight
+        (entry_last ∙ ap (λ (x : Listed). unpacked moved (reverse now) x ++ entry_gone) (sym is_gone.1))
+        (omega (arith, length-replicate e.moved Moved)) (omega (arith, is_gone.0.weighs, moved_sum weight e.moved refl)) counted
+
+    pub entry_read : gone.read ≡ sum_by read_by entry_gone
+    entry_read = omega (arith, is_gone.0.reads, moved_sum read_by e.moved refl)
+
+    pub entry_printed : gone.printed ≡ sum_by printed_by entry_gone
+    entry_printed = omega (arith, is_gone.0.prints, moved_sum printed_by e.moved refl)
 
 -- where what is dropped weighs nothing
-pub same_weight : (old new gone : List Record) (count weighed n : ℕ) → AreLeft old new gone count weighed n 0 → AreCounted new (count - n) weighed
-same_weight old new gone count weighed n left =
+pub same_weight : {old new gone : List Record} {count weighed n : ℕ} → AreLeft old new gone count weighed n 0 → AreCounted new (count - n) weighed
+same_weight {old} {new} {gone} {count} {weighed} {n} left =
     let same : weighed - 0 ≡ weighed = omega arith in
     subst (λ w. AreCounted new (count - n) w) same left.counted
 

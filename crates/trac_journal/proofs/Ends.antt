@@ -18,10 +18,10 @@ last_apart {X} (y ∷ xs) x (suc n) many is = ap (λ (rest : List X). y ∷ rest
 pub last_first : {X : Type 0} (xs : List X) (x : X) (n : ℕ) → length xs ≡ n + 1 → x ≡ get_or xs n x → reverse xs ≡ x ∷ reverse (take n xs)
 last_first xs x n many is = ap reverse (last_apart xs x n many is) ∙ reverse_push (take n xs) x
 
--- the same of a list that is seen through a function
-pub last_seen : {X Y : Type 0} (f : X → Y) (xs : List X) (x : X) (n : ℕ) (ys : List Y) → map f (reverse xs) ≡ ys → length xs ≡ n + 1 → x ≡ get_or xs n x →
-    ys ≡ f x ∷ map f (reverse (take n xs))
-last_seen f xs x n ys seen many is = sym seen ∙ ap (map f) (last_first xs x n many is)
+-- of a list that is seen through a function, the newest first, the last item is the newest
+pub newest_seen : {X Y Z : Type 0} (f : X → Y) (newest : List Y → Z) (xs : List X) (x : X) (count : ℕ) {ys : List Y} → map f (reverse xs) ≡ ys → 0 < count → count ≡ length xs →
+    x ≡ get_or xs (count - 1) x → newest ys ≡ newest (f x ∷ map f (reverse (take (count - 1) xs)))
+newest_seen f newest xs x count seen some many is = ap newest (sym seen ∙ ap (map f) (last_first xs x (count - 1) (omega (arith, some, many)) is))
 
 -- and where it stands after the others
 pub push_seen : {X Y : Type 0} (f : X → Y) (xs others : List X) (x : X) (ys : List Y) → map f (reverse xs) ≡ ys → xs ≡ others ++ x ∷ [] →
@@ -39,24 +39,13 @@ last-append xs ys n is = drop_at xs ys (length (xs ++ ys) - n) (omega (arith, is
 pub before-append : (xs ys : List ℕ) (n : ℕ) → n ≡ length ys → all_before_last n (xs ++ ys) ≡ xs
 before-append xs ys n is = take_at xs ys (length (xs ++ ys) - n) (omega (arith, is, length-append xs ys))
 
-take_past : (xs ys : List ℕ) (k : ℕ) → take (length xs + k) (xs ++ ys) ≡ xs ++ take k ys
-take_past [] ys k = let e : 0 + k ≡ k = omega arith in ap (λ j. take j ys) e
-take_past (x ∷ xs) ys k =
-    let e : suc (length xs) + k ≡ suc (length xs + k) = omega arith in
-    ap (λ j. take j (x ∷ xs ++ ys)) e ∙ ap (λ (rest : List ℕ). x ∷ rest) (take_past xs ys k)
-
 -- with others in front
-pub last-behind : (xs ys : List ℕ) (n : ℕ) → n ≤ length ys → last_of n (xs ++ ys) ≡ last_of n ys
-last-behind xs ys n few =
+pub last-after : (xs ys : List ℕ) (n : ℕ) → n ≤ length ys → last_of n (xs ++ ys) ≡ last_of n ys
+last-after xs ys n few =
     let e : length (xs ++ ys) - n ≡ length xs + (length ys - n) = omega (arith, few, length-append xs ys) in
     ap (λ j. drop j (xs ++ ys)) e
     ∙ sym (drop-drop (length ys - n) (length xs) (xs ++ ys))
     ∙ ap (drop (length ys - n)) (drop_at xs ys (length xs) refl)
-
-pub before-behind : (xs ys : List ℕ) (n : ℕ) → n ≤ length ys → all_before_last n (xs ++ ys) ≡ xs ++ all_before_last n ys
-before-behind xs ys n few =
-    let e : length (xs ++ ys) - n ≡ length xs + (length ys - n) = omega (arith, few, length-append xs ys) in
-    ap (λ j. take j (xs ++ ys)) e ∙ take_past xs ys (length ys - n)
 
 -- both make the list
 pub ends_joined : (n : ℕ) (xs : List ℕ) → all_before_last n xs ++ last_of n xs ≡ xs

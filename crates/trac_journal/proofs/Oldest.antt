@@ -5,6 +5,7 @@ use Rattle.std.proofs.lemmas.List.{append-nil, append_assoc, length-append, leng
 use Rattle.trac_rules.specs.Records.{Record, Called, Moved, last_of}
 use Rattle.trac_rules.specs.State.{Frame}
 use Rattle.trac_rules.specs.Undone.{Undone, Nothing, Point}
+use Rattle.trac_rules.proofs.FurtherOn.{all_before_last-further}
 use Rattle.trac_journal.specs.Dropped.{joined, IsOldest}
 use Rattle.trac_journal.specs.Journaled.{unpacked, AreListed}
 use Rattle.trac_journal.specs.Listed.{Listed, call_of, called_in, first_undone, idle_of, newest_in, nothing_listed, older_in, without_call, HasCall, Holds}
@@ -15,7 +16,7 @@ use Rattle.trac_journal.specs.declared.entry.Entry.{Entry}
 use Rattle.trac_journal.specs.declared.entry.Kept.{Kept}
 use Rattle.trac_journal.specs.declared.entry.Kept.TheVariants as kept
 use Rattle.trac_journal.proofs.Calls.{undone_stays}
-use Rattle.trac_journal.proofs.Ends.{before-behind, before-last, ends_joined, last-behind, last-last, length-last}
+use Rattle.trac_journal.proofs.Ends.{before-last, ends_joined, last-after, last-last, length-last}
 
 -- ---- lists with older ones after them
 
@@ -34,16 +35,16 @@ joined_assoc a b c =
     }
 
 -- with others after it the newest call is the same
-record CallBehind (calls : List CallEntry) (older l : Listed) : Type 0 where
+record CallAfter (calls : List CallEntry) (older l : Listed) : Type 0 where
   has : HasCall (calls ++ older.calls) (older.bytes ++ l.bytes) (older.commas ++ l.commas)
   same : (undone : Undone) → call_of (calls ++ older.calls) undone (older.bytes ++ l.bytes) (older.commas ++ l.commas) ≡ call_of calls undone l.bytes l.commas
   rest : without_call (calls ++ older.calls) (joined older l) ≡ joined older (without_call calls l)
 
-call_behind : (calls : List CallEntry) (older l : Listed) → HasCall calls l.bytes l.commas → CallBehind calls older l
-call_behind [] older l has = absurd has
-call_behind (c ∷ calls) older l has =
-    let text = last-behind older.bytes l.bytes c.bytes has.0 in
-    let lengths = last-behind older.commas l.commas c.commas has.1 in
+call_after : (calls : List CallEntry) (older l : Listed) → HasCall calls l.bytes l.commas → CallAfter calls older l
+call_after [] older l has = absurd has
+call_after (c ∷ calls) older l has =
+    let text = last-after older.bytes l.bytes c.bytes has.0 in
+    let lengths = last-after older.commas l.commas c.commas has.1 in
     record {
       has = (
         omega (arith, has.0, length-append older.bytes l.bytes),
@@ -53,48 +54,48 @@ call_behind (c ∷ calls) older l has =
       same = λ undone. (λ i. Called (record_with (called_in c) (all_texts (cut_at (lengths i) (text i))) undone));
       rest = λ i. record {
         calls = calls ++ older.calls;
-        bytes = before-behind older.bytes l.bytes c.bytes has.0 i;
-        commas = before-behind older.commas l.commas c.commas has.1 i;
+        bytes = all_before_last-further older.bytes l.bytes c.bytes has.0 i;
+        commas = all_before_last-further older.commas l.commas c.commas has.1 i;
         undone = l.undone ++ older.undone;
         emptied = l.emptied ++ older.emptied;
       };
     }
 
-first_behind : (undone older : List Undone) → 1 ≤ length undone → (first_undone (undone ++ older) ≡ first_undone undone) × (drop 1 (undone ++ older) ≡ drop 1 undone ++ older)
-first_behind [] older some = absurd (omega (arith, some))
-first_behind (u ∷ undone) older some = (refl, refl)
+first_after : (undone older : List Undone) → 1 ≤ length undone → (first_undone (undone ++ older) ≡ first_undone undone) × (drop 1 (undone ++ older) ≡ drop 1 undone ++ older)
+first_after [] older some = absurd (omega (arith, some))
+first_after (u ∷ undone) older some = (refl, refl)
 
-idle_behind : (emptied older : List (List ℕ × List Frame)) → 1 ≤ length emptied → (idle_of (emptied ++ older) ≡ idle_of emptied) × (drop 1 (emptied ++ older) ≡ drop 1 emptied ++ older)
-idle_behind [] older some = absurd (omega (arith, some))
-idle_behind (texts ∷ emptied) older some = (refl, refl)
+idle_after : (emptied older : List (List ℕ × List Frame)) → 1 ≤ length emptied → (idle_of (emptied ++ older) ≡ idle_of emptied) × (drop 1 (emptied ++ older) ≡ drop 1 emptied ++ older)
+idle_after [] older some = absurd (omega (arith, some))
+idle_after (texts ∷ emptied) older some = (refl, refl)
 
 -- so is the newest record of any kind
-record Behind (k : Kept) (older l : Listed) : Type 0 where
+record IsAfter (k : Kept) (older l : Listed) : Type 0 where
   has : Holds k (joined older l)
   same : newest_in k (joined older l) ≡ newest_in k l
   rest : older_in k (joined older l) ≡ joined older (older_in k l)
 
-behind : (k : Kept) (older l : Listed) → Holds k l → Behind k older l
-behind kept.Comma older l has = record { has = tt; same = refl; rest = refl }
-behind kept.Begun older l has = record { has = tt; same = refl; rest = refl }
-behind (kept.Quoted closed inner) older l has = record { has = tt; same = refl; rest = refl }
-behind (kept.Deleted b) older l has = record { has = tt; same = refl; rest = refl }
-behind kept.Call older l has =
-    let call = call_behind l.calls older l has in
+after : (k : Kept) (older l : Listed) → Holds k l → IsAfter k older l
+after kept.Comma older l has = record { has = tt; same = refl; rest = refl }
+after kept.Begun older l has = record { has = tt; same = refl; rest = refl }
+after (kept.Quoted closed inner) older l has = record { has = tt; same = refl; rest = refl }
+after (kept.Deleted b) older l has = record { has = tt; same = refl; rest = refl }
+after kept.Call older l has =
+    let call = call_after l.calls older l has in
     record { has = call.has; same = call.same Nothing; rest = call.rest }
-behind (kept.Pointed place) older l has =
-    let call = call_behind l.calls older l has in
+after (kept.Pointed place) older l has =
+    let call = call_after l.calls older l has in
     record { has = call.has; same = call.same (Point place); rest = call.rest }
-behind kept.Changed older l has =
-    let call = call_behind l.calls older l has.0 in
-    let first = first_behind l.undone older.undone has.1 in
+after kept.Changed older l has =
+    let call = call_after l.calls older l has.0 in
+    let first = first_after l.undone older.undone has.1 in
     record {
       has = (call.has, omega (arith, has.1, length-append l.undone older.undone));
       same = call.same (first_undone (l.undone ++ older.undone)) ∙ ap (λ (u : Undone). call_of l.calls u l.bytes l.commas) first.0;
       rest = λ i. record (call.rest i) { undone = first.1 i };
     }
-behind kept.Idle older l has =
-    let first = idle_behind l.emptied older.emptied has in
+after kept.Idle older l has =
+    let first = idle_after l.emptied older.emptied has in
     record {
       has = omega (arith, has, length-append l.emptied older.emptied);
       same = first.0;
@@ -212,7 +213,7 @@ oldest_apart [] e l listed = record {
 oldest_apart (newest ∷ entries) e l listed =
     let first = apart newest.kept l listed.0 in
     let rest = oldest_apart entries e (older_in newest.kept l) listed.1 in
-    let again = behind newest.kept rest.others first.own first.has in
+    let again = after newest.kept rest.others first.own first.has in
     let back : older_in newest.kept (joined rest.others first.own) ≡ rest.others =
     again.rest ∙ ap (λ (x : Listed). joined rest.others x) first.alone ∙ joined_nothing rest.others in
     record {
@@ -233,7 +234,7 @@ oldest_last moved [] e own others none =
     let alone : joined own others ≡ own = ap (λ (x : Listed). joined own x) none ∙ joined_nothing own in
     ap (λ (x : Listed). replicate moved Moved ++ newest_in e.kept x ∷ replicate e.moved Moved) alone
 oldest_last moved (newest ∷ entries) e own others listed =
-    let again = behind newest.kept own others listed.0 in
+    let again = after newest.kept own others listed.0 in
     let tail : List Record = newest_in e.kept own ∷ replicate e.moved Moved in
     (λ i. replicate moved Moved ++ again.same i ∷ unpacked newest.moved (entries ++ e ∷ []) (again.rest i))
     ∙ ap (λ (rs : List Record). replicate moved Moved ++ newest_in newest.kept others ∷ rs) (oldest_last newest.moved entries e own (older_in newest.kept others) listed.1)

@@ -7,8 +7,8 @@ use Rattle.trac_text.specs.Pieces.{Arguments, all_texts, frames_in}
 use Rattle.trac_text.proofs.NeutralAgain.{function_bytes}
 
 -- the next begun function
-pub functions_next : (functions : List (Kind × Arguments)) (i : ℕ) (kind : Kind) (a : Arguments) → i < length functions → (kind, a) ≡ get_or functions i (kind, a) →
+pub functions_next : (functions : List (Kind × Arguments)) (i : ℕ) {kind : Kind} {a : Arguments} → i < length functions → (kind, a) ≡ get_or functions i (kind, a) →
     frames_weight (frames_in (drop i functions)) ≡ length (concat (all_texts a)) + length a.finished + 1 + frames_weight (frames_in (drop (i + 1) functions))
-functions_next functions i kind a within is =
+functions_next functions i {kind} {a} within is =
     let cut : drop i functions ≡ (kind, a) ∷ drop (i + 1) functions = rw add-one (drop-cons functions i (kind, a) within ∙ ap (λ (f : Kind × Arguments). f ∷ drop (suc i) functions) (sym is)) in
     ap (λ (fs : List (Kind × Arguments)). frames_weight (frames_in fs)) cut ∙ omega (arith, function_bytes a.finished a.gathered)

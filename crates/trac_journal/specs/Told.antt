@@ -1,4 +1,4 @@
--- What a record says, and what it hands out.
+-- What a record says, and what is returned with it.
 use Rattle.std.specs.Prelude.{◌≡◌, ℕ, ◌+◌, ◌<◌, ◌^◌, List, [], ◌∷◌}
 use Rattle.trac_rules.specs.Records.{CallRecord, Record, Moved, Comma, Begun, Quoted, Deleted, Idle, Called}
 use Rattle.trac_rules.specs.State.{Frame}

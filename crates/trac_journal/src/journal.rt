@@ -231,7 +231,7 @@ impl<A: Allocator + Copy> Journal<A> {
         }
     }
 
-    /// Takes out the newest record, and hands out what its step destroyed of forms and blocks, or emptied; none where there is
+    /// Takes out the newest record, and returns what its step destroyed of forms and blocks, or emptied; none where there is
     /// no record.
     pub fn pop(&mut self) -> Option<Lost<A>>
         ensures { MatchOption result ((self.old.records ≡ []) × (self.new.records ≡ [])) (λ lost. (r : Record) × ((self.old.records ≡ r ∷ self.new.records) × IsLost lost r)) }

@@ -5,15 +5,16 @@
 pub mod called;
 pub mod dropping;
 pub mod emptied;
+mod emptied_weight;
 pub mod entry;
 pub mod journal;
 pub mod lists;
 pub mod told;
-mod weighing;
 
 pub use called::{Called, Short};
 pub use dropping::Passed;
 pub use emptied::Emptied;
+pub use emptied_weight::weigh_functions;
 #[doc(hidden)]
 pub use entry::{CallEntry, Entry, Kept};
 pub use journal::Journal;
@@ -24,4 +25,3 @@ pub use trac_change::{Undone, undone};
 pub use trac_rules::kind::Kind;
 pub use trac_rules::refusal::Refusal;
 pub use trac_text::{Functions, Pieces, PiecesRef};
-pub use weighing::weigh_functions;

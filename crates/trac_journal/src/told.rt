@@ -1,4 +1,4 @@
-//! What a journal tells of its newest record, and hands out with it.
+//! What a journal tells of its newest record, and returns with it.
 use crate::called::{Called, Short};
 use crate::emptied::Emptied;
 use std::alloc::{Allocator, Global};

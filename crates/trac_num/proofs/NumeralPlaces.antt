@@ -69,8 +69,8 @@ sign_is_numeral text n p l sign t =
     here : get_or (drop (n - 1) text) 0 0 ≡ get_or text (n - 1) 0
     here = get_or-drop (n - 1) text 0 0 ∙ ap (λ i. get_or text i 0) (omega arith)
 
-    behind : drop 1 (drop (n - 1) text) ≡ drop n text
-    behind = drop-drop 1 (n - 1) text ∙ ap (λ i. drop i text) (omega arith)
+    after : drop 1 (drop (n - 1) text) ≡ drop n text
+    after = drop-drop 1 (n - 1) text ∙ ap (λ i. drop i text) (omega arith)
 
     other : is_ascii_digit (get_or text (n - 1) 0) ≡ false
     other = ⊎_elim (λ (e : get_or text (n - 1) 0 ≡ 43). rw e refl) (λ (e : (get_or text (n - 1) 0 ≡ 43 → ⊥) × (get_or text (n - 1) 0 ≡ 45)). rw e.1 refl) sign
@@ -82,7 +82,7 @@ sign_is_numeral text n p l sign t =
         (λ (e : get_or text (n - 1) 0 ≡ 43). without_plus (drop (n - 1) text) (here ∙ e))
         (λ (e : (get_or text (n - 1) 0 ≡ 43 → ⊥) × (get_or text (n - 1) 0 ≡ 45)). without_minus (drop (n - 1) text) (here ∙ e.1))
         sign)
-        (rw behind t)
+        (rw after t)
 
 -- any other byte before them stays before the numeral
 pub digits_are_numeral : (text : List ℕ) (n : ℕ) → 0 < n → n < length text → (get_or text (n - 1) 0 ≡ 43 → ⊥) → (get_or text (n - 1) 0 ≡ 45 → ⊥) → is_ascii_digit (get_or text (n - 1) 0) ≡ false → all_ascii_digits (drop n text) ≡ true → drop n text ≡ numeral_of text

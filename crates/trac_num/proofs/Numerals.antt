@@ -79,8 +79,8 @@ digit_last text i t l =
     let parts = numeral_parts text t in
     ⊎_elim
     (λ (s : ((get_or text 0 0 ≡ 43) ⊎ (get_or text 0 0 ≡ 45)) × (without_leading_sign text ≡ drop 1 text)).
-    let behind : 0 < length (drop 1 text) = rw s.1 at parts.0 in
-    digit_inside text i t (omega (arith, behind, length-drop 1 text)) (omega arith))
+    let after : 0 < length (drop 1 text) = rw s.1 at parts.0 in
+    digit_inside text i t (omega (arith, after, length-drop 1 text)) (omega arith))
     (λ (s : (get_or text 0 0 ≡ 43 → ⊥) × (get_or text 0 0 ≡ 45 → ⊥) × (without_leading_sign text ≡ text)).
     digit_at text i (rw s.2 at parts.1) (omega arith))
     (sign_or_none text)

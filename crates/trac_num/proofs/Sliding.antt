@@ -261,13 +261,13 @@ around_by_parts xs c r within w =
         ∙ get_or-drop c xs (r + i) false ∙ ap (λ k. get_or xs k false) same
         ∙ sym (get_or_append_left (drop (c + r) xs) (take (c + r) xs) false i (omega (arith, before, length-drop (c + r) xs))
         ∙ get_or-drop (c + r) xs i false))
-        (λ (behind : length xs - (c + r) ≤ i).
-        let same : r + i - (length xs - c) ≡ i - (length xs - (c + r)) = omega (arith, behind, within, w) in
-        get_or-append_right (drop c xs) (take (c + 3) xs) (length xs - c) (r + i) false (length-drop c xs) (omega (arith, behind, within, w))
+        (λ (after : length xs - (c + r) ≤ i).
+        let same : r + i - (length xs - c) ≡ i - (length xs - (c + r)) = omega (arith, after, within, w) in
+        get_or-append_right (drop c xs) (take (c + 3) xs) (length xs - c) (r + i) false (length-drop c xs) (omega (arith, after, within, w))
         ∙ get_or-take (c + 3) xs (r + i - (length xs - c)) false (omega (arith, l, within, w))
         ∙ ap (λ k. get_or xs k false) same
-        ∙ sym (get_or-append_right (drop (c + r) xs) (take (c + r) xs) (length xs - (c + r)) i false (length-drop (c + r) xs) behind
-        ∙ get_or-take (c + r) xs (i - (length xs - (c + r))) false (omega (arith, l, within, w, behind))))
+        ∙ sym (get_or-append_right (drop (c + r) xs) (take (c + r) xs) (length xs - (c + r)) i false (length-drop (c + r) xs) after
+        ∙ get_or-take (c + r) xs (i - (length xs - (c + r))) false (omega (arith, l, within, w, after))))
         (cases_lt i (length xs - (c + r)))
 
 -- the digits from a place on, and those up to it

@@ -8,8 +8,8 @@ pub mod comparison;
 pub mod error;
 pub mod numeral;
 pub mod octal;
-pub mod places;
 pub mod print;
+pub mod shifting;
 pub mod tail;
 
 pub use arithmetic::{add, div, mul, sub};
@@ -18,7 +18,7 @@ pub use comparison::greater;
 pub use error::NumError;
 pub use numeral::value;
 pub use octal::octal_tail;
-pub use places::{rotate, shift};
 pub use print::print_into;
+pub use shifting::{rotate, shift};
 pub use tail::{Tail, read_tail};
 pub use trac_rules::width::Width;

@@ -29,8 +29,8 @@ use Rattle.trac_rules.specs.Form.{Form, all_items, defined}
 use Rattle.trac_rules.specs.Handling.{default_argument, form_read, gives_piece, handled, keeping, named_form, on_form, piece_read, pointing, putting, without}
 use Rattle.trac_rules.specs.Limits.{may_be_put}
 use Rattle.trac_rules.specs.Listing.{listed, names_of}
-use Rattle.trac_rules.specs.Number.{behind_prefix, calculated, is_greater, number_text, numeral_of, prefix_of}
-use Rattle.trac_rules.specs.Performing.{effect_of, meta_set, printed_behind}
+use Rattle.trac_rules.specs.Number.{after_prefix, calculated, is_greater, number_text, numeral_of, prefix_of}
+use Rattle.trac_rules.specs.Performing.{effect_of, meta_set, printed_after}
 use Rattle.trac_rules.specs.Pieces.{Piece}
 use Rattle.trac_rules.specs.Reading.{byte_read, read_up_to, rest_read, unread}
 use Rattle.trac_rules.specs.Scanning.{Call}
@@ -51,9 +51,9 @@ use Rattle.trac_origins.proofs.Values.{as_items_beside, filled_beside, made_besi
 -- ---- a result after a prefix
 
 -- is a text that begins with it
-after_prefix : (prefix : List ℕ) (found : Option ℤ) (value : List ℕ) → behind_prefix prefix found ≡ Some value → take (length prefix) value ≡ prefix
-after_prefix prefix None value e = absurd (cc)
-after_prefix prefix (Some n) value e = ap (take (length prefix)) (sym (same_Some (prefix ++ number_text n) value e)) ∙ take_at prefix (number_text n) (length prefix) refl
+begins_with_prefix : (prefix : List ℕ) (found : Option ℤ) (value : List ℕ) → after_prefix prefix found ≡ Some value → take (length prefix) value ≡ prefix
+begins_with_prefix prefix None value e = absurd (cc)
+begins_with_prefix prefix (Some n) value e = ap (take (length prefix)) (sym (same_Some (prefix ++ number_text n) value e)) ∙ take_at prefix (number_text n) (length prefix) refl
 
 -- the prefix of a text begins it
 front_of_prefix : (text : List ℕ) → take (length (prefix_of text)) text ≡ prefix_of text
@@ -66,7 +66,7 @@ front_of_prefix text =
 calculated_prefix : (operation : Operation) (width : Width) (first second value : List ℕ) → calculated (result_of operation) width first second ≡ Some value →
     take (length (prefix_of first)) value ≡ prefix_of first
 unfolding calculated
-calculated_prefix operation width first second value e = after_prefix (prefix_of first) _ value e
+calculated_prefix operation width first second value e = begins_with_prefix (prefix_of first) _ value e
 
 -- ---- what a call does
 
@@ -80,7 +80,7 @@ pub record EffectBeside (R : Origin → Item → Type 0) (o : EffectOrigins) (e 
 module _ (R : Origin → Item → Type 0) (environment : Environment) (call : Call) (from : EndedOrigins) (given : EndedBeside R from call) (line : List ℕ) where
   -- a call with an effect, before which a line is printed
   abbrev pub doing : Effect → Performed
-  doing e = record { environment = environment; call = call; effect = printed_behind line e; from = from }
+  doing e = record { environment = environment; call = call; effect = printed_after line e; from = from }
 
   -- the bytes that an effect reads may be said to be read
   abbrev pub MayBeRead : ℕ → Type 0

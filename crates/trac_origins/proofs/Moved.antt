@@ -19,7 +19,7 @@ use Rattle.trac_rules.specs.Scanning.{Call, Scanned, Moves, Calls, closing_in, c
 use Rattle.trac_rules.specs.State.{Environment, Frame, State}
 use Rattle.trac_rules.specs.Stepping.{carried_out, step}
 use Rattle.trac_rules.specs.Trails.{AreSteps}
-use Rattle.trac_rules.proofs.MovedOn.{moved_on-suc, moved_on-zero}
+use Rattle.trac_rules.proofs.MovedOn.{active-gathered, moved_on-suc, moved_on-zero}
 use Rattle.trac_rules.proofs.Outcomes.{limited_Ok, seen_as-Ok}
 use Rattle.trac_origins.specs.Accounts.{Accounts, makes_idle}
 use Rattle.trac_origins.specs.Following.{followed, going_back, one_more}
@@ -29,7 +29,7 @@ use Rattle.trac_origins.specs.Stepping.{origin}
 use Rattle.trac_origins.proofs.Accounted.{accounted}
 use Rattle.trac_origins.proofs.Told.{byte_within}
 use Rattle.trac_origins.proofs.ToldCalls.{ended}
-use Rattle.trac_origins.proofs.ToldSteps.{active-gathered_in, length-current, scanning_moved, scanning_rest, scanning_stays, within_current, within_gathered}
+use Rattle.trac_origins.proofs.ToldSteps.{length-current, scanning_moved, scanning_rest, scanning_stays, within_current, within_gathered}
 
 -- ---- which rule moves one byte
 
@@ -61,7 +61,7 @@ first_moves_one : (s : State) → 0 < length s.active → HasMovedOne s (gather_
 first_moves_one s some = record {
   some = some;
   current = gathered_len s (take 1 s.active) (drop 1 s.active) ∙ omega (arith, some, length-take 1 s.active);
-  left = ap (λ (text : List ℕ). length text) (active-gathered_in s.frames (take 1 s.active) (deleted 1 s)) ∙ length-drop 1 s.active;
+  left = ap (λ (text : List ℕ). length text) (active-gathered s.frames (take 1 s.active) (deleted 1 s)) ∙ length-drop 1 s.active;
   functions = frames_gathered s.frames (take 1 s.active) (deleted 1 s) refl;
 }
 
@@ -92,7 +92,7 @@ rule_at f s = go f
           one.left,
           gathered_len s (drop 1 s.active) [],
           length-drop 1 s.active,
-          ap (λ (text : List ℕ). length text) (active-gathered_in s.frames (drop 1 s.active) (record s { active = [] })),
+          ap (λ (text : List ℕ). length text) (active-gathered s.frames (drop 1 s.active) (record s { active = [] })),
         )
     opening (Some k) one =
         let inner = take k (drop 1 s.active) in
@@ -106,7 +106,7 @@ rule_at f s = go f
           length-take k (drop 1 s.active),
           length-drop 1 s.active,
           length-drop (k + 1) (drop 1 s.active),
-          ap (λ (text : List ℕ). length text) (active-gathered_in s.frames inner (record s { active = rest })),
+          ap (λ (text : List ℕ). length text) (active-gathered s.frames inner (record s { active = rest })),
         )
 
     go : (g : Front) → RuleAt g s (scan_at g s)
@@ -409,7 +409,7 @@ run_told environment s earlier (suc n) place item all within e =
     let t : State = moved_on (suc n) s in
     let q : Place = before_moved 1 u place in
     let left : length u.active ≡ length s.active - n =
-    ap (λ (text : List ℕ). length text) (active-gathered_in s.frames (take n s.active) (deleted n s)) ∙ length-drop n s.active in
+    ap (λ (text : List ℕ). length text) (active-gathered s.frames (take n s.active) (deleted n s)) ∙ length-drop n s.active in
     let from : origin environment u place ≡ Carried q = one_before environment u t all.0 (moved_on-suc n s) (omega (arith, left, within)) place item e in
     let stands : found_at u q ≡ Some item = subst (λ o. Accounts environment u t o item) from (accounted environment u t all.0 place item e) in
     let further : RunTold environment s earlier n q item = run_told environment s earlier n q item all.1 (omega (arith, within)) stands in

@@ -8,7 +8,7 @@ use Rattle.trac_rules.specs.declared.kind.Kind.{Kind}
 use Rattle.trac_rules.specs.declared.kind.Kind.TheVariants.{Active, Neutral}
 use Rattle.trac_rules.specs.Effect.{Effect, argument}
 use Rattle.trac_rules.specs.Limits.{texts_fit}
-use Rattle.trac_rules.specs.Performing.{after_call, changed_by, effect_of, performed, placed, primitive_of, printed_behind, trace_line}
+use Rattle.trac_rules.specs.Performing.{after_call, changed_by, effect_of, performed, placed, primitive_of, printed_after, trace_line}
 use Rattle.trac_rules.specs.Scanning.{Call, Scanned, Moves, Calls, front_of, scan, scan_at}
 use Rattle.trac_rules.specs.State.{Environment, State}
 use Rattle.trac_rules.specs.Stepping.{carried_out, step}
@@ -52,7 +52,7 @@ module _ (R : Origin → Item → Type 0) where
   }
 
   -- a line that is printed first
-  traced_beside : (line : List ℕ) → Text R (all_made line) line → (f : EffectOrigins) (e : Effect) → EffectBeside R f e → EffectBeside R (traced_from line f) (printed_behind line e)
+  traced_beside : (line : List ℕ) → Text R (all_made line) line → (f : EffectOrigins) (e : Effect) → EffectBeside R f e → EffectBeside R (traced_from line f) (printed_after line e)
   traced_beside line t f e h = record {
     value = h.value;
     printed = appended t h.printed;
@@ -84,7 +84,7 @@ module _ (R : Origin → Item → Type 0) (environment : Environment) (s t : Sta
       let line = trace_line call.state.trace call.kind call.arguments in
       let primitive = primitive_of (argument 0 call.arguments) in
       let outcome = effect_of primitive environment call.arguments call.state in
-      let plain = seen_as-Ok (printed_behind line) outcome e does in
+      let plain = seen_as-Ok (printed_after line) outcome e does in
       let place : call.state.position ≡ s.position = subst (ScanShows place_of s) is (scan_keeps_place s) in
       let end : t.position ≡ call.state.position + plain.0.read = ap (λ (u : State). u.position) after ∙ position-after_call call e ∙ ap (λ (f : Effect). call.state.position + f.read) plain.2 in
       let made : makes_bytes primitive ≡ true → (b : ℕ) → R Made (Byte b) =

@@ -113,11 +113,11 @@ blocks_aside Unknown d k q l = refl
 -- ---- after a call
 
 -- where its value goes makes no difference to them
-forms-gather_from : (gs : List FrameOrigins) (text : List Origin) (o : Origins) (q : List ℕ) → (gather_from gs text o).forms q ≡ o.forms q
+pub forms-gather_from : (gs : List FrameOrigins) (text : List Origin) (o : Origins) (q : List ℕ) → (gather_from gs text o).forms q ≡ o.forms q
 forms-gather_from [] text o q = refl
 forms-gather_from (g ∷ gs) text o q = refl
 
-blocks-gather_from : (gs : List FrameOrigins) (text : List Origin) (o : Origins) (k : ℕ) (q : List ℕ) → (gather_from gs text o).blocks k q ≡ o.blocks k q
+pub blocks-gather_from : (gs : List FrameOrigins) (text : List Origin) (o : Origins) (k : ℕ) (q : List ℕ) → (gather_from gs text o).blocks k q ≡ o.blocks k q
 blocks-gather_from [] text o k q = refl
 blocks-gather_from (g ∷ gs) text o k q = refl
 

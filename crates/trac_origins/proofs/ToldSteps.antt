@@ -11,6 +11,7 @@ use Rattle.trac_rules.specs.Effect.{argument}
 use Rattle.trac_rules.specs.Matching.{match_of, protected_up_to}
 use Rattle.trac_rules.specs.Scanning.{Scanned, Moves, Calls, closing_in, comma_in, deleted, front_of, gathered_in, protect, scan, scan_at}
 use Rattle.trac_rules.specs.State.{Environment, Frame, State}
+use Rattle.trac_rules.proofs.MovedOn.{active-gathered}
 use Rattle.trac_origins.specs.Places.{Place, InActive, InBase, InArgument, InForm, InHeld, InOutput, Origin, Carried, Made, arguments_of, byte_at, found_at, numbered}
 use Rattle.trac_origins.specs.Lists.{FrameOrigins, Origins, all_kept, frames_kept, kept, one_each, origin_at}
 use Rattle.trac_origins.specs.Moving.{comma_from, deleted_from, gather_from, moved_from, protect_from}
@@ -61,10 +62,6 @@ pub active-gather_from : (gs : List FrameOrigins) (text : List Origin) (o : Orig
 active-gather_from [] text o = refl
 active-gather_from (g ∷ gs) text o = refl
 
-pub active-gathered_in : (fs : List Frame) (text : List ℕ) (s : State) → (gathered_in fs text s).active ≡ s.active
-active-gathered_in [] text s = refl
-active-gathered_in (f ∷ fs) text s = refl
-
 active-comma_from : (gs : List FrameOrigins) (o : Origins) → (comma_from gs o).active ≡ o.active
 active-comma_from [] o = refl
 active-comma_from (g ∷ gs) o = refl
@@ -89,7 +86,7 @@ loses f s idle = go f idle
         HasLost n (gather_from (frames_kept s.frames) text (record (all_kept s) { active = drop n (kept InActive s.active) })) s (gathered_in s.frames bytes (record s { active = drop n s.active }))
     gathers text bytes n = record {
       origins = active-gather_from (frames_kept s.frames) text (record (all_kept s) { active = drop n (kept InActive s.active) });
-      bytes = active-gathered_in s.frames bytes (record s { active = drop n s.active });
+      bytes = active-gathered s.frames bytes (record s { active = drop n s.active });
     }
 
     opening : (at : Option ℕ) →
@@ -99,7 +96,7 @@ loses f s idle = go f idle
       record {
         origins = active-gather_from (frames_kept s.frames) (drop 1 (kept InActive s.active)) (record (all_kept s) { active = [] })
             ∙ sym (drop_all (length s.active) (kept InActive s.active) (omega (arith, length-one_each (λ j. Carried (InActive j)) s.active)));
-        bytes = active-gathered_in s.frames (drop 1 s.active) (record s { active = [] }) ∙ sym (drop_all (length s.active) s.active (omega arith));
+        bytes = active-gathered s.frames (drop 1 s.active) (record s { active = [] }) ∙ sym (drop_all (length s.active) s.active (omega arith));
       },
     )
     opening (Some k) = (
@@ -107,7 +104,7 @@ loses f s idle = go f idle
       record {
         origins = active-gather_from (frames_kept s.frames) (take k (drop 1 (kept InActive s.active))) (record (all_kept s) { active = drop (k + 1) (drop 1 (kept InActive s.active)) })
             ∙ drop-drop (k + 1) 1 (kept InActive s.active);
-        bytes = active-gathered_in s.frames (take k (drop 1 s.active)) (record s { active = drop (k + 1) (drop 1 s.active) }) ∙ drop-drop (k + 1) 1 s.active;
+        bytes = active-gathered s.frames (take k (drop 1 s.active)) (record s { active = drop (k + 1) (drop 1 s.active) }) ∙ drop-drop (k + 1) 1 s.active;
       },
     )
 

@@ -17,7 +17,7 @@ use Rattle.trac_rules.specs.Stepping.{step}
 use Rattle.trac_origins.specs.Accounts.{Accounts}
 use Rattle.trac_origins.specs.Lengths.{may_put}
 use Rattle.trac_origins.specs.Lists.{FrameOrigins, Origins, all_kept, frames_kept, kept}
-use Rattle.trac_origins.specs.Moving.{comma_from, gather_from, moved_from, protect_from}
+use Rattle.trac_origins.specs.Moving.{comma_from, moved_from, protect_from}
 use Rattle.trac_origins.specs.Performing.{EffectOrigins, Performed, changed_from, performed_from}
 use Rattle.trac_origins.specs.Places.{Place, InForm, InHeld, Origin, Carried, Made, found_at, held_form, items_of}
 use Rattle.trac_origins.specs.Stepping.{origin, origins, scanned_from}
@@ -25,7 +25,7 @@ use Rattle.trac_origins.proofs.Besides.{StateBeside}
 use Rattle.trac_origins.proofs.StepsBeside.{stepped}
 use Rattle.trac_origins.proofs.Told.{one_each-at}
 use Rattle.trac_origins.proofs.ToldCalls.{ended, is_after, of_call}
-use Rattle.trac_origins.proofs.ToldForms.{blocks-placed, blocks_aside, forms-placed, forms_aside}
+use Rattle.trac_origins.proofs.ToldForms.{blocks-gather_from, blocks-placed, blocks_aside, forms-gather_from, forms-placed, forms_aside}
 use Rattle.trac_origins.proofs.Zips.{Zip, ends, beside}
 
 -- ---- from origins to items
@@ -70,10 +70,6 @@ module _ (environment : Environment) (s t : State) (h : step environment s ≡ O
 
 -- ---- by a rule of scanning
 
-forms-gathered : (gs : List FrameOrigins) (text : List Origin) (o : Origins) (q : List ℕ) → (gather_from gs text o).forms q ≡ o.forms q
-forms-gathered [] text o q = refl
-forms-gathered (g ∷ gs) text o q = refl
-
 forms-comma : (gs : List FrameOrigins) (o : Origins) (q : List ℕ) → (comma_from gs o).forms q ≡ o.forms q
 forms-comma [] o q = refl
 forms-comma (g ∷ gs) o q = refl
@@ -82,8 +78,8 @@ moved_forms : (f : Front) (s : State) (q : List ℕ) → (moved_from f s (all_ke
 moved_forms f s q = go f
   where
     opening : (at : Option ℕ) (text : List Origin) → (protect_from at text (all_kept s)).forms q ≡ (all_kept s).forms q
-    opening None text = forms-gathered (frames_kept s.frames) text _ q
-    opening (Some k) text = forms-gathered (frames_kept s.frames) _ _ q
+    opening None text = forms-gather_from (frames_kept s.frames) text _ q
+    opening (Some k) text = forms-gather_from (frames_kept s.frames) _ _ q
 
     go : (g : Front) → (moved_from g s (all_kept s)).forms q ≡ (all_kept s).forms q
     go Nothing = refl
@@ -92,9 +88,9 @@ moved_forms f s q = go f
     go Comma = forms-comma (frames_kept s.frames) _ q
     go ActiveCall = refl
     go NeutralCall = refl
-    go Sharp = forms-gathered (frames_kept s.frames) _ _ q
+    go Sharp = forms-gather_from (frames_kept s.frames) _ _ q
     go Closing = refl
-    go Plain = forms-gathered (frames_kept s.frames) _ _ q
+    go Plain = forms-gather_from (frames_kept s.frames) _ _ q
 
 pub moves_stay : (environment : Environment) (s t : State) (name : List ℕ) → scan s ≡ Moves t →
     (origins environment s).forms name ≡ kept (InForm name) (items_of (finite.get s.forms name))
@@ -118,10 +114,6 @@ calls_stay environment s t call name h is other =
 
 -- ---- blocks
 
-blocks-gathered : (gs : List FrameOrigins) (text : List Origin) (o : Origins) (k : ℕ) (q : List ℕ) → (gather_from gs text o).blocks k q ≡ o.blocks k q
-blocks-gathered [] text o k q = refl
-blocks-gathered (g ∷ gs) text o k q = refl
-
 blocks-comma : (gs : List FrameOrigins) (o : Origins) (k : ℕ) (q : List ℕ) → (comma_from gs o).blocks k q ≡ o.blocks k q
 blocks-comma [] o k q = refl
 blocks-comma (g ∷ gs) o k q = refl
@@ -130,8 +122,8 @@ moved_blocks : (f : Front) (s : State) (k : ℕ) (q : List ℕ) → (moved_from 
 moved_blocks f s k q = go f
   where
     opening : (at : Option ℕ) (text : List Origin) → (protect_from at text (all_kept s)).blocks k q ≡ (all_kept s).blocks k q
-    opening None text = blocks-gathered (frames_kept s.frames) text _ k q
-    opening (Some n) text = blocks-gathered (frames_kept s.frames) _ _ k q
+    opening None text = blocks-gather_from (frames_kept s.frames) text _ k q
+    opening (Some n) text = blocks-gather_from (frames_kept s.frames) _ _ k q
 
     go : (g : Front) → (moved_from g s (all_kept s)).blocks k q ≡ (all_kept s).blocks k q
     go Nothing = refl
@@ -140,9 +132,9 @@ moved_blocks f s k q = go f
     go Comma = blocks-comma (frames_kept s.frames) _ k q
     go ActiveCall = refl
     go NeutralCall = refl
-    go Sharp = blocks-gathered (frames_kept s.frames) _ _ k q
+    go Sharp = blocks-gather_from (frames_kept s.frames) _ _ k q
     go Closing = refl
-    go Plain = blocks-gathered (frames_kept s.frames) _ _ k q
+    go Plain = blocks-gather_from (frames_kept s.frames) _ _ k q
 
 moves_hold : (environment : Environment) (s t : State) (number : ℕ) (name : List ℕ) → scan s ≡ Moves t →
     (origins environment s).blocks number name ≡ kept (InHeld number name) (items_of (held_form name (block_at number s.blocks)))

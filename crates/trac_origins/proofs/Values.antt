@@ -16,7 +16,7 @@ use Rattle.trac_rules.specs.Effect.{argument}
 use Rattle.trac_rules.specs.Filling.{all_filled, filled, text_numbered}
 use Rattle.trac_rules.specs.Form.{Form, all_items, as_items}
 use Rattle.trac_rules.specs.Handling.{piece_read}
-use Rattle.trac_rules.specs.Pieces.{Piece, at_most_all, byte_of, bytes_in, fitting_count_read, is_gap, last_bytes, next_bytes, nothing_read, place_before, place_behind, place_of_text, read_back, read_on, segment_items, segment_read, until_read, where_any}
+use Rattle.trac_rules.specs.Pieces.{Piece, at_most_all, byte_of, bytes_in, fitting_count_read, is_gap, last_bytes, next_bytes, nothing_read, place_before, place_after, place_of_text, read_back, read_on, segment_items, segment_read, until_read, where_any}
 use Rattle.trac_rules.specs.Showing.{shown, shown_item}
 use Rattle.trac_rules.proofs.Items.{bytes_in-append, length-as_items, no_gap}
 use Rattle.trac_rules.proofs.Cuts.{IsCut, done as none_cut, kept as item_kept, made as gap_made}
@@ -75,7 +75,7 @@ last_within passes (suc n) k e =
 
 next_ahead : (n : ℕ) (form : Form) (piece : Piece) → next_bytes n form ≡ Some piece → IsAhead form piece
 next_ahead n form piece e =
-    let found = place_behind (at_most_all n form.after) form.after in
+    let found = place_after (at_most_all n form.after) form.after in
     let at = of_option_map (λ k. read_on k form) found piece (of_where_any (bytes_in form.after) (option_map (λ k. read_on k form) found) piece e) in
     subst (IsAhead form) at.2 (ahead_on at.0 at.0 form)
 

@@ -11,7 +11,7 @@ use Rattle.trac_rules.specs.declared.refusal.Refusal.{Refusal}
 use Rattle.trac_rules.specs.declared.refusal.Refusal.TheVariants.{Memory, TooLong}
 use Rattle.trac_rules.specs.Effect.{Effect, argument}
 use Rattle.trac_rules.specs.Outcomes.{MayAnswer, MayLackMemory, MayRefuse, limited, seen_as}
-use Rattle.trac_rules.specs.Performing.{effect_of, performed, primitive_of, printed_behind, trace_line}
+use Rattle.trac_rules.specs.Performing.{effect_of, performed, primitive_of, printed_after, trace_line}
 use Rattle.trac_rules.specs.Scanning.{Call}
 use Rattle.trac_rules.specs.State.{Environment, storage_of}
 use Rattle.trac_rules.proofs.Outcomes.{limited_beyond, limited_Err, limited_within}
@@ -40,9 +40,9 @@ for_a_limit e refusal h =
 
 module _ (call : Call) (line : List ℕ) where
   -- what no state can hold does not fit
-  unfit : (e : Effect) → pieces_fit e ≡ false → fits_after call (printed_behind line e) ≡ false
-  unfit e long = false_from_ne_true (fits_after call (printed_behind line e)) (λ fits.
-      let kept = fits_then call (printed_behind line e) fits in
+  unfit : (e : Effect) → pieces_fit e ≡ false → fits_after call (printed_after line e) ≡ false
+  unfit e long = false_from_ne_true (fits_after call (printed_after line e)) (λ fits.
+      let kept = fits_then call (printed_after line e) fits in
       let short : pieces_fit e ≡ true =
       and_from (nat_le (length e.value) TEXT_LIMIT) (nat_le (length e.printed) OUTPUT_LIMIT)
       (le-leb (length e.value) TEXT_LIMIT (omega (arith, kept.text)))
@@ -51,13 +51,13 @@ module _ (call : Call) (line : List ℕ) where
 
   -- why an effect was not made is why the call is refused
   not_made : (outcome : Result Effect Refusal) (refusal : Refusal) → MayFail outcome refusal →
-      MayRefuse (limited (fits_after call) (seen_as (printed_behind line) outcome)) refusal
+      MayRefuse (limited (fits_after call) (seen_as (printed_after line) outcome)) refusal
   not_made (Err why) refusal h = h
-  not_made (Ok e) Memory h = lacks_limited (fits_after call) (printed_behind line e)
+  not_made (Ok e) Memory h = lacks_limited (fits_after call) (printed_after line e)
   not_made (Ok e) TooLong h =
       ⊎_elim
       (λ (short : pieces_fit e ≡ true). absurd (let kept : limited pieces_fit (Ok e) ≡ Ok e = limited_within pieces_fit e short in cc))
-      (λ (long : pieces_fit e ≡ false). limited_beyond (fits_after call) (printed_behind line e) (unfit e long))
+      (λ (long : pieces_fit e ≡ false). limited_beyond (fits_after call) (printed_after line e) (unfit e long))
       (cases_Bool (pieces_fit e))
   not_made (Ok e) refusal h = absurd (let long : refusal ≡ TooLong = for_a_limit e refusal h in cc)
 
@@ -75,7 +75,7 @@ refuses_seen view said refusal h = ap (seen_as view) h
 
 -- texts that were made before are the line of the trace alone
 behind_line : {A : Type 0} (texts : Made A) (line : List ℕ) → texts.value.items ≡ [] → texts.print.items ≡ line → (outcome : Result Effect Refusal) →
-    seen_as (printed_behind line) outcome ≡ seen_as (added_to texts) outcome
+    seen_as (printed_after line) outcome ≡ seen_as (added_to texts) outcome
 behind_line texts line none is (Ok e) =
     let v = sym none in
     let p = sym is in
@@ -90,13 +90,13 @@ module _ (environment : Environment) (call : Call) (kind : Kind) (arguments : Li
   abbrev line : List ℕ
   line = trace_line now.trace kind arguments
 
-  performed_is : performed environment call ≡ seen_as (printed_behind line) outcome
+  performed_is : performed environment call ≡ seen_as (printed_after line) outcome
   unfolding performed
   performed_is =
-      ap (λ (texts : List (List ℕ)). seen_as (printed_behind (trace_line call.state.trace call.kind texts)) (effect_of (primitive_of (argument 0 texts)) environment texts call.state)) given.arguments_are
-      ∙ ap (λ (k : Kind). seen_as (printed_behind (trace_line call.state.trace k arguments)) (effect_of (primitive_of (argument 0 arguments)) environment arguments call.state)) given.kind_is
-      ∙ ap (λ b. seen_as (printed_behind (trace_line b kind arguments)) (effect_of (primitive_of (argument 0 arguments)) environment arguments call.state)) given.state_is.trace_is
-      ∙ ap (λ (p : Primitive). seen_as (printed_behind line) (effect_of p environment arguments call.state)) (sym named)
+      ap (λ (texts : List (List ℕ)). seen_as (printed_after (trace_line call.state.trace call.kind texts)) (effect_of (primitive_of (argument 0 texts)) environment texts call.state)) given.arguments_are
+      ∙ ap (λ (k : Kind). seen_as (printed_after (trace_line call.state.trace k arguments)) (effect_of (primitive_of (argument 0 arguments)) environment arguments call.state)) given.kind_is
+      ∙ ap (λ b. seen_as (printed_after (trace_line b kind arguments)) (effect_of (primitive_of (argument 0 arguments)) environment arguments call.state)) given.state_is.trace_is
+      ∙ ap (λ (p : Primitive). seen_as (printed_after line) (effect_of p environment arguments call.state)) (sym named)
 
   -- what is to be planned
   abbrev wanted : Result Effect Refusal
@@ -113,8 +113,8 @@ module _ (environment : Environment) (call : Call) (kind : Kind) (arguments : Li
     lacks = subst (λ o. MayLackMemory (limited (fits_after call) o)) (sym performed_is) (either outcome is)
       where
         either : (o : Result Effect Refusal) → seen_as (added_to texts) o ≡ Ok (done_on arguments (storage_of call.state) made change deed) →
-            MayLackMemory (limited (fits_after call) (seen_as (printed_behind line) o))
-        either (Ok e) h = lacks_limited (fits_after call) (printed_behind line e)
+            MayLackMemory (limited (fits_after call) (seen_as (printed_after line) o))
+        either (Ok e) h = lacks_limited (fits_after call) (printed_after line e)
         either (Err refusal) h = absurd (cc)
 
     module _ (none : texts.value.items ≡ []) (lined : texts.print.items ≡ line) where

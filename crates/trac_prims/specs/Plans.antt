@@ -1,15 +1,14 @@
 -- What the plan of a call is: the effect that the definitions say, where the state after it is within the limits.
-use Rattle.std.specs.Prelude.{◌≡◌, ◌+◌, ◌++◌, ◌≤◌, ℕ, List, length, Bool}
+use Rattle.std.specs.Prelude.{◌≡◌, ◌+◌, ◌≤◌, ℕ, List, length, Bool}
 use Rattle.trac_forms.specs.Stored.{Stored, storage_in}
 use Rattle.trac_rules.specs.declared.kind.Kind.{Kind}
 use Rattle.trac_rules.specs.declared.limit.TheConstants.{MARK_LIMIT, OUTPUT_LIMIT, TEXT_LIMIT}
 use Rattle.trac_rules.specs.Effect.{Effect}
 use Rattle.trac_rules.specs.Limits.{marks, text_bytes, texts_fit}
-use Rattle.trac_rules.specs.Performing.{after_call, placed}
+use Rattle.trac_rules.specs.Performing.{after_call}
 use Rattle.trac_rules.specs.Scanning.{Call}
 use Rattle.trac_rules.specs.State.{State, storage_of}
 use Rattle.trac_prims.specs.declared.effect.Now.{Now}
-use Rattle.trac_prims.specs.Effects.{Planned}
 
 -- the state is the one that a store and `Now` speak of, the call's arguments and its `)` being gone
 pub record IsNow (s : State) (stored : Stored) (now : Now) : Type 0 where
@@ -30,17 +29,6 @@ pub record IsGiven (call : Call) (kind : Kind) (arguments : List (List ℕ)) (st
 -- whether the state after a call with this effect is within the limits
 abbrev pub fits_after : Call → Effect → Bool
 fits_after call e = texts_fit (after_call call e)
-
--- the state after a call of which this is planned
-abbrev pub after_planned : Call → Planned → State
-after_planned call p = placed call.kind p.forced p.value (record call.state {
-  forms = p.storage.forms;
-  blocks = p.storage.blocks;
-  meta = p.meta;
-  trace = p.trace;
-  position = p.position;
-  output = call.state.output ++ p.printed;
-})
 
 -- there is place within the limits for a value and a printed text
 pub record HasPlace (now : Now) (value printed : List ℕ) : Type 0 where

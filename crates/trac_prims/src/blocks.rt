@@ -18,7 +18,7 @@ ghost use Rattle.trac_change.specs.Changed.{named_forms};
 ghost use Rattle.trac_text.specs.Framing.{texts_of};
 
 use std::alloc::Allocator;
-use trac_change::{Behind, Change, after};
+use trac_change::{Change, LaterArguments, after};
 use trac_forms::{Block, Form, Item, Store, Texts};
 use trac_num::{print_into, read_tail, value};
 use trac_rules::limit::{BLOCK_LIMIT, FORM_COUNT_LIMIT, NAME_LIMIT};
@@ -99,7 +99,7 @@ pub(crate) fn erase_block<A: Allocator + Copy>(
 fn leaving<A: Allocator + Copy>(
     alloc: A,
     store: &Store<A>,
-    names: &Behind<'_>,
+    names: &LaterArguments<'_>,
 ) -> Result<Vec<Vec<u8, A>, A>, Refusal>
     ensures made { IfOk result (λ held. texts_of held.items ≡ names_in (moved_out names.now store.now.forms)) }
     ensures err { IsOkUnless result Refusal.Memory }

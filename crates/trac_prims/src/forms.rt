@@ -18,7 +18,7 @@ ghost use Rattle.trac_rules.specs.declared.width.Width.{Width};
 
 use crate::effect::{Deed, Made};
 use std::alloc::Allocator;
-use trac_change::{Behind, Change, after};
+use trac_change::{Change, LaterArguments, after};
 use trac_forms::{Form, Store, Texts};
 use trac_rules::limit::{FORM_COUNT_LIMIT, MARK_LIMIT, NAME_LIMIT, TEXT_LIMIT};
 use trac_rules::refusal::Refusal;
@@ -192,7 +192,10 @@ fn put<A: Allocator + Copy>(
 }
 
 // Texts with memory of their own.
-fn copies<A: Allocator + Copy>(alloc: A, texts: &Behind<'_>) -> Result<Vec<Vec<u8, A>, A>, Refusal>
+fn copies<A: Allocator + Copy>(
+    alloc: A,
+    texts: &LaterArguments<'_>,
+) -> Result<Vec<Vec<u8, A>, A>, Refusal>
     ensures made { IfOk result (λ copies. texts_of copies.items ≡ texts.now) }
     ensures err { IsOkUnless result Refusal.Memory }
 {

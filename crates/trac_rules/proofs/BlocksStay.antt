@@ -23,7 +23,7 @@ use Rattle.trac_rules.specs.Handling.{default_argument, form_read, gives_piece, 
 use Rattle.trac_rules.specs.Limits.{may_be_put, texts_fit}
 use Rattle.trac_rules.specs.Number.{calculated}
 use Rattle.trac_rules.specs.Outcomes.{seen_as}
-use Rattle.trac_rules.specs.Performing.{after_call, changed_by, effect_of, meta_set, performed, primitive_of, printed_behind, trace_line}
+use Rattle.trac_rules.specs.Performing.{after_call, changed_by, effect_of, meta_set, performed, primitive_of, printed_after, trace_line}
 use Rattle.trac_rules.specs.Pieces.{Piece}
 use Rattle.trac_rules.specs.Reading.{byte_read, read_up_to, rest_read, unread}
 use Rattle.trac_rules.specs.Scanning.{Call, Scanned, Moves, Calls, scan}
@@ -144,7 +144,7 @@ effect_leaves n (Handle action) environment arguments s l = handled_leaves n act
 effect_leaves n (HandleBlock action) environment arguments s l = block_handled_leaves n action arguments (storage_of s) l
 effect_leaves n primitive environment arguments s l = l
 
-traced_leaves : (n : ℕ) (line : List ℕ) (outcome : Result Effect Refusal) → LeavesBlocks n outcome → LeavesBlocks n (seen_as (printed_behind line) outcome)
+traced_leaves : (n : ℕ) (line : List ℕ) (outcome : Result Effect Refusal) → LeavesBlocks n outcome → LeavesBlocks n (seen_as (printed_after line) outcome)
 traced_leaves n line (Ok e) l = l
 traced_leaves n line (Err refusal) l = tt
 

@@ -14,7 +14,7 @@ use Rattle.trac_rules.specs.declared.scan.Front.TheVariants as front
 use Rattle.trac_rules.specs.Effect.{Effect, argument}
 use Rattle.trac_rules.specs.Limits.{texts_fit}
 use Rattle.trac_rules.specs.Outcomes.{seen_as}
-use Rattle.trac_rules.specs.Performing.{after_call, changed_by, effect_of, performed, placed, primitive_of, printed_behind, trace_line}
+use Rattle.trac_rules.specs.Performing.{after_call, changed_by, effect_of, performed, placed, primitive_of, printed_after, trace_line}
 use Rattle.trac_rules.specs.Proper.{IsProper}
 use Rattle.trac_rules.specs.Records.{CallRecord, Record, Called, Rest, Texts, all_before_last, begun_again, call_record_in, call_record_of, call_recorded, is_scanned, put_together, record_in, record_of, recorded, rest_before, rest_of, restored, state_before, texts_before, texts_in, value_taken}
 use Rattle.trac_rules.specs.Scanning.{Call, Scanned, Moves, Calls, closing_in, deleted, front_of, gather, scan, scan_at}
@@ -176,7 +176,7 @@ unfolding performed
 performed_kept environment call e done =
     let primitive = primitive_of (argument 0 call.arguments) in
     let line = trace_line call.state.trace call.kind call.arguments in
-    let parts = seen_as-Ok (printed_behind line) (effect_of primitive environment call.arguments call.state) e done in
+    let parts = seen_as-Ok (printed_after line) (effect_of primitive environment call.arguments call.state) e done in
     let kept = effect_kept primitive environment call.arguments call.state parts.0 refl parts.1 in
     subst (IsKept primitive call.arguments (storage_of call.state)) (sym parts.2) (record { storage_back = kept.storage_back; meta = kept.meta })
 

@@ -21,7 +21,7 @@ use Rattle.trac_rules.specs.Limits.{texts_fit, text_bytes, marks}
 use Rattle.trac_rules.specs.Effect.{Effect, argument}
 use Rattle.trac_rules.specs.Outcomes.{limited, seen_as}
 use Rattle.trac_rules.specs.Reading.{byte_read, string_read, unread}
-use Rattle.trac_rules.specs.Performing.{effect_of, primitive_of, trace_line, printed_behind, performed, placed, changed_by, after_call}
+use Rattle.trac_rules.specs.Performing.{effect_of, primitive_of, trace_line, printed_after, performed, placed, changed_by, after_call}
 use Rattle.trac_rules.specs.Stepping.{carried_out}
 use Rattle.trac_rules.proofs.Outcomes.{limited-seen_as}
 use Rattle.trac_rules.proofs.Scans.{ScanShows, place_of, scan_keeps_place}
@@ -107,7 +107,7 @@ pub performed-changed : (places : ℕ → ℕ) (texts : List ℕ → List ℕ) (
     performed new (record call { state = changed places texts call.state }) ≡ performed old call
 unfolding performed
 performed-changed f g old new call same =
-    ap (seen_as (printed_behind (trace_line call.state.trace call.kind call.arguments)))
+    ap (seen_as (printed_after (trace_line call.state.trace call.kind call.arguments)))
     (effect_of-changed f g old new call.state same (primitive_of (argument 0 call.arguments)) call.arguments)
 
 -- a value goes to the same place

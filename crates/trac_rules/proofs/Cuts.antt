@@ -10,7 +10,7 @@ use Rattle.std.proofs.lemmas.Option.{option_and_then_some, same_Some}
 use Rattle.trac_rules.specs.declared.item.CutGap.{CutGap}
 use Rattle.trac_rules.specs.declared.item.Item.{Item}
 use Rattle.trac_rules.specs.declared.item.Item.TheVariants.{Byte, Gap}
-use Rattle.trac_rules.specs.Cuts.{begins_with_gap, cut_between, cut_of, fitting, joined_from, joined}
+use Rattle.trac_rules.specs.Cuts.{cut_between, cut_of, fitting, joined_from, joined}
 use Rattle.trac_rules.specs.Filling.{text_numbered}
 use Rattle.trac_rules.specs.Form.{Form, IsWide, all_items, as_items, extent, width_of}
 use Rattle.trac_rules.specs.Segmenting.{leftmost, cut_at, cut_up_to, part, runs_of, replaced, cut_out, segmented_from, segmented}
@@ -37,11 +37,11 @@ module _ (texts : List (List ℕ)) where
   same_items (item ∷ items) = kept (same_items items)
 
   -- one list after another
-  pub one_behind : {a b c d : List Item} → IsCut texts a b → IsCut texts c d → IsCut texts (a ++ c) (b ++ d)
-  one_behind done i = i
-  one_behind (kept h) i = kept (one_behind h i)
-  one_behind {c = c} {d = d} (made k {old = old} {new = new} some h) i =
-      subst (λ (xs : List Item). IsCut texts xs (Gap k (length (text_numbered k texts)) ∷ (new ++ d))) (sym (append_assoc (as_items (text_numbered k texts)) old c)) (made k some (one_behind h i))
+  pub one_after : {a b c d : List Item} → IsCut texts a b → IsCut texts c d → IsCut texts (a ++ c) (b ++ d)
+  one_after done i = i
+  one_after (kept h) i = kept (one_after h i)
+  one_after {c = c} {d = d} (made k {old = old} {new = new} some h) i =
+      subst (λ (xs : List Item). IsCut texts xs (Gap k (length (text_numbered k texts)) ∷ (new ++ d))) (sym (append_assoc (as_items (text_numbered k texts)) old c)) (made k some (one_after h i))
 
   -- what a byte was
   was_byte : {b : ℕ} {old new : List Item} → IsCut texts old (Byte b ∷ new) → (rest : List Item) × (old ≡ Byte b ∷ rest) × IsCut texts rest new
@@ -77,7 +77,7 @@ module _ (texts : List (List ℕ)) where
       let split : as_items run ≡ as_items front ++ (as_items text ++ as_items back) =
       ap as_items (split_at text run place (leftmost_stands text run place h))
       ∙ as_items-append front (text ++ back) ∙ ap (λ (r : List Item). as_items front ++ r) (as_items-append text back) in
-      subst (λ (xs : List Item). IsCut texts xs (as_items front ++ Gap k (length text) ∷ cut back)) (sym split) (one_behind (same_items (as_items front)) gap)
+      subst (λ (xs : List Item). IsCut texts xs (as_items front ++ Gap k (length text) ∷ cut back)) (sym split) (one_after (same_items (as_items front)) gap)
 
   cut_rounds : (n k : ℕ) (text run : List ℕ) → text_numbered k texts ≡ text → 0 < length text → IsCut texts (as_items run) (cut_up_to n k text run)
   cut_rounds zero k text run e some = same_items (as_items run)
@@ -91,14 +91,14 @@ module _ (texts : List (List ℕ)) where
   cut_others : (cut : List ℕ → List Item) → ((run : List ℕ) → IsCut texts (as_items run) (cut run)) → (others : List (Item × List ℕ)) →
       IsCut texts (flat_map (λ gap. gap.0 ∷ as_items gap.1) others) (flat_map (λ gap. gap.0 ∷ cut gap.1) others)
   cut_others cut cuts [] = done
-  cut_others cut cuts (gap ∷ others) = kept (one_behind (cuts gap.1) (cut_others cut cuts others))
+  cut_others cut cuts (gap ∷ others) = kept (one_after (cuts gap.1) (cut_others cut cuts others))
 
   -- a text cut out of all runs
   pub cut_once : (k : ℕ) (text : List ℕ) (items : List Item) → text_numbered k texts ≡ text → IsCut texts items (cut_out k text items)
   unfolding cut_out
   cut_once k text items e =
       subst (λ (xs : List Item). IsCut texts xs (replaced (part k text) (runs_of items))) (replaced_none items)
-      (one_behind (cut_part k text (runs_of items).first e) (cut_others (part k text) (λ run. cut_part k text run e) (runs_of items).others))
+      (one_after (cut_part k text (runs_of items).first e) (cut_others (part k text) (λ run. cut_part k text run e) (runs_of items).others))
 
   -- all texts cut out in turn
   pub cut_in_turn : (earlier later : List (List ℕ)) (k : ℕ) (items : List Item) → texts ≡ earlier ++ later → k ≡ suc (length earlier) →
@@ -263,16 +263,16 @@ filled_first : (texts : List (List ℕ)) (place : ℕ) (gap : CutGap) (cut : Lis
     then option_and_then (λ text. option_map (λ rest. as_items text ++ rest) (joined_from texts (place + 1) cut items)) (fitting texts gap.ordinal item)
     else option_map (λ rest. item ∷ rest) (joined_from texts (place + 1) (gap ∷ cut) items)) ≡ Some before →
     IsCut texts before (item ∷ items)
-filled_first texts place gap cut item items before true behind further h =
+filled_first texts place gap cut item items before true after further h =
     option_and_then_some (λ text. option_map (λ rest. as_items text ++ rest) (joined_from texts (place + 1) cut items)) (fitting texts gap.ordinal item) before h (λ text fits there.
     let named = fits_gap texts gap.ordinal item text fits in
     let rest = mapped_some (λ (xs : List Item). as_items text ++ xs) (joined_from texts (place + 1) cut items) before there in
     let gap_made : IsCut texts (as_items text ++ rest.0) (Gap gap.ordinal (length text) ∷ items) =
     subst (λ (t : List ℕ). IsCut texts (as_items t ++ rest.0) (Gap gap.ordinal (length t) ∷ items)) named.0
-    (made gap.ordinal (subst (λ (t : List ℕ). 0 < length t) (sym named.0) named.2) (behind rest.0 rest.1)) in
+    (made gap.ordinal (subst (λ (t : List ℕ). 0 < length t) (sym named.0) named.2) (after rest.0 rest.1)) in
     subst (λ (xs : List Item). IsCut texts xs (item ∷ items)) rest.2
     (subst (λ (i : Item). IsCut texts (as_items text ++ rest.0) (i ∷ items)) (sym named.1) gap_made))
-filled_first texts place gap cut item items before false behind further h =
+filled_first texts place gap cut item items before false after further h =
     let rest = mapped_some (λ (xs : List Item). item ∷ xs) (joined_from texts (place + 1) (gap ∷ cut) items) before h in
     subst (λ (xs : List Item). IsCut texts xs (item ∷ items)) rest.2 (kept (further rest.0 rest.1))
 

@@ -16,8 +16,8 @@ use Rattle.trac_rules.proofs.Balanced.{first_place_some, first_place_none, first
 -- ---- where a text stands
 
 -- a text stands after what is before it
-pub stands_behind : (text front back : List ℕ) → stands_at text (front ++ (text ++ back)) (length front) ≡ true
-stands_behind text front back =
+pub stands_after : (text front back : List ℕ) → stands_at text (front ++ (text ++ back)) (length front) ≡ true
+stands_after text front back =
     let here : drop (length front) (front ++ (text ++ back)) ≡ text ++ back = drop_at front (text ++ back) (length front) refl in
     let there : take (length text) (text ++ back) ≡ text = take_at text back (length text) refl in
     (bytes_eq-Decides (take (length text) (drop (length front) (front ++ (text ++ back)))) text).1 (ap (take (length text)) here ∙ there)
@@ -26,11 +26,11 @@ stands_behind text front back =
 pub split_at : (text run : List ℕ) (place : ℕ) → stands_at text run place ≡ true → run ≡ take place run ++ (text ++ drop (place + length text) run)
 split_at text run place h =
     let here : take (length text) (drop place run) ≡ text = (bytes_eq-Decides (take (length text) (drop place run)) text).0 h in
-    let behind : drop place run ≡ text ++ drop (place + length text) run =
+    let after : drop place run ≡ text ++ drop (place + length text) run =
     sym (take-append-drop (length text) (drop place run))
     ∙ ap (λ t. t ++ drop (length text) (drop place run)) here
     ∙ ap (λ r. text ++ r) (drop-drop (length text) place run) in
-    sym (take-append-drop place run) ∙ ap (λ r. take place run ++ r) behind
+    sym (take-append-drop place run) ∙ ap (λ r. take place run ++ r) after
 
 -- a place at which the text stands, with none before it, is the leftmost
 pub leftmost_some : (text run : List ℕ) (place : ℕ) → place ≤ length run → stands_at text run place ≡ true → ((j : ℕ) → j < place → stands_at text run j ≡ false) →
@@ -115,7 +115,7 @@ part_found k text front back some first =
     part_is k text (front ++ (text ++ back)) long
     ∙ ap (λ (o : Option ℕ). cut_at o k text (front ++ (text ++ back)) (part k text)) found
     ∙ ap (λ f. as_items f ++ Gap k (length text) ∷ part k text (drop (length front + length text) (front ++ (text ++ back)))) (take_at front (text ++ back) (length front) refl)
-    ∙ ap (λ r. as_items front ++ Gap k (length text) ∷ part k text r) behind
+    ∙ ap (λ r. as_items front ++ Gap k (length text) ∷ part k text r) after
   where
     long : 0 < length text
     long = ⊎_elim (λ (e : length text ≡ 0). absurd (some (nil_from_length text e))) (λ (ne : length text ≡ 0 → ⊥). omega arith) (cases_eq (length text) 0)
@@ -127,10 +127,10 @@ part_found k text front back some first =
 
     found : leftmost text (front ++ (text ++ back)) ≡ Some (length front)
     found = leftmost_some text (front ++ (text ++ back)) (length front)
-        (omega (arith, length-append front (text ++ back))) (stands_behind text front back) before
+        (omega (arith, length-append front (text ++ back))) (stands_after text front back) before
 
-    behind : drop (length front + length text) (front ++ (text ++ back)) ≡ back
-    behind = sym (drop-drop (length text) (length front) (front ++ (text ++ back)))
+    after : drop (length front + length text) (front ++ (text ++ back)) ≡ back
+    after = sym (drop-drop (length text) (length front) (front ++ (text ++ back)))
         ∙ ap (drop (length text)) (drop_at front (text ++ back) (length front) refl)
         ∙ drop_at text back (length text) refl
 

@@ -31,10 +31,19 @@ scanning_further_on k o r s t of back =
 -- ---- a call
 
 -- all but the last n bytes of a text with another before it
-all_before_last-further : (o text : List ℕ) (n : ℕ) → n ≤ length text → all_before_last n (o ++ text) ≡ o ++ all_before_last n text
+pub all_before_last-further : (o text : List ℕ) (n : ℕ) → n ≤ length text → all_before_last n (o ++ text) ≡ o ++ all_before_last n text
 all_before_last-further o text n fits =
     let count : length (o ++ text) - n ≡ length o + (length text - n) = omega (arith, length-append o text, fits) in
     ap (λ (m : ℕ). take m (o ++ text)) count ∙ take-append-add o text (length text - n)
+
+-- the rest before a call, of which the record says this
+abbrev pub rest_said : CallRecord → Rest → Rest
+rest_said call r = record {
+  meta = unwrap_or call.meta r.meta;
+  trace = call.trace;
+  position = r.position - call.read;
+  output = all_before_last call.printed r.output;
+}
 
 -- the rest of a state that stands further on
 abbrev rest_further : ℕ → List ℕ → Rest → Rest
@@ -54,22 +63,14 @@ rest_further_on k o call rest before back =
     let fits = and_from (nat_le call.read (k + rest.position)) (nat_le call.printed (length (o ++ rest.output))) reads prints in
     let place : k + rest.position - call.read ≡ k + (rest.position - call.read) = omega (arith, read) in
     let output = all_before_last-further o rest.output call.printed printed in
-    let known : Some (there rest) ≡ Some before = ap (λ (b : Bool). then_some b (there rest)) (sym t) ∙ back in
-    let same : there rest ≡ before = cc in
-    ap (λ (b : Bool). then_some b (there (rest_further k o rest))) fits
-    ∙ (λ i. let moved : Rest = record (there rest) { position = place i; output = output i } in Some moved)
+    let known : Some (rest_said call rest) ≡ Some before = ap (λ (b : Bool). then_some b (rest_said call rest)) (sym t) ∙ back in
+    let same : rest_said call rest ≡ before = cc in
+    ap (λ (b : Bool). then_some b (rest_said call (rest_further k o rest))) fits
+    ∙ (λ i. let moved : Rest = record (rest_said call rest) { position = place i; output = output i } in Some moved)
     ∙ ap (λ (r : Rest). Some (rest_further k o r)) same)
     (λ (t : nat_le call.read rest.position && nat_le call.printed (length rest.output) ≡ false).
-    absurd (let none : None ≡ Some before = ap (λ (b : Bool). then_some b (there rest)) (sym t) ∙ back in cc))
+    absurd (let none : None ≡ Some before = ap (λ (b : Bool). then_some b (rest_said call rest)) (sym t) ∙ back in cc))
     (cases_Bool (nat_le call.read rest.position && nat_le call.printed (length rest.output)))
-  where
-    there : Rest → Rest
-    there r = record {
-      meta = unwrap_or call.meta r.meta;
-      trace = call.trace;
-      position = r.position - call.read;
-      output = all_before_last call.printed r.output;
-    }
 
 -- parts that are put together are all there
 pub put_together_parts : (texts : Option Texts) (storage : Option Storage) (rest : Option Rest) (s : State) → put_together texts storage rest ≡ Some s →

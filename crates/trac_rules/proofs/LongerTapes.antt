@@ -14,7 +14,7 @@ use Rattle.trac_rules.specs.Limits.{texts_fit}
 use Rattle.trac_rules.specs.Effect.{argument}
 use Rattle.trac_rules.specs.Outcomes.{limited, seen_as}
 use Rattle.trac_rules.specs.Reading.{byte_read, read_up_to, string_read, unread}
-use Rattle.trac_rules.specs.Performing.{after_call, effect_of, performed, primitive_of, printed_behind, trace_line}
+use Rattle.trac_rules.specs.Performing.{after_call, effect_of, performed, primitive_of, printed_after, trace_line}
 use Rattle.trac_rules.specs.Stepping.{carried_out, step}
 use Rattle.trac_rules.specs.Session.{over}
 use Rattle.trac_rules.specs.GoingOn.{whole}
@@ -109,8 +109,8 @@ performed-more : (e : Environment) (more : List ℕ) (ended : Bool) (call : Call
 unfolding performed
 performed-more e more ended call unended wanted =
     let line = trace_line call.state.trace call.kind call.arguments in
-    ap (seen_as (printed_behind line)) (effect_of-more (primitive_of (argument 0 call.arguments)) e more ended call.arguments call.state unended
-    (λ none. wanted (ap (seen_as (printed_behind line)) none)))
+    ap (seen_as (printed_after line)) (effect_of-more (primitive_of (argument 0 call.arguments)) e more ended call.arguments call.state unended
+    (λ none. wanted (ap (seen_as (printed_after line)) none)))
 
 -- and what scanning gives
 carried_out-more : (e : Environment) (more : List ℕ) (ended : Bool) (x : Scanned) → e.tape.ended ≡ false → (carried_out e x ≡ Err NeedInput → ⊥) →

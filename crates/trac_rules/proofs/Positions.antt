@@ -36,12 +36,12 @@ position-append_Some p xs ys k h =
 pub position-append_None : (p : ℕ → Bool) (xs ys : List ℕ) (k : ℕ) → position p xs ≡ None → position p (xs ++ ys) ≡ Some k → (length xs ≤ k) × (k < length (xs ++ ys))
 position-append_None p xs ys k none h =
     let at = position-Some p (xs ++ ys) k 0 h in
-    let behind : length xs ≤ k =
+    let after : length xs ≤ k =
     ⊎_elim
     (λ (l : k < length xs). absurd (false≢true (sym (position_none p xs none k l) ∙ ap p (sym (get_or_append_left xs ys 0 k l)) ∙ at.1)))
     (λ (l : length xs ≤ k). l)
     (cases_lt k (length xs)) in
-    (behind, at.0)
+    (after, at.0)
 
 -- where there is none in either part, there is none
 pub position-append_neither : (p : ℕ → Bool) (xs ys : List ℕ) → position p xs ≡ None → position p ys ≡ None → position p (xs ++ ys) ≡ None

@@ -69,6 +69,10 @@ of_entries (e ∷ es) name form all there =
     (sym (cond-false (eq_by_cmp (slice_cmp nat_cmp) name e.0) (Some e.1) (find (slice_cmp nat_cmp) name es) t) ∙ there))
     (cases_Bool (eq_by_cmp (slice_cmp nat_cmp) name e.0))
 
+pub both_true : (a b : Bool) → T (a && b) → T a × T b
+both_true true b h = (tt, h)
+both_true false b h = absurd h
+
 -- what holds of all that is found holds of each entry, since each is found under its own name
 pub all_entries : (P : List ℕ → Form → Type 0) (es : List (List ℕ × Form)) → T (is_sorted (slice_cmp nat_cmp) es) →
     ((name : List ℕ) (form : Form) → find (slice_cmp nat_cmp) name es ≡ Some form → P name form) → All (λ e. P e.0 e.1) es
@@ -78,12 +82,8 @@ all_entries P (e ∷ es) sorted found =
     (found e.0 e.1 (cond-true (eq_by_cmp (slice_cmp nat_cmp) e.0 e.0) (Some e.1) (find (slice_cmp nat_cmp) e.0 es) (ties_itself e.0)))
     (all_entries P es parts.1 (λ name form there. found name form (later name form there)))
   where
-    both : (a b : Bool) → T (a && b) → T a × T b
-    both true b h = (tt, h)
-    both false b h = absurd h
-
     parts : T (below_all (slice_cmp nat_cmp) e.0 es) × T (is_sorted (slice_cmp nat_cmp) es)
-    parts = both (below_all (slice_cmp nat_cmp) e.0 es) (is_sorted (slice_cmp nat_cmp) es) sorted
+    parts = both_true (below_all (slice_cmp nat_cmp) e.0 es) (is_sorted (slice_cmp nat_cmp) es) sorted
 
     later : (name : List ℕ) (form : Form) → find (slice_cmp nat_cmp) name es ≡ Some form → find (slice_cmp nat_cmp) name (e ∷ es) ≡ Some form
     later name form there =

@@ -29,7 +29,7 @@ use Rattle.trac_rules.specs.Handling.{default_argument, form_read, gives_piece, 
 use Rattle.trac_rules.specs.Limits.{form_fits, may_be_put, texts_fit}
 use Rattle.trac_rules.specs.Number.{calculated}
 use Rattle.trac_rules.specs.Outcomes.{seen_as}
-use Rattle.trac_rules.specs.Performing.{after_call, changed_by, effect_of, meta_set, performed, placed, primitive_of, printed_behind, trace_line}
+use Rattle.trac_rules.specs.Performing.{after_call, changed_by, effect_of, meta_set, performed, placed, primitive_of, printed_after, trace_line}
 use Rattle.trac_rules.specs.Proper.{AreProperForms, IsProper, IsProperBlock, IsProperForm, IsProperStorage}
 use Rattle.trac_rules.specs.Pieces.{Piece}
 use Rattle.trac_rules.specs.Reading.{byte_read, read_up_to, rest_read, unread}
@@ -280,7 +280,7 @@ effect_proper (HandleBlock action) environment arguments s proper = block_handle
 effect_proper primitive environment arguments s proper = proper
 
 -- the line of the trace changes no storage
-traced_proper : (line : List ℕ) (outcome : Result Effect Refusal) → LeavesProper outcome → LeavesProper (seen_as (printed_behind line) outcome)
+traced_proper : (line : List ℕ) (outcome : Result Effect Refusal) → LeavesProper outcome → LeavesProper (seen_as (printed_after line) outcome)
 traced_proper line (Ok e) proper = proper
 traced_proper line (Err refusal) proper = tt
 

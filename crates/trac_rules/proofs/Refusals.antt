@@ -18,12 +18,12 @@ use Rattle.trac_rules.specs.Blocks.{block_handled}
 use Rattle.trac_rules.specs.Handling.{handled}
 use Rattle.trac_rules.specs.Outcomes.{limited, seen_as}
 use Rattle.trac_rules.specs.Reading.{byte_read, read_up_to, rest_read, unread}
-use Rattle.trac_rules.specs.Performing.{effect_of, primitive_of, trace_line, printed_behind, performed, placed, changed_by, after_call}
+use Rattle.trac_rules.specs.Performing.{effect_of, primitive_of, trace_line, printed_after, performed, placed, changed_by, after_call}
 use Rattle.trac_rules.specs.Stepping.{carried_out, step}
 use Rattle.trac_rules.specs.Running.{silent}
 use Rattle.trac_rules.proofs.Outcomes.{limited_beyond, limited_Err, seen_as-Err}
 use Rattle.trac_rules.proofs.Positions.{position-append_None}
-use Rattle.trac_rules.proofs.Scans.{ScanShows, gathered_in_shows, place_of, scan_keeps_place}
+use Rattle.trac_rules.proofs.Scans.{ScanShows, place_of, scan_keeps_place}
 use Rattle.trac_rules.proofs.LongerTapes.{lengthened, unread-whole}
 use Rattle.trac_rules.proofs.Steps.{LooksAtForms, block_handled_looks, handled_looks, step-silent_Err}
 
@@ -82,7 +82,7 @@ performed_refusals : (e : Environment) (call : Call) (refusal : Refusal) → per
 unfolding performed
 performed_refusals e call r h =
     effect_refusals (primitive_of (argument 0 call.arguments)) e call.arguments call.state r
-    (seen_as-Err (printed_behind (trace_line call.state.trace call.kind call.arguments))
+    (seen_as-Err (printed_after (trace_line call.state.trace call.kind call.arguments))
     (effect_of (primitive_of (argument 0 call.arguments)) e call.arguments call.state) r h)
 
 -- why what scanning gives is refused
@@ -172,7 +172,7 @@ effect_long (HandleBlock action) e more arguments s l some h =
 effect_long Unknown e more arguments s l some h = absurd (cc)
 
 -- a line of the trace before it leaves the value
-traced_long : (n : ℕ) (line : List ℕ) (outcome : Result Effect Refusal) → IsLong n outcome → IsLong n (seen_as (printed_behind line) outcome)
+traced_long : (n : ℕ) (line : List ℕ) (outcome : Result Effect Refusal) → IsLong n outcome → IsLong n (seen_as (printed_after line) outcome)
 traced_long n line (Ok e) long = long
 traced_long n line (Err refusal) long = absurd long
 
@@ -183,7 +183,7 @@ performed_long e more call h l some =
     let line = trace_line call.state.trace call.kind call.arguments in
     traced_long (length (unread e.tape call.state)) line (effect_of (primitive_of (argument 0 call.arguments)) (lengthened more e) call.arguments call.state)
     (effect_long (primitive_of (argument 0 call.arguments)) e more call.arguments call.state l some
-    (seen_as-Err (printed_behind line) (effect_of (primitive_of (argument 0 call.arguments)) e call.arguments call.state) NeedInput h))
+    (seen_as-Err (printed_after line) (effect_of (primitive_of (argument 0 call.arguments)) e call.arguments call.state) NeedInput h))
 
 -- a gathered text counts among the text bytes
 pub text_bytes-gathered_in : (frames : List Frame) (text : List ℕ) (s : State) → frames ≡ s.frames → length text ≤ text_bytes (gathered_in frames text s)

@@ -2,7 +2,6 @@
 use Rattle.std.proofs.Common.{◌≡◌, ℕ, ◌+◌, ◌-◌, ◌≤◌, Bool, true, false, List, [], ◌∷◌, ◌++◌, length, map, take, drop, refl, sym, ap, ◌∙◌, arith, inl, inr, take_all}
 use Rattle.std.specs.Prelude.{None, Some, Ok, Err, nat_le, ◌&&◌, ◌⊎◌, min, option_map}
 use Rattle.std.specs.Bool.{then_some}
-use Rattle.std.specs.Option.{unwrap_or}
 use Rattle.std.proofs.lemmas.Bool.{and_from, and_parts, le-leb, leb-true}
 use Rattle.std.proofs.lemmas.List.{drop-append-le, drop-take, length-drop, length-map, length-take}
 use Rattle.trac_rules.specs.declared.limit.TheConstants.{TEXT_LIMIT, MARK_LIMIT, OUTPUT_LIMIT}
@@ -23,7 +22,7 @@ use Rattle.trac_rules.specs.Stepping.{carried_out, step}
 use Rattle.trac_rules.specs.Undone.{storage_before}
 use Rattle.trac_rules.specs.Weights.{closing_loss, loss, loss_at, step_weight, step_weight_in, weight}
 use Rattle.trac_rules.proofs.Changed.{changed, scan-changed, scanned_as}
-use Rattle.trac_rules.proofs.FurtherOn.{put_together_parts, stands_there}
+use Rattle.trac_rules.proofs.FurtherOn.{put_together_parts, rest_said, stands_there}
 use Rattle.trac_rules.proofs.Outcomes.{limited_within, limited_Ok, limited_Err, seen_as-Ok, seen_as-Err}
 use Rattle.trac_rules.proofs.Replies.{Step_done}
 use Rattle.trac_rules.proofs.Restored.{before_of_restored, elsewhere, restored-elsewhere, restored_of_before}
@@ -119,23 +118,15 @@ rest-released : (o k : ℕ) (call : CallRecord) (rest before : Rest) → k ≤ b
 rest-released o k call rest before read_less printed_less back =
     by_test (nat_le call.read rest.position && nat_le call.printed (length rest.output)) refl
   where
-    there : Rest → Rest
-    there r = record {
-      meta = unwrap_or call.meta r.meta;
-      trace = call.trace;
-      position = r.position - call.read;
-      output = all_before_last call.printed r.output;
-    }
-
     by_test : (b : Bool) → (nat_le call.read rest.position && nat_le call.printed (length rest.output)) ≡ b →
         rest_before call (rest_released o k rest) ≡ Some (rest_released o k before)
-    by_test false t = absurd (let none : None ≡ Some before = ap (λ (b : Bool). then_some b (there rest)) (sym t) ∙ back in cc)
+    by_test false t = absurd (let none : None ≡ Some before = ap (λ (b : Bool). then_some b (rest_said call rest)) (sym t) ∙ back in cc)
     by_test true t =
         let parts = and_parts (nat_le call.read rest.position) (nat_le call.printed (length rest.output)) t in
         let read = leb-true call.read rest.position parts.0 in
         let printed = leb-true call.printed (length rest.output) parts.1 in
-        let known : Some (there rest) ≡ Some before = ap (λ (b : Bool). then_some b (there rest)) (sym t) ∙ back in
-        let same : there rest ≡ before = cc in
+        let known : Some (rest_said call rest) ≡ Some before = ap (λ (b : Bool). then_some b (rest_said call rest)) (sym t) ∙ back in
+        let same : rest_said call rest ≡ before = cc in
         let at : k ≤ rest.position - call.read = omega (arith, read_less, ap (λ (r : Rest). r.position) same) in
         let left : length (all_before_last call.printed rest.output) ≡ length rest.output - call.printed =
         omega (arith, length-take (length rest.output - call.printed) rest.output) in
@@ -146,8 +137,8 @@ rest-released o k call rest before read_less printed_less back =
         let fits = and_from (nat_le call.read (rest.position - k)) (nat_le call.printed (length (drop o rest.output))) reads prints in
         let place : rest.position - k - call.read ≡ rest.position - call.read - k = omega (arith, read, at) in
         let output = all_before_last-less o call.printed rest.output front in
-        ap (λ (b : Bool). then_some b (there (rest_released o k rest))) fits
-        ∙ (λ i. let moved : Rest = record (there rest) { position = place i; output = output i } in Some moved)
+        ap (λ (b : Bool). then_some b (rest_said call (rest_released o k rest))) fits
+        ∙ (λ i. let moved : Rest = record (rest_said call rest) { position = place i; output = output i } in Some moved)
         ∙ ap (λ (r : Rest). Some (rest_released o k r)) same
 
 call-released : (o k : ℕ) (call : CallRecord) (s t : State) → k ≤ s.position → o ≤ length s.output → restored (Called call) t ≡ Some s →

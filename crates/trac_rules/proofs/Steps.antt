@@ -32,7 +32,7 @@ use Rattle.trac_rules.specs.Handling.{default_argument, form_read, gives_piece, 
 use Rattle.trac_rules.specs.Pieces.{Piece}
 use Rattle.trac_rules.specs.Outcomes.{limited, seen_as}
 use Rattle.trac_rules.specs.Reading.{byte_read, read_up_to, rest_read, unread}
-use Rattle.trac_rules.specs.Performing.{after_call, changed_by, effect_of, meta_set, performed, placed, primitive_of, printed_behind, trace_line}
+use Rattle.trac_rules.specs.Performing.{after_call, changed_by, effect_of, meta_set, performed, placed, primitive_of, printed_after, trace_line}
 use Rattle.trac_rules.specs.Stepping.{carried_out, step}
 use Rattle.trac_rules.specs.Running.{Output, silent, going_on, output_from}
 use Rattle.trac_rules.proofs.Outcomes.{limited_within, limited_Ok, limited_Err, seen_as-Ok, seen_as-Err}
@@ -177,7 +177,7 @@ effect_within (HandleBlock action) e arguments s =
 effect_within Unknown e arguments s = omega arith
 
 -- and so does a call
-traced_within : (n : ℕ) (line : List ℕ) (outcome : Result Effect Refusal) → ReadsWithin n outcome → ReadsWithin n (seen_as (printed_behind line) outcome)
+traced_within : (n : ℕ) (line : List ℕ) (outcome : Result Effect Refusal) → ReadsWithin n outcome → ReadsWithin n (seen_as (printed_after line) outcome)
 traced_within n line (Ok e) within = within
 traced_within n line (Err refusal) within = tt
 

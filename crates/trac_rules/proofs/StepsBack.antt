@@ -61,10 +61,10 @@ walk_goes_back zero old new proper h =
     (ap (λ (p : PlainSession). Some p.last) (sym same), subst (λ (p : PlainSession). IsProper p.last) same proper)
 walk_goes_back (suc n) old new proper h =
     option_and_then_some (λ (q : PlainSession). accepted_by (answer Step q)) (repeated Step n old) new h
-    (λ q there next. behind q (walk_goes_back n old q proper there) (step_accepted q new next))
+    (λ q there next. after q (walk_goes_back n old q proper there) (step_accepted q new next))
   where
-    behind : (q : PlainSession) → IsLedBack n old q × IsProper q.last → IsTaken q new → IsLedBack (suc n) old new × IsProper new.last
-    behind q before taken = (
+    after : (q : PlainSession) → IsLedBack n old q × IsProper q.last → IsTaken q new → IsLedBack (suc n) old new × IsProper new.last
+    after q before taken = (
       ap (λ (earlier : List State). led_back (records_from (over new.width new.tape) (take (suc n) earlier)) new.last) taken.earlier
           ∙ ap (λ (tape : Tape). led_back (records_from (over new.width tape) (q.last ∷ take n q.earlier)) new.last) taken.tape
           ∙ ap (λ (width : Width). led_back (records_from (over width q.tape) (q.last ∷ take n q.earlier)) new.last) taken.width

@@ -11,7 +11,7 @@ use Rattle.trac_rules.specs.Limits.{texts_fit}
 use Rattle.trac_rules.specs.Effect.{argument}
 use Rattle.trac_rules.specs.Outcomes.{limited, seen_as}
 use Rattle.trac_rules.specs.Reading.{read_up_to, rest_read, string_read, unread}
-use Rattle.trac_rules.specs.Performing.{after_call, effect_of, performed, primitive_of, printed_behind, trace_line}
+use Rattle.trac_rules.specs.Performing.{after_call, effect_of, performed, primitive_of, printed_after, trace_line}
 use Rattle.trac_rules.specs.Stepping.{carried_out, step}
 use Rattle.trac_rules.specs.Running.{silent}
 use Rattle.trac_rules.specs.Session.{PlainSession, Step, Feed, Commit, done, refused, settled, committed, answer, over}
@@ -65,9 +65,9 @@ performed_waits : (e : Environment) (more : List ℕ) (call : Call) → e.tape.e
 unfolding performed
 performed_waits e more call unended l none h =
     let line = trace_line call.state.trace call.kind call.arguments in
-    ap (seen_as (printed_behind line))
+    ap (seen_as (printed_after line))
     (effect_waits (primitive_of (argument 0 call.arguments)) e more call.arguments call.state unended l none
-    (seen_as-Err (printed_behind line) (effect_of (primitive_of (argument 0 call.arguments)) e call.arguments call.state) NeedInput h))
+    (seen_as-Err (printed_after line) (effect_of (primitive_of (argument 0 call.arguments)) e call.arguments call.state) NeedInput h))
 
 -- and what scanning gives
 carried_out_waits : (e : Environment) (more : List ℕ) (s : State) (x : Scanned) → ScanShows place_of s x → ScanShows meta_of s x → e.tape.ended ≡ false → s.position < length e.tape.bytes → IsWithoutMeta s more →

@@ -88,12 +88,12 @@ on_both operation (Some a) None = None
 on_both operation (Some a) (Some b) = operation a b
 
 -- a result after a prefix; none where there is no result
-abbrev pub behind_prefix : List ℕ → Option ℤ → Option (List ℕ)
-behind_prefix prefix (Some n) = Some (prefix ++ number_text n)
-behind_prefix prefix None = None
+abbrev pub after_prefix : List ℕ → Option ℤ → Option (List ℕ)
+after_prefix prefix (Some n) = Some (prefix ++ number_text n)
+after_prefix prefix None = None
 
 -- the prefix of the first text, and then the result of an operation on the numbers of both, all three of one width; none where a number
 -- does not fit, or there is no result
 unfoldable pub calculated : (Width → ℤ → ℤ → Option ℤ) → Width → List ℕ → List ℕ → Option (List ℕ)
 calculated operation width first second =
-    behind_prefix (prefix_of first) (on_both (operation width) (number_of width (numeral_of first)) (number_of width (numeral_of second)))
+    after_prefix (prefix_of first) (on_both (operation width) (number_of width (numeral_of first)) (number_of width (numeral_of second)))

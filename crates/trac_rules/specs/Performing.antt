@@ -72,14 +72,14 @@ trace_line false kind arguments = []
 trace_line true kind arguments = beginning_of kind ++ join_with_byte STAR arguments ++ CLOSING ∷ LINE_FEED ∷ []
 
 -- an effect with a text printed before all else
-abbrev pub printed_behind : List ℕ → Effect → Effect
-printed_behind line e = record e { printed = line ++ e.printed }
+abbrev pub printed_after : List ℕ → Effect → Effect
+printed_after line e = record e { printed = line ++ e.printed }
 
 -- what a call does: its primitive's effect, with the line of the trace printed first; the flag before the call decides,
 -- and a call that is refused prints no line
 unfoldable pub performed : Environment → Call → Result Effect Refusal
 performed environment call =
-    seen_as (printed_behind (trace_line call.state.trace call.kind call.arguments))
+    seen_as (printed_after (trace_line call.state.trace call.kind call.arguments))
     (effect_of (primitive_of (argument 0 call.arguments)) environment call.arguments call.state)
 
 -- where the value goes: that of an active function and every forced one before the active text, and any other to the current text;

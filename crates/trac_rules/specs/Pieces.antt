@@ -56,8 +56,8 @@ segment_read form = where_any form.after (Some (read_on (segment_items (position
 -- ---- `cn` and `cc`: gaps are passed (this project's profile)
 
 -- the first place among items that has n bytes before it: right after the last of these bytes, where n is not 0
-abbrev pub place_behind : ℕ → List Item → Option ℕ
-place_behind n items = first_place (λ k. length (bytes_in (take k items)) == n) (length items + 1)
+abbrev pub place_after : ℕ → List Item → Option ℕ
+place_after n items = first_place (λ k. length (bytes_in (take k items)) == n) (length items + 1)
 
 -- the last place among items that has n bytes after it: right before the first of these bytes, where n is not 0
 abbrev pub place_before : ℕ → List Item → Option ℕ
@@ -70,7 +70,7 @@ at_most_all n items = min n (length (bytes_in items))
 -- the next n bytes, or as many as there are, the pointer right after the last of them. None where no byte stands after the pointer
 abbrev pub next_bytes : ℕ → Form → Option Piece
 next_bytes n form =
-    where_any (bytes_in form.after) (option_map (λ k. read_on k form) (place_behind (at_most_all n form.after) form.after))
+    where_any (bytes_in form.after) (option_map (λ k. read_on k form) (place_after (at_most_all n form.after) form.after))
 
 -- the last n bytes before the pointer, or as many as there are, in the order of the text, the pointer right before the first of them.
 -- None where no byte stands before the pointer

@@ -62,8 +62,8 @@ pub fn worked_numerals()
     ensures minus_zero { number_of W128 (codes "-0") ≡ Some (pos 0) }
     // The prefix of the first text stands before the result.
     ensures difference { calculated difference_of W128 (codes "a-5") (codes "b2") ≡ Some (codes "a-7") }
-    ensures behind_a_sign { calculated sum_of W128 (codes "--4") (codes "1") ≡ Some (codes "--3") }
-    ensures behind_all { calculated sum_of W128 (codes "5-") (codes "3") ≡ Some (codes "5-3") }
+    ensures after_a_sign { calculated sum_of W128 (codes "--4") (codes "1") ≡ Some (codes "--3") }
+    ensures after_all { calculated sum_of W128 (codes "5-") (codes "3") ≡ Some (codes "5-3") }
     ensures times_zero { calculated product_of W128 (codes "x") (codes "3") ≡ Some (codes "x0") }
     // A quotient is cut toward zero (this project's profile).
     ensures cut { calculated quotient_of W128 (codes "7") (codes "-2") ≡ Some (codes "-3") }

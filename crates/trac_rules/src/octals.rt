@@ -24,7 +24,7 @@ pub fn text_is_that_of_its_bits()
 /// Examples of the operations, each on the octal strings of texts.
 pub fn worked_octals()
     ensures union { text_of (union (bits_of (octal_tail (codes "12"))) (bits_of (octal_tail (codes "x7")))) ≡ codes "17" }
-    ensures union_behind_zeros { text_of (union (bits_of (octal_tail (codes "7"))) (bits_of (octal_tail (codes "10")))) ≡ codes "17" }
+    ensures union_after_zeros { text_of (union (bits_of (octal_tail (codes "7"))) (bits_of (octal_tail (codes "10")))) ≡ codes "17" }
     ensures union_of_none { text_of (union (bits_of (octal_tail (codes "8"))) (bits_of (octal_tail (codes "9")))) ≡ [] }
     ensures meet { text_of (meet (bits_of (octal_tail (codes "123"))) (bits_of (octal_tail (codes "7")))) ≡ codes "3" }
     ensures meet_at_the_right { text_of (meet (bits_of (octal_tail (codes "70"))) (bits_of (octal_tail (codes "5")))) ≡ codes "0" }

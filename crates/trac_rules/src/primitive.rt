@@ -301,6 +301,6 @@ pub fn names_stand_for()
     ensures null { primitive_of [] ≡ Unknown }
     ensures one_letter { primitive_of (codes "p") ≡ Unknown }
     ensures blank_before { primitive_of (codes " ps") ≡ Unknown }
-    ensures blank_behind { primitive_of (codes "ps ") ≡ Unknown }
+    ensures blank_after { primitive_of (codes "ps ") ≡ Unknown }
     ensures other { primitive_of (codes "zz") ≡ Unknown }
 {}

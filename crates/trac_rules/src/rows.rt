@@ -131,7 +131,7 @@ pub fn worked_forms()
     ensures across { shown (segmented (codes "ac" ∷ []) (segmented (codes "b" ∷ []) (defined (codes "abc")))) ≡ codes "<^>a<1>c" }
     // The pointer goes to the start, also where nothing was cut.
     ensures pointer_back { shown (segmented [] (pointed_at 2 (as_items (codes "abc")))) ≡ codes "<^>abc" }
-    ensures pointer_from_behind { shown (segmented (codes "z" ∷ []) (pointed_at 2 (as_items (codes "abc")))) ≡ codes "<^>abc" }
+    ensures pointer_from_after { shown (segmented (codes "z" ∷ []) (pointed_at 2 (as_items (codes "abc")))) ≡ codes "<^>abc" }
     // The pointer bounds no run.
     ensures across_the_pointer { shown (segmented (codes "bc" ∷ []) (pointed_at 2 (as_items (codes "abc")))) ≡ codes "<^>a<1>" }
     // A call begins at the pointer, and a text that is missing is empty.
@@ -230,7 +230,7 @@ pub fn worked_form_calls()
 pub fn worked_readings()
     // From the form `a<1>bc<2>`, its pointer before an item of each kind and at the end.
     ensures next_byte { Does (texts_of (codes "cc,F,Z")) (example_at 0) (codes "a") [] (example_at 1) }
-    ensures byte_behind_a_gap { Does (texts_of (codes "cc,F,Z")) (example_at 1) (codes "b") [] (example_at 3) }
+    ensures byte_after_a_gap { Does (texts_of (codes "cc,F,Z")) (example_at 1) (codes "b") [] (example_at 3) }
     ensures segment_before_a_gap { Does (texts_of (codes "cs,F,Z")) (example_at 1) [] [] (example_at 2) }
     ensures no_byte_left { Forces (texts_of (codes "cc,F,Z")) (example_at 4) (codes "Z") }
     ensures last_segment_is_null { Does (texts_of (codes "cs,F,Z")) (example_at 4) [] [] (example_at 5) }
@@ -262,12 +262,12 @@ pub fn worked_readings()
     ensures number_too_small_for_wide { Does (texts_of (codes "cn,F,-170141183460469231731687303715884105729,Z")) (pointing_at 0 (codes "F") (as_items (codes "abcde"))) [] [] (pointing_at 0 (codes "F") (as_items (codes "abcde"))) }
     ensures zero_at_the_end { Does (texts_of (codes "cn,F,0,Z")) (pointing_at 5 (codes "F") (as_items (codes "abcde"))) [] [] (pointing_at 5 (codes "F") (as_items (codes "abcde"))) }
     ensures no_number { Does (texts_of (codes "cn,F,x,Z")) (pointing_at 5 (codes "F") (as_items (codes "abcde"))) [] [] (pointing_at 5 (codes "F") (as_items (codes "abcde"))) }
-    ensures number_behind_a_prefix { Does (texts_of (codes "cn,F,x2,Z")) (pointing_at 0 (codes "F") (as_items (codes "abcde"))) (codes "ab") [] (pointing_at 2 (codes "F") (as_items (codes "abcde"))) }
+    ensures number_after_a_prefix { Does (texts_of (codes "cn,F,x2,Z")) (pointing_at 0 (codes "F") (as_items (codes "abcde"))) (codes "ab") [] (pointing_at 2 (codes "F") (as_items (codes "abcde"))) }
     // The pointer stops right after the last byte given, or going back right before the first
     // one, whatever gaps stand there.
     ensures stops_before_a_gap { Does (texts_of (codes "cn,F,1,Z")) (pointing_at 0 (codes "F") (Gap 1 1 ∷ Byte 97 ∷ Gap 1 2 ∷ Gap 2 1 ∷ Byte 98 ∷ [])) (codes "a") [] (pointing_at 2 (codes "F") (Gap 1 1 ∷ Byte 97 ∷ Gap 1 2 ∷ Gap 2 1 ∷ Byte 98 ∷ [])) }
     ensures passes_gaps { Does (texts_of (codes "cn,F,2,Z")) (pointing_at 0 (codes "F") (Gap 1 1 ∷ Byte 97 ∷ Gap 1 2 ∷ Gap 2 1 ∷ Byte 98 ∷ [])) (codes "ab") [] (pointing_at 5 (codes "F") (Gap 1 1 ∷ Byte 97 ∷ Gap 1 2 ∷ Gap 2 1 ∷ Byte 98 ∷ [])) }
-    ensures stops_behind_a_gap { Does (texts_of (codes "cn,F,-1,Z")) (pointing_at 4 (codes "F") (Gap 1 1 ∷ Byte 97 ∷ Gap 1 2 ∷ Gap 2 1 ∷ Byte 98 ∷ [])) (codes "a") [] (pointing_at 1 (codes "F") (Gap 1 1 ∷ Byte 97 ∷ Gap 1 2 ∷ Gap 2 1 ∷ Byte 98 ∷ [])) }
+    ensures stops_after_a_gap { Does (texts_of (codes "cn,F,-1,Z")) (pointing_at 4 (codes "F") (Gap 1 1 ∷ Byte 97 ∷ Gap 1 2 ∷ Gap 2 1 ∷ Byte 98 ∷ [])) (codes "a") [] (pointing_at 1 (codes "F") (Gap 1 1 ∷ Byte 97 ∷ Gap 1 2 ∷ Gap 2 1 ∷ Byte 98 ∷ [])) }
     ensures passes_gaps_back { Does (texts_of (codes "cn,F,-2,Z")) (pointing_at 5 (codes "F") (Gap 1 1 ∷ Byte 97 ∷ Gap 1 2 ∷ Gap 2 1 ∷ Byte 98 ∷ [])) (codes "ab") [] (pointing_at 1 (codes "F") (Gap 1 1 ∷ Byte 97 ∷ Gap 1 2 ∷ Gap 2 1 ∷ Byte 98 ∷ [])) }
     ensures only_a_gap_before { Forces (texts_of (codes "cn,F,-1,Z")) (pointing_at 1 (codes "F") (Gap 1 1 ∷ Byte 97 ∷ Gap 1 2 ∷ Gap 2 1 ∷ Byte 98 ∷ [])) (codes "Z") }
     ensures null_segments { Does (texts_of (codes "cs,F,Z")) (pointing_at 0 (codes "F") (Gap 1 1 ∷ Byte 97 ∷ Gap 1 2 ∷ Gap 2 1 ∷ Byte 98 ∷ [])) [] [] (pointing_at 1 (codes "F") (Gap 1 1 ∷ Byte 97 ∷ Gap 1 2 ∷ Gap 2 1 ∷ Byte 98 ∷ [])) }
@@ -279,8 +279,8 @@ pub fn worked_readings()
     ensures null_text_before_a_gap { Does (texts_of (codes "in,F,,none")) (example_at 1) [] [] (example_at 1) }
     ensures null_text_in_a_null_form { Does (texts_of (codes "in,F,,none")) (pointing_at 0 (codes "F") []) [] [] (pointing_at 0 (codes "F") []) }
     ensures occurrence_cut_by_a_gap { Forces (texts_of (codes "in,G,bc,no")) (pointing_at 0 (codes "G") (Byte 97 ∷ Gap 1 1 ∷ Byte 98 ∷ Gap 1 1 ∷ Byte 99 ∷ [])) (codes "no") }
-    ensures occurrence_behind_gaps { Does (texts_of (codes "in,G,c,no")) (pointing_at 0 (codes "G") (Byte 97 ∷ Gap 1 1 ∷ Byte 98 ∷ Gap 1 1 ∷ Byte 99 ∷ [])) (codes "ab") [] (pointing_at 5 (codes "G") (Byte 97 ∷ Gap 1 1 ∷ Byte 98 ∷ Gap 1 1 ∷ Byte 99 ∷ [])) }
-    ensures end_behind_the_occurrence { Forces (texts_of (codes "cs,G,end")) (pointing_at 5 (codes "G") (Byte 97 ∷ Gap 1 1 ∷ Byte 98 ∷ Gap 1 1 ∷ Byte 99 ∷ [])) (codes "end") }
+    ensures occurrence_after_gaps { Does (texts_of (codes "in,G,c,no")) (pointing_at 0 (codes "G") (Byte 97 ∷ Gap 1 1 ∷ Byte 98 ∷ Gap 1 1 ∷ Byte 99 ∷ [])) (codes "ab") [] (pointing_at 5 (codes "G") (Byte 97 ∷ Gap 1 1 ∷ Byte 98 ∷ Gap 1 1 ∷ Byte 99 ∷ [])) }
+    ensures end_after_the_occurrence { Forces (texts_of (codes "cs,G,end")) (pointing_at 5 (codes "G") (Byte 97 ∷ Gap 1 1 ∷ Byte 98 ∷ Gap 1 1 ∷ Byte 99 ∷ [])) (codes "end") }
     ensures longer_text_than_form { Forces (texts_of (codes "in,F,abcabcabc,none")) (pointing_at 0 (codes "F") (as_items (codes "abcabc"))) (codes "none") }
     // A name without a form gives empty, and a default argument that is missing is empty.
     ensures no_form { Leaves (texts_of (codes "cn,f,1,Z")) (pointing_at 0 (codes "F") (as_items (codes "abcde"))) (pointing_at 0 (codes "F") (as_items (codes "abcde"))) }

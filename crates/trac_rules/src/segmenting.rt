@@ -59,7 +59,7 @@ pub fn worked_cuts()
     ensures two_texts_back { joined (codes "b" ∷ codes "ca" ∷ []) (record { place = 1; ordinal = 1 } ∷ record { place = 2; ordinal = 2 } ∷ record { place = 3; ordinal = 1 } ∷ []) (Byte 97 ∷ Gap 1 1 ∷ Gap 2 2 ∷ Gap 1 1 ∷ Byte 99 ∷ []) ≡ Some (as_items (codes "abcabc")) }
     // An empty text makes no gap, and uses up its number.
     ensures null_text { cut_of ([] ∷ codes "na" ∷ []) (defined (codes "ban")) ≡ [] }
-    ensures behind_null_text { cut_of ([] ∷ codes "an" ∷ []) (defined (codes "ban")) ≡ record { place = 1; ordinal = 2 } ∷ [] }
+    ensures after_null_text { cut_of ([] ∷ codes "an" ∷ []) (defined (codes "ban")) ≡ record { place = 1; ordinal = 2 } ∷ [] }
     // An earlier gap is none of them, though it is like them in all, and stays when they are filled.
     ensures beside_an_earlier_gap { cut_of (codes "x" ∷ []) (segmented (codes "y" ∷ []) (defined (codes "yxb"))) ≡ record { place = 1; ordinal = 1 } ∷ [] }
     ensures earlier_gap_stays { joined (codes "x" ∷ []) (record { place = 1; ordinal = 1 } ∷ []) (Gap 1 1 ∷ Gap 1 1 ∷ Byte 98 ∷ []) ≡ Some (Gap 1 1 ∷ Byte 120 ∷ Byte 98 ∷ []) }

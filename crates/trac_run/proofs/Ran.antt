@@ -15,7 +15,7 @@ use Rattle.trac_streams.specs.declared.ending.Ending.TheVariants.{Ended, Budget,
 use Rattle.trac_rules.specs.Fronts.{IsFrontOf}
 use Rattle.trac_streams.specs.Written.{Closes}
 use Rattle.trac_run.specs.Runs.{Shows, Runs, IsFresh, GoesOn, Finishes, most_read, unread_count}
-use Rattle.trac_streams.proofs.Known.{Appends-nothing, Appends-both, Consumes-nothing, Consumes-both, front_behind, front_of_nothing, empty_front}
+use Rattle.trac_streams.proofs.Known.{Appends-nothing, Appends-both, Consumes-nothing, Consumes-both, front_after, front_of_nothing, empty_front}
 use Rattle.trac_run.proofs.Turned.{Shows-Write}
 
 -- what a run has done so far: what was read, and that it is no more than the steps so far may take and what is unread; what was written,
@@ -92,7 +92,7 @@ ran in_old in_now in_new out_old out_now out_new width budget p m ending far las
       gave = Appends-both out_old out_now out_new far.written last.written far.gave last.gave;
       at_end = last.at_end;
       front = λ more none. subst (λ (o : Output). IsFrontOf (far.written ++ last.written) o.bytes) (sym (all more none))
-          (front_behind far.written last.written (going_on_from p (last.got ++ more) m).bytes (last.front more none));
+          (front_after far.written last.written (going_on_from p (last.got ++ more) m).bytes (last.front more none));
       shows = λ more none. subst (λ (o : Output). Shows ending (far.written ++ last.written) o) (sym (all more none))
           (Shows-prepended ending far.written last.written (going_on_from p (last.got ++ more) m) (last.shows more none));
     }

@@ -40,8 +40,8 @@ unmoved_by_none zero p q h e = cc
 unmoved_by_none (suc k) p q h e = absurd (omega arith)
 
 -- what a walk leaves
-pub after_walk : (most : ℕ) (p : PlainSession) (m k : ℕ) (why : Option Refusal) (q : PlainSession) → IsFresh p → IsWalkWithin most m p k why q → AfterWalk p m k q
-after_walk most p m k why q fresh walk =
+pub after_walk : {most : ℕ} {p : PlainSession} {m k : ℕ} {why : Option Refusal} {q : PlainSession} → IsFresh p → IsWalkWithin most m p k why q → AfterWalk p m k q
+after_walk {most} {p} {m} {k} {why} {q} fresh walk =
     let start : p.last.position ≤ length p.tape.bytes = omega (arith, fresh.nothing_read) in
     let after = after_repeated k p q start walk.walk.walked in
     let l : k ≤ m = omega (arith, walk.walk.within, walk.within) in
@@ -77,9 +77,9 @@ unread_after_Commit q r h =
     (kept, omega (arith, kept, (after_Commit q r h).2))
 
 -- why a walk was stopped
-pub stopped_for : (most : ℕ) (p : PlainSession) (m k : ℕ) (why : Option Refusal) (q : PlainSession) (refusal r : Refusal) → IsWalkWithin most m p k why q → why ≡ Some refusal → refusal ≡ r →
+pub stopped_for : {most : ℕ} {p : PlainSession} {m k : ℕ} {why : Option Refusal} {q : PlainSession} {refusal r : Refusal} → IsWalkWithin most m p k why q → why ≡ Some refusal → refusal ≡ r →
     (k < m) × Answers Step q (Refused r) q
-stopped_for most p m k why q refusal r walk e same =
+stopped_for {most} {p} {m} {k} {why} {q} {refusal} {r} walk e same =
     let n : ℕ = walk.allowed in
     let stop = subst (λ w. MatchOption w (HasEnded no_goal n k q) (λ x. (k < n) × (0 < k → no_goal q.last ≡ false) × Answers Step q (Refused x) q))
     (e ∙ ap (λ x. Some x) same) walk.walk.stopped in
@@ -94,8 +94,8 @@ not_stopped p m k why q walk e =
     (subst (λ w. MatchOption w (HasEnded no_goal m k q) (λ x. (k < m) × (0 < k → no_goal q.last ≡ false) × Answers Step q (Refused x) q)) e walk.stopped)
 
 -- a walk that no refusal stopped took a step at least, where it has any left: it stopped for the weight of its records
-pub taken_when_heavy : (most : ℕ) (p : PlainSession) (m k : ℕ) (why : Option Refusal) (q : PlainSession) → IsWalkWithin most m p k why q → why ≡ None → 0 < m - k → 0 < k
-taken_when_heavy most p m k why q walk e some =
+pub taken_when_heavy : {most : ℕ} {p : PlainSession} {m k : ℕ} {why : Option Refusal} {q : PlainSession} → IsWalkWithin most m p k why q → why ≡ None → 0 < m - k → 0 < k
+taken_when_heavy {most} {p} {m} {k} {why} {q} walk e some =
     let all : k ≡ walk.allowed = not_stopped p walk.allowed k why q walk.walk e in
     let heavy = walk.heavy (omega (arith, all, some)) in
     omega (arith, all, heavy.0)
@@ -135,11 +135,11 @@ Shows-closed ending result written text o ends shows =
     ends
 
 -- a run that ends after the walk
-pub closed_run : (input : Option (List ℕ)) (out_old out_new : Option (List ℕ)) (p : PlainSession) (m k : ℕ) (q : PlainSession) (text : List ℕ) (ending result : Ending) →
+pub closed_run : (input : Option (List ℕ)) (out_old out_new : Option (List ℕ)) {p : PlainSession} {m k : ℕ} {q : PlainSession} (text : List ℕ) (ending result : Ending) →
     AfterWalk p m k q → (p.tape.ended ≡ true → IsAtEnd input) → text ≡ q.last.output → Closes out_old out_new text ending result →
     ((more : List ℕ) → (q.tape.ended ≡ true → more ≡ []) → Shows ending q.last.output (going_on_from q more (m - k))) →
     Finishes input input out_old out_new p m result
-closed_run input out_old out_new p m k q text ending result after at_end pending closes shows = record {
+closed_run input out_old out_new {p} {m} {k} {q} text ending result after at_end pending closes shows = record {
   got = [];
   written = closes.written;
   took = Consumes-nothing input;
@@ -177,14 +177,14 @@ shows_limit q n l on_tape h nothing more none =
     rw count.1 (going_on_too_long q q more count.0 on_tape h none nothing ∙ ap (λ (bytes : List ℕ). record { bytes = bytes; stop = LimitPassed }) (sym nothing))
 
 -- without a step taken nothing is pending
-pub nothing_pending_unmoved : (p : PlainSession) (m k : ℕ) (q : PlainSession) → IsFresh p → AfterWalk p m k q → length q.earlier ≡ 0 → q.last.output ≡ []
-nothing_pending_unmoved p m k q fresh after none =
+pub nothing_pending_unmoved : {p : PlainSession} {m k : ℕ} {q : PlainSession} → IsFresh p → AfterWalk p m k q → length q.earlier ≡ 0 → q.last.output ≡ []
+nothing_pending_unmoved {p} {m} {k} {q} fresh after none =
     let same : q ≡ p = after.unmoved (omega (arith, after.taken)) in
     ap (λ (s : PlainSession). s.last.output) same ∙ fresh.nothing_pending
 
 -- whether there is a step to go back over, as it is tested
-pub taken_of_test : (p : PlainSession) (m k : ℕ) (q : PlainSession) (empty : Bool) → AfterWalk p m k q → empty ≡ (length q.earlier == 0) → empty ≡ false → 0 < k
-taken_of_test p m k q empty after is none = grind (arith, nat_tests, after.taken)
+pub taken_of_test : {p : PlainSession} {m k : ℕ} {q : PlainSession} (empty : Bool) → AfterWalk p m k q → empty ≡ (length q.earlier == 0) → empty ≡ false → 0 < k
+taken_of_test {p} {m} {k} {q} empty after is none = grind (arith, nat_tests, after.taken)
 
 pub none_taken_of_test : (q : PlainSession) (empty : Bool) → empty ≡ (length q.earlier == 0) → empty ≡ true → length q.earlier ≡ 0
 none_taken_of_test q empty is none = grind (arith, nat_tests)
@@ -201,11 +201,11 @@ pub ended_after_Commit : (q r : PlainSession) → answer (Commit 0) q ≡ done r
 ended_after_Commit q r h = ap (λ (s : PlainSession). s.tape.ended) (Commit_done 0 q r h)
 
 -- a release
-pub released_on : (input : Option (List ℕ)) (out_old out_new : Option (List ℕ)) (p : PlainSession) (m k : ℕ) (q r : PlainSession) (result : Result (Unit {0}) Ending) →
+pub released_on : (input : Option (List ℕ)) (out_old out_new : Option (List ℕ)) {p : PlainSession} {m k : ℕ} {q : PlainSession} (r : PlainSession) (result : Result (Unit {0}) Ending) →
     AfterWalk p m k q → (p.tape.ended ≡ true → IsAtEnd input) → OnOk result (Appends out_old out_new q.last.output) → OnOk result (answer (Commit 0) q ≡ done r) →
     OnOk result (GoesOn input input out_old out_new p m r (m - k))
-released_on input out_old out_new p m k q r (Err e) after at_end gave h = tt
-released_on input out_old out_new p m k q r (Ok u) after at_end gave h =
+released_on input out_old out_new {p} {m} {k} {q} r (Err e) after at_end gave h = tt
+released_on input out_old out_new {p} {m} {k} {q} r (Ok u) after at_end gave h =
     let ended : r.tape.ended ≡ p.tape.ended = ended_after_Commit q r h ∙ ap (λ t. t.ended) after.tape in
     record {
       got = [];
@@ -236,16 +236,16 @@ finished_front input out_old out_new p m k q ending after at_end fault front = r
 }
 
 -- a release that failed
-pub released_failed : (input : Option (List ℕ)) (out_old out_new : Option (List ℕ)) (p : PlainSession) (m k : ℕ) (q : PlainSession) (result : Result (Unit {0}) Ending) →
+pub released_failed : (input : Option (List ℕ)) (out_old out_new : Option (List ℕ)) {p : PlainSession} {m k : ℕ} {q : PlainSession} (result : Result (Unit {0}) Ending) →
     AfterWalk p m k q → (p.tape.ended ≡ true → IsAtEnd input) → IfErr result (λ ending. (ending ≡ Write) × WritesFront out_old out_new q.last.output) →
     IfErr result (Finishes input input out_old out_new p m)
-released_failed input out_old out_new p m k q (Ok u) after at_end failed = tt
-released_failed input out_old out_new p m k q (Err e) after at_end failed = finished_front input out_old out_new p m k q e after at_end failed.0 failed.1
+released_failed input out_old out_new {p} {m} {k} {q} (Ok u) after at_end failed = tt
+released_failed input out_old out_new {p} {m} {k} {q} (Err e) after at_end failed = finished_front input out_old out_new p m k q e after at_end failed.0 failed.1
 
 -- the committed session is fresh
-pub released_fresh : (p : PlainSession) (m k : ℕ) (q r : PlainSession) (result : Result (Unit {0}) Ending) → AfterWalk p m k q → OnOk result (answer (Commit 0) q ≡ done r) → OnOk result (IsFresh r)
-released_fresh p m k q r (Err e) after h = tt
-released_fresh p m k q r (Ok u) after h =
+pub released_fresh : {p : PlainSession} {m k : ℕ} {q : PlainSession} (r : PlainSession) (result : Result (Unit {0}) Ending) → AfterWalk p m k q → OnOk result (answer (Commit 0) q ≡ done r) → OnOk result (IsFresh r)
+released_fresh {p} {m} {k} {q} r (Err e) after h = tt
+released_fresh {p} {m} {k} {q} r (Ok u) after h =
     let left = after_Commit q r h in
     record {
       some_records = omega (arith, left.3, after.some_records);
@@ -266,21 +266,21 @@ pub fewer_by_step : (p r : PlainSession) (m n : ℕ) → n < m → turns_left r 
 fewer_by_step p r m n l = omega (arith, end_turns r.tape.ended)
 
 -- after a release, a step having been taken
-pub released_fewer : (p q r : PlainSession) (m k : ℕ) (result : Result (Unit {0}) Ending) → AfterWalk p m k q → 0 < k → OnOk result (turns_left r (m - k) < turns_left p m)
-released_fewer p q r m k (Err e) after some = tt
-released_fewer p q r m k (Ok u) after some = fewer_by_step p r m (m - k) (omega (arith, after.within))
+pub released_fewer : {p q : PlainSession} (r : PlainSession) {m k : ℕ} (result : Result (Unit {0}) Ending) → AfterWalk p m k q → 0 < k → OnOk result (turns_left r (m - k) < turns_left p m)
+released_fewer {p} {q} r {m} {k} (Err e) after some = tt
+released_fewer {p} {q} r {m} {k} (Ok u) after some = fewer_by_step p r m (m - k) (omega (arith, after.within))
 
 -- a full journal has a step
-pub taken_when_full : (p q : PlainSession) (m k : ℕ) → AfterWalk p m k q → answer Step q ≡ refused refusals.JournalFull q → 0 < k
-taken_when_full p q m k after h = omega (arith, after.taken, after.some_records, Step_refused_JournalFull q q h)
+pub taken_when_full : {p q : PlainSession} {m k : ℕ} → AfterWalk p m k q → answer Step q ≡ refused refusals.JournalFull q → 0 < k
+taken_when_full {p} {q} {m} {k} after h = omega (arith, after.taken, after.some_records, Step_refused_JournalFull q q h)
 
 -- ---- input after the walk
 
 -- going on from the session after the walk
-pub walked_on : (in_old in_new out_old out_new : Option (List ℕ)) (p : PlainSession) (m k : ℕ) (q r : PlainSession) (result : Result (Unit {0}) Ending) →
+pub walked_on : (in_old in_new out_old out_new : Option (List ℕ)) {p : PlainSession} {m k : ℕ} {q : PlainSession} (r : PlainSession) (result : Result (Unit {0}) Ending) →
     AfterWalk p m k q → OnOk result (GoesOn in_old in_new out_old out_new q (m - k) r (m - k)) → OnOk result (GoesOn in_old in_new out_old out_new p m r (m - k))
-walked_on in_old in_new out_old out_new p m k q r (Err e) after on = tt
-walked_on in_old in_new out_old out_new p m k q r (Ok u) after on =
+walked_on in_old in_new out_old out_new {p} {m} {k} {q} r (Err e) after on = tt
+walked_on in_old in_new out_old out_new {p} {m} {k} {q} r (Ok u) after on =
     let ended : q.tape.ended ≡ p.tape.ended = ap (λ t. t.ended) after.tape in
     record {
       got = on.got;
@@ -317,9 +317,9 @@ walked_finish in_old in_new out_old out_new p m k q (Err e) after on =
     }
 
 -- the same with at least one step left, which the input says with a number after it
-pub walked_finish_one : (in_old in_new out_old out_new : Option (List ℕ)) (p : PlainSession) (m k : ℕ) (q : PlainSession) (result : Result (Unit {0}) Ending) →
+pub walked_finish_one : (in_old in_new out_old out_new : Option (List ℕ)) {p : PlainSession} {m k : ℕ} {q : PlainSession} (result : Result (Unit {0}) Ending) →
     AfterWalk p m k q → k < m → ((n : ℕ) → IfErr result (Finishes in_old in_new out_old out_new q (n + 1))) → IfErr result (Finishes in_old in_new out_old out_new p m)
-walked_finish_one in_old in_new out_old out_new p m k q result after l on =
+walked_finish_one in_old in_new out_old out_new {p} {m} {k} {q} result after l on =
     let count : (m - k - 1) + 1 ≡ m - k = omega arith in
     walked_finish in_old in_new out_old out_new p m k q result after
     (subst (λ (n : ℕ). IfErr result (Finishes in_old in_new out_old out_new q n)) count (on (m - k - 1)))
@@ -333,4 +333,4 @@ walked_fewer p m zero q r result fresh after fewer =
     let count : m - 0 ≡ m = omega arith in
     subst (λ (s : PlainSession). OnOk result (turns_left r (m - 0) < turns_left s m)) same
     (subst (λ (n : ℕ). OnOk result (turns_left r (m - 0) < turns_left q n)) count (fewer start))
-walked_fewer p m (suc k) q r result fresh after fewer = released_fewer p q r m (suc k) result after (omega arith)
+walked_fewer p m (suc k) q r result fresh after fewer = released_fewer r result after (omega arith)

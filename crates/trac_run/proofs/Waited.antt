@@ -1,8 +1,7 @@
 -- Input that is taken piece after piece, for a step that goes on waiting.
-use Rattle.std.proofs.Common.{◌≡◌, ℕ, ◌+◌, ◌<◌, ◌≤◌, Bool, true, false, List, ◌++◌, length, refl, sym, ap, subst, ◌∙◌, arith}
-use Rattle.std.specs.Prelude.{Option, None, Some, is_some, not, ◌==◌}
+use Rattle.std.proofs.Common.{◌≡◌, ℕ, ◌<◌, Bool, true, false, List, ◌++◌, length, refl, sym, ap, subst, ◌∙◌, arith}
+use Rattle.std.specs.Prelude.{Option, None, Some, is_some, not}
 use Rattle.std.proofs.lemmas.Bool.{false≢true, true≢false}
-use Rattle.std.proofs.lemmas.Bool.Decides.{nat_tests}
 use Rattle.std.proofs.lemmas.List.{append_assoc, length-append}
 use Rattle.trac_rules.specs.declared.refusal.Refusal.TheVariants as refusals
 use Rattle.trac_rules.specs.Fronts.{IsFrontOf}
@@ -12,7 +11,7 @@ use Rattle.trac_rules.specs.GoingOn.{prepended, going_on_from}
 use Rattle.trac_rules.proofs.GoingOn.{prepended-prepended}
 use Rattle.trac_streams.specs.declared.ending.Ending.{Ending}
 use Rattle.trac_run.specs.Runs.{Shows, IsFresh, turns_left, GoesOn, Finishes}
-use Rattle.trac_streams.proofs.Known.{Appends-both, Consumes-both, front_behind}
+use Rattle.trac_streams.proofs.Known.{Appends-both, Consumes-both, front_after}
 use Rattle.trac_run.proofs.Taken.{wanted_open}
 use Rattle.trac_run.proofs.Ran.{Shows-prepended}
 
@@ -52,7 +51,7 @@ goes_on_to_finish in_old in_now in_new out_old out_now out_new p q l m ending un
       closed = λ over. absurd (shut (on.closed over).1);
       at_end = λ over. absurd (shut (on.closed over).1);
       front = λ more none. subst (λ (o : Output). IsFrontOf (on.written ++ last.written) o.bytes) (sym (all more))
-          (front_behind on.written last.written (going_on_from q (last.got ++ more) m).bytes (last.front more (λ over. absurd (shut over))));
+          (front_after on.written last.written (going_on_from q (last.got ++ more) m).bytes (last.front more (λ over. absurd (shut over))));
       shows = λ more none. subst (λ (o : Output). Shows ending (on.written ++ last.written) o) (sym (all more))
           (Shows-prepended ending on.written last.written (going_on_from q (last.got ++ more) m) (last.shows more (λ over. absurd (shut over))));
       few = λ fits_. omega (arith, length-append on.got last.got, on.few fits_, last.few (on.fits fits_));

@@ -167,7 +167,7 @@ fn read_more<R: Read, A: Allocator + Copy>(
         session.end();
         return Ok(false);
     }
-    let waits = waits_behind(session, &bytes[..count]);
+    let waits = waits_after(session, &bytes[..count]);
     match session.feed(&bytes[..count]) {
         Ok(()) => Ok(waits),
         Err(refusal) => Err(ending_of_feed(refusal)),
@@ -176,7 +176,7 @@ fn read_more<R: Read, A: Allocator + Copy>(
 
 // Whether a step that waits is sure to go on waiting once these bytes are fed. Where a byte is unread already,
 // it waits for the meta character.
-fn waits_behind<A: Allocator + Copy>(session: &Session<A>, bytes: &[u8]) -> bool
+fn waits_after<A: Allocator + Copy>(session: &Session<A>, bytes: &[u8]) -> bool
     ensures { (fed : PlainSession) → result ≡ true → answer (Feed bytes.now) session.now ≡ done fed → StillWaits session.now fed }
 {
     !session.unread().is_empty() && memchr(session.machine().meta(), bytes).is_none()

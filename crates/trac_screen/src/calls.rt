@@ -2,7 +2,7 @@
 
 use crate::notes::refused;
 use crate::screen_line::ScreenLine;
-use crate::standing::{call_into, innermost};
+use crate::standing_line::{call_into, innermost};
 use std::alloc::{AllocError, Allocator};
 use trac_gap::TwoEnds;
 use trac_rules::refusal::Refusal;

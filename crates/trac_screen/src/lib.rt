@@ -8,7 +8,7 @@ mod notes;
 mod printing;
 mod screen;
 mod screen_line;
-mod standing;
+mod standing_line;
 mod way;
 
 pub use calls::{Lengths, call_line, outcome_into};
@@ -18,5 +18,5 @@ pub use notes::{NO_PRIMITIVE, Stop, no_end_into, refused, stop_into, window_into
 pub use printing::lacks_output_room;
 pub use screen::{Reach, screen_into};
 pub use screen_line::ScreenLine;
-pub use standing::standing_into;
-pub use way::{Deed, deed_into, left_out_into, source_into, step_line};
+pub use standing_line::standing_into;
+pub use way::{Treatment, left_out_into, source_into, step_line, treatment_into};

@@ -1,6 +1,6 @@
 //! What the next step prints.
 
-use crate::standing::sharps;
+use crate::standing_line::sharps;
 use std::alloc::Allocator;
 use trac_forms::Store;
 use trac_gap::TwoEnds;

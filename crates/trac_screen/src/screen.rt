@@ -2,7 +2,7 @@
 ghost use Rattle.std.specs.Prelude.{◌≤◌, length};
 
 use crate::screen_line::{ScreenLine, shown_tail, tail};
-use crate::standing::{begun_into, sharps};
+use crate::standing_line::{begun_into, sharps};
 use std::alloc::{AllocError, Allocator};
 use trac_gap::TwoEnds;
 use trac_rules::byte::LINE_FEED;

@@ -1,7 +1,7 @@
 //! The way of a byte back: what steps did with it, one in a line.
 
 use crate::screen_line::ScreenLine;
-use crate::standing::next_into;
+use crate::standing_line::next_into;
 use std::alloc::{AllocError, Allocator};
 use trac_step::Machine;
 
@@ -9,11 +9,11 @@ use trac_step::Machine;
 const STEP_WIDTH: usize = 48;
 
 // What it did begins in this column, where the step leaves room.
-const DEED_COLUMN: usize = 34;
+const TREATMENT_COLUMN: usize = 34;
 
 /// What a step did with a byte.
 #[derive(Clone, Copy)]
-pub enum Deed {
+pub enum Treatment {
     /// A call printed it that was given it, or had it from a form.
     Prints,
     /// A call put it into a form or a block.
@@ -44,29 +44,32 @@ pub fn step_line<A: Allocator + Copy>(
     line.say(b"  ")?;
     next_into(machine, &mut line)?;
     line.cut(STEP_WIDTH)?;
-    line.pad(DEED_COLUMN)?;
+    line.pad(TREATMENT_COLUMN)?;
     Ok(line)
 }
 
 /// Puts a line at the end of a text: the number of the next step, what the step does, and what it did with a byte.
-pub fn deed_into<A: Allocator + Copy>(
+pub fn treatment_into<A: Allocator + Copy>(
     alloc: A,
     step: u64,
     machine: &Machine<A>,
-    deed: Deed,
+    treatment: Treatment,
     out: &mut Vec<u8, A>,
 ) -> Result<(), AllocError> {
     let mut line = step_line(alloc, step, machine)?;
-    say_deed(deed, &mut line)?;
+    say_treatment(treatment, &mut line)?;
     line.end_into(out)
 }
 
 // What was done, in words.
-fn say_deed<A: Allocator + Copy>(deed: Deed, line: &mut ScreenLine<A>) -> Result<(), AllocError> {
-    line.say(words_of(deed))?;
-    match deed {
-        Deed::Reads(row, column) => place_into(row, column, line),
-        Deed::ReadsFed(number) => fed_into(number, line),
+fn say_treatment<A: Allocator + Copy>(
+    treatment: Treatment,
+    line: &mut ScreenLine<A>,
+) -> Result<(), AllocError> {
+    line.say(words_of(treatment))?;
+    match treatment {
+        Treatment::Reads(row, column) => place_into(row, column, line),
+        Treatment::ReadsFed(number) => fed_into(number, line),
         _ => Ok(()),
     }
 }
@@ -90,24 +93,24 @@ fn fed_into<A: Allocator + Copy>(number: u64, line: &mut ScreenLine<A>) -> Resul
 
 /// Puts where a byte comes from at the end of a line, by what the step of this number did with it.
 pub fn source_into<A: Allocator + Copy>(
-    deed: Deed,
+    treatment: Treatment,
     step: u64,
     line: &mut ScreenLine<A>,
 ) -> Result<(), AllocError> {
-    match deed {
-        Deed::Reads(row, column) => {
+    match treatment {
+        Treatment::Reads(row, column) => {
             line.say(b"line ")?;
             place_into(row, column, line)
         }
-        Deed::ReadsFed(number) => {
+        Treatment::ReadsFed(number) => {
             line.say(b"byte ")?;
             fed_into(number, line)
         }
-        Deed::Makes => {
+        Treatment::Makes => {
             line.say(b"made by step ")?;
             line.count(step)
         }
-        Deed::Keeps => {
+        Treatment::Keeps => {
             line.say(b"there at step ")?;
             line.count(step)
         }
@@ -119,16 +122,16 @@ pub fn source_into<A: Allocator + Copy>(
 }
 
 // What was done; of what is read the words before its place.
-fn words_of(deed: Deed) -> &'static [u8] {
-    match deed {
-        Deed::Prints => b"prints it",
-        Deed::Puts => b"sets it",
-        Deed::Gives => b"gives it",
-        Deed::Makes => b"makes it",
-        Deed::Reads(_, _) => b"reads it: line ",
-        Deed::ReadsFed(_) => b"reads it: byte ",
-        Deed::Hides => b"brings it",
-        Deed::Keeps => b"it is there already",
+fn words_of(treatment: Treatment) -> &'static [u8] {
+    match treatment {
+        Treatment::Prints => b"prints it",
+        Treatment::Puts => b"sets it",
+        Treatment::Gives => b"gives it",
+        Treatment::Makes => b"makes it",
+        Treatment::Reads(_, _) => b"reads it: line ",
+        Treatment::ReadsFed(_) => b"reads it: byte ",
+        Treatment::Hides => b"brings it",
+        Treatment::Keeps => b"it is there already",
     }
 }
 

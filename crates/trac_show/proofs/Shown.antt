@@ -1,16 +1,14 @@
 -- Parts of a state that are shown one after another.
-use Rattle.std.proofs.Common.{◌≡◌, ℕ, zero, suc, ◌+◌, ◌-◌, ◌<◌, ◌≤◌, Bool, true, false, cond, ◌&&◌, T, Bor, List, [], ◌∷◌, ◌++◌, length, map, take, drop, get_or, refl, sym, ap, subst, ◌∙◌, arith, ⊎_elim}
+use Rattle.std.proofs.Common.{◌≡◌, ℕ, zero, suc, ◌+◌, ◌-◌, ◌<◌, ◌≤◌, true, false, cond, T, Bor, List, [], ◌∷◌, ◌++◌, length, map, take, drop, get_or, refl, sym, ap, subst, ◌∙◌, arith, ⊎_elim}
 use Rattle.std.specs.Prelude.{Option, None, Some, MatchOption, slice_get}
 use Rattle.std.specs.Option.{option_map}
 use Rattle.std.specs.Cmp.Lexicographic.{slice_cmp}
 use Rattle.std.specs.FinMap as finite
 use Rattle.std.specs.FinMap.Entries.{find, below_all, is_sorted}
 use Rattle.std.specs.List.{enumerate_from, flat_map}
-use Rattle.std.specs.Ordering.{nat_cmp, eq_by_cmp, is_eq, is_lt}
-use Rattle.std.specs.declared.cmp.Ordering.{Ordering}
-use Rattle.std.specs.declared.cmp.Ordering.TheVariants.{Less, Equal, Greater}
+use Rattle.std.specs.Ordering.{nat_cmp, eq_by_cmp}
 use Rattle.std.proofs.lemmas.Bool.{cases_Bool, cond-true, cond-false}
-use Rattle.std.proofs.lemmas.List.{append_assoc, append-nil, length-map, take_all}
+use Rattle.std.proofs.lemmas.List.{length-map, take_all}
 use Rattle.std.proofs.lemmas.Option.{slice_get-get_or, slice_get-map}
 use Rattle.trac_rules.specs.Form.{Form}
 use Rattle.trac_rules.specs.Listing.{names_of}
@@ -19,7 +17,7 @@ use Rattle.trac_forms.specs.Stored.{Gathered}
 use Rattle.trac_show.specs.StateLines.{block_lines, lines_of_block}
 use Rattle.trac_streams.proofs.ShownLists.{shown_more}
 use Rattle.trac_rules.proofs.NamedForms.{one_name, ties_itself}
-use Rattle.trac_rules.proofs.ProperDecided.{not_below}
+use Rattle.trac_rules.proofs.ProperDecided.{both_true, not_below}
 
 -- ---- numbers beside a list
 
@@ -53,12 +51,8 @@ entry_found (x ∷ es) (suc i) e sorted there =
     cond-false (eq_by_cmp (slice_cmp nat_cmp) e.0 x.0) (Some x.1) (find (slice_cmp nat_cmp) e.0 es) t ∙ entry_found es i e parts.1 there)
     (cases_Bool (eq_by_cmp (slice_cmp nat_cmp) e.0 x.0))
   where
-    both : (a b : Bool) → T (a && b) → T a × T b
-    both true b h = (tt, h)
-    both false b h = absurd h
-
     parts : T (below_all (slice_cmp nat_cmp) x.0 es) × T (is_sorted (slice_cmp nat_cmp) es)
-    parts = both (below_all (slice_cmp nat_cmp) x.0 es) (is_sorted (slice_cmp nat_cmp) es) sorted
+    parts = both_true (below_all (slice_cmp nat_cmp) x.0 es) (is_sorted (slice_cmp nat_cmp) es) sorted
 
 -- the form of an entry is got under its name
 pub form_there : (forms : Forms) (i : ℕ) (e : List ℕ × Form) → slice_get (finite.entries forms) i ≡ Some e → finite.get forms e.0 ≡ Some e.1
@@ -67,10 +61,10 @@ form_there forms i e there = finite.get-entries forms e.0 ∙ entry_found (finit
 -- ---- parts of a list
 
 -- what stands at a place of a rest
-get_behind : {X : Type 0} (a k : ℕ) (xs : List X) → slice_get (drop a xs) k ≡ slice_get xs (a + k)
-get_behind zero k xs = let same : k ≡ 0 + k = omega arith in ap (slice_get xs) same
-get_behind (suc a) k [] = refl
-get_behind (suc a) k (x ∷ xs) = let next : suc (a + k) ≡ suc a + k = omega arith in get_behind a k xs ∙ ap (slice_get (x ∷ xs)) next
+get_after : {X : Type 0} (a k : ℕ) (xs : List X) → slice_get (drop a xs) k ≡ slice_get xs (a + k)
+get_after zero k xs = let same : k ≡ 0 + k = omega arith in ap (slice_get xs) same
+get_after (suc a) k [] = refl
+get_after (suc a) k (x ∷ xs) = let next : suc (a + k) ≡ suc a + k = omega arith in get_after a k xs ∙ ap (slice_get (x ∷ xs)) next
 
 -- one more of a part
 pub shown_part : {X : Type 0} (f : X → List ℕ) (xs : List X) (from place : ℕ) (x : X) (old now after : List ℕ) → from ≤ place → slice_get xs place ≡ Some x →
@@ -78,7 +72,7 @@ pub shown_part : {X : Type 0} (f : X → List ℕ) (xs : List X) (from place : �
 shown_part f xs from place x old now after l there so_far adds =
     let here : from + (place - from) ≡ place = omega arith in
     let count : (place - from) + 1 ≡ place + 1 - from = omega arith in
-    shown_more f (drop from xs) (place - from) x old now after (get_behind from (place - from) xs ∙ ap (slice_get xs) here ∙ there) so_far adds
+    shown_more f (drop from xs) (place - from) x old now after (get_after from (place - from) xs ∙ ap (slice_get xs) here ∙ there) so_far adds
     ∙ ap (λ n. old ++ flat_map f (take n (drop from xs))) count
 
 -- all of a list

@@ -9,7 +9,7 @@ use Rattle.trac_text.specs.declared.mark.Mark.{Mark}
 use Rattle.trac_text.specs.Cuts.{AreArguments, BeginsFunction, cut, no_mark}
 use Rattle.trac_text.specs.Frames.{IsInnermost}
 use Rattle.trac_text.specs.Neutral.{MarkedText, Neutral, IsOrdered, cut_back, neutral_of}
-use Rattle.trac_text.proofs.Ending.{cuts_behind, is_innermost, no_function}
+use Rattle.trac_text.proofs.Ending.{cuts_after, is_innermost, no_function}
 use Rattle.trac_text.proofs.Neutral.{bytes-neutral, marks-neutral}
 use Rattle.trac_text.specs.declared.calls.Beginning.{Beginning}
 use Rattle.trac_step.specs.Calling.{BeginsFirst, BeginsInnermost, IsBegun}
@@ -58,14 +58,14 @@ last_begun (m ∷ ms) = begun_in m.frame refl (last_begun ms)
     begun_in : (o : Option Kind) → m.frame ≡ o → AreArguments ms ⊎ ((k : ℕ) × (kind : Kind) × BeginsFunction ms k kind) →
         AreArguments (m ∷ ms) ⊎ ((k : ℕ) × (kind : Kind) × BeginsFunction (m ∷ ms) k kind)
     begun_in None is (inl all) = inl (is, all)
-    begun_in (Some kind) is (inl all) = inr (0, kind, record { within = omega arith; begins = is; behind = all })
+    begun_in (Some kind) is (inl all) = inr (0, kind, record { within = omega arith; begins = is; after = all })
     begun_in o is (inr (k, kind, b)) = inr (
       suc k,
       kind,
       record {
         within = omega (arith, b.within);
         begins = b.begins;
-        behind = (let next : suc k + 1 ≡ suc (k + 1) = omega arith in subst (λ (n : ℕ). AreArguments (drop n (m ∷ ms))) (sym next) b.behind);
+        after = (let next : suc k + 1 ≡ suc (k + 1) = omega arith in subst (λ (n : ℕ). AreArguments (drop n (m ∷ ms))) (sym next) b.after);
       },
     )
 
@@ -93,7 +93,7 @@ is_begun m b ordered begins =
     let found = is_innermost m k kind ordered last.2 at texts refl refl in
     let same : record { number = k; place = at; kind = kind } ≡ b =
     one_beginning (neutral_of m).frames (neutral_of m).base (record { number = k; place = at; kind = kind }) b (begins_first m k at kind texts found) begins in
-    subst (IsBegun m) same (record { cuts = cuts_behind m k kind ordered last.2; innermost = found })
+    subst (IsBegun m) same (record { cuts = cuts_after m k kind ordered last.2; innermost = found })
 
 -- where the innermost function of the marks begins, that of the state does
 pub begins_innermost : (s : State) (m : MarkedText) (number place : ℕ) (kind : Kind) (texts : List (List ℕ)) → neutral_of m ≡ record { base = s.base; frames = s.frames } →

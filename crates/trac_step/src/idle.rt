@@ -9,7 +9,7 @@ ghost use Rattle.trac_step.specs.Room.{HasRoom, IsNoLess};
 use crate::engine::Core;
 use std::alloc::Allocator;
 use trac_gap::TwoEnds;
-use trac_text::idle::{kept_of, put_functions};
+use trac_text::emptying::{kept_of, put_functions};
 use trac_text::texts::restart;
 use trac_text::{Functions, Mark, Refusal};
 

@@ -37,8 +37,8 @@ both true b h = (tt, h)
 both false b h = absurd h
 
 -- so the entries after the first are what is found when its form is taken
-all_behind : (e : List ℕ × Form) (es : Held) (forms : Forms) → AreAll (e ∷ es) forms → AreAll es (finite.remove forms e.0)
-all_behind e es forms all = record { sorted = parts.1; found = λ q. ⊎_elim (at q) (aside q) (cases_Bool (eq_by_cmp (slice_cmp nat_cmp) q e.0)) }
+all_after : (e : List ℕ × Form) (es : Held) (forms : Forms) → AreAll (e ∷ es) forms → AreAll es (finite.remove forms e.0)
+all_after e es forms all = record { sorted = parts.1; found = λ q. ⊎_elim (at q) (aside q) (cases_Bool (eq_by_cmp (slice_cmp nat_cmp) q e.0)) }
   where
     parts : T (below_all (slice_cmp nat_cmp) e.0 es) × T (is_sorted (slice_cmp nat_cmp) es)
     parts = both (below_all (slice_cmp nat_cmp) e.0 es) (is_sorted (slice_cmp nat_cmp) es) all.sorted
@@ -58,12 +58,12 @@ all_moved [] forms all = refl
 all_moved (e ∷ es) forms all =
     let first = sym (all.found e.0) ∙ cond-true (eq_by_cmp (slice_cmp nat_cmp) e.0 e.0) (Some e.1) (find (slice_cmp nat_cmp) e.0 es) (ties_itself e.0) in
     ap (λ o. with_name e.0 o ++ moved_out (names_in es) (finite.remove forms e.0)) first
-    ∙ ap (λ (rest : Held). e ∷ rest) (all_moved es (finite.remove forms e.0) (all_behind e es forms all))
+    ∙ ap (λ (rest : Held). e ∷ rest) (all_moved es (finite.remove forms e.0) (all_after e es forms all))
 
 none_left : (es : Held) (forms : Forms) → AreAll es forms → without (names_in es) forms ≡ finite.empty
 none_left [] forms all =
     finite.same_map nat_list_cmp_total only_equal_tie forms finite.empty (λ q. sym (all.found q) ∙ sym (finite.get-empty (slice_cmp nat_cmp) q))
-none_left (e ∷ es) forms all = none_left es (finite.remove forms e.0) (all_behind e es forms all)
+none_left (e ∷ es) forms all = none_left es (finite.remove forms e.0) (all_after e es forms all)
 
 all_entries_of : (forms : Forms) → AreAll (finite.entries forms) forms
 all_entries_of forms = record { sorted = finite.entries_sorted forms; found = λ q. sym (finite.get-entries forms q) }

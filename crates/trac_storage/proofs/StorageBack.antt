@@ -143,12 +143,12 @@ erased_there number blocks is =
 
 -- ---- blocks whose forms come back
 
--- what there was where the last block held these forms, which go back
-pub record IsMovedOut (known : Names) (name : List ℕ) (names : List (List ℕ)) (old : Option Form) (storage : Storage) (held : Held) : Type 0 where
-  pub state : moved_out_again name names old storage ≡ Some (record { forms = with_all held (swapped_back name old storage.forms); blocks = take (length storage.blocks - 1) storage.blocks })
+-- what there was where the last block held these forms, which go back; the block's name is an argument of the call
+pub record IsMovedOut (known : Names) (first name : List ℕ) (names : List (List ℕ)) (old : Option Form) (storage : Storage) (held : Held) : Type 0 where
+  pub state : moved_out_again first names old storage ≡ Some (record { forms = with_all held (swapped_back name old storage.forms); blocks = take (length storage.blocks - 1) storage.blocks })
   pub knows : KnowsAll known (with_all held (swapped_back name old storage.forms))
 
-module _ (known : Names) (name : List ℕ) (names : List (List ℕ)) (old : Option Form) (storage : Storage) where
+module _ (known : Names) {first name : List ℕ} (named : name ≡ first) (names : List (List ℕ)) (old : Option Form) (storage : Storage) where
   abbrev moves : Held → Bool
   moves held =
       is_some (finite.get storage.forms name)
@@ -160,13 +160,17 @@ module _ (known : Names) (name : List ℕ) (names : List (List ℕ)) (old : Opti
   abbrev moved : Held → Option Storage
   moved held = then_some (moves held) (before held)
 
-  pub is_moved_out : (held : Held) → last_block storage.blocks ≡ Some held → KnowsBefore known (moved_out_again name names old storage) → IsMovedOut known name names old storage held
-  is_moved_out held last knows =
-      let at = tested (moves held) known (before held) (subst (λ (block : Block). KnowsBefore known (option_and_then moved block)) last knows) in
-      record { state = ap (option_and_then moved) last ∙ at.2; knows = at.1 }
+  knows_named : KnowsBefore known (moved_out_again first names old storage) → KnowsBefore known (moved_out_again name names old storage)
+  knows_named knows = subst (λ (n : List ℕ). KnowsBefore known (moved_out_again n names old storage)) (sym named) knows
 
-  pub never_none : last_block storage.blocks ≡ None → KnowsBefore known (moved_out_again name names old storage) → ⊥
-  never_none last knows = subst (λ (block : Block). KnowsBefore known (option_and_then moved block)) last knows
+  pub is_moved_out : (held : Held) → last_block storage.blocks ≡ Some held → KnowsBefore known (moved_out_again first names old storage) →
+      IsMovedOut known first name names old storage held
+  is_moved_out held last knows =
+      let at = tested (moves held) known (before held) (subst (λ (block : Block). KnowsBefore known (option_and_then moved block)) last (knows_named knows)) in
+      record { state = ap (λ (n : List ℕ). moved_out_again n names old storage) (sym named) ∙ ap (option_and_then moved) last ∙ at.2; knows = at.1 }
+
+  pub never_none : last_block storage.blocks ≡ None → KnowsBefore known (moved_out_again first names old storage) → ⊥
+  never_none last knows = subst (λ (block : Block). KnowsBefore known (option_and_then moved block)) last (knows_named knows)
 
 -- what there was where the block of a number holds these forms, of which copies were put among the forms
 pub record IsUnbrought (known : Names) (number : ℕ) (replaced : Held) (storage : Storage) (held : Held) : Type 0 where

@@ -60,16 +60,16 @@ pub front_of_front : (x y z : List ℕ) → IsFrontOf x y → IsFrontOf y z → 
 front_of_front x y z first second = (first.0 ++ second.0, second.1 ∙ ap (λ t. t ++ second.0) first.1 ∙ append_assoc x first.0 second.0)
 
 -- a front after another text
-pub front_behind : (text front whole : List ℕ) → IsFrontOf front whole → IsFrontOf (text ++ front) (text ++ whole)
-front_behind text front whole f = (f.0, ap (λ t. text ++ t) f.1 ∙ sym (append_assoc text front f.0))
+pub front_after : (text front whole : List ℕ) → IsFrontOf front whole → IsFrontOf (text ++ front) (text ++ whole)
+front_after text front whole f = (f.0, ap (λ t. text ++ t) f.1 ∙ sym (append_assoc text front f.0))
 
 -- what is taken of a text is a front of it
 pub front_taken : (n : ℕ) (text : List ℕ) → IsFrontOf (take n text) text
 front_taken n text = (drop n text, sym (take-append-drop n text))
 
 -- a part that is taken after a part that was taken
-pub taken_behind : (a n : ℕ) (text : List ℕ) → take a text ++ take n (take (length text - a) (drop a text)) ≡ take (a + n) text
-taken_behind a n text =
+pub taken_after : (a n : ℕ) (text : List ℕ) → take a text ++ take n (take (length text - a) (drop a text)) ≡ take (a + n) text
+taken_after a n text =
     let whole : length (drop a text) ≤ length text - a = omega (arith, length-drop a text) in
     ap (λ t. take a text ++ take n t) (take_all (length text - a) (drop a text) whole) ∙ sym (take-add a n text)
 

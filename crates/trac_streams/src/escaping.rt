@@ -1,4 +1,4 @@
-//! How bytes, texts and numbers are shown.
+//! How bytes, texts and numbers are shown. The error of each function is that memory was refused.
 ghost use Rattle.std.specs.Prelude.{◌≡◌, ◌++◌, ◌<◌, codes, OnOk, decimal};
 ghost use Rattle.std.specs.Char.{digit_char};
 ghost use Rattle.trac_streams.specs.Escapes.{bracketed, escaped, escaped_byte, is_shown, number_line, text_line};
@@ -26,7 +26,7 @@ fn hexadecimal_digit(digit: u8) -> u8
     }
 }
 
-/// Puts a byte at the end of a text, as `escaped_into` does. The error is that memory was refused.
+/// Puts a byte at the end of a text, as `escaped_into` does.
 pub fn byte_into<A: Allocator>(byte: u8, out: &mut Vec<u8, A>) -> Result<(), AllocError>
     ensures { OnOk result (out.new.items ≡ out.old.items ++ escaped_byte byte) }
 {
@@ -39,8 +39,7 @@ pub fn byte_into<A: Allocator>(byte: u8, out: &mut Vec<u8, A>) -> Result<(), All
 }
 
 /// Puts a text in brackets at the end of another one, byte by byte: bytes 32 to 126 but for `[`, `\` and `]` as
-/// themselves, every other one as `\x` and two hexadecimal digits in lower case (this project's profile). The
-/// error is that memory was refused.
+/// themselves, every other one as `\x` and two hexadecimal digits in lower case (this project's profile).
 pub fn text_into<A: Allocator>(text: &[u8], out: &mut Vec<u8, A>) -> Result<(), AllocError>
     ensures { OnOk result (out.new.items ≡ out.old.items ++ bracketed text.now) }
 {
@@ -49,8 +48,7 @@ pub fn text_into<A: Allocator>(text: &[u8], out: &mut Vec<u8, A>) -> Result<(), 
     out.extend_from_slice(b"]")
 }
 
-/// Puts a text at the end of another one, byte by byte, as `text_into` does, but without brackets. The error is that memory
-/// was refused.
+/// Puts a text at the end of another one, byte by byte, as `text_into` does, but without brackets.
 pub fn escaped_into<A: Allocator>(text: &[u8], out: &mut Vec<u8, A>) -> Result<(), AllocError>
     ensures { OnOk result (out.new.items ≡ out.old.items ++ escaped text.now) }
 {
@@ -60,7 +58,7 @@ pub fn escaped_into<A: Allocator>(text: &[u8], out: &mut Vec<u8, A>) -> Result<(
     Ok(())
 }
 
-/// Puts a number in decimal at the end of a text. The error is that memory was refused.
+/// Puts a number in decimal at the end of a text.
 pub fn number_into<A: Allocator>(number: u64, out: &mut Vec<u8, A>) -> Result<(), AllocError>
     ensures { OnOk result (out.new.items ≡ out.old.items ++ decimal number) }
 {
@@ -68,7 +66,7 @@ pub fn number_into<A: Allocator>(number: u64, out: &mut Vec<u8, A>) -> Result<()
     out.extend_from_slice(buffer.format(number).as_bytes())
 }
 
-/// Puts a line of a word and a text at the end of a text. The error is that memory was refused.
+/// Puts a line of a word and a text at the end of a text.
 pub fn text_line_into<A: Allocator>(
     word: &[u8],
     text: &[u8],
@@ -80,7 +78,7 @@ pub fn text_line_into<A: Allocator>(
     Ok(out.push(LINE_FEED)?)
 }
 
-/// Puts a word and a text in brackets, with a space between them, at the end of a text. The error is that memory was refused.
+/// Puts a word and a text in brackets, with a space between them, at the end of a text.
 pub fn lead_into<A: Allocator>(
     word: &[u8],
     text: &[u8],
@@ -93,7 +91,7 @@ pub fn lead_into<A: Allocator>(
     text_into(text, out)
 }
 
-/// Puts a line of a word and a number at the end of a text. The error is that memory was refused.
+/// Puts a line of a word and a number at the end of a text.
 pub fn number_line_into<A: Allocator>(
     word: &[u8],
     number: u64,

@@ -15,7 +15,7 @@ start_before_end from [] end zero cuts h = (cuts, omega arith)
 start_before_end from [] end (suc i) cuts h = absurd (omega arith)
 start_before_end from (m ∷ marks) end zero cuts h = (
   cuts.0,
-  (let behind : (start_of m.place marks zero ≤ end_of end marks zero) × (end_of end marks zero ≤ end) = start_before_end m.place marks end zero cuts.1 (omega arith) in omega arith),
+  (let after : (start_of m.place marks zero ≤ end_of end marks zero) × (end_of end marks zero ≤ end) = start_before_end m.place marks end zero cuts.1 (omega arith) in omega arith),
 )
 start_before_end from (m ∷ marks) end (suc i) cuts h = start_before_end m.place marks end i cuts.1 (omega arith)
 

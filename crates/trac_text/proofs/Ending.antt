@@ -9,17 +9,13 @@ use Rattle.trac_text.specs.declared.mark.Mark.{Mark}
 use Rattle.trac_text.specs.Cuts.{AreCuts, AreArguments, BeginsFunction, cut, no_mark}
 use Rattle.trac_text.specs.Neutral.{Neutral, neutral, AreMarks, MarkedText, IsOrdered, neutral_of}
 use Rattle.trac_text.specs.Frames.{IsInnermost}
-use Rattle.trac_text.proofs.Cutting.{length-cut}
+use Rattle.trac_text.proofs.Cutting.{length-cut, start_within}
 
 -- ---- cuts
 
 AreCuts-push : (from : ℕ) (ms : List Mark) (m : Mark) (n : ℕ) → AreCuts from ms m.place → m.place ≤ n → AreCuts from (ms ++ m ∷ []) n
 AreCuts-push from [] m n cuts h = (cuts, h)
 AreCuts-push from (k ∷ ms) m n cuts h = (cuts.0, AreCuts-push k.place ms m n cuts.1 h)
-
-AreCuts-within : (from : ℕ) (ms : List Mark) (n : ℕ) → AreCuts from ms n → from ≤ n
-AreCuts-within from [] n cuts = cuts
-AreCuts-within from (k ∷ ms) n cuts = let rest : k.place ≤ n = AreCuts-within k.place ms n cuts.1 in omega (arith, cuts.0)
 
 between_short : (text : List ℕ) (from place end : ℕ) → place ≤ end → take (place - from) (drop from (take end text)) ≡ take (place - from) (drop from text)
 between_short text from place end h = between_is (take end text) from place ∙ ap (drop from) (take-take place end text h) ∙ sym (between_is text from place)
@@ -29,7 +25,7 @@ cut-push : (from : ℕ) (ms : List Mark) (m : Mark) (text : List ℕ) → AreCut
     cut from (ms ++ m ∷ []) text ≡ cut from ms (take m.place text) ++ drop m.place text ∷ []
 cut-push from [] m text cuts = ap (λ (first : List ℕ). first ∷ drop m.place text ∷ []) (between_is text from m.place)
 cut-push from (k ∷ ms) m text cuts =
-    ap (λ (first : List ℕ). first ∷ cut k.place (ms ++ m ∷ []) text) (sym (between_short text from k.place m.place (AreCuts-within k.place ms m.place cuts.1)))
+    ap (λ (first : List ℕ). first ∷ cut k.place (ms ++ m ∷ []) text) (sym (between_short text from k.place m.place (start_within k.place ms m.place cuts.1)))
     ∙ ap (λ (rest : List (List ℕ)). take (k.place - from) (drop from (take m.place text)) ∷ rest) (cut-push k.place ms m text cuts.1)
 
 -- ---- marks the other way round
@@ -82,7 +78,7 @@ ends_with text (m ∷ args) f before kind args_are is a =
     let front : length (take m.place text) ≡ m.place = length-take-le m.place text a.0 in
     let inner_marks : AreMarks (length (take m.place text)) (args ++ f ∷ before) = subst (λ (k : ℕ). AreMarks k (args ++ f ∷ before)) (sym front) a.2 in
     let inner = ends_with (take m.place text) args f before kind args_are.1 is inner_marks in
-    let below : f.place ≤ m.place = AreCuts-within f.place (reverse args) m.place (cuts_of_marks m.place args f before a.2) in
+    let below : f.place ≤ m.place = start_within f.place (reverse args) m.place (cuts_of_marks m.place args f before a.2) in
     record {
       arguments = inner.arguments ++ inner.gathered ∷ [];
       gathered = drop m.place text;
@@ -99,31 +95,31 @@ module _ (m : MarkedText) (k : ℕ) (kind : Kind) (ordered : IsOrdered m) (begin
   abbrev first : Mark
   first = get_or m.marks k no_mark
 
-  abbrev behind : List Mark
-  behind = drop (k + 1) m.marks
+  abbrev after : List Mark
+  after = drop (k + 1) m.marks
 
   abbrev before : List Mark
   before = reverse (take k m.marks)
 
-  split_marks : AreMarks (length m.text) (reverse behind ++ first ∷ before)
+  split_marks : AreMarks (length m.text) (reverse after ++ first ∷ before)
   split_marks = subst (λ ms. AreMarks (length m.text) ms) (reverse_at m.marks k begins.within) ordered
 
-  pub cuts_behind : AreCuts first.place behind (length m.text)
-  cuts_behind = subst (λ ms. AreCuts first.place ms (length m.text)) (reverse-reverse behind) (cuts_of_marks (length m.text) (reverse behind) first before split_marks)
+  pub cuts_after : AreCuts first.place after (length m.text)
+  cuts_after = subst (λ ms. AreCuts first.place ms (length m.text)) (reverse-reverse after) (cuts_of_marks (length m.text) (reverse after) first before split_marks)
 
-  ends : EndsWith (neutral_of m) kind (cut first.place behind m.text) (neutral (take first.place m.text) before)
+  ends : EndsWith (neutral_of m) kind (cut first.place after m.text) (neutral (take first.place m.text) before)
   ends =
-      let found = ends_with m.text (reverse behind) first before kind (AreArguments-reverse behind begins.behind) begins.begins split_marks in
-      let P : List Mark → Type 0 = λ ms. EndsWith (neutral m.text ms) kind (cut first.place behind m.text) (neutral (take first.place m.text) before) in
-      let Q : List Mark → Type 0 = λ ms. EndsWith (neutral m.text (reverse behind ++ first ∷ before)) kind (cut first.place ms m.text) (neutral (take first.place m.text) before) in
-      subst P (sym (reverse_at m.marks k begins.within)) (subst Q (reverse-reverse behind) found)
+      let found = ends_with m.text (reverse after) first before kind (AreArguments-reverse after begins.after) begins.begins split_marks in
+      let P : List Mark → Type 0 = λ ms. EndsWith (neutral m.text ms) kind (cut first.place after m.text) (neutral (take first.place m.text) before) in
+      let Q : List Mark → Type 0 = λ ms. EndsWith (neutral m.text (reverse after ++ first ∷ before)) kind (cut first.place ms m.text) (neutral (take first.place m.text) before) in
+      subst P (sym (reverse_at m.marks k begins.within)) (subst Q (reverse-reverse after) found)
 
-  pub is_innermost : (place : ℕ) (texts : List (List ℕ)) → place ≡ first.place → texts ≡ cut place behind m.text → IsInnermost m k place kind texts
+  pub is_innermost : (place : ℕ) (texts : List (List ℕ)) → place ≡ first.place → texts ≡ cut place after m.text → IsInnermost m k place kind texts
   is_innermost place texts at cut_so =
-      let within : first.place ≤ length m.text = AreCuts-within first.place behind (length m.text) cuts_behind in
-      let in_front : AreMarks first.place before = marks_before (length m.text) (reverse behind) first before split_marks in
+      let within : first.place ≤ length m.text = start_within first.place after (length m.text) cuts_after in
+      let in_front : AreMarks first.place before = marks_before (length m.text) (reverse after) first before split_marks in
       let here : length (take place m.text) ≡ first.place = length-take-le place m.text (rw at within) ∙ at in
-      let counted : length texts ≡ length behind + 1 = ap length cut_so ∙ length-cut place behind m.text in
+      let counted : length texts ≡ length after + 1 = ap length cut_so ∙ length-cut place after m.text in
       let rest : neutral (take place m.text) before ≡ neutral (take first.place m.text) before = ap (λ (p : ℕ). neutral (take p m.text) before) at in
       record {
         within = begins.within;
@@ -132,7 +128,7 @@ module _ (m : MarkedText) (k : ℕ) (kind : Kind) (ordered : IsOrdered m) (begin
         count = omega (arith, counted, length-drop (k + 1) m.marks, begins.within);
         frame = record { kind = kind; arguments = ends.arguments; gathered = ends.gathered };
         kind_is = refl;
-        arguments_are = ends.texts_are ∙ ap (λ (p : ℕ). cut p behind m.text) (sym at) ∙ sym cut_so;
+        arguments_are = ends.texts_are ∙ ap (λ (p : ℕ). cut p after m.text) (sym at) ∙ sym cut_so;
         base_is = ap (λ (n : Neutral). n.base) ends.neutral_is ∙ ap (λ (n : Neutral). n.base) (sym rest);
         frames_are =
             ap (λ (n : Neutral). n.frames) ends.neutral_is

@@ -12,9 +12,9 @@ cut-joined [] n h = absurd (omega arith)
 cut-joined (text ∷ []) zero h = ap (λ (only : List ℕ). only ∷ []) (append-nil text)
 cut-joined (text ∷ next ∷ texts) zero h = absurd (omega arith)
 cut-joined (text ∷ texts) (suc n) h =
-    let behind : drop (length text) (text ++ concat texts) ≡ concat texts = drop_at text (concat texts) (length text) refl in
+    let after : drop (length text) (text ++ concat texts) ≡ concat texts = drop_at text (concat texts) (length text) refl in
     let rest : all_texts (cut_at (map length (take n texts)) (drop (length text) (text ++ concat texts))) ≡ texts =
-    ap (λ (joined : List ℕ). all_texts (cut_at (map length (take n texts)) joined)) behind ∙ cut-joined texts n (omega arith) in
+    ap (λ (joined : List ℕ). all_texts (cut_at (map length (take n texts)) joined)) after ∙ cut-joined texts n (omega arith) in
     λ i. take_at text (concat texts) (length text) refl i ∷ rest i
 
 -- the lengths are within the text

@@ -7,7 +7,7 @@ use Rattle.std.proofs.lemmas.List.Sums.{sum_by-cons}
 use Rattle.std.proofs.lemmas.List.Sorted.{IsPermutation-reverse, sum_by-IsPermutation}
 use Rattle.trac_rules.specs.declared.kind.Kind.{Kind}
 use Rattle.trac_rules.specs.State.{Frame}
-use Rattle.trac_rules.specs.Limits.{total_length, argument_bytes, marks}
+use Rattle.trac_rules.specs.Limits.{argument_bytes, marks}
 use Rattle.trac_rules.proofs.Bounded.{total_length-append}
 use Rattle.trac_text.specs.declared.mark.Mark.{Mark}
 use Rattle.trac_text.specs.Cuts.{function_count}

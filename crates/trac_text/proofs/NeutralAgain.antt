@@ -94,5 +94,5 @@ pub function_fits : (left back : List (Kind × Arguments)) (kind : Kind) (a : Ar
     × (1 + length a.finished + marks (frames_in back) ≤ marks (frames_in (left ++ (kind, a) ∷ back)))
 function_fits [] back kind a = (omega (arith, function_bytes a.finished a.gathered), omega arith)
 function_fits (f ∷ left) back kind a =
-    let behind = function_fits left back kind a in
-    (omega (arith, behind.0), omega (arith, behind.1))
+    let after = function_fits left back kind a in
+    (omega (arith, after.0), omega (arith, after.1))

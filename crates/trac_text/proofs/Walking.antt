@@ -41,17 +41,17 @@ place_before : (n : ℕ) (later : List Mark) (f : Mark) (before : List Mark) →
 place_before n [] f before a = a.0
 place_before n (m ∷ later) f before a = omega (arith, a.0, place_before m.place later f before a.2)
 
-behind_front : (text : List ℕ) (later : List Mark) (f : Mark) (before : List Mark) (kind : Kind) → f.frame ≡ Some kind → AreMarks (length text) (later ++ f ∷ before) →
+after_front : (text : List ℕ) (later : List Mark) (f : Mark) (before : List Mark) (kind : Kind) → f.frame ≡ Some kind → AreMarks (length text) (later ++ f ∷ before) →
     HasInner (neutral text (later ++ f ∷ before)).frames (neutral (take f.place text) before).frames
-behind_front text [] f before kind is a = record {
+after_front text [] f before kind is a = record {
   innermost = record { kind = kind; arguments = []; gathered = drop f.place text };
   others = [];
   is = rw is refl;
 }
-behind_front text (m ∷ later) f before kind is a =
+after_front text (m ∷ later) f before kind is a =
     let short : length (take m.place text) ≡ m.place = length-take-le m.place text a.0 in
     let inside : AreMarks (length (take m.place text)) (later ++ f ∷ before) = subst (λ (k : ℕ). AreMarks k (later ++ f ∷ before)) (sym short) a.2 in
-    let found = behind_front (take m.place text) later f before kind is inside in
+    let found = after_front (take m.place text) later f before kind is inside in
     let same : take f.place (take m.place text) ≡ take f.place text = take-take f.place m.place text (place_before m.place later f before a.2) in
     marked_inner m.frame (drop m.place text) (neutral (take m.place text) (later ++ f ∷ before)) (neutral (take f.place text) before).frames
     (subst (λ (t : List ℕ). HasInner (neutral (take m.place text) (later ++ f ∷ before)).frames (neutral t before).frames) same found)
@@ -87,7 +87,7 @@ module _ (m : MarkedText) (number : ℕ) (ordered : IsOrdered m) (next : IsNextF
   pub is_front : (place : ℕ) → place ≡ here.place → IsFront m number (cut_back number place m)
   is_front place e =
       let kind = begins_some here.frame (next.begins l) in
-      let found = behind_front m.text later here before kind.0 kind.1 split in
+      let found = after_front m.text later here before kind.0 kind.1 split in
       let at : neutral (take here.place m.text) before ≡ neutral (take place m.text) before = ap (λ (p : ℕ). neutral (take p m.text) before) (sym e) in
       record {
         count = sym (frames_counted (cut_back number place m));

@@ -43,7 +43,7 @@ AreArguments (m ∷ marks) = (m.frame ≡ None) × AreArguments marks
 pub record BeginsFunction (marks : List Mark) (k : ℕ) (kind : Kind) : Type 0 where
   pub within : k < length marks
   pub begins : (get_or marks k no_mark).frame ≡ Some kind
-  pub behind : AreArguments (drop (k + 1) marks)
+  pub after : AreArguments (drop (k + 1) marks)
 
 -- how many of the marks begin functions
 abbrev pub function_count : List Mark → ℕ

@@ -6,7 +6,7 @@ ghost use Rattle.trac_text.specs.Pieces.{all_texts};
 ghost use Rattle.trac_text.specs.Marks.{function_marks};
 ghost use Rattle.trac_text.specs.MovingBack.{HasValue, before_call, without_value};
 
-use crate::idle::put_function;
+use crate::emptying::put_function;
 use crate::mark::Mark;
 use crate::pieces::PiecesRef;
 use std::alloc::Allocator;

@@ -4,8 +4,8 @@
 
 mod aim;
 mod call_list;
+mod carrying_out;
 mod dialogue;
-mod moving;
 mod origins;
 mod replying;
 mod walker;

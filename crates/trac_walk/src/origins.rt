@@ -7,7 +7,8 @@ use trac_follow::{Place, Source};
 use trac_orders::Spot;
 use trac_rules::byte::LINE_FEED;
 use trac_screen::{
-    Deed, Stop, deed_into, left_out_into, source_into, standing_into, step_line, stop_into,
+    Stop, Treatment, left_out_into, source_into, standing_into, step_line, stop_into,
+    treatment_into,
 };
 
 // So many lines of a way are shown at most: the first of them, how many are left out, and the last.
@@ -43,7 +44,7 @@ enum Found {
     // the call that comes next has it from this item of the form that it names
     OfForm(usize),
     // so it ends
-    End(Deed),
+    End(Treatment),
     // nothing stands there
     Nothing,
 }
@@ -95,10 +96,10 @@ pub fn written_into<A: Allocator + Copy>(
     if let Some(refusal) = walker.forward(end.saturating_sub(source)) {
         return stay(alloc, walker, Stop::Refused(refusal), out);
     }
-    let Some(deed) = found else {
+    let Some(treatment) = found else {
         return stay(alloc, walker, Stop::NoByte, out);
     };
-    source_into(deed, source, &mut line)?;
+    source_into(treatment, source, &mut line)?;
     line.end_into(out)
 }
 
@@ -250,11 +251,11 @@ fn trail_into<A: Allocator + Copy>(
                 trail.name = form_called(alloc, walker)?;
                 trail.here = Here::Form(i);
             }
-            Found::End(deed) => {
+            Found::End(treatment) => {
                 if trail.left_out > 0 {
                     left_out_into(alloc, trail.left_out, out)?;
                 }
-                deed_into(alloc, walker.step(), walker.machine(), deed, out)?;
+                treatment_into(alloc, walker.step(), walker.machine(), treatment, out)?;
                 return Ok(None);
             }
             Found::Nothing => return Ok(Some(Stop::NoByte)),
@@ -269,7 +270,7 @@ fn deed_from<A: Allocator + Copy>(
     walker: &mut Walker<A>,
     program: &[u8],
     here: Here,
-) -> Result<Option<Deed>, AllocError> {
+) -> Result<Option<Treatment>, AllocError> {
     let mut trail = Trail {
         here,
         name: Vec::new(alloc),
@@ -283,7 +284,7 @@ fn deed_from<A: Allocator + Copy>(
                 trail.name = form_called(alloc, walker)?;
                 trail.here = Here::Form(i);
             }
-            Found::End(deed) => return Ok(Some(deed)),
+            Found::End(treatment) => return Ok(Some(treatment)),
             Found::Nothing => return Ok(None),
         }
     }
@@ -299,18 +300,18 @@ fn found_from<A: Allocator + Copy>(
     match walker.follow(place_of(trail.here, trail.name.as_slice())) {
         Source::Passed(there) => Found::Passed(without_name(there)),
         Source::OfForm(i) => Found::OfForm(i),
-        Source::Made => Found::End(Deed::Makes),
+        Source::Made => Found::End(Treatment::Makes),
         Source::Read(n) => Found::End(read_as(walker.input_number(n), program)),
-        Source::Here(_) => Found::End(Deed::Keeps),
-        Source::Unknown(_) => Found::End(Deed::Hides),
+        Source::Here(_) => Found::End(Treatment::Keeps),
+        Source::Unknown(_) => Found::End(Treatment::Hides),
         Source::Nothing => Found::Nothing,
     }
 }
 
 // What is said of the byte of this number of the input, which begins with this program.
-fn read_as(number: u64, program: &[u8]) -> Deed {
+fn read_as(number: u64, program: &[u8]) -> Treatment {
     if number >= program.len() as u64 {
-        return Deed::ReadsFed((number - program.len() as u64).saturating_add(1));
+        return Treatment::ReadsFed((number - program.len() as u64).saturating_add(1));
     }
     let mut line = 1_u64;
     let mut column = 1_u64;
@@ -322,7 +323,7 @@ fn read_as(number: u64, program: &[u8]) -> Deed {
             column = column.saturating_add(1);
         }
     }
-    Deed::Reads(line, column)
+    Treatment::Reads(line, column)
 }
 
 // A line for the call that comes next, which carried a byte to here.
@@ -337,12 +338,12 @@ fn carried_into<A: Allocator + Copy>(
         return Ok(());
     }
     trail.shown += 1;
-    let deed = match trail.here {
-        Here::Output(_) => Deed::Prints,
-        Here::Form(_) | Here::Held(_, _) => Deed::Puts,
-        _ => Deed::Gives,
+    let treatment = match trail.here {
+        Here::Output(_) => Treatment::Prints,
+        Here::Form(_) | Here::Held(_, _) => Treatment::Puts,
+        _ => Treatment::Gives,
     };
-    deed_into(alloc, walker.step(), walker.machine(), deed, out)
+    treatment_into(alloc, walker.step(), walker.machine(), treatment, out)
 }
 
 // The name of the form that the call that comes next names.

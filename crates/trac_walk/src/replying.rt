@@ -1,7 +1,7 @@
 //! What a line asks for, done, and what is said of it.
 
 use crate::call_list::calls_into;
-use crate::moving::carry_out;
+use crate::carrying_out::carry_out;
 use crate::origins::{way_into, written_into};
 use crate::walker::Walker;
 use std::alloc::{AllocError, Allocator};

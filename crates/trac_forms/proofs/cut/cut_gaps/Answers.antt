@@ -1,12 +1,10 @@
 -- Gap by gap.
-use Rattle.std.proofs.Common.{ap, arith, drop, get_or, length, ◌+◌, ◌∙◌}
+use Rattle.std.proofs.Common.{ap, arith, length, ◌∙◌}
 use Rattle.trac_gap.specs.Ends.{Ends}
 use Rattle.trac_rules.specs.declared.item.Item.{Item}
-use Rattle.trac_rules.specs.Form.{all_items}
-use Rattle.trac_rules.specs.Segmenting.{segmented}
 use Rattle.trac_rules.proofs.Cutting.{extent-segmented}
 use Rattle.trac_forms.specs.Layout.{divided}
-use Rattle.trac_forms.proofs.CutWalks.{cut_begins, cut_ends, cut_kept, cut_more, gap_to_come, left_is, made_behind, made_fits, made_there, next_to_come, no_cut_gap, right_is}
+use Rattle.trac_forms.proofs.CutWalks.{cut_begins, cut_ends, cut_kept, cut_more, gap_to_come, left_is, made_after, made_fits, made_some, made_there, right_is}
 use Rattle.trac_forms.proofs.cut.cut_gaps.Goals as goal
 
 pub loop-gap-init : goal.loop-gap-init
@@ -20,75 +18,26 @@ loop-gap-init g c =
     }
 
 pub overflow_sub-passed : goal.overflow_sub-passed
-overflow_sub-passed g c =
-    let texts = g.T.Texts.texts c.args.texts.now in
-    let new = all_items (segmented texts (divided c.args.items.now)) in
-    let gaps = c.args.gaps.now in
-    let i = c.loop-gap.gap-index in
-    let gap = get_or gaps i no_cut_gap in
-    let cut = drop (i + 1) gaps in
-    let s = gap_to_come texts new c.loop-gap.items gaps i c.loop-gap-test.true c.loop-gap.invariant.cut in
-    omega (arith, made_behind texts new c.loop-gap.items gap cut s (next_to_come texts new c.loop-gap.items gap cut s), ap length c.left.ensures.left)
+overflow_sub-passed g c = omega (arith, made_after (gap_to_come c.args.gaps.now c.loop-gap.gap-index c.loop-gap-test.true c.loop-gap.invariant.cut), ap length c.left.ensures.left)
 
 pub cut_gap-requires-clause-some : goal.cut_gap-requires-clause-some
-cut_gap-requires-clause-some g c =
-    let texts = g.T.Texts.texts c.args.texts.now in
-    let new = all_items (segmented texts (divided c.args.items.now)) in
-    let gaps = c.args.gaps.now in
-    let i = c.loop-gap.gap-index in
-    let gap = get_or gaps i no_cut_gap in
-    let cut = drop (i + 1) gaps in
-    let s = gap_to_come texts new c.loop-gap.items gaps i c.loop-gap-test.true c.loop-gap.invariant.cut in
-    let next = next_to_come texts new c.loop-gap.items gap cut s in
-    omega (arith, next.some, ap length c.text.ensures)
+cut_gap-requires-clause-some g c = omega (arith, made_some (gap_to_come c.args.gaps.now c.loop-gap.gap-index c.loop-gap-test.true c.loop-gap.invariant.cut), ap length c.text.ensures)
 
 pub cut_gap-requires-clause-fits : goal.cut_gap-requires-clause-fits
 cut_gap-requires-clause-fits g c =
-    let texts = g.T.Texts.texts c.args.texts.now in
-    let form = divided c.args.items.now in
-    let new = all_items (segmented texts form) in
-    let gaps = c.args.gaps.now in
-    let i = c.loop-gap.gap-index in
-    let gap = get_or gaps i no_cut_gap in
-    let cut = drop (i + 1) gaps in
-    let s = gap_to_come texts new c.loop-gap.items gaps i c.loop-gap-test.true c.loop-gap.invariant.cut in
-    omega (
-      arith,
-      made_fits texts new c.loop-gap.items gap cut s (next_to_come texts new c.loop-gap.items gap cut s) (omega (arith, extent-segmented texts form, c.requires.kept.within)),
-      ap length c.text.ensures,
-    )
+    let within = extent-segmented (g.T.Texts.texts c.args.texts.now) (divided c.args.items.now) in
+    omega (arith, made_fits (gap_to_come c.args.gaps.now c.loop-gap.gap-index c.loop-gap-test.true c.loop-gap.invariant.cut) (omega (arith, within, c.requires.kept.within)), ap length c.text.ensures)
 
 pub cut_gap-requires-clause-there : goal.cut_gap-requires-clause-there
-cut_gap-requires-clause-there g c =
-    let texts = g.T.Texts.texts c.args.texts.now in
-    let new = all_items (segmented texts (divided c.args.items.now)) in
-    let gaps = c.args.gaps.now in
-    let i = c.loop-gap.gap-index in
-    let gap = get_or gaps i no_cut_gap in
-    let cut = drop (i + 1) gaps in
-    let s = gap_to_come texts new c.loop-gap.items gaps i c.loop-gap-test.true c.loop-gap.invariant.cut in
-    omega (
-      arith,
-      made_there texts new c.loop-gap.items gap cut s (next_to_come texts new c.loop-gap.items gap cut s),
-      ap length c.text.ensures,
-      ap length c.left.ensures.left,
-    )
+cut_gap-requires-clause-there g c = omega (arith, made_there (gap_to_come c.args.gaps.now c.loop-gap.gap-index c.loop-gap-test.true c.loop-gap.invariant.cut), ap length c.text.ensures, ap length c.left.ensures.left)
 
 pub loop-gap-preserved : goal.loop-gap-preserved
-loop-gap-preserved g c =
-    let texts = g.T.Texts.texts c.args.texts.now in
-    let new = all_items (segmented texts (divided c.args.items.now)) in
-    let gaps = c.args.gaps.now in
-    let i = c.loop-gap.gap-index in
-    let gap = get_or gaps i no_cut_gap in
-    let cut = drop (i + 1) gaps in
-    let s = gap_to_come texts new c.loop-gap.items gaps i c.loop-gap-test.true c.loop-gap.invariant.cut in
-    record {
-      cut =
-          cut_more texts new c.loop-gap.items gap cut s (next_to_come texts new c.loop-gap.items gap cut s) c.cut_gap.new.items _ _ (omega (arith, ap length c.left.ensures.left)) (ap length c.text.ensures)
-          c.cut_gap.ensures;
-      capacity = ap (λ (e : Ends Item). e.capacity) c.cut_gap.ensures ∙ c.loop-gap.invariant.capacity;
-    }
+loop-gap-preserved g c = record {
+  cut =
+      cut_more (gap_to_come c.args.gaps.now c.loop-gap.gap-index c.loop-gap-test.true c.loop-gap.invariant.cut) c.cut_gap.new.items _ _ (omega (arith, ap length c.left.ensures.left)) (ap length c.text.ensures)
+      c.cut_gap.ensures;
+  capacity = ap (λ (e : Ends Item). e.capacity) c.cut_gap.ensures ∙ c.loop-gap.invariant.capacity;
+}
 
 pub returns-clause-cut : goal.returns-clause-cut
 returns-clause-cut g c =

@@ -1,12 +1,9 @@
 -- Gap by gap.
-use Rattle.std.proofs.Common.{[], ap, arith, drop, get_or, length, ◌+◌, ◌-◌}
-use Rattle.std.specs.Prelude.{unwrap_or}
+use Rattle.std.proofs.Common.{ap, arith, length}
 use Rattle.trac_gap.specs.Ends.{Ends}
 use Rattle.trac_rules.specs.declared.item.Item.{Item}
-use Rattle.trac_rules.specs.Cuts.{joined}
-use Rattle.trac_rules.specs.Form.{all_items}
 use Rattle.trac_forms.specs.Layout.{divided}
-use Rattle.trac_forms.proofs.CutWalks.{fill_begins, fill_ends, fill_kept, fill_more, filled_behind, filled_counted, filled_room, filled_there, gap_to_fill, left_is, next_to_fill, no_cut_gap, right_is}
+use Rattle.trac_forms.proofs.CutWalks.{fill_begins, fill_ends, fill_kept, fill_more, filled_after, filled_counted, filled_room, filled_there, gap_to_fill, left_is, right_is}
 use Rattle.trac_forms.proofs.cut.fill_gaps.Goals as goal
 
 pub loop-gap-init : goal.loop-gap-init
@@ -16,64 +13,20 @@ loop-gap-init g c =
     (right_is c.args.items.now c.shift_right.new.self _ n c.shift_right.ensures) (ap (λ (e : Ends Item). e.capacity) c.shift_right.ensures) c.requires.kept c.requires.there
 
 pub overflow_sub-gap : goal.overflow_sub-gap
-overflow_sub-gap g c =
-    let texts = g.T.Texts.texts c.args.texts.now in
-    let gaps = c.args.gaps.now in
-    let full = unwrap_or (joined texts gaps (all_items (divided c.args.items.now))) [] in
-    let i = c.loop-gap.gap-index in
-    let gap = get_or gaps i no_cut_gap in
-    let cut = drop (i + 1) gaps in
-    let s = gap_to_fill texts full c.loop-gap.place c.loop-gap.items gaps i c.loop-gap-test.true c.loop-gap.invariant in
-    filled_behind texts full c.loop-gap.place c.loop-gap.items gap cut s (next_to_fill texts full c.loop-gap.place c.loop-gap.items gap cut s)
+overflow_sub-gap g c = filled_after (gap_to_fill c.args.gaps.now c.loop-gap.gap-index c.loop-gap-test.true c.loop-gap.invariant)
 
 pub fill_gap-requires-clause-there : goal.fill_gap-requires-clause-there
-fill_gap-requires-clause-there g c =
-    let texts = g.T.Texts.texts c.args.texts.now in
-    let gaps = c.args.gaps.now in
-    let full = unwrap_or (joined texts gaps (all_items (divided c.args.items.now))) [] in
-    let i = c.loop-gap.gap-index in
-    let gap = get_or gaps i no_cut_gap in
-    let cut = drop (i + 1) gaps in
-    let s = gap_to_fill texts full c.loop-gap.place c.loop-gap.items gaps i c.loop-gap-test.true c.loop-gap.invariant in
-    filled_there texts full c.loop-gap.place c.loop-gap.items gap cut s (next_to_fill texts full c.loop-gap.place c.loop-gap.items gap cut s)
+fill_gap-requires-clause-there g c = filled_there (gap_to_fill c.args.gaps.now c.loop-gap.gap-index c.loop-gap-test.true c.loop-gap.invariant)
 
 pub fill_gap-requires-clause-room : goal.fill_gap-requires-clause-room
-fill_gap-requires-clause-room g c =
-    let texts = g.T.Texts.texts c.args.texts.now in
-    let gaps = c.args.gaps.now in
-    let full = unwrap_or (joined texts gaps (all_items (divided c.args.items.now))) [] in
-    let i = c.loop-gap.gap-index in
-    let gap = get_or gaps i no_cut_gap in
-    let cut = drop (i + 1) gaps in
-    let s = gap_to_fill texts full c.loop-gap.place c.loop-gap.items gaps i c.loop-gap-test.true c.loop-gap.invariant in
-    omega (
-      arith,
-      filled_room texts full c.loop-gap.place c.loop-gap.items gap cut s (next_to_fill texts full c.loop-gap.place c.loop-gap.items gap cut s),
-      ap length c.text.ensures,
-    )
+fill_gap-requires-clause-room g c = omega (arith, filled_room (gap_to_fill c.args.gaps.now c.loop-gap.gap-index c.loop-gap-test.true c.loop-gap.invariant), ap length c.text.ensures)
 
 pub overflow_add-place : goal.overflow_add-place
-overflow_add-place g c =
-    let texts = g.T.Texts.texts c.args.texts.now in
-    let gaps = c.args.gaps.now in
-    let full = unwrap_or (joined texts gaps (all_items (divided c.args.items.now))) [] in
-    let i = c.loop-gap.gap-index in
-    let gap = get_or gaps i no_cut_gap in
-    let cut = drop (i + 1) gaps in
-    let s = gap_to_fill texts full c.loop-gap.place c.loop-gap.items gaps i c.loop-gap-test.true c.loop-gap.invariant in
-    omega (arith, filled_counted texts full c.loop-gap.place c.loop-gap.items gap cut s (next_to_fill texts full c.loop-gap.place c.loop-gap.items gap cut s))
+overflow_add-place g c = omega (arith, filled_counted (gap_to_fill c.args.gaps.now c.loop-gap.gap-index c.loop-gap-test.true c.loop-gap.invariant))
 
 pub loop-gap-preserved : goal.loop-gap-preserved
 loop-gap-preserved g c =
-    let texts = g.T.Texts.texts c.args.texts.now in
-    let gaps = c.args.gaps.now in
-    let full = unwrap_or (joined texts gaps (all_items (divided c.args.items.now))) [] in
-    let i = c.loop-gap.gap-index in
-    let gap = get_or gaps i no_cut_gap in
-    let cut = drop (i + 1) gaps in
-    let s = gap_to_fill texts full c.loop-gap.place c.loop-gap.items gaps i c.loop-gap-test.true c.loop-gap.invariant in
-    fill_more texts full c.loop-gap.place c.loop-gap.items gap cut s (next_to_fill texts full c.loop-gap.place c.loop-gap.items gap cut s) c.fill_gap.new.items (gap.place - c.loop-gap.place)
-    c.text.result.now (omega arith) c.text.ensures c.fill_gap.ensures
+    fill_more (gap_to_fill c.args.gaps.now c.loop-gap.gap-index c.loop-gap-test.true c.loop-gap.invariant) c.fill_gap.new.items _ c.text.result.now (omega arith) c.text.ensures c.fill_gap.ensures
 
 pub returns-clause-filled : goal.returns-clause-filled
 returns-clause-filled g c =

@@ -11,23 +11,23 @@ use Rattle.trac_forms.proofs.piece.first_place_of.Goals as goal
 pub returns-in-Some-clause-place : goal.returns-in-Some-clause-place
 returns-in-Some-clause-place g c =
     reached_in_run c.args.text.now c.args.items.now c.loop-item.start.items c.loop-item.run.items (drop c.loop-item.item-index c.args.items.now) (omega arith) c.loop-item.invariant.rest
-    c.loop-item.invariant.none c.in-Some.at (searched c.loop-item.run.items c.args.text.now _ _ (Some (c.in-Some.at.items - c.loop-item.start.items)) c.as_slice.ensures.value c.new-finder.ensures c.in-Some.ensures.place) c.in-Some.ensures.behind
+    c.loop-item.invariant.none c.in-Some.at (searched c.loop-item.run.items c.args.text.now _ _ (Some (c.in-Some.at.items - c.loop-item.start.items)) c.as_slice.ensures.value c.new-finder.ensures c.in-Some.ensures.place) c.in-Some.ensures.after
 
 pub returns-in-Some-clause-bytes : goal.returns-in-Some-clause-bytes
 returns-in-Some-clause-bytes g c =
     passed_in_run c.args.text.now c.args.items.now c.loop-item.start.items c.loop-item.run.items (drop c.loop-item.item-index c.args.items.now) (omega arith) c.loop-item.invariant.rest
-    c.loop-item.invariant.none c.in-Some.at c.loop-item.start.bytes (searched c.loop-item.run.items c.args.text.now _ _ (Some (c.in-Some.at.items - c.loop-item.start.items)) c.as_slice.ensures.value c.new-finder.ensures c.in-Some.ensures.place) c.in-Some.ensures.behind
+    c.loop-item.invariant.none c.in-Some.at c.loop-item.start.bytes (searched c.loop-item.run.items c.args.text.now _ _ (Some (c.in-Some.at.items - c.loop-item.start.items)) c.as_slice.ensures.value c.new-finder.ensures c.in-Some.ensures.place) c.in-Some.ensures.after
     c.loop-item.invariant.counted c.in-Some.ensures.bytes
 
 pub returns-in-Some-place_in_run-clause-place : goal.returns-in-Some-place_in_run-clause-place
 returns-in-Some-place_in_run-clause-place g c =
     reached_in_run c.args.text.now c.args.items.now c.loop-item.start.items c.loop-item.run.items (drop c.loop-item.item-index c.args.items.now) (omega arith) c.loop-item.invariant.rest
-    c.loop-item.invariant.none c.in-Some-place_in_run.at (searched c.loop-item.run.items c.args.text.now _ _ (Some (c.in-Some-place_in_run.at.items - c.loop-item.start.items)) c.as_slice-in-loop-item.ensures.value c.new-finder.ensures c.in-Some-place_in_run.ensures.place) c.in-Some-place_in_run.ensures.behind
+    c.loop-item.invariant.none c.in-Some-place_in_run.at (searched c.loop-item.run.items c.args.text.now _ _ (Some (c.in-Some-place_in_run.at.items - c.loop-item.start.items)) c.as_slice-in-loop-item.ensures.value c.new-finder.ensures c.in-Some-place_in_run.ensures.place) c.in-Some-place_in_run.ensures.after
 
 pub returns-in-Some-place_in_run-clause-bytes : goal.returns-in-Some-place_in_run-clause-bytes
 returns-in-Some-place_in_run-clause-bytes g c =
     passed_in_run c.args.text.now c.args.items.now c.loop-item.start.items c.loop-item.run.items (drop c.loop-item.item-index c.args.items.now) (omega arith) c.loop-item.invariant.rest
-    c.loop-item.invariant.none c.in-Some-place_in_run.at c.loop-item.start.bytes (searched c.loop-item.run.items c.args.text.now _ _ (Some (c.in-Some-place_in_run.at.items - c.loop-item.start.items)) c.as_slice-in-loop-item.ensures.value c.new-finder.ensures c.in-Some-place_in_run.ensures.place) c.in-Some-place_in_run.ensures.behind
+    c.loop-item.invariant.none c.in-Some-place_in_run.at c.loop-item.start.bytes (searched c.loop-item.run.items c.args.text.now _ _ (Some (c.in-Some-place_in_run.at.items - c.loop-item.start.items)) c.as_slice-in-loop-item.ensures.value c.new-finder.ensures c.in-Some-place_in_run.ensures.place) c.in-Some-place_in_run.ensures.after
     c.loop-item.invariant.counted c.in-Some-place_in_run.ensures.bytes
 
 pub loop-item-preserved : goal.loop-item-preserved
@@ -62,10 +62,10 @@ pub returns-clause-place : goal.returns-clause-place
 returns-clause-place g c =
     in_last_run c.args.text.now c.args.items.now c.loop-item.start.items c.loop-item.run.items (drop c.loop-item.item-index c.args.items.now) (omega arith) c.loop-item.invariant.rest
     c.loop-item.invariant.none c.place_in_run-2.result (searched c.loop-item.run.items c.args.text.now _ _ _ c.as_slice-2.ensures.value c.new-finder.ensures c.place_in_run-2.ensures.place)
-    c.place_in_run-2.ensures.behind (drop_all c.loop-item.item-index c.args.items.now (omega arith))
+    c.place_in_run-2.ensures.after (drop_all c.loop-item.item-index c.args.items.now (omega arith))
 
 pub returns-clause-bytes : goal.returns-clause-bytes
 returns-clause-bytes g c =
     passed_in_last_run c.args.text.now c.args.items.now c.loop-item.start.items c.loop-item.run.items (drop c.loop-item.item-index c.args.items.now) (omega arith) c.loop-item.invariant.rest
     c.loop-item.invariant.none c.place_in_run-2.result c.loop-item.start.bytes (searched c.loop-item.run.items c.args.text.now _ _ _ c.as_slice-2.ensures.value c.new-finder.ensures c.place_in_run-2.ensures.place)
-    c.place_in_run-2.ensures.behind c.loop-item.invariant.counted c.place_in_run-2.ensures.bytes
+    c.place_in_run-2.ensures.after c.loop-item.invariant.counted c.place_in_run-2.ensures.bytes

@@ -2,7 +2,7 @@
 use Rattle.std.proofs.Common.{◌+◌, ◌∷◌, [], take, sym, ap, arith}
 use Rattle.std.proofs.lemmas.List.{take_all}
 use Rattle.trac_rules.specs.declared.item.Item.{Item}
-use Rattle.trac_forms.proofs.Passing.{count, count-split, count_byte, count_grows, count_next, reached_behind}
+use Rattle.trac_forms.proofs.Passing.{count, count-split, count_byte, count_grows, count_next, reached_after}
 use Rattle.trac_forms.proofs.piece.reach.Goals as goal
 
 pub returns-then-reached-n-clause-bytes : goal.returns-then-reached-n-clause-bytes
@@ -10,7 +10,7 @@ returns-then-reached-n-clause-bytes c = omega (arith, count-split c.loop-item.it
 
 pub returns-then-reached-n-clause-place : goal.returns-then-reached-n-clause-place
 returns-then-reached-n-clause-place c =
-    reached_behind c.args.items.now c.args.n c.loop-item.reached.items c.loop-item.reached.bytes (omega arith) c.loop-item.invariant.here c.loop-item.invariant.before
+    reached_after c.args.items.now c.args.n c.loop-item.reached.items c.loop-item.reached.bytes (omega arith) c.loop-item.invariant.here c.loop-item.invariant.before
     (omega (arith, count-split c.loop-item.item-index c.args.items.now, c.loop-item.invariant.counted))
 
 pub loop-item-preserved : goal.loop-item-preserved
@@ -34,5 +34,5 @@ loop-item-preserved c =
 pub returns-clause-place : goal.returns-clause-place
 returns-clause-place c =
     let whole = ap count (take_all c.loop-item.item-index c.args.items.now (omega arith)) in
-    reached_behind c.args.items.now c.args.n c.loop-item.reached.items c.loop-item.reached.bytes (omega arith) c.loop-item.invariant.here c.loop-item.invariant.before
+    reached_after c.args.items.now c.args.n c.loop-item.reached.items c.loop-item.reached.bytes (omega arith) c.loop-item.invariant.here c.loop-item.invariant.before
     (omega (arith, whole, c.loop-item.invariant.counted))

@@ -9,7 +9,7 @@ returns-then-reached-n-clause-bytes c = omega (arith, count-split (length c.args
 
 pub returns-then-reached-n-clause-place : goal.returns-then-reached-n-clause-place
 returns-then-reached-n-clause-place c =
-    reached_before c.args.items.now c.args.n c.loop-passed.reached.items c.loop-passed.reached.bytes (omega arith) c.loop-passed.invariant.here c.loop-passed.invariant.behind
+    reached_before c.args.items.now c.args.n c.loop-passed.reached.items c.loop-passed.reached.bytes (omega arith) c.loop-passed.invariant.here c.loop-passed.invariant.after
     (omega (arith, count-split (length c.args.items.now - c.loop-passed.passed) c.args.items.now, c.loop-passed.invariant.counted))
 
 pub loop-passed-preserved : goal.loop-passed-preserved
@@ -29,7 +29,7 @@ loop-passed-preserved c =
       within = omega arith;
       here = omega (arith, rest, here, one, same, c.loop-passed.invariant.counted);
       counted = omega (arith, rest, here, one, same, counted, c.loop-passed.invariant.counted);
-      behind = λ k l m. omega (arith, count_falls items (length items - c.loop-passed.passed) k (omega arith), c.loop-passed.invariant.counted);
+      after = λ k l m. omega (arith, count_falls items (length items - c.loop-passed.passed) k (omega arith), c.loop-passed.invariant.counted);
       most = omega arith;
     }
 
@@ -37,5 +37,5 @@ pub returns-clause-place : goal.returns-clause-place
 returns-clause-place c =
     let none : length c.args.items.now - c.loop-passed.passed ≡ 0 = omega arith in
     let whole = ap (λ k. count (drop k c.args.items.now)) none in
-    reached_before c.args.items.now c.args.n c.loop-passed.reached.items c.loop-passed.reached.bytes (omega arith) c.loop-passed.invariant.here c.loop-passed.invariant.behind
+    reached_before c.args.items.now c.args.n c.loop-passed.reached.items c.loop-passed.reached.bytes (omega arith) c.loop-passed.invariant.here c.loop-passed.invariant.after
     (omega (arith, whole, c.loop-passed.invariant.counted))

@@ -9,6 +9,6 @@ invariant-loop-passed l = record {
   within : l.reached.items ≤ length l.items;
   here : l.reached.bytes ≡ length (bytes_in (drop l.reached.items l.items));
   counted : l.reached.bytes ≡ length (bytes_in (drop (length l.items - l.passed) l.items));
-  behind : (k : ℕ) → l.reached.items < k → k ≤ length l.items → length (bytes_in (drop k l.items)) < l.reached.bytes;
+  after : (k : ℕ) → l.reached.items < k → k ≤ length l.items → length (bytes_in (drop k l.items)) < l.reached.bytes;
   most : l.reached.bytes ≤ l.n;
 }

@@ -58,7 +58,7 @@ use Rattle.std_alloc.proofs.ResultValues.{ok_of, err_of}
 use Rattle.std_alloc.proofs.RcSteps.{Good, word, word-Good, first_Good}
 use Rattle.std_alloc.proofs.VecSteps.Shapes.{after, head, arm_body}
 use Rattle.trac_gap.specs.Ownership.{row_owns}
-use Rattle.trac_gap.proofs.Rows.{PlacesRow, OriginRow, Mark, step_size, mark, mark_made, origin_made, of_room}
+use Rattle.trac_gap.proofs.Rows.{PlacesRow, StartRow, Mark, step_size, mark, mark_made, origin_made, of_room}
 use Rattle.trac_gap.specs.contracts.slots.Lease as L-type
 use Rattle.trac_gap.specs.contracts.slots.allocate as F
 use Rattle.trac_gap.specs.contracts.slots.allocate.Key.{name as #self}
@@ -94,7 +94,7 @@ module _ (E : El) (Z : Al) where
   stayed = (stay_dropped (RefOf (0 ∷ []) tt (plain (λ _. P E Z)) (λ _. tt)) yes, (stay_dropped (plain (λ _. usize)) yes, tt))
 
   abbrev Parts : RattleType
-  Parts = Tuple (OriginRow E ∷ PlacesRow E ∷ LeaseRow ∷ [])
+  Parts = Tuple (StartRow E ∷ PlacesRow E ∷ LeaseRow ∷ [])
 
   abbrev Out : RattleType
   Out = Outcome.the_row Parts Refusal.the_row
@@ -143,7 +143,7 @@ module _ (E : El) (Z : Al) {M : Type 1} {𝓤 : Ura M} (𝓛 : Logic 𝓤) (at_m
       answers Z ! at_mem run a (block_ty E count) v
       (λ b o e.
       let p : Ptr = block_ptr b o in
-      let origin : (OriginRow E).Denot = record { ptr = p } in
+      let start : (StartRow E).Denot = record { ptr = p } in
       let places : (PlacesRow E).Denot = record { mark = record {}; at = p; slots = replicate count None } in
       let lease : (LeaseRow E Z).Denot = record { mark = record {}; at = p; count = count; alloc = a } in
       let made : Val = triple_val (word p) mark mark in
@@ -161,9 +161,9 @@ module _ (E : El) (Z : Al) {M : Type 1} {𝓤 : Ura M} (𝓛 : Logic 𝓤) (at_m
       as_written ! (ty_array (elτ E) count) b o $ use1 𝓛 (‵ (row_owns (R E) b o places.slots)) (of_room E 𝓛 b count o) $
       flt_i ! (length places.slots * s) (2 ^ 63) (subst (λ k. k * s < 2 ^ 63) (sym (length-replicate count None)) small) $ fjoin ! $
       use0 𝓛 (‵ ((Mark E).own_val (tt, tt) (mark ∷ []))) (mark_made E 𝓛) $ fjoin ! $ origin_made ! p $
-      use3 𝓛 (‵ ((Parts E Z).own_val (origin, places, lease) (made ∷ []))) (triple_made 𝓛 (OriginRow E) (PlacesRow E) (LeaseRow E Z) origin places lease (word p) mark mark) $
-      use1 𝓛 (‵ ((Out E Z).own_val (Ok (origin, places, lease)) (live 0 (vcons made vnil) ∷ []))) (ok_of 𝓛 (Parts E Z) Refusal.the_row (origin, places, lease) made) $
-      returns ! (look_at ! 0 refl) $ free_all ! refl $ keep ! (0 ∷ 1 ∷ 2 ∷ []) $ by ! (exits (Ok (origin, places, lease)) (live 0 (vcons made vnil)) (refl, refl, refl, refl, refl)))
+      use3 𝓛 (‵ ((Parts E Z).own_val (start, places, lease) (made ∷ []))) (triple_made 𝓛 (StartRow E) (PlacesRow E) (LeaseRow E Z) start places lease (word p) mark mark) $
+      use1 𝓛 (‵ ((Out E Z).own_val (Ok (start, places, lease)) (live 0 (vcons made vnil) ∷ []))) (ok_of 𝓛 (Parts E Z) Refusal.the_row (start, places, lease) made) $
+      returns ! (look_at ! 0 refl) $ free_all ! refl $ keep ! (0 ∷ 1 ∷ 2 ∷ []) $ by ! (exits (Ok (start, places, lease)) (live 0 (vcons made vnil)) (refl, refl, refl, refl, refl)))
       (λ e.
       let Empty : RattleType = Struct (Declared.shape Refusal.the_type) in
       let none : Val = live 1 (vcons (vstruct vnil) vnil) in

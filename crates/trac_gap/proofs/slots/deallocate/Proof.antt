@@ -46,7 +46,7 @@ use Rattle.std_alloc.proofs.RawLayout.{as_raw}
 use Rattle.std_alloc.proofs.RcSteps.{word, word-Good}
 use Rattle.std_alloc.proofs.VecSteps.Shapes.{after}
 use Rattle.trac_gap.specs.Ownership.{places_own, lease_owns}
-use Rattle.trac_gap.proofs.Rows.{PlacesRow, OriginRow, step_size, mark, mark_had, origin_had, to_room}
+use Rattle.trac_gap.proofs.Rows.{PlacesRow, StartRow, step_size, mark, mark_had, start_had, to_room}
 use Rattle.trac_gap.specs.contracts.slots.Lease as L-type
 use Rattle.trac_gap.specs.contracts.slots.deallocate as F
 use Rattle.trac_gap.specs.contracts.slots.deallocate.Key.{name as #self}
@@ -67,13 +67,13 @@ module _ (E : El) (Z : Al) where
   LeaseRow = L-type.the_row (R E) (P E Z) Z.g
 
   abbrev stayed : Stays ended.signature.params ended.kept
-  stayed = (stay_dropped (RefOf (0 ∷ []) tt (plain (λ _. P E Z)) (λ _. tt)) yes, (stay_dropped (plain (λ _. OriginRow E)) no, (stay_dropped (plain (λ _. usize)) yes, (stay_dropped (plain (λ _. PlacesRow E)) no, (stay_dropped (plain (λ _. LeaseRow)) no, tt)))))
+  stayed = (stay_dropped (RefOf (0 ∷ []) tt (plain (λ _. P E Z)) (λ _. tt)) yes, (stay_dropped (plain (λ _. StartRow E)) no, (stay_dropped (plain (λ _. usize)) yes, (stay_dropped (plain (λ _. PlacesRow E)) no, (stay_dropped (plain (λ _. LeaseRow)) no, tt)))))
 
-  abbrev Asks : Z.row.Denot → (OriginRow E).Denot → ℕ → (PlacesRow E).Denot → LeaseRow.Denot → Type 0
-  Asks a origin count places lease = (places.at ≡ origin.ptr) × (length places.slots ≡ count) × (lease.at ≡ origin.ptr) × (lease.count ≡ count) × (lease.alloc ≡ a)
+  abbrev Asks : Z.row.Denot → (StartRow E).Denot → ℕ → (PlacesRow E).Denot → LeaseRow.Denot → Type 0
+  Asks a start count places lease = (places.at ≡ start.ptr) × (length places.slots ≡ count) × (lease.at ≡ start.ptr) × (lease.count ≡ count) × (lease.alloc ≡ a)
 
 module _ (E : El) (Z : Al) {M : Type 1} {𝓤 : Ura M} (𝓛 : Logic 𝓤) (at_mem : Memory → SProp 𝓤) (run : Routine → Fun 𝓤) (C : Calls 𝓤 𝓛.H) (Λ : Loops 𝓤 𝓛.H) (fm : FmC 𝓤 𝓛.H 𝓛.laws C)
-    (callee : Triple 𝓤 (C (gives_key Z)) (Gives Z 𝓛 at_mem run)) (κ κ₁ κ₂ : Lft) (q q₁ q₂ : Share) (short : κ ⊑ κ₂) (within_alloc : κ₂ ⊑ Z.row.lives) (rb ro : ℕ) (a : Z.row.Denot) (origin : (OriginRow E).Denot) (count : ℕ) (places : (PlacesRow E).Denot) (lease : (LeaseRow E Z).Denot) (us0 us1 us2 us3 us4 : List Val) where
+    (callee : Triple 𝓤 (C (gives_key Z)) (Gives Z 𝓛 at_mem run)) (κ κ₁ κ₂ : Lft) (q q₁ q₂ : Share) (short : κ ⊑ κ₂) (within_alloc : κ₂ ⊑ Z.row.lives) (rb ro : ℕ) (a : Z.row.Denot) (start : (StartRow E).Denot) (count : ℕ) (places : (PlacesRow E).Denot) (lease : (LeaseRow E Z).Denot) (us0 us1 us2 us3 us4 : List Val) where
   open 𝓛 use {H, A}
 
   abbrev self : Bor Z.row.Denot
@@ -83,7 +83,7 @@ module _ (E : El) (Z : Al) {M : Type 1} {𝓤 : Ura M} (𝓛 : Logic 𝓤) (at_m
   others = ‵ (flft κ₁ q₁) ⊛ ‵ (flft κ₂ q₂) ⊛ ‵ ftrue
 
   abbrev bound : (walk_of 𝓛 (ended E Z) (stayed E Z) (clauses E Z 𝓛 at_mem run)).Ghost
-  bound = (((κ, (κ₁, (κ₂, tt))), (q, (q₁, (q₂, tt))), (short, tt), (self, (origin, (count, (places, (lease, tt))))), (us0, (us1, (us2, (us3, (us4, tt)))))), tt)
+  bound = (((κ, (κ₁, (κ₂, tt))), (q, (q₁, (q₂, tt))), (short, tt), (self, (start, (count, (places, (lease, tt))))), (us0, (us1, (us2, (us3, (us4, tt)))))), tt)
 
   abbrev Post : Val → SProp 𝓤
   Post = (walk_of 𝓛 (ended E Z) (stayed E Z) (clauses E Z 𝓛 at_mem run)).post bound
@@ -98,14 +98,14 @@ module _ (E : El) (Z : Al) {M : Type 1} {𝓤 : Ura M} (𝓛 : Logic 𝓤) (at_m
   abbrev Had : List (Item 𝓤)
   Had = ‵ (places_own (R E) places.at places.slots) ∷ ‵ (lease_owns (R E) (token Z lease.alloc) lease.at lease.count) ∷ ‵ (hidden_shr (P E Z) κ a rb ro) ∷ ‵ (flft κ q) ∷ others ∷ []
 
-  walk : Asks E Z a origin count places lease → count < 2 ^ 64 → ent 𝓤 (⋆ 𝓛 Had) (WpFn 𝓤 H C Λ (function E Z) (vptr rb ro ∷ word origin.ptr ∷ vint w64 count ∷ mark ∷ mark ∷ []) Post)
+  walk : Asks E Z a start count places lease → count < 2 ^ 64 → ent 𝓤 (⋆ 𝓛 Had) (WpFn 𝓤 H C Λ (function E Z) (vptr rb ro ∷ word start.ptr ∷ vint w64 count ∷ mark ∷ mark ∷ []) Post)
   walk asked fits =
-      qed 𝓛 Had ∵ enter ! C Λ (function E Z) (vptr rb ro ∷ word origin.ptr ∷ vint w64 count ∷ mark ∷ mark ∷ []) _ $
-      alloc_all ! (λ l. pass_all ! refl ((tt, tt), (word-Good [] origin.ptr, ((tt, record { fits = fits }), ((tt, (tt, tt)), ((tt, (tt, tt)), tt))))) $
+      qed 𝓛 Had ∵ enter ! C Λ (function E Z) (vptr rb ro ∷ word start.ptr ∷ vint w64 count ∷ mark ∷ mark ∷ []) _ $
+      alloc_all ! (λ l. pass_all ! refl ((tt, tt), (word-Good [] start.ptr, ((tt, record { fits = fits }), ((tt, (tt, tt)), ((tt, (tt, tt)), tt))))) $
       let En : Env 𝓤 H = env (function E Z).locals l in
       let s = step_size E in let al : ℕ = capped (align (elτ E)) in
       rewrite ! 0 (λ (p : Ptr). ‵ (places_own (R E) p places.slots)) asked.0 refl $
-      in_a_block ! origin.ptr (λ p. places_own (R E) p places.slots) (id⊢ 𝓤 (never 𝓤)) (λ b o e. fsplit ! $ flt_l ! (λ fit.
+      in_a_block ! start.ptr (λ p. places_own (R E) p places.slots) (id⊢ 𝓤 (never 𝓤)) (λ b o e. fsplit ! $ flt_l ! (λ fit.
       let small : count * s < 2 ^ 63 = subst (λ k. k * s < 2 ^ 63) asked.1 fit in let bytes : count * s < 2 ^ 64 = omega arith in
       let y : (Gives Z 𝓛 at_mem run).Ghost = at_gives Z 𝓛 at_mem run κ q (rb, ro) a b o (count * s) al (block_ty E count) in
       rewrite ! 1 (λ (d : Z.row.Denot × Ptr × ℕ). ‵ (lease_owns (R E) (token Z d.0) d.1 d.2)) (λ i. (asked.4 i, (asked.2 ∙ e) i, asked.3 i)) refl $
@@ -119,10 +119,10 @@ module _ (E : El) (Z : Al) {M : Type 1} {𝓤 : Ura M} (𝓛 : Logic 𝓤) (at_m
       lands_last ! refl (subst (λ (z : Val). T (has_ty ty_unit z) × WT z) (sym is_unit) (tt, tt)) $ exec ! C Λ En (after 1 (function E Z).body) (at_ret En Post) $
       sets ! (of_opd ! (unit_lit !)) refl (tt, tt) $ returns ! (look_at ! 0 refl) $ free_all ! refl $ keep ! (0 ∷ 1 ∷ []) $ by ! exits)))))
 
-  entry : Asks E Z a origin count places lease → ent 𝓤 (on_entry 𝓛 (ended E Z).signature (κ, (κ₁, (κ₂, tt))) (q, (q₁, (q₂, tt))) (self, (origin, (count, (places, (lease, tt))))) (us0, (us1, (us2, (us3, (us4, tt)))))) (WpFn 𝓤 H C Λ (function E Z) (us0 ++ (us1 ++ (us2 ++ (us3 ++ (us4 ++ []))))) Post)
+  entry : Asks E Z a start count places lease → ent 𝓤 (on_entry 𝓛 (ended E Z).signature (κ, (κ₁, (κ₂, tt))) (q, (q₁, (q₂, tt))) (self, (start, (count, (places, (lease, tt))))) (us0, (us1, (us2, (us3, (us4, tt)))))) (WpFn 𝓤 H C Λ (function E Z) (us0 ++ (us1 ++ (us2 ++ (us3 ++ (us4 ++ []))))) Post)
   entry asked =
-      qed 𝓛 ((‵ (flft κ q) ⊛ others) ∷ ‵ (owns (ShrRef (named 0) κ (P E Z) ∷ OriginRow E ∷ usize ∷ PlacesRow E ∷ LeaseRow E Z ∷ []) (self, (origin, (count, (places, (lease, tt))))) (us0, (us1, (us2, (us3, (us4, tt)))))) ∷ []) ∵ split ! $ move ! (2 ∷ []) $ fsplit3 ! $ fsplit ! $ feq_l ! (λ e0.
-      move ! (1 ∷ []) $ origin_had ! origin.ptr us1 (λ e1. move ! (1 ∷ []) $ fsplit3 ! $ fsplit ! $ feq_l ! (λ e2. flt_l ! (λ fits.
+      qed 𝓛 ((‵ (flft κ q) ⊛ others) ∷ ‵ (owns (ShrRef (named 0) κ (P E Z) ∷ StartRow E ∷ usize ∷ PlacesRow E ∷ LeaseRow E Z ∷ []) (self, (start, (count, (places, (lease, tt))))) (us0, (us1, (us2, (us3, (us4, tt)))))) ∷ []) ∵ split ! $ move ! (2 ∷ []) $ fsplit3 ! $ fsplit ! $ feq_l ! (λ e0.
+      move ! (1 ∷ []) $ start_had ! start.ptr us1 (λ e1. move ! (1 ∷ []) $ fsplit3 ! $ fsplit ! $ feq_l ! (λ e2. flt_l ! (λ fits.
       fsplit ! $ mark_had ! E us3 (λ e3. move ! (1 ∷ []) $ fsplit ! $ fsplit ! $ mark_had ! E us4 (λ e4. keep ! (2 ∷ 0 ∷ 3 ∷ 4 ∷ 5 ∷ []) $
       by ! (subst (λ (ws : List Val × List Val × List Val × List Val × List Val). ent 𝓤 (⋆ 𝓛 Had) (WpFn 𝓤 H C Λ (function E Z) (ws.0 ++ (ws.1 ++ (ws.2 ++ (ws.3 ++ (ws.4 ++ []))))) Post))
       (λ j. (sym e0 j, sym e1 j, sym e2 j, sym e3 j, sym e4 j)) (walk asked fits))))))))
@@ -130,7 +130,7 @@ module _ (E : El) (Z : Al) {M : Type 1} {𝓤 : Ura M} (𝓛 : Logic 𝓤) (at_m
 meets : (E : El) (Z : Al) {M : Type 1} {𝓤 : Ura M} (𝓛 : Logic 𝓤) (at_mem : Memory → SProp 𝓤) (run : Routine → Fun 𝓤) (𝓣 : Tables 𝓤 𝓛.H) → Triple 𝓤 (𝓣.C (gives_key Z)) (Gives Z 𝓛 at_mem run)
     → Meets 𝓛 (ended E Z).signature (WpFn 𝓤 𝓛.H 𝓣.C 𝓣.Λ (function E Z)) (closing 𝓛 (ended E Z) (clauses E Z 𝓛 at_mem run))
 meets E Z {𝓤 = 𝓤} 𝓛 at_mem run 𝓣 callee =
-    walk_Meets 𝓛 (ended E Z) (stayed E Z) (Goes-dropped 𝓛 3 (RefOf (0 ∷ []) tt (plain (λ _. P E Z)) (λ _. tt)) yes (λ κs x f. refl), (Goes-dropped 𝓛 3 (plain (λ _. OriginRow E)) no (λ κs x f. refl), (Goes-dropped 𝓛 3 (plain (λ _. usize)) yes (λ κs x f. refl), (Goes-blank 𝓛 3 (plain (λ _. PlacesRow E)) no (λ κs x f. tt), (Goes-blank 𝓛 3 (plain (λ _. LeaseRow E Z)) no (λ κs x f. tt), tt)))))
+    walk_Meets 𝓛 (ended E Z) (stayed E Z) (Goes-dropped 𝓛 3 (RefOf (0 ∷ []) tt (plain (λ _. P E Z)) (λ _. tt)) yes (λ κs x f. refl), (Goes-dropped 𝓛 3 (plain (λ _. StartRow E)) no (λ κs x f. refl), (Goes-dropped 𝓛 3 (plain (λ _. usize)) yes (λ κs x f. refl), (Goes-blank 𝓛 3 (plain (λ _. PlacesRow E)) no (λ κs x f. tt), (Goes-blank 𝓛 3 (plain (λ _. LeaseRow E Z)) no (λ κs x f. tt), tt)))))
     (clauses E Z 𝓛 at_mem run) (WpFn 𝓤 𝓛.H 𝓣.C 𝓣.Λ (function E Z)) (WpFn-mono 𝓤 𝓛.H 𝓛.laws 𝓣 (function E Z))
     (λ z. let κs = z.0.0 in let qs = z.0.1 in let a = z.0.3 in let us = z.0.4 in let On : SProp 𝓤 = on_entry 𝓛 (ended E Z).signature κs qs a us in
     let asks = Asks E Z a.0.now a.1.0 a.1.1.0 a.1.1.1.0 a.1.1.1.1.0 in

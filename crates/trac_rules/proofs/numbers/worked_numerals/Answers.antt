@@ -84,13 +84,13 @@ pub returns-clause-difference : goal.returns-clause-difference
 unfolding calculated prefix_of numeral_of number_of whole_number difference_of digits
 returns-clause-difference c = refl
 
-pub returns-clause-behind_a_sign : goal.returns-clause-behind_a_sign
+pub returns-clause-after_a_sign : goal.returns-clause-after_a_sign
 unfolding calculated prefix_of numeral_of number_of whole_number sum_of digits
-returns-clause-behind_a_sign c = refl
+returns-clause-after_a_sign c = refl
 
-pub returns-clause-behind_all : goal.returns-clause-behind_all
+pub returns-clause-after_all : goal.returns-clause-after_all
 unfolding calculated prefix_of numeral_of number_of whole_number sum_of digits
-returns-clause-behind_all c = refl
+returns-clause-after_all c = refl
 
 pub returns-clause-times_zero : goal.returns-clause-times_zero
 unfolding calculated prefix_of numeral_of number_of whole_number product_of digits

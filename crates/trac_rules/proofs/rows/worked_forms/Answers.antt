@@ -68,9 +68,9 @@ pub returns-clause-wider : goal.returns-clause-wider
 unfolding part cut_out digits
 returns-clause-wider c = refl
 
-pub returns-clause-pointer_from_behind : goal.returns-clause-pointer_from_behind
+pub returns-clause-pointer_from_after : goal.returns-clause-pointer_from_after
 unfolding part cut_out digits
-returns-clause-pointer_from_behind c = refl
+returns-clause-pointer_from_after c = refl
 
 pub returns-clause-across_the_pointer : goal.returns-clause-across_the_pointer
 unfolding part cut_out digits

@@ -14,9 +14,9 @@ pub returns-clause-next_byte : goal.returns-clause-next_byte
 unfolding number_of numeral_of whole_number
 returns-clause-next_byte c = reads_form ReadChar (texts_of (codes "cc,F,Z")) (example_at 0) (example_at 1) _ _ refl refl refl refl refl
 
-pub returns-clause-byte_behind_a_gap : goal.returns-clause-byte_behind_a_gap
+pub returns-clause-byte_after_a_gap : goal.returns-clause-byte_after_a_gap
 unfolding number_of numeral_of whole_number
-returns-clause-byte_behind_a_gap c = reads_form ReadChar (texts_of (codes "cc,F,Z")) (example_at 1) (example_at 3) _ _ refl refl refl refl refl
+returns-clause-byte_after_a_gap c = reads_form ReadChar (texts_of (codes "cc,F,Z")) (example_at 1) (example_at 3) _ _ refl refl refl refl refl
 
 pub returns-clause-segment_before_a_gap : goal.returns-clause-segment_before_a_gap
 unfolding number_of numeral_of whole_number
@@ -102,9 +102,9 @@ pub returns-clause-no_number : goal.returns-clause-no_number
 unfolding number_of numeral_of whole_number
 returns-clause-no_number c = reads_form ReadCount (texts_of (codes "cn,F,x,Z")) (pointing_at 5 (codes "F") (as_items (codes "abcde"))) (pointing_at 5 (codes "F") (as_items (codes "abcde"))) _ _ refl refl refl refl refl
 
-pub returns-clause-number_behind_a_prefix : goal.returns-clause-number_behind_a_prefix
+pub returns-clause-number_after_a_prefix : goal.returns-clause-number_after_a_prefix
 unfolding number_of numeral_of whole_number
-returns-clause-number_behind_a_prefix c = reads_form ReadCount (texts_of (codes "cn,F,x2,Z")) (pointing_at 0 (codes "F") (as_items (codes "abcde"))) (pointing_at 2 (codes "F") (as_items (codes "abcde"))) _ _ refl refl refl refl refl
+returns-clause-number_after_a_prefix c = reads_form ReadCount (texts_of (codes "cn,F,x2,Z")) (pointing_at 0 (codes "F") (as_items (codes "abcde"))) (pointing_at 2 (codes "F") (as_items (codes "abcde"))) _ _ refl refl refl refl refl
 
 pub returns-clause-stops_before_a_gap : goal.returns-clause-stops_before_a_gap
 unfolding number_of numeral_of whole_number
@@ -114,9 +114,9 @@ pub returns-clause-passes_gaps : goal.returns-clause-passes_gaps
 unfolding number_of numeral_of whole_number
 returns-clause-passes_gaps c = reads_form ReadCount (texts_of (codes "cn,F,2,Z")) (pointing_at 0 (codes "F") (Gap 1 1 ∷ Byte 97 ∷ Gap 1 2 ∷ Gap 2 1 ∷ Byte 98 ∷ [])) (pointing_at 5 (codes "F") (Gap 1 1 ∷ Byte 97 ∷ Gap 1 2 ∷ Gap 2 1 ∷ Byte 98 ∷ [])) _ _ refl refl refl refl refl
 
-pub returns-clause-stops_behind_a_gap : goal.returns-clause-stops_behind_a_gap
+pub returns-clause-stops_after_a_gap : goal.returns-clause-stops_after_a_gap
 unfolding number_of numeral_of whole_number
-returns-clause-stops_behind_a_gap c = reads_form ReadCount (texts_of (codes "cn,F,-1,Z")) (pointing_at 4 (codes "F") (Gap 1 1 ∷ Byte 97 ∷ Gap 1 2 ∷ Gap 2 1 ∷ Byte 98 ∷ [])) (pointing_at 1 (codes "F") (Gap 1 1 ∷ Byte 97 ∷ Gap 1 2 ∷ Gap 2 1 ∷ Byte 98 ∷ [])) _ _ refl refl refl refl refl
+returns-clause-stops_after_a_gap c = reads_form ReadCount (texts_of (codes "cn,F,-1,Z")) (pointing_at 4 (codes "F") (Gap 1 1 ∷ Byte 97 ∷ Gap 1 2 ∷ Gap 2 1 ∷ Byte 98 ∷ [])) (pointing_at 1 (codes "F") (Gap 1 1 ∷ Byte 97 ∷ Gap 1 2 ∷ Gap 2 1 ∷ Byte 98 ∷ [])) _ _ refl refl refl refl refl
 
 pub returns-clause-passes_gaps_back : goal.returns-clause-passes_gaps_back
 unfolding number_of numeral_of whole_number
@@ -158,13 +158,13 @@ pub returns-clause-occurrence_cut_by_a_gap : goal.returns-clause-occurrence_cut_
 unfolding number_of numeral_of whole_number
 returns-clause-occurrence_cut_by_a_gap c = reads_nothing ReadUntil (texts_of (codes "in,G,bc,no")) (pointing_at 0 (codes "G") (Byte 97 ∷ Gap 1 1 ∷ Byte 98 ∷ Gap 1 1 ∷ Byte 99 ∷ [])) _ refl refl refl refl
 
-pub returns-clause-occurrence_behind_gaps : goal.returns-clause-occurrence_behind_gaps
+pub returns-clause-occurrence_after_gaps : goal.returns-clause-occurrence_after_gaps
 unfolding number_of numeral_of whole_number
-returns-clause-occurrence_behind_gaps c = reads_form ReadUntil (texts_of (codes "in,G,c,no")) (pointing_at 0 (codes "G") (Byte 97 ∷ Gap 1 1 ∷ Byte 98 ∷ Gap 1 1 ∷ Byte 99 ∷ [])) (pointing_at 5 (codes "G") (Byte 97 ∷ Gap 1 1 ∷ Byte 98 ∷ Gap 1 1 ∷ Byte 99 ∷ [])) _ _ refl refl refl refl refl
+returns-clause-occurrence_after_gaps c = reads_form ReadUntil (texts_of (codes "in,G,c,no")) (pointing_at 0 (codes "G") (Byte 97 ∷ Gap 1 1 ∷ Byte 98 ∷ Gap 1 1 ∷ Byte 99 ∷ [])) (pointing_at 5 (codes "G") (Byte 97 ∷ Gap 1 1 ∷ Byte 98 ∷ Gap 1 1 ∷ Byte 99 ∷ [])) _ _ refl refl refl refl refl
 
-pub returns-clause-end_behind_the_occurrence : goal.returns-clause-end_behind_the_occurrence
+pub returns-clause-end_after_the_occurrence : goal.returns-clause-end_after_the_occurrence
 unfolding number_of numeral_of whole_number
-returns-clause-end_behind_the_occurrence c = reads_nothing ReadSegment (texts_of (codes "cs,G,end")) (pointing_at 5 (codes "G") (Byte 97 ∷ Gap 1 1 ∷ Byte 98 ∷ Gap 1 1 ∷ Byte 99 ∷ [])) _ refl refl refl refl
+returns-clause-end_after_the_occurrence c = reads_nothing ReadSegment (texts_of (codes "cs,G,end")) (pointing_at 5 (codes "G") (Byte 97 ∷ Gap 1 1 ∷ Byte 98 ∷ Gap 1 1 ∷ Byte 99 ∷ [])) _ refl refl refl refl
 
 pub returns-clause-longer_text_than_form : goal.returns-clause-longer_text_than_form
 unfolding number_of numeral_of whole_number

@@ -23,9 +23,9 @@ pub returns-clause-null_text : goal.returns-clause-null_text
 unfolding part cut_out
 returns-clause-null_text c = refl
 
-pub returns-clause-behind_null_text : goal.returns-clause-behind_null_text
+pub returns-clause-after_null_text : goal.returns-clause-after_null_text
 unfolding part cut_out
-returns-clause-behind_null_text c = refl
+returns-clause-after_null_text c = refl
 
 pub returns-clause-beside_an_earlier_gap : goal.returns-clause-beside_an_earlier_gap
 unfolding part cut_out

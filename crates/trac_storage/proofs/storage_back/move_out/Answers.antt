@@ -1,56 +1,40 @@
 -- The last block was there, and its forms have known names.
-use Rattle.std.proofs.Common.{List, ℕ, ap, drop, sym, subst, ◌∙◌}
+use Rattle.std.proofs.Common.{ap, drop, sym, subst, ◌∙◌}
 use Rattle.std.specs.Prelude.{Some}
 use Rattle.trac_rules.specs.Blocks.{with_all}
-use Rattle.trac_rules.specs.Undone.{moved_out_again, swapped_back}
+use Rattle.trac_rules.specs.Undone.{swapped_back}
 use Rattle.trac_forms.specs.Stored.{KnowsAll, Names, Stored, storage_in}
 use Rattle.trac_storage.specs.Changing.{KnowsNamed}
-use Rattle.trac_storage.specs.Returning.{KnowsBefore}
 use Rattle.trac_storage.proofs.StorageBack.{is_moved_out, knows_each, knows_fewer, never_none}
 use Rattle.trac_storage.proofs.storage_back.move_out.Goals as goal
 
 pub unreachable-requires : goal.unreachable-requires
 unreachable-requires g c =
-    let store = c.args.store.now in
-    let name = c.get-name.result.now in
-    let names = drop 2 c.args.arguments.now in
-    never_none store.known name names c.args.old (storage_in store) (sym c.in_default.ensures.last)
-    (subst (λ (n : List ℕ). KnowsBefore store.known (moved_out_again n names c.args.old (storage_in store))) (sym c.get-name.ensures) c.requires)
+    never_none c.args.store.now.known c.get-name.ensures (drop 2 c.args.arguments.now) c.args.old (storage_in c.args.store.now) (sym c.in_default.ensures.last) c.requires
 
 pub swap-requires : goal.swap-requires
 swap-requires g c =
     let store = c.args.store.now in
-    let name = c.get-name.result.now in
-    let names = drop 2 c.args.arguments.now in
     let held = c.in-Some.block.held in
-    let requires = subst (λ (n : List ℕ). KnowsBefore store.known (moved_out_again n names c.args.old (storage_in store))) (sym c.get-name.ensures) c.requires in
-    let back = is_moved_out store.known name names c.args.old (storage_in store) held (sym c.in-Some.ensures.last) requires in
-    subst (λ (s : Stored). KnowsAll s.known (swapped_back name c.args.old s.forms)) (sym c.pop_block.ensures.others)
-    (knows_fewer held store.known (swapped_back name c.args.old store.forms) back.knows)
+    let back = is_moved_out store.known c.get-name.ensures (drop 2 c.args.arguments.now) c.args.old (storage_in store) held (sym c.in-Some.ensures.last) c.requires in
+    subst (λ (s : Stored). KnowsAll s.known (swapped_back c.get-name.result.now c.args.old s.forms)) (sym c.pop_block.ensures.others)
+    (knows_fewer held store.known (swapped_back c.get-name.result.now c.args.old store.forms) back.knows)
 
 pub put_held-requires : goal.put_held-requires
 put_held-requires g c =
     let store = c.args.store.now in
-    let name = c.get-name.result.now in
-    let names = drop 2 c.args.arguments.now in
     let held = c.in-Some.block.held in
-    let requires = subst (λ (n : List ℕ). KnowsBefore store.known (moved_out_again n names c.args.old (storage_in store))) (sym c.get-name.ensures) c.requires in
-    let back = is_moved_out store.known name names c.args.old (storage_in store) held (sym c.in-Some.ensures.last) requires in
+    let back = is_moved_out store.known c.get-name.ensures (drop 2 c.args.arguments.now) c.args.old (storage_in store) held (sym c.in-Some.ensures.last) c.requires in
     subst (λ (known : Names). KnowsNamed held known) (sym (ap (λ (s : Stored). s.known) c.swap.ensures ∙ ap (λ (s : Stored). s.known) c.pop_block.ensures.others))
-    (knows_each held store.known (swapped_back name c.args.old store.forms) back.knows)
+    (knows_each held store.known (swapped_back c.get-name.result.now c.args.old store.forms) back.knows)
 
 pub returns-clause-storage : goal.returns-clause-storage
 returns-clause-storage g c =
     let store = c.args.store.now in
-    let name = c.get-name.result.now in
-    let names = drop 2 c.args.arguments.now in
     let held = c.in-Some.block.held in
-    let requires = subst (λ (n : List ℕ). KnowsBefore store.known (moved_out_again n names c.args.old (storage_in store))) (sym c.get-name.ensures) c.requires in
-    let back = is_moved_out store.known name names c.args.old (storage_in store) held (sym c.in-Some.ensures.last) requires in
-    ap (λ (n : List ℕ). moved_out_again n names c.args.old (storage_in store)) (sym c.get-name.ensures)
-    ∙ back.state
+    (is_moved_out store.known c.get-name.ensures (drop 2 c.args.arguments.now) c.args.old (storage_in store) held (sym c.in-Some.ensures.last) c.requires).state
     ∙ sym (
     ap (λ (s : Stored). Some (storage_in s)) c.put_held.ensures
     ∙ ap (λ (s : Stored). Some (storage_in (record s { forms = with_all held s.forms }))) c.swap.ensures
-    ∙ ap (λ (s : Stored). Some (storage_in (record s { forms = with_all held (swapped_back name c.args.old s.forms) }))) c.pop_block.ensures.others
+    ∙ ap (λ (s : Stored). Some (storage_in (record s { forms = with_all held (swapped_back c.get-name.result.now c.args.old s.forms) }))) c.pop_block.ensures.others
     )

@@ -26,7 +26,7 @@ runs-preserved g c =
     let put = c.run_into.ensures ∙ ap (λ (xs : List ℕ). xs ++ bytes_in run) c.in_ok-reserve.ensures.items in
     record {
       filled =
-          item_put texts c.runs.rest.now run c.split_at.result.1.now c.split_at.ensures.by_index.0 bytes c.in-Some.item.now c.in-Some.behind.now c.in-Some.ensures.cases.0 c.runs.out.items middle
+          item_put texts c.runs.rest.now run c.split_at.result.1.now c.split_at.ensures.by_index.0 bytes c.in-Some.item.now c.in-Some.after.now c.in-Some.ensures.cases.0 c.runs.out.items middle
           c.fill_into.new.out.items put c.in_ok-fill_into.ensures.ok
           ∙ c.runs.invariant.filled;
       front =

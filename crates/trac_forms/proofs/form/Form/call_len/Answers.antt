@@ -23,14 +23,14 @@ pub returns-then-len-total : goal.returns-then-len-total
 returns-then-len-total g c = λ fits.
     let bytes = ap gap_count c.split_at.ensures.front ∙ c.run_len.ensures.bytes in
     let all =
-    item_counted (g.T.Texts.texts c.args.args.now) c.runs.rest.now c.split_at.result.0.now c.split_at.result.1.now c.split_at.ensures.by_index.0 bytes c.in-Some.item.now c.in-Some.behind.now c.in-Some.ensures.cases.0 in
+    item_counted (g.T.Texts.texts c.args.args.now) c.runs.rest.now c.split_at.result.0.now c.split_at.result.1.now c.split_at.ensures.by_index.0 bytes c.in-Some.item.now c.in-Some.after.now c.in-Some.ensures.cases.0 in
     omega (arith, fits, c.if-run-total.false, c.if-len-total.true, c.runs.invariant.counted, all, c.filled_len-len.ensures)
 
 pub runs-preserved : goal.runs-preserved
 runs-preserved g c =
     let bytes = ap gap_count c.split_at.ensures.front ∙ c.run_len.ensures.bytes in
     let all =
-    item_counted (g.T.Texts.texts c.args.args.now) c.runs.rest.now c.split_at.result.0.now c.split_at.result.1.now c.split_at.ensures.by_index.0 bytes c.in-Some.item.now c.in-Some.behind.now c.in-Some.ensures.cases.0 in
+    item_counted (g.T.Texts.texts c.args.args.now) c.runs.rest.now c.split_at.result.0.now c.split_at.result.1.now c.split_at.ensures.by_index.0 bytes c.in-Some.item.now c.in-Some.after.now c.in-Some.ensures.cases.0 in
     record {
       counted = omega (arith, c.runs.invariant.counted, all, c.filled_len-len.ensures);
       within = omega (arith, c.if-run-total.false, c.if-len-total.false);

@@ -47,7 +47,7 @@ use Rattle.std_alloc.proofs.VecSteps.Shapes.{after}
 use Rattle.std_alloc.proofs.RcSteps.{word, word-Good}
 use Rattle.trac_gap.specs.Slots.{items_of, IsFull, run}
 use Rattle.trac_gap.specs.Ownership.{places_lent}
-use Rattle.trac_gap.proofs.Rows.{PlacesRow, OriginRow, step_size, origin_had, run_seen}
+use Rattle.trac_gap.proofs.Rows.{PlacesRow, StartRow, step_size, start_had, run_seen}
 use Rattle.trac_gap.specs.contracts.slots.Slots.items.Key.{name as #self}
 use Rattle.trac_gap.proofs.slots.Slots.items.Statement as stated
 use Rattle.trac_gap.proofs.slots.Slots.items.Code as code
@@ -57,13 +57,13 @@ module _ (E : El) where
   function = inst_fn (args E) code.function
 
   abbrev ended : Ended
-  ended = record { signature = record { lifetimes = 1; outlives = []; params = RefOf (0 ∷ []) tt (plain (λ _. PlacesRow E)) (λ _. tt) ∷ plain (λ _. OriginRow E) ∷ plain (λ _. usize) ∷ plain (λ _. usize) ∷ []; result = SliceRefOf (0 ∷ []) tt (plain (λ _. R E)) (λ _. tt) }; kept = (yes, (no, (no, (no, tt)))) }
+  ended = record { signature = record { lifetimes = 1; outlives = []; params = RefOf (0 ∷ []) tt (plain (λ _. PlacesRow E)) (λ _. tt) ∷ plain (λ _. StartRow E) ∷ plain (λ _. usize) ∷ plain (λ _. usize) ∷ []; result = SliceRefOf (0 ∷ []) tt (plain (λ _. R E)) (λ _. tt) }; kept = (yes, (no, (no, (no, tt)))) }
 
   abbrev stayed : Stays ended.signature.params ended.kept
-  stayed = (stay_dropped (RefOf (0 ∷ []) tt (plain (λ _. PlacesRow E)) (λ _. tt)) yes, (stay_dropped (plain (λ _. OriginRow E)) no, (stay_dropped (plain (λ _. usize)) no, (stay_dropped (plain (λ _. usize)) no, tt))))
+  stayed = (stay_dropped (RefOf (0 ∷ []) tt (plain (λ _. PlacesRow E)) (λ _. tt)) yes, (stay_dropped (plain (λ _. StartRow E)) no, (stay_dropped (plain (λ _. usize)) no, (stay_dropped (plain (λ _. usize)) no, tt))))
 
-  abbrev Asks : (PlacesRow E).Denot → (OriginRow E).Denot → ℕ → ℕ → Type 0
-  Asks d origin from count = (origin.ptr ≡ d.at) × (from + count ≤ length d.slots) × IsFull (run from count d.slots)
+  abbrev Asks : (PlacesRow E).Denot → (StartRow E).Denot → ℕ → ℕ → Type 0
+  Asks d start from count = (start.ptr ≡ d.at) × (from + count ≤ length d.slots) × IsFull (run from count d.slots)
 
   abbrev Gives : (PlacesRow E).Denot → ℕ → ℕ → Bor (List (el_x E)) → Type 0
   Gives d from count r = r.now ≡ items_of (run from count d.slots)
@@ -71,14 +71,14 @@ module _ (E : El) where
   abbrev spec : {M : Type 1} {𝓤 : Ura M} (𝓛 : Logic 𝓤) → Clauses 𝓤 ended
   spec {𝓤 = 𝓤} 𝓛 κs a = record { ghost = Unit {0}; requires = λ _. fact 𝓤 (Asks a.0.now a.1.0 a.1.1.0 a.1.1.1.0); ensures = λ _ r w. fact 𝓤 (Gives a.0.now a.1.1.0 a.1.1.1.0 r) }
 
-module _ (E : El) {M : Type 1} {𝓤 : Ura M} (𝓛 : Logic 𝓤) (C : Calls 𝓤 𝓛.H) (Λ : Loops 𝓤 𝓛.H) (κ : Lft) (q : Share) (rb ro : ℕ) (d : (PlacesRow E).Denot) (origin : (OriginRow E).Denot) (from count : ℕ) (us0 us1 us2 us3 : List Val) where
+module _ (E : El) {M : Type 1} {𝓤 : Ura M} (𝓛 : Logic 𝓤) (C : Calls 𝓤 𝓛.H) (Λ : Loops 𝓤 𝓛.H) (κ : Lft) (q : Share) (rb ro : ℕ) (d : (PlacesRow E).Denot) (start : (StartRow E).Denot) (from count : ℕ) (us0 us1 us2 us3 : List Val) where
   open 𝓛 use {H, A}
 
   abbrev self : Bor (PlacesRow E).Denot
   self = record { ref_ptr = (rb, ro); now = d }
 
   abbrev bound : (walk_of 𝓛 (ended E) (stayed E) (spec E 𝓛)).Ghost
-  bound = (((κ, tt), (q, tt), tt, (self, (origin, (from, (count, tt)))), (us0, (us1, (us2, (us3, tt))))), tt)
+  bound = (((κ, tt), (q, tt), tt, (self, (start, (from, (count, tt)))), (us0, (us1, (us2, (us3, tt))))), tt)
 
   abbrev Post : Val → SProp 𝓤
   Post = (walk_of 𝓛 (ended E) (stayed E) (spec E 𝓛)).post bound
@@ -92,17 +92,17 @@ module _ (E : El) {M : Type 1} {𝓤 : Ura M} (𝓛 : Logic 𝓤) (C : Calls �
   abbrev Had : List (Item 𝓤)
   Had = ‵ (hidden_shr (PlacesRow E) κ d rb ro) ∷ ‵ (flft κ q) ∷ []
 
-  walk : Asks E d origin from count → from < 2 ^ 64 → count < 2 ^ 64 → ent 𝓤 (⋆ 𝓛 Had) (WpFn 𝓤 H C Λ (function E) (vptr rb ro ∷ word origin.ptr ∷ vint w64 from ∷ vint w64 count ∷ []) Post)
+  walk : Asks E d start from count → from < 2 ^ 64 → count < 2 ^ 64 → ent 𝓤 (⋆ 𝓛 Had) (WpFn 𝓤 H C Λ (function E) (vptr rb ro ∷ word start.ptr ∷ vint w64 from ∷ vint w64 count ∷ []) Post)
   walk asked fits_from fits_count =
       let xs = items_of (run from count d.slots) in let full = asked.2 in let within = asked.1 in
       let long : length xs ≡ count = omega (arith, ap length full, length-map xs Some, length-take count (drop_l from d.slots), length-drop from d.slots) in
-      qed 𝓛 Had ∵ enter ! C Λ (function E) (vptr rb ro ∷ word origin.ptr ∷ vint w64 from ∷ vint w64 count ∷ []) _ $
-      alloc_all ! (λ l. pass_all ! refl ((tt, tt), (word-Good [] origin.ptr, ((tt, record { fits = fits_from }), ((tt, record { fits = fits_count }), tt)))) $
+      qed 𝓛 Had ∵ enter ! C Λ (function E) (vptr rb ro ∷ word start.ptr ∷ vint w64 from ∷ vint w64 count ∷ []) _ $
+      alloc_all ! (λ l. pass_all ! refl ((tt, tt), (word-Good [] start.ptr, ((tt, record { fits = fits_from }), ((tt, record { fits = fits_count }), tt)))) $
       let En : Env 𝓤 H = env (function E).locals l in
       unhide ! $ fsplit ! $ drop ! $ in_a_block ! d.at (λ p. places_lent (R E) p d.slots κ) (id⊢ 𝓤 (never 𝓤)) (λ b o e. fsplit ! $ flt_l ! (λ small.
       let s = step_size E in
       let far : from * s < 2 ^ 64 = omega (arith, times_below from (length d.slots) s (2 ^ 63) (omega arith) small) in
-      take_at ! 2 $ rewrite ! 0 (λ (p : Ptr). ‵ (fat full_share (layout (OriginRow E)) (l 2) 0 (word p))) (asked.0 ∙ e) refl $ give_at ! 2 $ first ! $ blocks ! $
+      take_at ! 2 $ rewrite ! 0 (λ (p : Ptr). ‵ (fat full_share (layout (StartRow E)) (l 2) 0 (word p))) (asked.0 ∙ e) refl $ give_at ! 2 $ first ! $ blocks ! $
       sets ! (is ! (bin ! (get ! refl) (size_word !) (record { fits = subst (λ (k : ℕ). k < 2 ^ 64) (sym (uncapped from s far)) far })) (ap (vint w64) (uncapped from s far))) refl (tt, record { fits = far }) $
       sets ! (bin ! (get_in ! (fld ! refl (stop !)) (sub ! 0 refl (whole !))) (get ! refl) tt) refl (tt, tt) $
       let at : ℕ × ℕ = (b, from * s + o) in
@@ -113,11 +113,11 @@ module _ (E : El) {M : Type 1} {𝓤 : Ura M} (𝓛 : Logic 𝓤) (C : Calls �
       feq_i ! (List Val) (slice_val at count ∷ []) (slice_val at (length xs) ∷ []) (ap (λ k. slice_val at k ∷ []) (sym long)) $ fjoin ! $ fjoin ! $
       returns ! (look_at ! 0 refl) $ free_all ! refl $ keep ! (1 ∷ 0 ∷ []) $ by ! (exits (record { ref_ptr = at; now = xs }) (slice_val at count) refl))))
 
-  entry : Asks E d origin from count → ent 𝓤 (on_entry 𝓛 (ended E).signature (κ, tt) (q, tt) (self, (origin, (from, (count, tt)))) (us0, (us1, (us2, (us3, tt))))) (WpFn 𝓤 H C Λ (function E) (us0 ++ (us1 ++ (us2 ++ (us3 ++ [])))) Post)
+  entry : Asks E d start from count → ent 𝓤 (on_entry 𝓛 (ended E).signature (κ, tt) (q, tt) (self, (start, (from, (count, tt)))) (us0, (us1, (us2, (us3, tt))))) (WpFn 𝓤 H C Λ (function E) (us0 ++ (us1 ++ (us2 ++ (us3 ++ [])))) Post)
   entry asked =
-      qed 𝓛 ((‵ (flft κ q) ⊛ ‵ ftrue) ∷ ‵ (owns (ShrRef (named 0) κ (PlacesRow E) ∷ OriginRow E ∷ usize ∷ usize ∷ []) (self, (origin, (from, (count, tt)))) (us0, (us1, (us2, (us3, tt))))) ∷ []) ∵
+      qed 𝓛 ((‵ (flft κ q) ⊛ ‵ ftrue) ∷ ‵ (owns (ShrRef (named 0) κ (PlacesRow E) ∷ StartRow E ∷ usize ∷ usize ∷ []) (self, (start, (from, (count, tt)))) (us0, (us1, (us2, (us3, tt))))) ∷ []) ∵
       split ! $ move ! (2 ∷ []) $ fsplit ! $ fsplit ! $ feq_l ! (λ e0.
-      move ! (1 ∷ []) $ fsplit ! $ origin_had ! origin.ptr us1 (λ e1.
+      move ! (1 ∷ []) $ fsplit ! $ start_had ! start.ptr us1 (λ e1.
       fsplit ! $ fsplit ! $ feq_l ! (λ e2. flt_l ! (λ fits_from.
       fsplit ! $ fsplit ! $ feq_l ! (λ e3. flt_l ! (λ fits_count.
       keep ! (1 ∷ 2 ∷ []) $
@@ -126,7 +126,7 @@ module _ (E : El) {M : Type 1} {𝓤 : Ura M} (𝓛 : Logic 𝓤) (C : Calls �
 meets : (E : El) {M : Type 1} {𝓤 : Ura M} (𝓛 : Logic 𝓤) (𝓣 : Tables 𝓤 𝓛.H)
     → Meets 𝓛 (ended E).signature (WpFn 𝓤 𝓛.H 𝓣.C 𝓣.Λ (function E)) (closing 𝓛 (ended E) (spec E 𝓛))
 meets E {𝓤 = 𝓤} 𝓛 𝓣 =
-    walk_Meets 𝓛 (ended E) (stayed E) (Goes-dropped 𝓛 1 (RefOf (0 ∷ []) tt (plain (λ _. PlacesRow E)) (λ _. tt)) yes (λ κs x f. refl), (Goes-dropped 𝓛 1 (plain (λ _. OriginRow E)) no (λ κs x f. refl), (Goes-dropped 𝓛 1 (plain (λ _. usize)) no (λ κs x f. refl), (Goes-dropped 𝓛 1 (plain (λ _. usize)) no (λ κs x f. refl), tt)))) (spec E 𝓛) (WpFn 𝓤 𝓛.H 𝓣.C 𝓣.Λ (function E)) (WpFn-mono 𝓤 𝓛.H 𝓛.laws 𝓣 (function E))
+    walk_Meets 𝓛 (ended E) (stayed E) (Goes-dropped 𝓛 1 (RefOf (0 ∷ []) tt (plain (λ _. PlacesRow E)) (λ _. tt)) yes (λ κs x f. refl), (Goes-dropped 𝓛 1 (plain (λ _. StartRow E)) no (λ κs x f. refl), (Goes-dropped 𝓛 1 (plain (λ _. usize)) no (λ κs x f. refl), (Goes-dropped 𝓛 1 (plain (λ _. usize)) no (λ κs x f. refl), tt)))) (spec E 𝓛) (WpFn 𝓤 𝓛.H 𝓣.C 𝓣.Λ (function E)) (WpFn-mono 𝓤 𝓛.H 𝓛.laws 𝓣 (function E))
     (λ z. let a = z.0.3 in let us = z.0.4 in needs 𝓤 (Asks E a.0.now a.1.0 a.1.1.0 a.1.1.1.0) _
     (entry E 𝓛 𝓣.C 𝓣.Λ z.0.0.0 z.0.1.0 a.0.ref_ptr.0 a.0.ref_ptr.1 a.0.now a.1.0 a.1.1.0 a.1.1.1.0 us.0 us.1.0 us.1.1.0 us.1.1.1.0))
 

@@ -52,7 +52,7 @@ use Rattle.std_alloc.proofs.VecSteps.Shapes.{after}
 use Rattle.std_alloc.proofs.RcSteps.{word, word-Good}
 use Rattle.trac_gap.specs.Ownership.{row_owns, places_own}
 use Rattle.trac_gap.specs.Slots.{IsFull, IsShifted, run}
-use Rattle.trac_gap.proofs.Rows.{PlacesRow, OriginRow, step_size, origin_had}
+use Rattle.trac_gap.proofs.Rows.{PlacesRow, StartRow, step_size, start_had}
 use Rattle.trac_gap.proofs.Apart.{Plan, plan}
 use Rattle.trac_gap.specs.contracts.slots.Slots.move_apart as F
 use Rattle.trac_gap.specs.contracts.slots.Slots.move_apart.Key.{name as #self}
@@ -70,23 +70,23 @@ module _ (E : El) where
   clauses 𝓛 = F.clauses E.row 𝓛
 
   abbrev stayed : Stays ended.signature.params ended.kept
-  stayed = (stay_ref (0 ∷ []) tt (plain (λ _. PlacesRow E)), (stay_dropped (plain (λ _. OriginRow E)) no, (stay_dropped (plain (λ _. usize)) yes, (stay_dropped (plain (λ _. usize)) yes, (stay_dropped (plain (λ _. usize)) yes, tt)))))
+  stayed = (stay_ref (0 ∷ []) tt (plain (λ _. PlacesRow E)), (stay_dropped (plain (λ _. StartRow E)) no, (stay_dropped (plain (λ _. usize)) yes, (stay_dropped (plain (λ _. usize)) yes, (stay_dropped (plain (λ _. usize)) yes, tt)))))
 
-  abbrev Asks : (PlacesRow E).Denot → (OriginRow E).Denot → ℕ → ℕ → ℕ → Type 0
-  Asks d origin from to count = (origin.ptr ≡ d.at) × (from + count ≤ length d.slots) × (to + count ≤ length d.slots) × ((from + count ≤ to) ⊎ (to + count ≤ from)) × IsFull (run from count d.slots)
+  abbrev Asks : (PlacesRow E).Denot → (StartRow E).Denot → ℕ → ℕ → ℕ → Type 0
+  Asks d start from to count = (start.ptr ≡ d.at) × (from + count ≤ length d.slots) × (to + count ≤ length d.slots) × ((from + count ≤ to) ⊎ (to + count ≤ from)) × IsFull (run from count d.slots)
 
   abbrev Gives : (PlacesRow E).Denot → ℕ → ℕ → ℕ → (PlacesRow E).Denot → Type 0
   Gives d from to count new = (new.at ≡ d.at) × IsShifted d.slots from to count new.slots
 
 module _ (E : El) {M : Type 1} {𝓤 : Ura M} (𝓛 : Logic 𝓤) (at_mem : Memory → SProp 𝓤) (run' : Routine → Fun 𝓤) (C : Calls 𝓤 𝓛.H) (Λ : Loops 𝓤 𝓛.H) (fm : FmC 𝓤 𝓛.H 𝓛.laws C)
-    (copies : Triple 𝓤 (C (copy_key E.row)) (Copies E.row 𝓛 at_mem run')) (κ κ₁ : Lft) (q q₁ : Share) (short : κ ⊑ κ₁) (lives : κ₁ ⊑ E.row.lives) (rb ro : ℕ) (γ : GName) (d : (PlacesRow E).Denot) (origin : (OriginRow E).Denot) (from to count : ℕ) (us0 us1 us2 us3 us4 : List Val) where
+    (copies : Triple 𝓤 (C (copy_key E.row)) (Copies E.row 𝓛 at_mem run')) (κ κ₁ : Lft) (q q₁ : Share) (short : κ ⊑ κ₁) (lives : κ₁ ⊑ E.row.lives) (rb ro : ℕ) (γ : GName) (d : (PlacesRow E).Denot) (start : (StartRow E).Denot) (from to count : ℕ) (us0 us1 us2 us3 us4 : List Val) where
   open 𝓛 use {H, A}
 
   abbrev self : MutBor (PlacesRow E).Denot
   self = record { ref_ptr = (rb, ro); ghost_name = γ; now = d }
 
   abbrev bound : (walk_of 𝓛 (ended E) (stayed E) (clauses E 𝓛 at_mem run')).Ghost
-  bound = (((κ, (κ₁, tt)), (q, (q₁, tt)), (short, tt), (self, (origin, (from, (to, (count, tt))))), (us0, (us1, (us2, (us3, (us4, tt)))))), tt)
+  bound = (((κ, (κ₁, tt)), (q, (q₁, tt)), (short, tt), (self, (start, (from, (to, (count, tt))))), (us0, (us1, (us2, (us3, (us4, tt)))))), tt)
 
   abbrev Post : Val → SProp 𝓤
   Post = (walk_of 𝓛 (ended E) (stayed E) (clauses E 𝓛 at_mem run')).post bound
@@ -107,11 +107,11 @@ module _ (E : El) {M : Type 1} {𝓤 : Ura M} (𝓛 : Logic 𝓤) (at_mem : Memo
   abbrev Had : List (Item 𝓤)
   Had = Loan d ++ token ∷ []
 
-  walk : us0 ≡ vptr rb ro ∷ [] → Asks E d origin from to count → from < 2 ^ 64 → to < 2 ^ 64 → count < 2 ^ 64 → ent 𝓤 (⋆ 𝓛 Had) (WpFn 𝓤 H C Λ (function E) (vptr rb ro ∷ word origin.ptr ∷ vint w64 from ∷ vint w64 to ∷ vint w64 count ∷ []) Post)
+  walk : us0 ≡ vptr rb ro ∷ [] → Asks E d start from to count → from < 2 ^ 64 → to < 2 ^ 64 → count < 2 ^ 64 → ent 𝓤 (⋆ 𝓛 Had) (WpFn 𝓤 H C Λ (function E) (vptr rb ro ∷ word start.ptr ∷ vint w64 from ∷ vint w64 to ∷ vint w64 count ∷ []) Post)
   walk passed asked fits_from fits_to fits_count =
       let s = step_size E in let inside = asked.1 in let room = asked.2 in
-      qed 𝓛 Had ∵ enter ! C Λ (function E) (vptr rb ro ∷ word origin.ptr ∷ vint w64 from ∷ vint w64 to ∷ vint w64 count ∷ []) _ $
-      alloc_all ! (λ l. pass_all ! refl ((tt, tt), (word-Good [] origin.ptr, ((tt, record { fits = fits_from }), ((tt, record { fits = fits_to }), ((tt, record { fits = fits_count }), tt))))) $
+      qed 𝓛 Had ∵ enter ! C Λ (function E) (vptr rb ro ∷ word start.ptr ∷ vint w64 from ∷ vint w64 to ∷ vint w64 count ∷ []) _ $
+      alloc_all ! (λ l. pass_all ! refl ((tt, tt), (word-Good [] start.ptr, ((tt, record { fits = fits_from }), ((tt, record { fits = fits_to }), ((tt, record { fits = fits_count }), tt))))) $
       let En : Env 𝓤 H = env (function E).locals l in
       opens ! tt (PlacesRow E) {h = d} rb ro (λ vs. move ! (1 ∷ []) $ fsplit ! $ move ! (1 ∷ []) $
       in_a_block ! d.at (λ p. places_own (R E) p d.slots) (id⊢ 𝓤 (never 𝓤)) (λ b o e. fsplit ! $ flt_l ! (λ small.
@@ -120,7 +120,7 @@ module _ (E : El) {M : Type 1} {𝓤 : Ura M} (𝓛 : Logic 𝓤) (at_mem : Memo
       let far : from * s < 2 ^ 64 = omega (arith, times_below from (length d.slots) s (2 ^ 63) (omega arith) small) in
       let far' : to * s < 2 ^ 64 = omega (arith, times_below to (length d.slots) s (2 ^ 63) (omega arith) small) in
       let wide : count * s < 2 ^ 63 = times_below count (length d.slots) s (2 ^ 63) (omega arith) small in
-      take_at ! 2 $ rewrite ! 0 (λ (p : Ptr). ‵ (fat full_share (layout (OriginRow E)) (l 2) 0 (word p))) (asked.0 ∙ e) refl $ give_at ! 2 $ first ! $ blocks ! $
+      take_at ! 2 $ rewrite ! 0 (λ (p : Ptr). ‵ (fat full_share (layout (StartRow E)) (l 2) 0 (word p))) (asked.0 ∙ e) refl $ give_at ! 2 $ first ! $ blocks ! $
       sets ! (is ! (bin ! (get ! refl) (size_word !) (record { fits = subst (λ (k : ℕ). k < 2 ^ 64) (sym (uncapped from s far)) far })) (ap (vint w64) (uncapped from s far))) refl (tt, record { fits = far }) $
       sets ! (bin ! (get_in ! (fld ! refl (stop !)) (sub ! 0 refl (whole !))) (get ! refl) tt) refl (tt, tt) $
       sets ! (is ! (bin ! (get ! refl) (size_word !) (record { fits = subst (λ (k : ℕ). k < 2 ^ 64) (sym (uncapped to s far')) far' })) (ap (vint w64) (uncapped to s far'))) refl (tt, record { fits = far' }) $
@@ -141,11 +141,11 @@ module _ (E : El) {M : Type 1} {𝓤 : Ura M} (𝓛 : Logic 𝓤) (at_mem : Memo
       returns ! (look_at ! 0 refl) $ free_all ! refl $ keep ! (0 ∷ 1 ∷ 2 ∷ 3 ∷ []) $ feq_i ! (List Val) (vunit ∷ []) (vunit ∷ []) refl $ move ! (1 ∷ 2 ∷ 3 ∷ 4 ∷ 0 ∷ []) $
       by ! (exits passed new (refl, p.shifted))))))))
 
-  entry : Asks E d origin from to count → ent 𝓤 (on_entry 𝓛 (ended E).signature (κ, (κ₁, tt)) (q, (q₁, tt)) (self, (origin, (from, (to, (count, tt))))) (us0, (us1, (us2, (us3, (us4, tt)))))) (WpFn 𝓤 H C Λ (function E) (us0 ++ (us1 ++ (us2 ++ (us3 ++ (us4 ++ []))))) Post)
+  entry : Asks E d start from to count → ent 𝓤 (on_entry 𝓛 (ended E).signature (κ, (κ₁, tt)) (q, (q₁, tt)) (self, (start, (from, (to, (count, tt))))) (us0, (us1, (us2, (us3, (us4, tt)))))) (WpFn 𝓤 H C Λ (function E) (us0 ++ (us1 ++ (us2 ++ (us3 ++ (us4 ++ []))))) Post)
   entry asked =
-      qed 𝓛 ((‵ (flft κ q) ⊛ token ⊛ ‵ ftrue) ∷ ‵ (owns (MutRef (named 0) κ (PlacesRow E) ∷ OriginRow E ∷ usize ∷ usize ∷ usize ∷ []) (self, (origin, (from, (to, (count, tt))))) (us0, (us1, (us2, (us3, (us4, tt)))))) ∷ []) ∵
+      qed 𝓛 ((‵ (flft κ q) ⊛ token ⊛ ‵ ftrue) ∷ ‵ (owns (MutRef (named 0) κ (PlacesRow E) ∷ StartRow E ∷ usize ∷ usize ∷ usize ∷ []) (self, (start, (from, (to, (count, tt))))) (us0, (us1, (us2, (us3, (us4, tt)))))) ∷ []) ∵
       split3 ! $ move ! (3 ∷ []) $ fsplit ! $ fsplit3 ! $ feq_l ! (λ e0.
-      move ! (2 ∷ []) $ fsplit ! $ origin_had ! origin.ptr us1 (λ e1.
+      move ! (2 ∷ []) $ fsplit ! $ start_had ! start.ptr us1 (λ e1.
       fsplit ! $ fsplit ! $ feq_l ! (λ e2. flt_l ! (λ fits_from.
       fsplit ! $ fsplit ! $ feq_l ! (λ e3. flt_l ! (λ fits_to.
       fsplit ! $ fsplit ! $ feq_l ! (λ e4. flt_l ! (λ fits_count.
@@ -156,7 +156,7 @@ module _ (E : El) {M : Type 1} {𝓤 : Ura M} (𝓛 : Logic 𝓤) (at_mem : Memo
 meets : (E : El) {M : Type 1} {𝓤 : Ura M} (𝓛 : Logic 𝓤) (at_mem : Memory → SProp 𝓤) (run' : Routine → Fun 𝓤) (𝓣 : Tables 𝓤 𝓛.H) → Triple 𝓤 (𝓣.C (copy_key E.row)) (Copies E.row 𝓛 at_mem run')
     → Meets 𝓛 (ended E).signature (WpFn 𝓤 𝓛.H 𝓣.C 𝓣.Λ (function E)) (closing 𝓛 (ended E) (clauses E 𝓛 at_mem run'))
 meets E {𝓤 = 𝓤} 𝓛 at_mem run' 𝓣 copies =
-    walk_Meets 𝓛 (ended E) (stayed E) (Goes-ref 𝓛 2 0 tt (plain (λ _. PlacesRow E)), (Goes-dropped 𝓛 2 (plain (λ _. OriginRow E)) no (λ κs x f. refl), (Goes-dropped 𝓛 2 (plain (λ _. usize)) yes (λ κs x f. refl), (Goes-dropped 𝓛 2 (plain (λ _. usize)) yes (λ κs x f. refl), (Goes-dropped 𝓛 2 (plain (λ _. usize)) yes (λ κs x f. refl), tt)))))
+    walk_Meets 𝓛 (ended E) (stayed E) (Goes-ref 𝓛 2 0 tt (plain (λ _. PlacesRow E)), (Goes-dropped 𝓛 2 (plain (λ _. StartRow E)) no (λ κs x f. refl), (Goes-dropped 𝓛 2 (plain (λ _. usize)) yes (λ κs x f. refl), (Goes-dropped 𝓛 2 (plain (λ _. usize)) yes (λ κs x f. refl), (Goes-dropped 𝓛 2 (plain (λ _. usize)) yes (λ κs x f. refl), tt)))))
     (clauses E 𝓛 at_mem run') (WpFn 𝓤 𝓛.H 𝓣.C 𝓣.Λ (function E)) (WpFn-mono 𝓤 𝓛.H 𝓛.laws 𝓣 (function E))
     (λ z. let κs = z.0.0 in let qs = z.0.1 in let a = z.0.3 in let us = z.0.4 in let On : SProp 𝓤 = on_entry 𝓛 (ended E).signature κs qs a us in
     let Lives : Type 0 = κs.1.0 ⊑ E.row.lives in let Asked : Type 0 = Asks E a.0.now a.1.0 a.1.1.0 a.1.1.1.0 a.1.1.1.1.0 in

@@ -42,7 +42,7 @@ use Rattle.core.proofs.ptr.Rows.{times_below, one_below}
 use Rattle.std_alloc.proofs.VecSteps.Shapes.{after}
 use Rattle.std_alloc.proofs.RcSteps.{Good, word, word-Good}
 use Rattle.trac_gap.specs.Ownership.{place_owns, row_owns, places_own}
-use Rattle.trac_gap.proofs.Rows.{PlacesRow, OriginRow, step_size, origin_had, item_had, item_in, place_room, Others, place_out, place_in}
+use Rattle.trac_gap.proofs.Rows.{PlacesRow, StartRow, step_size, start_had, item_had, item_in, place_room, Others, place_out, place_in}
 use Rattle.trac_gap.specs.contracts.slots.Slots.put.Key.{name as #self}
 use Rattle.trac_gap.proofs.slots.Slots.put.Statement as stated
 use Rattle.trac_gap.proofs.slots.Slots.put.Code as code
@@ -52,13 +52,13 @@ module _ (E : El) where
   function = inst_fn (args E) code.function
 
   abbrev ended : Ended
-  ended = record { signature = record { lifetimes = 1; outlives = []; params = RefMutOf (0 ∷ []) tt (plain (λ _. PlacesRow E)) (λ _. tt) ∷ plain (λ _. OriginRow E) ∷ plain (λ _. usize) ∷ plain (λ _. R E) ∷ []; result = plain (λ _. unit) }; kept = (yes, (no, (no, (no, tt)))) }
+  ended = record { signature = record { lifetimes = 1; outlives = []; params = RefMutOf (0 ∷ []) tt (plain (λ _. PlacesRow E)) (λ _. tt) ∷ plain (λ _. StartRow E) ∷ plain (λ _. usize) ∷ plain (λ _. R E) ∷ []; result = plain (λ _. unit) }; kept = (yes, (no, (no, (no, tt)))) }
 
   abbrev stayed : Stays ended.signature.params ended.kept
-  stayed = (stay_ref (0 ∷ []) tt (plain (λ _. PlacesRow E)), (stay_dropped (plain (λ _. OriginRow E)) no, (stay_dropped (plain (λ _. usize)) no, (stay_dropped (plain (λ _. R E)) no, tt))))
+  stayed = (stay_ref (0 ∷ []) tt (plain (λ _. PlacesRow E)), (stay_dropped (plain (λ _. StartRow E)) no, (stay_dropped (plain (λ _. usize)) no, (stay_dropped (plain (λ _. R E)) no, tt))))
 
-  abbrev Asks : (PlacesRow E).Denot → (OriginRow E).Denot → ℕ → Type 0
-  Asks d origin index = (origin.ptr ≡ d.at) × (index < length d.slots)
+  abbrev Asks : (PlacesRow E).Denot → (StartRow E).Denot → ℕ → Type 0
+  Asks d start index = (start.ptr ≡ d.at) × (index < length d.slots)
 
   abbrev Gives : (PlacesRow E).Denot → ℕ → (R E).Denot → (PlacesRow E).Denot → Type 0
   Gives d index item new = (new.at ≡ d.at) × (new.slots ≡ set d.slots index (Some item))
@@ -66,14 +66,14 @@ module _ (E : El) where
   abbrev spec : {M : Type 1} {𝓤 : Ura M} (𝓛 : Logic 𝓤) → Clauses 𝓤 ended
   spec {𝓤 = 𝓤} 𝓛 κs a = record { ghost = Unit {0}; requires = λ _. fact 𝓤 (Asks a.0.now a.1.0 a.1.1.0); ensures = λ _ r w. fact 𝓤 (Gives a.0.now a.1.1.0 a.1.1.1.0 w.0.now) }
 
-module _ (E : El) {M : Type 1} {𝓤 : Ura M} (𝓛 : Logic 𝓤) (C : Calls 𝓤 𝓛.H) (Λ : Loops 𝓤 𝓛.H) (κ : Lft) (q : Share) (rb ro : ℕ) (γ : GName) (d : (PlacesRow E).Denot) (origin : (OriginRow E).Denot) (index : ℕ) (item : (R E).Denot) (us0 us1 us2 us3 : List Val) where
+module _ (E : El) {M : Type 1} {𝓤 : Ura M} (𝓛 : Logic 𝓤) (C : Calls 𝓤 𝓛.H) (Λ : Loops 𝓤 𝓛.H) (κ : Lft) (q : Share) (rb ro : ℕ) (γ : GName) (d : (PlacesRow E).Denot) (start : (StartRow E).Denot) (index : ℕ) (item : (R E).Denot) (us0 us1 us2 us3 : List Val) where
   open 𝓛 use {H, A}
 
   abbrev self : MutBor (PlacesRow E).Denot
   self = record { ref_ptr = (rb, ro); ghost_name = γ; now = d }
 
   abbrev bound : (walk_of 𝓛 (ended E) (stayed E) (spec E 𝓛)).Ghost
-  bound = (((κ, tt), (q, tt), tt, (self, (origin, (index, (item, tt)))), (us0, (us1, (us2, (us3, tt))))), tt)
+  bound = (((κ, tt), (q, tt), tt, (self, (start, (index, (item, tt)))), (us0, (us1, (us2, (us3, tt))))), tt)
 
   abbrev Post : Val → SProp 𝓤
   Post = (walk_of 𝓛 (ended E) (stayed E) (spec E 𝓛)).post bound
@@ -90,18 +90,18 @@ module _ (E : El) {M : Type 1} {𝓤 : Ura M} (𝓛 : Logic 𝓤) (C : Calls �
   abbrev Had : Val → List (Item 𝓤)
   Had v = Loan d ++ ‵ (E.row.own_val item (v ∷ [])) ∷ []
 
-  walk : us0 ≡ vptr rb ro ∷ [] → Asks E d origin index → index < 2 ^ 64 → (v : Val) → Good (layout (R E)) v → ent 𝓤 (⋆ 𝓛 (Had v)) (WpFn 𝓤 H C Λ (function E) (vptr rb ro ∷ word origin.ptr ∷ vint w64 index ∷ v ∷ []) Post)
+  walk : us0 ≡ vptr rb ro ∷ [] → Asks E d start index → index < 2 ^ 64 → (v : Val) → Good (layout (R E)) v → ent 𝓤 (⋆ 𝓛 (Had v)) (WpFn 𝓤 H C Λ (function E) (vptr rb ro ∷ word start.ptr ∷ vint w64 index ∷ v ∷ []) Post)
   walk passed asked fits v good =
       let within = asked.1 in let s = step_size E in
       let new : (PlacesRow E).Denot = record { mark = d.mark; at = d.at; slots = set d.slots index (Some item) } in
-      qed 𝓛 (Had v) ∵ enter ! C Λ (function E) (vptr rb ro ∷ word origin.ptr ∷ vint w64 index ∷ v ∷ []) _ $
-      alloc_all ! (λ l. pass_all ! refl ((tt, tt), (word-Good [] origin.ptr, ((tt, record { fits = fits }), (good, tt)))) $
+      qed 𝓛 (Had v) ∵ enter ! C Λ (function E) (vptr rb ro ∷ word start.ptr ∷ vint w64 index ∷ v ∷ []) _ $
+      alloc_all ! (λ l. pass_all ! refl ((tt, tt), (word-Good [] start.ptr, ((tt, record { fits = fits }), (good, tt)))) $
       let En : Env 𝓤 H = env (function E).locals l in
       opens ! tt (PlacesRow E) {h = d} rb ro (λ vs. move ! (1 ∷ []) $ fsplit ! $ move ! (1 ∷ []) $
       in_a_block ! d.at (λ p. places_own (R E) p d.slots) (id⊢ 𝓤 (never 𝓤)) (λ b o e. fsplit ! $ flt_l ! (λ small.
       let tiny : s < 2 ^ 64 = omega (arith, one_below (length d.slots) s (2 ^ 63) (omega arith) small) in
       let far : index * s < 2 ^ 64 = omega (arith, times_below index (length d.slots) s (2 ^ 63) (omega arith) small) in
-      take_at ! 2 $ rewrite ! 0 (λ (p : Ptr). ‵ (fat full_share (layout (OriginRow E)) (l 2) 0 (word p))) (asked.0 ∙ e) refl $ give_at ! 2 $ first ! $ blocks ! $
+      take_at ! 2 $ rewrite ! 0 (λ (p : Ptr). ‵ (fat full_share (layout (StartRow E)) (l 2) 0 (word p))) (asked.0 ∙ e) refl $ give_at ! 2 $ first ! $ blocks ! $
       sets ! (bin ! (get ! refl) (size_lit ! (record { fits = tiny })) (record { fits = far })) refl (tt, record { fits = far }) $
       sets ! (bin ! (get_in ! (fld ! refl (stop !)) (sub ! 0 refl (whole !))) (get ! refl) tt) refl (tt, tt) $
       use1 𝓛 (‵ (place_owns (R E) b (index * s + o) (get_or d.slots index None)) ⊛ ‵ (Others E 𝓛 b o d.slots index within)) (place_out E 𝓛 b o d.slots index within) $ split ! $
@@ -116,11 +116,11 @@ module _ (E : El) {M : Type 1} {𝓤 : Ura M} (𝓛 : Logic 𝓤) (C : Calls �
       returns ! (look_at ! 0 refl) $ free_all ! refl $ keep ! (0 ∷ 1 ∷ 2 ∷ []) $ feq_i ! (List Val) (vunit ∷ []) (vunit ∷ []) refl $ move ! (1 ∷ 2 ∷ 3 ∷ 0 ∷ []) $
       by ! (exits passed new (refl, refl))))))
 
-  entry : Asks E d origin index → ent 𝓤 (on_entry 𝓛 (ended E).signature (κ, tt) (q, tt) (self, (origin, (index, (item, tt)))) (us0, (us1, (us2, (us3, tt))))) (WpFn 𝓤 H C Λ (function E) (us0 ++ (us1 ++ (us2 ++ (us3 ++ [])))) Post)
+  entry : Asks E d start index → ent 𝓤 (on_entry 𝓛 (ended E).signature (κ, tt) (q, tt) (self, (start, (index, (item, tt)))) (us0, (us1, (us2, (us3, tt))))) (WpFn 𝓤 H C Λ (function E) (us0 ++ (us1 ++ (us2 ++ (us3 ++ [])))) Post)
   entry asked =
-      qed 𝓛 ((‵ (flft κ q) ⊛ ‵ ftrue) ∷ ‵ (owns (MutRef (named 0) κ (PlacesRow E) ∷ OriginRow E ∷ usize ∷ R E ∷ []) (self, (origin, (index, (item, tt)))) (us0, (us1, (us2, (us3, tt))))) ∷ []) ∵
+      qed 𝓛 ((‵ (flft κ q) ⊛ ‵ ftrue) ∷ ‵ (owns (MutRef (named 0) κ (PlacesRow E) ∷ StartRow E ∷ usize ∷ R E ∷ []) (self, (start, (index, (item, tt)))) (us0, (us1, (us2, (us3, tt))))) ∷ []) ∵
       split ! $ move ! (2 ∷ []) $ fsplit ! $ fsplit3 ! $ feq_l ! (λ e0.
-      move ! (2 ∷ []) $ fsplit ! $ origin_had ! origin.ptr us1 (λ e1.
+      move ! (2 ∷ []) $ fsplit ! $ start_had ! start.ptr us1 (λ e1.
       fsplit ! $ fsplit ! $ feq_l ! (λ e2. flt_l ! (λ fits.
       fsplit ! $ item_had E.row E.laws ! item us3 (λ v e3 good.
       keep ! (2 ∷ 3 ∷ 4 ∷ 0 ∷ []) $
@@ -129,7 +129,7 @@ module _ (E : El) {M : Type 1} {𝓤 : Ura M} (𝓛 : Logic 𝓤) (C : Calls �
 meets : (E : El) {M : Type 1} {𝓤 : Ura M} (𝓛 : Logic 𝓤) (𝓣 : Tables 𝓤 𝓛.H)
     → Meets 𝓛 (ended E).signature (WpFn 𝓤 𝓛.H 𝓣.C 𝓣.Λ (function E)) (closing 𝓛 (ended E) (spec E 𝓛))
 meets E {𝓤 = 𝓤} 𝓛 𝓣 =
-    walk_Meets 𝓛 (ended E) (stayed E) (Goes-ref 𝓛 1 0 tt (plain (λ _. PlacesRow E)), (Goes-dropped 𝓛 1 (plain (λ _. OriginRow E)) no (λ κs x f. refl), (Goes-dropped 𝓛 1 (plain (λ _. usize)) no (λ κs x f. refl), (Goes-dropped 𝓛 1 (plain (λ _. R E)) no (λ κs x f. refl), tt)))) (spec E 𝓛) (WpFn 𝓤 𝓛.H 𝓣.C 𝓣.Λ (function E)) (WpFn-mono 𝓤 𝓛.H 𝓛.laws 𝓣 (function E))
+    walk_Meets 𝓛 (ended E) (stayed E) (Goes-ref 𝓛 1 0 tt (plain (λ _. PlacesRow E)), (Goes-dropped 𝓛 1 (plain (λ _. StartRow E)) no (λ κs x f. refl), (Goes-dropped 𝓛 1 (plain (λ _. usize)) no (λ κs x f. refl), (Goes-dropped 𝓛 1 (plain (λ _. R E)) no (λ κs x f. refl), tt)))) (spec E 𝓛) (WpFn 𝓤 𝓛.H 𝓣.C 𝓣.Λ (function E)) (WpFn-mono 𝓤 𝓛.H 𝓛.laws 𝓣 (function E))
     (λ z. let a = z.0.3 in let us = z.0.4 in needs 𝓤 (Asks E a.0.now a.1.0 a.1.1.0) _
     (entry E 𝓛 𝓣.C 𝓣.Λ z.0.0.0 z.0.1.0 a.0.ref_ptr.0 a.0.ref_ptr.1 a.0.ghost_name a.0.now a.1.0 a.1.1.0 a.1.1.1.0 us.0 us.1.0 us.1.1.0 us.1.1.1.0))
 

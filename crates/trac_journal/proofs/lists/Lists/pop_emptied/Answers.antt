@@ -1,5 +1,5 @@
 -- The last of the list is the first of what is seen.
-use Rattle.std.proofs.Common.{◌≡◌, drop, ap, sym}
+use Rattle.std.proofs.Common.{drop, ap, sym}
 use Rattle.trac_journal.specs.Emptied.{texts_in}
 use Rattle.trac_journal.specs.Journaled.{Lists}
 use Rattle.trac_journal.specs.Listed.{idle_of}

@@ -3,7 +3,7 @@ use Rattle.trac_text.specs.declared.mark.Mark.{Mark}
 use Rattle.trac_text.specs.Cuts.{AreCuts, cut, no_mark}
 use Rattle.trac_text.specs.Frames.{IsInnermost}
 use Rattle.trac_text.specs.Neutral.{MarkedText, neutral_of}
-use Rattle.trac_text.proofs.Ending.{cuts_behind, is_innermost, no_function}
+use Rattle.trac_text.proofs.Ending.{cuts_after, is_innermost, no_function}
 use Rattle.trac_text.proofs.frames.NeutralText.innermost.Goals as goal
 
 pub returns-in_err-number : goal.returns-in_err-number
@@ -18,7 +18,7 @@ new-requires c =
     let m : MarkedText = record { text = c.self.inside.text.now; marks = c.self.inside.marks.now } in
     let place : ℕ = (get_or m.marks c.in_ok-number.number no_mark).place in
     subst (λ (ms : List Mark). AreCuts place ms (length m.text)) (sym c.split_at.ensures.back)
-    (cuts_behind m c.in_ok-number.number c.in_ok-number.kind c.self.invariant c.in_ok-number.ensures)
+    (cuts_after m c.in_ok-number.number c.in_ok-number.kind c.self.invariant c.in_ok-number.ensures)
 
 pub returns : goal.returns
 returns c =

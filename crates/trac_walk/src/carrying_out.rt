@@ -1,0 +1,218 @@
+//! Moves, carried out.
+
+use crate::aim::Aim;
+use crate::walker::Walker;
+use memchr::memmem;
+use std::alloc::Allocator;
+use trac_orders::Move;
+use trac_screen::{Glance, Stop};
+use trac_session::Refusal;
+
+/// A search forward stops after so many steps (this project's profile).
+pub const SEARCH_LIMIT: u64 = 10_000_000;
+
+/// Carries out a move, and says why it stopped before its goal, where it did. It takes no memory but for steps.
+pub fn carry_out<A: Allocator + Copy>(walker: &mut Walker<A>, way: Move<'_>) -> Option<Stop> {
+    match way {
+        Move::Forward(steps) => stop_ahead(walker.forward(steps)),
+        Move::Back(steps) => stop_back(walker.back(steps)),
+        Move::To(step) => go_to(walker, step),
+        Move::Over => over(walker),
+        Move::OverBack => over_back(walker),
+        Move::Out => out(walker),
+        Move::OutBack => out_back(walker),
+        Move::Until(call) => until(walker, call),
+        Move::Return(call) => stop_back(walker.return_to(call_aim(call))),
+        Move::Changed(name) => to_change(walker, name),
+        Move::Printed(number) => to_printed(walker, number),
+        Move::PrintedText(text) => to_printed_text(walker, text),
+    }
+}
+
+// Why a walk forward stopped.
+fn stop_ahead(why: Option<Refusal>) -> Option<Stop> {
+    match why? {
+        Refusal::NotMet => Some(Stop::Spent),
+        refusal => Some(Stop::Refused(refusal)),
+    }
+}
+
+// Why a walk back stopped.
+fn stop_back(why: Option<Refusal>) -> Option<Stop> {
+    match why? {
+        Refusal::NotMet => Some(Stop::NotMet),
+        Refusal::AtStart => Some(Stop::AtFirst),
+        refusal => Some(Stop::Refused(refusal)),
+    }
+}
+
+// Forward to a call.
+fn until<A: Allocator + Copy>(walker: &mut Walker<A>, call: &[&[u8]]) -> Option<Stop> {
+    match walker.forward_to(call_aim(call), SEARCH_LIMIT)? {
+        Refusal::NotMet => Some(Stop::Spent),
+        refusal => Some(Stop::Unmet(refusal)),
+    }
+}
+
+// What a walk to a call looks for.
+fn call_aim<'a>(call: &'a [&'a [u8]]) -> Aim<'a> {
+    if call.is_empty() {
+        Aim::OwnCall
+    } else {
+        Aim::Call(call)
+    }
+}
+
+// Back to the call that changed the form of this name last.
+fn to_change<A: Allocator + Copy>(walker: &mut Walker<A>, name: &[u8]) -> Option<Stop> {
+    let stopped = stop_back(walker.return_to_change(name));
+    if matches!(stopped, Some(Stop::NotMet)) && walker.store().get(name).is_none() {
+        return Some(Stop::NoForm);
+    }
+    stopped
+}
+
+fn go_to<A: Allocator + Copy>(walker: &mut Walker<A>, step: u64) -> Option<Stop> {
+    let now = walker.step();
+    if step < now {
+        stop_back(walker.back(now - step))
+    } else {
+        stop_ahead(walker.forward(step - now))
+    }
+}
+
+// Over the function that begins or is performed next: until its value is scanned too.
+fn over<A: Allocator + Copy>(walker: &mut Walker<A>) -> Option<Stop> {
+    if let Some(stop) = to_function(walker) {
+        return Some(stop);
+    }
+    let here = walker.glance();
+    if here.beginning > 0 {
+        let inside = here.depth.saturating_add(1);
+        let ended = stop_ahead(walker.forward_to(Aim::End(inside), SEARCH_LIMIT));
+        if ended.is_some() {
+            return ended;
+        }
+    }
+    over_call(walker)
+}
+
+// Forward until a function begins or is performed next; that may be so already.
+fn to_function<A: Allocator + Copy>(walker: &mut Walker<A>) -> Option<Stop> {
+    for _ in 0..SEARCH_LIMIT {
+        let here = walker.glance();
+        if here.performs || here.beginning > 0 {
+            return None;
+        }
+        let stopped = stop_ahead(walker.forward(1));
+        if stopped.is_some() {
+            return stopped;
+        }
+    }
+    Some(Stop::Spent)
+}
+
+// Over the call that is performed next, and its value.
+fn over_call<A: Allocator + Copy>(walker: &mut Walker<A>) -> Option<Stop> {
+    let rest = walker.glance().rest.saturating_sub(1);
+    let stopped = stop_ahead(walker.forward(1));
+    if stopped.is_some() || walker.glance().rest <= rest {
+        return stopped;
+    }
+    stop_ahead(walker.forward_to(Aim::Rest(rest), SEARCH_LIMIT))
+}
+
+// Back to where the function began whose value ends here, the way over it back; forward again where there is none.
+fn over_back<A: Allocator + Copy>(walker: &mut Walker<A>) -> Option<Stop> {
+    let here = walker.step();
+    let stopped = to_beginning(walker, here)?;
+    match stop_ahead(walker.forward(here.saturating_sub(walker.step()))) {
+        None => Some(stopped),
+        refused => refused,
+    }
+}
+
+// Back to the beginning of a function whose value ends at this step, that of the earliest where there are several: what is left
+// to scan here was left after the `)` that ended it, and until here no less was left.
+fn to_beginning<A: Allocator + Copy>(walker: &mut Walker<A>, here: u64) -> Option<Stop> {
+    let rest = walker.glance().rest;
+    match walker.return_to(Aim::Rest(rest)) {
+        None => {}
+        Some(Refusal::NotMet) => {
+            let _ = walker.back(u64::MAX);
+        }
+        Some(refusal) => return Some(Stop::Refused(refusal)),
+    }
+    for _ in walker.step()..here {
+        let now = walker.glance();
+        if is_call_before(now, rest) {
+            return stop_back(walker.return_to(Aim::Shallower(now.depth)));
+        }
+        let stopped = stop_ahead(walker.forward(1));
+        if stopped.is_some() {
+            return stopped;
+        }
+    }
+    Some(Stop::NoValue)
+}
+
+// Whether the next step performs a call, with so many bytes left after its `)`.
+fn is_call_before(now: Glance, rest: usize) -> bool {
+    now.performs && now.rest.saturating_sub(1) == rest
+}
+
+// To the end of the innermost begun function; from there to that of the one around it.
+fn out<A: Allocator + Copy>(walker: &mut Walker<A>) -> Option<Stop> {
+    let here = walker.glance();
+    let inside = here.depth.saturating_sub(usize::from(here.performs));
+    if inside == 0 {
+        return Some(Stop::Outside);
+    }
+    stop_ahead(walker.forward_to(Aim::End(inside), SEARCH_LIMIT))
+}
+
+// To the beginning of the innermost begun function.
+fn out_back<A: Allocator + Copy>(walker: &mut Walker<A>) -> Option<Stop> {
+    let inside = walker.glance().depth;
+    if inside == 0 {
+        return Some(Stop::Outside);
+    }
+    stop_back(walker.return_to(Aim::Shallower(inside)))
+}
+
+// Back to where the byte of this number was not printed yet, counted from 1.
+fn to_printed<A: Allocator + Copy>(walker: &mut Walker<A>, number: u64) -> Option<Stop> {
+    let before = walker.released();
+    if number == 0 {
+        return Some(Stop::FromOne);
+    }
+    if number <= before {
+        return Some(Stop::PrintedEarlier);
+    }
+    let place = number - before - 1;
+    if place >= walker.glance().unreleased as u64 {
+        return Some(Stop::NotPrinted);
+    }
+    stop_back(walker.return_to(Aim::Unprinted(place as usize)))
+}
+
+// Why a text is not met in the output.
+fn not_printed<A: Allocator + Copy>(walker: &Walker<A>) -> Stop {
+    if walker.released() == 0 {
+        Stop::NotPrinted
+    } else {
+        Stop::NotPrintedSince
+    }
+}
+
+// Back to where the last occurrence of a text was not printed whole yet.
+fn to_printed_text<A: Allocator + Copy>(walker: &mut Walker<A>, text: &[u8]) -> Option<Stop> {
+    if text.is_empty() {
+        return Some(Stop::NotPrinted);
+    }
+    let Some(place) = memmem::rfind(walker.pending(), text) else {
+        return Some(not_printed(walker));
+    };
+    let last = place.saturating_add(text.len() - 1);
+    stop_back(walker.return_to(Aim::Unprinted(last)))
+}
