@@ -106,7 +106,8 @@ impl<A: Allocator + Copy> Session<A> {
             bytes: self.tape.as_slice(),
             ended: self.ended,
         };
-        self.machine.step_into(&mut self.journal, tape, &mut self.made)
+        self.machine
+            .step_into(&mut self.journal, tape, &mut self.made)
     }
 
     /// Goes back over the last step, which takes no memory.
