@@ -50,8 +50,9 @@ fn give<A: Allocator + Copy>(text: &[u8], made: &mut Made<A>) -> Result<Deed<A>,
     Ok(Deed::changing(Change::Keep))
 }
 
-// The number of an argument, its prefix dropped; none where it does not fit the width.
-pub(crate) fn number_at(args: &Args<'_>, k: usize, width: Width) -> Option<i128>
+/// The number of the argument of this place, the name being at 0: its numeral, the prefix dropped; `None` where it does not fit
+/// the width. A text without a numeral has the number 0, as has an argument that is not given.
+pub fn number_at(args: &Args<'_>, k: usize, width: Width) -> Option<i128>
     ensures { result ≡ number_argument width k args.now }
 {
     value(read_tail(args.get(k)).numeral, width)
@@ -101,8 +102,9 @@ fn calculate<A: Allocator + Copy>(
     Ok(Deed::changing(Change::Keep))
 }
 
-// The result of an operation on the numbers of the two arguments after the name, if it fits.
-fn result_on(operation: Operation, args: &Args<'_>, width: Width) -> Option<i128>
+/// The result of `ad`, `su`, `ml` or `dv` on the numbers of the two arguments after the name; `None` where one of them or the
+/// result does not fit the width, or the divisor is 0.
+pub fn result_on(operation: Operation, args: &Args<'_>, width: Width) -> Option<i128>
     ensures { result ≡ on_both (result_of operation width) (number_argument width 1 args.now) (number_argument width 2 args.now) }
 {
     operate(

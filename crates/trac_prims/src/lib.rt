@@ -13,7 +13,9 @@ mod reading;
 pub mod tape;
 mod tracing;
 
+pub use computing::{number_at, result_on};
 pub use effect::{Deed, Effect, Made, Now};
+pub use name::primitive_named;
 pub use planning::{plan, plan_into};
 pub use tape::Tape;
 pub use trac_change::{Behind, Change, after, change, later};

@@ -17,8 +17,9 @@ const PLACES: [u8; SLOT_COUNT] = [
     33, 33, 2, 33, 33, 33, 33, 33, 18,
 ];
 
-// What a name stands for, each letter in either case: all names are of two letters.
-pub(crate) fn primitive_named(name: &[u8]) -> Primitive
+/// What a name stands for, each letter in either case (this project's profile): all names are of two letters. A name that is no
+/// primitive's stands for `Unknown`.
+pub fn primitive_named(name: &[u8]) -> Primitive
     ensures { result ≡ primitive_of name.now }
 {
     let [first, second] = name else {
