@@ -468,8 +468,8 @@ impl<A: Allocator + Copy> Store<A> {
 fn byte_in_list<A: Allocator + Copy>(table: &Table<A>, text: usize, i: usize) -> Option<usize>
     ensures { MatchOption result (AreMissed text i (full_keys (named (λ k. k.items) table.now.entries))) (IsHit text i (full_keys (named (λ k. k.items) table.now.entries))) }
 {
-    for (name, form) in table.iter() {
-        if form.is_none() {
+    for (name, held) in table.iter() {
+        if held.is_none() {
             continue;
         }
         let Some(byte) = past_lesser(table, name, text, i) else {
@@ -493,8 +493,8 @@ fn past_lesser<A: Allocator + Copy>(
         (λ byte. lesser_len text name.now (full_keys (named (λ k. k.items) table.now.entries)) + byte ≡ i) }
 {
     let mut left = i;
-    for (other, form) in table.iter() {
-        if form.is_none() {
+    for (other, held) in table.iter() {
+        if held.is_none() {
             continue;
         }
         if !is_less(other, name) {

@@ -12,7 +12,7 @@ loop-name-preserved-in_default g c =
     let left = full_keys (named (λ k. k.items) c.next.new.self) in
     let tried = subst (λ ns. AreTried c.args.text c.args.i names ns)
     (ap (λ es. full_keys (named (λ k. k.items) es)) c.in-Some.ensures.steps
-    ∙ full-some (λ k. k.items) (c.in-Some.name.now, c.in-Some.form.now) c.next.new.self c.is_none.result c.is_none.ensures c.if-is_none.false) c.loop-name.invariant in
+    ∙ full-some (λ k. k.items) (c.in-Some.name.now, c.in-Some.held.now) c.next.new.self c.is_none.result c.is_none.ensures c.if-is_none.false) c.loop-name.invariant in
     tried_one c.args.text c.args.i names left c.in-Some.name.now.items tried
     (λ byte place within.
     let before = ap (λ q. lesser_len c.args.text q names) c.deref.ensures.value in
@@ -24,7 +24,7 @@ loop-name-preserved g c =
     let left = full_keys (named (λ k. k.items) c.next.new.self) in
     let tried = subst (λ ns. AreTried c.args.text c.args.i names ns)
     (ap (λ es. full_keys (named (λ k. k.items) es)) c.in-Some.ensures.steps
-    ∙ full-some (λ k. k.items) (c.in-Some.name.now, c.in-Some.form.now) c.next.new.self c.is_none.result c.is_none.ensures c.if-is_none.false) c.loop-name.invariant in
+    ∙ full-some (λ k. k.items) (c.in-Some.name.now, c.in-Some.held.now) c.next.new.self c.is_none.result c.is_none.ensures c.if-is_none.false) c.loop-name.invariant in
     let len : c.len.result ≡ length c.in-Some.name.now.items = c.len.ensures ∙ sym c.deref.ensures.len ∙ ap (λ q. length q) c.deref.ensures.value in
     let past = ltb-false c.in-Some-past_lesser.byte (c.args.text + c.len.result) (sym c.is_within.ensures ∙ c.if-is_within.false) in
     tried_one c.args.text c.args.i names left c.in-Some.name.now.items tried

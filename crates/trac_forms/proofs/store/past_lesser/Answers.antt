@@ -11,7 +11,7 @@ use Rattle.trac_forms.proofs.store.past_lesser.Goals as goal
 
 pub loop-other-preserved : goal.loop-other-preserved
 loop-other-preserved g c =
-    let passed = past_less (λ k. k.items) c.args.text c.args.name.now (c.in-Some.other.now, c.in-Some.form.now) c.next.new.self c.is_none.result c.is_none.ensures c.if-is_none.false
+    let passed = past_less (λ k. k.items) c.args.text c.args.name.now (c.in-Some.other.now, c.in-Some.held.now) c.next.new.self c.is_none.result c.is_none.ensures c.if-is_none.false
     (ap (λ q. is_lt (slice_cmp nat_cmp q c.args.name.now)) (sym c.deref.ensures.value) ∙ sym c.is_less.ensures ∙ c.if-not-is_less.false) in
     let steps = ap (λ es. lesser_len c.args.text c.args.name.now (full_keys (named (λ k. k.items) es))) c.in-Some.ensures.steps in
     let len : c.len.result ≡ length c.in-Some.other.now.items = c.len.ensures ∙ sym c.deref.ensures.len ∙ ap (λ q. length q) c.deref.ensures.value in
@@ -21,7 +21,7 @@ loop-other-preserved g c =
 
 pub returns-then-is_within : goal.returns-then-is_within
 returns-then-is_within g c =
-    let passed = past_less (λ k. k.items) c.args.text c.args.name.now (c.in-Some.other.now, c.in-Some.form.now) c.next.new.self c.is_none.result c.is_none.ensures c.if-is_none.false
+    let passed = past_less (λ k. k.items) c.args.text c.args.name.now (c.in-Some.other.now, c.in-Some.held.now) c.next.new.self c.is_none.result c.is_none.ensures c.if-is_none.false
     (ap (λ q. is_lt (slice_cmp nat_cmp q c.args.name.now)) (sym c.deref.ensures.value) ∙ sym c.is_less.ensures ∙ c.if-not-is_less.false) in
     let steps = ap (λ es. lesser_len c.args.text c.args.name.now (full_keys (named (λ k. k.items) es))) c.in-Some.ensures.steps in
     let len : c.len.result ≡ length c.in-Some.other.now.items = c.len.ensures ∙ sym c.deref.ensures.len ∙ ap (λ q. length q) c.deref.ensures.value in
