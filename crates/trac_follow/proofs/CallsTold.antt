@@ -1,5 +1,5 @@
 -- A call, and what stands after it, as the code tells it.
-use Rattle.std.proofs.Common.{◌≡◌, ℕ, suc, ◌+◌, ◌-◌, ◌<◌, ◌≤◌, Bool, true, false, List, [], ◌∷◌, ◌++◌, length, drop, refl, sym, ap, subst, ◌∙◌, arith}
+use Rattle.std.proofs.Common.{◌≡◌, ℕ, suc, ◌+◌, ◌-◌, ◌^◌, ◌<◌, ◌≤◌, Bool, true, false, List, [], ◌∷◌, ◌++◌, length, drop, refl, sym, ap, subst, ◌∙◌, ⊎_elim, arith}
 use Rattle.std.specs.Prelude.{Option, None, Some, Ok, ◌==◌, option_and_then}
 use Rattle.std.proofs.lemmas.Bool.{cond-false, ne_eqb}
 use Rattle.std.proofs.lemmas.List.{length-append, length-drop}
@@ -23,8 +23,9 @@ use Rattle.trac_origins.proofs.ToldForms.{call_forms}
 use Rattle.trac_rules.proofs.MovedOn.{active-gathered}
 use Rattle.trac_origins.proofs.ToldSteps.{length-current, within_current, within_gathered}
 use Rattle.trac_follow.specs.declared.place.Origin as code_origin
-use Rattle.trac_follow.specs.Places.{IsOutside, Tells, TellsValue}
+use Rattle.trac_follow.specs.Places.{IsBare, IsOutside, Tells, TellsValue, is_in_text}
 use Rattle.trac_follow.proofs.Found.{byte_there}
+use Rattle.trac_follow.proofs.Renewed.{IsNew, around_it, called_new}
 
 -- the call that a reader gives
 pub given_call : (s : State) (kind : Kind) (arguments : List (List ℕ)) → IsCall (next_call s) kind arguments → (call : Call) × (scan s ≡ Calls call) × (call.kind ≡ kind) × (call.arguments ≡ arguments)
@@ -125,9 +126,9 @@ module _ (s : State) (call : Call) (is : scan s ≡ Calls call) where
 
 -- before what is left of the active text
 value_before : (kind : Kind) (forced : Bool) (value : List ℕ) (u v : State) (i : ℕ) → i < length (placed kind forced value u).active - length u.active →
-    (InActive i ≡ value_at kind forced v i) × (i < length value)
-value_before Active forced value u v i l = (refl, omega (arith, l, length-append value u.active))
-value_before Neutral true value u v i l = (refl, omega (arith, l, length-append value u.active))
+    (InActive i ≡ value_at kind forced v i) × (i < length value) × (length (placed kind forced value u).active ≡ length value + length u.active)
+value_before Active forced value u v i l = (refl, omega (arith, l, length-append value u.active), length-append value u.active)
+value_before Neutral true value u v i l = (refl, omega (arith, l, length-append value u.active), length-append value u.active)
 value_before Neutral false value u v i l = absurd (omega (arith, l, ap (λ (text : List ℕ). length text) (active-gathered u.frames value u)))
 
 -- after the current text
@@ -141,7 +142,7 @@ other_active (f ∷ fs) text u = refl
 
 value_after : (kind : Kind) (forced : Bool) (value : List ℕ) (e : Effect) (v : State) (n : ℕ) (item : Item) →
     found_at (placed kind forced value (changed_by e v)) (in_current v.frames (length (current_text v.frames v) + n)) ≡ Some item →
-    (in_current v.frames (length (current_text v.frames v) + n) ≡ value_at kind forced v n) × (n < length value)
+    (in_current v.frames (length (current_text v.frames v) + n) ≡ value_at kind forced v n) × (n < length value) × (forced ≡ false)
 value_after Active forced value e v n item stands =
     let u : State = changed_by e v in
     let w : State = record u { active = value ++ u.active } in
@@ -155,28 +156,66 @@ value_after Neutral true value e v n item stands =
 value_after Neutral false value e v n item stands =
     let u : State = changed_by e v in
     let within = within_gathered u.frames value u (length (current_text v.frames v) + n) item refl stands in
-    (refl, omega (arith, within, length-current u.frames value u refl, ap (λ (text : List ℕ). length text) (same_current v.frames e v)))
+    (refl, omega (arith, within, length-current u.frames value u refl, ap (λ (text : List ℕ). length text) (same_current v.frames e v)), refl)
 
 -- ---- what is told of it
 
 module _ (environment : Environment) (s t : State) (call : Call) (item : Item) (h : step environment s ≡ Ok t) (is : scan s ≡ Calls call) (width : Width) (wide : environment.width ≡ width) where
-  pub tells_active : (told : code_origin.Origin) (i : ℕ) → TellsValue s width i told → i < length t.active - (length s.active - 1) → Tells s told (origin environment s (InActive i))
-  tells_active told i tells l =
+  pub tells_active : (told : code_origin.Origin) (i len : ℕ) → TellsValue s width (Some len) i told → t.position < 2 ^ 64 → len ≡ length t.active - (length s.active - 1) → i < len →
+      found_at t (InActive i) ≡ Some item → Tells s told (origin environment s (InActive i))
+  tells_active told i len tells readable long l stands =
       let done = has_done environment s t call h is in
       let e : Effect = done.effect in
       let at = value_before call.kind e.forced e.value (changed_by e call.state) call.state i
-      (omega (arith, l, ap (λ (u : State). length u.active) done.after, active_left s call is)) in
-      subst (λ p. Tells s told (origin environment s p)) (sym at.0) (tells environment call e wide is done.does at.1)
+      (omega (arith, l, long, ap (λ (u : State). length u.active) done.after, active_left s call is)) in
+      subst (λ p. Tells s told (origin environment s p)) (sym at.0)
+      (tells environment t call e item wide h readable is done.does
+      (omega (arith, l, long, at.2, ap (λ (u : State). length u.active) done.after, active_left s call is))
+      (subst (λ p. found_at t p ≡ Some item) at.0 stands) at.1)
 
-  pub tells_current : (told : code_origin.Origin) (place : Place) (n : ℕ) → TellsValue s width n told →
+  pub tells_current : (told : code_origin.Origin) (place : Place) (n : ℕ) → TellsValue s width None n told → t.position < 2 ^ 64 →
       place ≡ in_current call.state.frames (length (current_text call.state.frames call.state) + n) → found_at t place ≡ Some item → Tells s told (origin environment s place)
-  tells_current told place n tells here stands =
+  tells_current told place n tells readable here stands =
       let done = has_done environment s t call h is in
       let e : Effect = done.effect in
       let p = in_current call.state.frames (length (current_text call.state.frames call.state) + n) in
       let at = value_after call.kind e.forced e.value e call.state n item
       (subst (λ (u : State). found_at u p ≡ Some item) done.after (subst (λ q. found_at t q ≡ Some item) here stands)) in
-      subst (λ q. Tells s told (origin environment s q)) (sym (here ∙ at.0)) (tells environment call e wide is done.does at.1)
+      subst (λ q. Tells s told (origin environment s q)) (sym (here ∙ at.0))
+      (tells environment t call e item wide h readable is done.does at.2 (subst (λ q. found_at t q ≡ Some item) (here ∙ at.0) stands) at.1)
+
+  -- what was left is left then
+  pub active_kept : length s.active - 1 ≤ length t.active
+  active_kept =
+      let done = has_done environment s t call h is in
+      let e : Effect = done.effect in
+      omega (arith, ap (λ (u : State). length u.active) done.after, active_left s call is, go call.kind e.forced e.value (changed_by e call.state))
+    where
+      go : (kind : Kind) (forced : Bool) (value : List ℕ) (u : State) → length u.active ≤ length (placed kind forced value u).active
+      go Active forced value u = omega (arith, length-append value u.active)
+      go Neutral true value u = omega (arith, length-append value u.active)
+      go Neutral false value u = omega (arith, ap (λ (text : List ℕ). length text) (active-gathered u.frames value u))
+
+  -- a place in a text at which nothing stood around the function is past the current text
+  pub text_new : (place : Place) (function : ℕ) → function + 1 ≡ length s.frames → is_in_text place ≡ true → (IsOutside function place → IsBare s place) → found_at t place ≡ Some item →
+      IsNew call.state.frames call.state place
+  text_new place function number text bare stands =
+      let done = has_done environment s t call h is in
+      ⊎_elim
+      (λ (old : found_at call.state place ≡ Some item).
+      let around = around_it s call place item is text old in
+      absurd (bare (subst (λ n. IsOutside n place) (number_is s call is function number) around.1) item around.0))
+      (λ (new : IsNew call.state.frames call.state place). new)
+      (called_new call done.effect place item text (subst (λ (u : State). found_at u place ≡ Some item) done.after stands))
+
+  -- as far as the code finds it
+  pub text_past : (place : Place) (function n : ℕ) → function + 1 ≡ length s.frames → IsNew call.state.frames call.state place →
+      ((m : ℕ) → place ≡ in_current (drop (length s.frames - function) s.frames) (length (current_text (drop (length s.frames - function) s.frames) s) + m) → n ≡ m) →
+      place ≡ in_current call.state.frames (length (current_text call.state.frames call.state) + n)
+  text_past place function n number new far =
+      let there = in_current (drop (length s.frames - function) s.frames) (length (current_text (drop (length s.frames - function) s.frames) s) + new.number) in
+      let same : there ≡ in_current call.state.frames (length (current_text call.state.frames call.state) + new.number) = past_is s call is function new.number there number refl in
+      new.at ∙ ap (λ m. in_current call.state.frames (length (current_text call.state.frames call.state) + m)) (sym (far new.number (new.at ∙ sym same)))
 
   -- ---- around it
 

@@ -1,17 +1,18 @@
 -- Bytes that calls take out of forms, print of them and cut in them, as the code tells them.
 use Rattle.std.proofs.Common.{◌≡◌, ℕ, ◌+◌, ◌-◌, ◌<◌, ◌≤◌, min, Bool, true, false, cond, List, [], ◌∷◌, length, take, drop, refl, sym, ap, ap₂, subst, ◌∙◌, ⊎_elim, arith}
-use Rattle.std.specs.Prelude.{Option, None, Some, Ok, Err, bytes_eq, slice_get}
+use Rattle.std.specs.Prelude.{◌⊎◌, ◌++◌, codes, Option, None, Some, IfSome, Ok, Err, bytes_eq, option_map, slice_get}
 use Rattle.std.specs.FinMap as finite
 use Rattle.std.specs.List.{flat_map}
 use Rattle.std.specs.Cmp.Lexicographic.{nat_list_cmp_total}
 use Rattle.std.proofs.lemmas.Bool.{cond-true}
-use Rattle.std.proofs.lemmas.List.{length-append}
+use Rattle.std.proofs.lemmas.List.{length-append, length-take}
 use Rattle.std.proofs.lemmas.Map.Text.{is_eq-slice_cmp}
 use Rattle.std.proofs.lemmas.Slice.Eq.{bytes_eq-Decides}
 use Rattle.trac_rules.specs.declared.item.Item.{Item}
 use Rattle.trac_rules.specs.declared.item.Item.TheVariants.{Byte, Gap}
 use Rattle.trac_rules.specs.declared.kind.Kind.{Kind}
 use Rattle.trac_rules.specs.declared.kind.Kind.TheVariants.{Active, Neutral}
+use Rattle.trac_rules.specs.declared.limit.TheConstants.{OUTPUT_LIMIT}
 use Rattle.trac_rules.specs.declared.primitive.FormAction.TheVariants as action
 use Rattle.trac_rules.specs.declared.primitive.FormReading.{FormReading}
 use Rattle.trac_rules.specs.declared.primitive.Primitive.{Primitive}
@@ -31,7 +32,7 @@ use Rattle.trac_rules.specs.Segmenting.{segmented}
 use Rattle.trac_rules.specs.Showing.{shown, shown_item, shown_items}
 use Rattle.trac_rules.specs.State.{Environment, Frame, State, storage_of}
 use Rattle.trac_forms.specs.declared.piece.Piece.{Piece as Measured}
-use Rattle.trac_forms.specs.Taken.{items_from, taken}
+use Rattle.trac_forms.specs.Taken.{IsThere, items_from, taken}
 use Rattle.trac_origins.specs.Lengths.{IsCallOf, cut_from, number_of_default, of_form, printed_at, value_at}
 use Rattle.trac_origins.specs.Places.{Place, InArgument, InForm, InOutput, Origin, Carried, Made, found_at, items_of}
 use Rattle.trac_origins.specs.Stepping.{origin}
@@ -43,10 +44,11 @@ use Rattle.trac_follow.specs.declared.items.Given.{Given}
 use Rattle.trac_follow.specs.declared.place.Origin as told
 use Rattle.trac_follow.specs.declared.place.Place as code_place
 use Rattle.trac_follow.specs.declared.place.After.{After}
-use Rattle.trac_follow.specs.Formed.{CarriedFrom, IsAfter, IsShown, TellsOfForm, ToldAsCut, ToldAsPiece, ToldAsShown, ToldAsShownAfter, ToldAsShownAt, is_cut, of_shown, told_of}
+use Rattle.trac_follow.specs.Formed.{CarriedFrom, IsAfter, IsShown, TellsOfForm, ToldAsCut, ToldAsPiece, ToldAsShown, ToldAsShownAfter, ToldAsShownAt, ToldFrom, is_cut, of_shown, told_of}
 use Rattle.trac_follow.specs.Items.{IsGiven, IsMeasured}
 use Rattle.trac_follow.specs.Places.{Tells}
-use Rattle.trac_follow.proofs.Spans.{after_those, same_place}
+use Rattle.trac_follow.proofs.Giving.{called_gives, piece_gives}
+use Rattle.trac_follow.proofs.Spans.{after_those, same_place, whole_span}
 
 -- ---- `cl`
 
@@ -62,8 +64,8 @@ module _ (form : Form) (arguments : List (List ℕ)) (function i start : ℕ) (g
       ap (λ (texts : List (List ℕ)). length (all_filled (drop 2 texts) (take given.at form.after)) + given.byte) same
       ∙ ap (λ (xs : List Item). length (flat_map (filled (drop 2 arguments)) (take given.at xs)) + given.byte) (sym after_pointer) ∙ is.place
 
-  pub called_item : (b n : ℕ) → given.item ≡ Byte b → n ≡ start + given.at → (width : Width) → TellsOfForm (Handle action.Call) form arguments function width i (told.TheVariants.OfForm n)
-  called_item b n byte place width environment s call e wide of same number names l =
+  pub called_item : (b n : ℕ) → given.item ≡ Byte b → n ≡ start + given.at → (width : Width) (seen : Option ℕ) → TellsOfForm (Handle action.Call) form arguments function width seen i (told.TheVariants.OfForm n)
+  called_item b n byte place width seen environment s call e wide of same number names is_seen l =
       let none : given.byte < 1 = subst (λ (x : Item). given.byte < length (filled (drop 2 arguments) x)) byte is.within in
       let index : i ≡ length (all_filled (drop 2 call.arguments) (take given.at form.after)) = omega (arith, given_so_far call same, none) in
       let where_is : length form.before + given.at ≡ n = omega (arith, begins, place) in (
@@ -74,9 +76,9 @@ module _ (form : Form) (arguments : List (List ℕ)) (function i start : ℕ) (g
             ∙ ap (λ k. Carried (InForm (argument 1 call.arguments) k)) where_is,
       )
 
-  pub filled_text : (k w n : ℕ) → given.item ≡ Gap k w → n ≡ k + 1 → (width : Width) →
-      TellsOfForm (Handle action.Call) form arguments function width i (told.TheVariants.Carried (code_place.TheVariants.Argument function n given.byte))
-  filled_text k w n gap place width environment s call e wide of same number names l =
+  pub filled_text : (k w n : ℕ) → given.item ≡ Gap k w → n ≡ k + 1 → (width : Width) (seen : Option ℕ) →
+      TellsOfForm (Handle action.Call) form arguments function width seen i (told.TheVariants.Carried (code_place.TheVariants.Argument function n given.byte))
+  filled_text k w n gap place width seen environment s call e wide of same number names is_seen l =
       let within : given.byte < length (filled (drop 2 arguments) (Gap k w)) = subst (λ (x : Item). given.byte < length (filled (drop 2 arguments) x)) gap is.within in
       let within_call : given.byte < length (filled (drop 2 call.arguments) (Gap k w)) =
       subst (λ (texts : List (List ℕ)). given.byte < length (filled (drop 2 texts) (Gap k w))) (sym same) within in
@@ -84,41 +86,66 @@ module _ (form : Form) (arguments : List (List ℕ)) (function i start : ℕ) (g
       ∙ filled_told environment s call e of form names given.at k w given.byte (there_after ∙ ap Some gap) within_call
       ∙ ap₂ (λ f m. Carried (InArgument f m given.byte)) number (sym place)
 
+-- past all that is given
+pub called_past : (form : Form) (arguments : List (List ℕ)) (function i start to rest : ℕ) → start ≡ length form.before → to ≡ length (all_items form) →
+    length (flat_map (filled (drop 2 arguments)) (take (to - start) (drop start (all_items form)))) + rest ≡ i →
+    (width : Width) (seen : Option ℕ) → TellsOfForm (Handle action.Call) form arguments function width seen i told.TheVariants.Nothing
+called_past form arguments function i start to rest begins ends past width seen environment s call e wide of same number names is_seen l =
+    let span : take (to - start) (drop start (all_items form)) ≡ form.after =
+    whole_span (all_items form) start to ends ∙ ap (λ k. drop k (all_items form)) begins ∙ after_those form.before form.after in
+    absurd (omega (
+      arith,
+      l,
+      past,
+      ap (λ (text : List ℕ). length text) (called_gives environment s call e form of names),
+      ap (λ (texts : List (List ℕ)). length (all_filled (drop 2 texts) form.after)) same,
+      ap (λ (xs : List Item). length (flat_map (filled (drop 2 arguments)) xs)) span,
+    ))
+
 -- ---- `cs`, `cc`, `cn` and `in`
 
-module _ (reading : FormReading) (form : Form) (arguments : List (List ℕ)) (function : ℕ) (width : Width) (i : ℕ) where
+module _ (reading : FormReading) (form : Form) (arguments : List (List ℕ)) (function : ℕ) (width : Width) (seen : Option ℕ) (i : ℕ) where
   -- what is read in a call
   read_in : (environment : Environment) (call : Call) (found : Option Piece) → environment.width ≡ width → call.arguments ≡ arguments → found ≡ piece_read reading width arguments form →
       piece_read reading environment.width call.arguments form ≡ found
   read_in environment call found wide same read = ap₂ (λ w (texts : List (List ℕ)). piece_read reading w texts form) wide same ∙ sym read
 
   pub default_read : (n : ℕ) → None ≡ piece_read reading width arguments form → n ≡ number_of_default reading →
-      TellsOfForm (Handle (action.Read reading)) form arguments function width i (told.TheVariants.Carried (code_place.TheVariants.Argument function n i))
-  default_read n read which environment s call e wide of same number names l =
+      TellsOfForm (Handle (action.Read reading)) form arguments function width seen i (told.TheVariants.Carried (code_place.TheVariants.Argument function n i))
+  default_read n read which environment s call e wide of same number names is_seen l =
       other_told environment s call e reading of form names (read_in environment call None wide same read) i l
       ∙ ap₂ (λ f m. Carried (InArgument f m i)) number (sym which)
 
-  pub piece_item : (piece : Measured) (o : told.Origin) → Some (taken piece form) ≡ piece_read reading width arguments form → ToldAsPiece form piece i o →
-      TellsOfForm (Handle (action.Read reading)) form arguments function width i o
-  piece_item piece (told.TheVariants.Carried place) read tells environment s call e wide of same number names l = absurd tells
-  piece_item piece (told.TheVariants.Read n) read tells environment s call e wide of same number names l = absurd tells
-  piece_item piece told.TheVariants.Made read tells environment s call e wide of same number names l = absurd tells
-  piece_item piece told.TheVariants.Unknown read tells environment s call e wide of same number names l = tt
-  piece_item piece (told.TheVariants.OfForm n) read tells environment s call e wide of same number names l =
+  pub piece_item : (piece : Piece) (first : ℕ) (o : told.Origin) → Some piece ≡ piece_read reading width arguments form → first ≡ min (length form.before) piece.place →
+      length piece.value ≤ length (bytes_in (drop first (all_items form))) → ToldFrom form first i o → TellsOfForm (Handle (action.Read reading)) form arguments function width seen i o
+  piece_item piece first (told.TheVariants.Carried place) read begins few tells environment s call e wide of same number names is_seen l = absurd tells
+  piece_item piece first (told.TheVariants.Read n) read begins few tells environment s call e wide of same number names is_seen l = absurd tells
+  piece_item piece first told.TheVariants.Made read begins few tells environment s call e wide of same number names is_seen l = absurd tells
+  piece_item piece first told.TheVariants.Nothing read begins few tells environment s call e wide of same number names is_seen l =
+      absurd (omega (arith, l, few, tells, ap (λ (text : List ℕ). length text) (piece_gives environment s call e reading form piece of names (read_in environment call (Some piece) wide same read))))
+  piece_item piece first (told.TheVariants.OfForm n) read begins few tells environment s call e wide of same number names is_seen l =
       let m : ℕ = tells.0 in
       let b : ℕ = tells.1 in
-      let least : min piece.pointer (length form.before) ≡ min (length form.before) piece.pointer = omega arith in
-      let items : drop (min (length form.before) piece.pointer) (all_items form) ≡ items_from piece form = ap (λ k. drop k (all_items form)) (sym least) in
-      let index : i ≡ length (bytes_in (take m (drop (min (length form.before) piece.pointer) (all_items form)))) =
+      let items : drop (min (length form.before) piece.place) (all_items form) ≡ drop first (all_items form) = ap (λ k. drop k (all_items form)) (sym begins) in
+      let index : i ≡ length (bytes_in (take m (drop (min (length form.before) piece.place) (all_items form)))) =
       sym tells.4 ∙ ap (λ (xs : List Item). length (bytes_in (take m xs))) (sym items) in
-      let where_is : min (length form.before) piece.pointer + m ≡ n = omega (arith, tells.2, least) in (
+      let where_is : min (length form.before) piece.place + m ≡ n = omega (arith, tells.2, begins) in (
         call,
         of.scans,
         ap (λ k. origin environment s (value_at call.kind e.forced call.state k)) index
-            ∙ piece_told environment s call e reading of form names (taken piece form) (read_in environment call (Some (taken piece form)) wide same read) m b
+            ∙ piece_told environment s call e reading of form names piece (read_in environment call (Some piece) wide same read) m b
             (ap (λ (xs : List Item). slice_get xs m) items ∙ tells.3) (subst (λ k. k < length e.value) index l)
             ∙ ap (λ k. Carried (InForm (argument 1 call.arguments) k)) where_is,
       )
+
+  -- a piece that is measured, or none
+  pub reading_tells : (found : Option Measured) (other : ℕ) (o : told.Origin) → option_map (λ piece. taken piece form) found ≡ piece_read reading width arguments form → IfSome found (IsThere form) →
+      other ≡ number_of_default reading → ToldAsPiece form found function other i o → TellsOfForm (Handle (action.Read reading)) form arguments function width seen i o
+  reading_tells None other o read there which tells =
+      subst (λ p. TellsOfForm (Handle (action.Read reading)) form arguments function width seen i p) (sym tells) (default_read other read which)
+  reading_tells (Some piece) other o read there which tells =
+      piece_item (taken piece form) (min piece.pointer (length form.before)) o read (omega arith)
+      (omega (arith, length-take piece.len (bytes_in (items_from piece form)))) tells
 
 -- ---- `pf` and `ss`
 
@@ -187,14 +214,15 @@ module _ (environment : Environment) (s t : State) (call : Call) (e : Effect) (f
             subst (λ told. Tells s told (origin environment s (place j))) (sym (is.shows ∙ ap (λ (x : Item). of_shown x (first + is.at)) same))
             (ap (λ k. origin environment s (place k)) (sym is.place) ∙ marks is.at k w is.byte (is.there ∙ ap Some same) within)
 
-    unknown_tells : (o : told.Origin) (p : Place) → o ≡ told.TheVariants.Unknown → Tells s o (origin environment s p)
-    unknown_tells o p unknown = subst (λ told. Tells s told (origin environment s p)) (sym unknown) tt
+    -- how long it is
+    length-shown : length (shown form) ≡ length (shown_items form.before) + (3 + length (shown_items form.after))
+    length-shown = omega (arith, length-append (shown_items form.before) (codes "<^>" ++ shown_items form.after), length-append (codes "<^>") (shown_items form.after))
 
     made_tells : (o : told.Origin) (p : Place) → o ≡ told.TheVariants.Made → origin environment s p ≡ Made → Tells s o (origin environment s p)
     made_tells o p made is = subst (λ told. Tells s told (origin environment s p)) (sym made) is
 
-    form_shown_at : (j : ℕ) (o : told.Origin) → ToldAsShownAt form j o → Tells s o (origin environment s (printed_at call j))
-    form_shown_at j o tells =
+    form_shown_at : (j : ℕ) (o : told.Origin) → j < length (shown form) → ToldAsShownAt form j o → Tells s o (origin environment s (printed_at call j))
+    form_shown_at j o within tells =
         ⊎_elim
         (λ (is : IsShown form.before 0 j o).
         item_shown (printed_at call) form.before 0
@@ -207,17 +235,24 @@ module _ (environment : Environment) (s t : State) (call : Call) (e : Effect) (f
         (λ (later : (k : ℕ) × (j ≡ length (shown_items form.before) + (3 + k)) × ToldAsShownAfter form k o).
         subst (λ k. Tells s o (origin environment s (printed_at call k))) (sym later.1)
         (⊎_elim
-        (unknown_tells o (printed_at call (length (shown_items form.before) + (3 + later.0))))
+        (λ (past : (o ≡ told.TheVariants.Nothing) × (length (shown_items form.after) ≤ later.0)). absurd (omega (arith, past.1, later.1, within, length-shown)))
         (item_shown (λ k. printed_at call (length (shown_items form.before) + (3 + k))) form.after (length form.before)
         (after_printed environment s call e of form names) (mark_after_printed environment s call e of form names) later.0 o)
         later.2)))
         tells
 
-    pub form_printed : (end i : ℕ) (o : told.Origin) → end ≡ length t.output → length s.output ≤ i → ToldAsShown form end i o → Tells s o (origin environment s (InOutput i))
-    form_printed end i o ends past tells =
+    pub form_printed : (end i : ℕ) (o : told.Origin) → end ≡ length t.output → length s.output ≤ i → i < length t.output → length t.output ≤ OUTPUT_LIMIT → ToldAsShown form end i o →
+        Tells s o (origin environment s (InOutput i))
+    form_printed end i o ends past stands fits tells =
         let before : length call.state.output ≡ length s.output = ap (λ (bytes : List ℕ). length bytes) output_before in
         ⊎_elim
-        (unknown_tells o (InOutput i))
+        (λ (none : (o ≡ told.TheVariants.Nothing) × ((length (shown form) ≤ OUTPUT_LIMIT → ⊥) ⊎ ((end < length (shown form)) ⊎ (end ≤ i)))).
+        absurd (⊎_elim
+        (λ (large : length (shown form) ≤ OUTPUT_LIMIT → ⊥). large (omega (arith, fits, output_then)))
+        (⊎_elim
+        (λ (l : end < length (shown form)). absurd (omega (arith, l, ends, output_then)))
+        (λ (l : end ≤ i). absurd (omega (arith, l, ends, stands))))
+        none.1))
         (⊎_elim
         (λ (early : (o ≡ told.TheVariants.Made) × (i + length (shown form) < end)).
         let index : i ≡ length call.state.output + (i - length s.output) = omega (arith, past, before) in
@@ -226,7 +261,7 @@ module _ (environment : Environment) (s t : State) (call : Call) (e : Effect) (f
         ∙ line_told environment s call (Handle action.PrintForm) e of (i - length s.output) (omega (arith, early.1, ends, output_then, past))))
         (λ (there : (j : ℕ) × (j + end ≡ i + length (shown form)) × ToldAsShownAt form j o).
         let index : i ≡ length call.state.output + (line + there.0) = omega (arith, there.1, ends, output_then, before) in
-        subst (λ m. Tells s o (origin environment s (InOutput m))) (sym index) (form_shown_at there.0 o there.2)))
+        subst (λ m. Tells s o (origin environment s (InOutput m))) (sym index) (form_shown_at there.0 o (omega (arith, there.1, ends, stands)) there.2)))
         tells
 
   -- ---- `ss`
@@ -283,7 +318,8 @@ module _ (environment : Environment) (s t : State) (call : Call) (e : Effect) (f
         let is_from : origin environment s (InForm name i) ≡ cut_from item was (of_form call number) =
         ap (λ q. origin environment s (InForm q i)) is_name ∙ told_item.4 in
         ⊎_elim
-        (λ (unknown : o ≡ told.TheVariants.Unknown). subst (λ p. Tells s p (origin environment s (InForm name i))) (sym unknown) tt)
+        (λ (none : (o ≡ told.TheVariants.Nothing) × ((n : ℕ) (stood : Item) → slice_get (all_items form) n ≡ Some stood → extent (take n (all_items form)) ≡ seen.extent → ⊥)).
+        absurd (none.1 number was told_item.2 (sym bytes)))
         (λ (at : (n : ℕ) × (stood : Item) × IsAfter form seen.extent n stood × told_of (is_cut seen.is_gap stood) o name n).
         let place : number ≡ at.0 = same_place (all_items form) at.2.wide number at.0 was at.1 told_item.2 at.2.there (sym bytes ∙ sym at.2.before) in
         let one : Some was ≡ Some at.1 = sym told_item.2 ∙ ap (slice_get (all_items form)) place ∙ at.2.there in
@@ -297,7 +333,7 @@ module _ (environment : Environment) (s t : State) (call : Call) (e : Effect) (f
         is_carried n (told.TheVariants.OfForm k) r is_name is at = absurd at
         is_carried n (told.TheVariants.Read k) r is_name is at = absurd at
         is_carried n told.TheVariants.Made r is_name is at = absurd at
-        is_carried n told.TheVariants.Unknown r is_name is at = absurd at
+        is_carried n told.TheVariants.Nothing r is_name is at = absurd at
 
         named_so : name ≡ argument 1 call.arguments
         named_so = (bytes_eq-Decides name (argument 1 call.arguments)).0 same

@@ -1,5 +1,5 @@
 -- What stands at a place of a state.
-use Rattle.std.proofs.Common.{◌≡◌, ℕ, zero, suc, ◌+◌, ◌-◌, ◌<◌, true, false, List, [], ◌∷◌, length, drop, reverse, get_or, refl, sym, ap, ap₂, ◌∙◌, ⊎_elim, arith}
+use Rattle.std.proofs.Common.{◌≡◌, ℕ, zero, suc, ◌+◌, ◌-◌, ◌<◌, ◌≤◌, true, false, List, [], ◌∷◌, length, drop, reverse, get_or, refl, sym, ap, ap₂, ◌∙◌, ⊎_elim, arith}
 use Rattle.std.specs.Prelude.{Option, None, Some, IfSome, IsTrue, ◌==◌, is_some, option_and_then, option_map, slice_get}
 use Rattle.std.specs.FinMap as finite
 use Rattle.std.proofs.lemmas.Bool.{cases_Bool, cond-true, cond-false, eqb-true, eqb-false}
@@ -12,8 +12,10 @@ use Rattle.trac_rules.specs.Effect.{argument}
 use Rattle.trac_rules.specs.Form.{Form, all_items}
 use Rattle.trac_rules.specs.State.{Frame, State}
 use Rattle.trac_origins.specs.Lengths.{current_text, in_current}
-use Rattle.trac_origins.specs.Places.{InBase, InArgument, InForm, arguments_of, byte_at, items_of, numbered}
-use Rattle.trac_follow.specs.Places.{Stands}
+use Rattle.trac_origins.specs.Places.{Place, InBase, InArgument, arguments_of, byte_at, found_at, numbered}
+use Rattle.trac_origins.proofs.Told.{byte_within}
+use Rattle.trac_origins.proofs.Zips.{number_within}
+use Rattle.trac_follow.specs.Places.{IsBare, Stands, is_in_text}
 use Rattle.trac_text.specs.Frames.{IsFrame, all_arguments}
 
 pub byte_there : (i : ℕ) (text : List ℕ) → i < length text → (item : Item) × (byte_at i text ≡ Some item)
@@ -82,33 +84,89 @@ argument_stands s n k i kind arguments is l =
           ∙ ap (λ (texts : List (List ℕ)). byte_at i (get_or texts k [])) f.2 ∙ byte.1,
     )
 
+-- ---- what does not stand
+
+pub byte_missing : (i : ℕ) (text : List ℕ) (item : Item) → length text ≤ i → byte_at i text ≡ Some item → ⊥
+byte_missing i text item past stands = absurd (omega (arith, past, byte_within i text item stands))
+
+look_there : (s : State) (n k i : ℕ) (item : Item) → found_at s (InArgument n k i) ≡ Some item → (f : Frame) × (numbered n s.frames ≡ Some f) × (byte_at i (argument k (arguments_of f)) ≡ Some item)
+look_there s n k i item stands = go (numbered n s.frames) refl stands
+  where
+    go : (found : Option Frame) → numbered n s.frames ≡ found → option_and_then (λ (g : Frame). byte_at i (argument k (arguments_of g))) found ≡ Some item →
+        (f : Frame) × (numbered n s.frames ≡ Some f) × (byte_at i (argument k (arguments_of f)) ≡ Some item)
+    go None is e = absurd (cc)
+    go (Some f) is e = (f, is, e)
+
+pub argument_bare : (s : State) (n k i : ℕ) (kind : Kind) (arguments : List (List ℕ)) → IsFrame (slice_get (reverse s.frames) n) kind arguments → length (get_or arguments k []) ≤ i →
+    IsBare s (InArgument n k i)
+argument_bare s n k i kind arguments is past item stands =
+    let f = given_frame (slice_get (reverse s.frames) n) kind arguments is in
+    let there = look_there s n k i item stands in
+    let first : numbered n s.frames ≡ Some f.0 = numbered_there s.frames n f.0 f.1 in
+    let second : numbered n s.frames ≡ Some there.0 = there.1 in
+    let same : f.0 ≡ there.0 = cc in
+    byte_missing i (get_or arguments k []) item past
+    (ap (λ (texts : List (List ℕ)). byte_at i (get_or texts k [])) (sym f.2) ∙ ap (λ (g : Frame). byte_at i (argument k (arguments_of g))) same ∙ there.2)
+
+pub function_bare : (s : State) (n k i : ℕ) → length s.frames ≤ n → IsBare s (InArgument n k i)
+function_bare s n k i past item stands =
+    let there = look_there s n k i item stands in
+    absurd (omega (arith, past, number_within n s.frames there.0 there.1))
+
 -- ---- past the current text
 
-pub past_base : (s : State) (i n : ℕ) → n + length s.base ≡ i → (fs : List Frame) → fs ≡ [] → InBase i ≡ in_current fs (length (current_text fs s) + n)
-past_base s i n sum fs none =
-    let place : i ≡ length s.base + n = omega (arith, sum) in
-    ap InBase place ∙ sym (ap (λ (gs : List Frame). in_current gs (length (current_text gs s) + n)) none)
+-- the functions of which the current text is that of this one
+current_frame : (s : State) (function argument byte depth n : ℕ) (fs : List Frame) → drop (length s.frames - depth) s.frames ≡ fs →
+    InArgument function argument byte ≡ in_current fs (length (current_text fs s) + n) → (f : Frame) × (rest : List Frame) × (fs ≡ f ∷ rest) × (function ≡ length rest) × (argument ≡ length f.arguments)
+    × (byte ≡ length f.gathered + n)
+current_frame s function argument byte depth n [] is at = absurd (cc)
+current_frame s function argument byte depth n (f ∷ rest) is at =
+    let number : function ≡ length rest = cc in
+    let last : argument ≡ length f.arguments = cc in
+    let place : byte ≡ length f.gathered + n = cc in
+    (f, rest, refl, number, last, place)
 
-pub past_last : (s : State) (function argument byte n : ℕ) (kind : Kind) (arguments : List (List ℕ)) → IsFrame (slice_get (reverse s.frames) function) kind arguments →
-    argument + 1 ≡ length arguments → n + length (get_or arguments argument []) ≡ byte →
-    let fs = drop (length s.frames - (function + 1)) s.frames in
-    InArgument function argument byte ≡ in_current fs (length (current_text fs s) + n)
-past_last s function argument byte n kind arguments is last sum =
+pub past_none : (s : State) (function argument byte depth n : ℕ) → length s.frames ≤ function →
+    let fs = drop (length s.frames - depth) s.frames in
+    InArgument function argument byte ≡ in_current fs (length (current_text fs s) + n) → 0 ≡ n
+past_none s function argument byte depth n past at =
+    let k = length s.frames - depth in
+    let frame = current_frame s function argument byte depth n (drop k s.frames) refl at in
+    absurd (omega (arith, past, frame.3, ap (λ (gs : List Frame). length gs) frame.2, length-drop k s.frames))
+
+pub past_some : (s : State) (function argument byte depth n past : ℕ) (kind : Kind) (arguments : List (List ℕ)) → IsFrame (slice_get (reverse s.frames) function) kind arguments →
+    past ≡ byte - length (get_or arguments argument []) →
+    let fs = drop (length s.frames - depth) s.frames in
+    InArgument function argument byte ≡ in_current fs (length (current_text fs s) + n) → past ≡ n
+past_some s function argument byte depth n past kind arguments is far at =
+    let k = length s.frames - depth in
+    let frame = current_frame s function argument byte depth n (drop k s.frames) refl at in
     let given = given_frame (slice_get (reverse s.frames) function) kind arguments is in
+    let split = around s.frames function given.0 given.1 in
+    let place : k ≡ length s.frames - (function + 1) =
+    omega (arith, frame.3, ap (λ (gs : List Frame). length gs) frame.2, length-drop k s.frames) in
+    let both : given.0 ∷ split.0 ≡ frame.0 ∷ frame.1 = sym split.1 ∙ ap (λ j. drop j s.frames) (sym place) ∙ frame.2 in
+    let same : given.0 ≡ frame.0 = cc in
     let f : Frame = given.0 in
-    let split = around s.frames function f given.1 in
-    let number : argument ≡ length f.arguments =
-    omega (arith, last, ap (λ (texts : List (List ℕ)). length texts) given.2, length-append f.arguments (f.gathered ∷ [])) in
+    let number : argument ≡ length f.arguments = frame.4 ∙ ap (λ (g : Frame). length g.arguments) (sym same) in
     let text : get_or arguments argument [] ≡ f.gathered =
     ap (λ (texts : List (List ℕ)). get_or texts argument []) (sym given.2) ∙ get_or_at f.arguments f.gathered [] [] argument (sym number) in
-    let place : byte ≡ length f.gathered + n = omega (arith, sum, ap (λ (bytes : List ℕ). length bytes) text) in
-    ap₂ (λ k i. InArgument function k i) number place
-    ∙ ap (λ m. InArgument m (length f.arguments) (length f.gathered + n)) (sym split.2)
-    ∙ sym (ap (λ (gs : List Frame). in_current gs (length (current_text gs s) + n)) split.1)
+    omega (arith, far, frame.5, ap (λ (bytes : List ℕ). length bytes) text, ap (λ (g : Frame). length g.gathered) same)
 
-pub past_last_some : (s : State) (function argument byte : ℕ) (kind : Kind) (arguments : List (List ℕ)) (found : Option ℕ) → IsFrame (slice_get (reverse s.frames) function) kind arguments →
-    argument + 1 ≡ length arguments → IfSome found (λ n. n + length (get_or arguments argument []) ≡ byte) →
-    let fs = drop (length s.frames - (function + 1)) s.frames in
-    IfSome found (λ n. InArgument function argument byte ≡ in_current fs (length (current_text fs s) + n))
-past_last_some s function argument byte kind arguments None is last sum = tt
-past_last_some s function argument byte kind arguments (Some n) is last sum = past_last s function argument byte n kind arguments is last sum
+pub past_in_base : (s : State) (i depth n past : ℕ) → past ≡ i - length s.base →
+    let fs = drop (length s.frames - depth) s.frames in
+    InBase i ≡ in_current fs (length (current_text fs s) + n) → past ≡ n
+past_in_base s i depth n past far at = go (drop (length s.frames - depth) s.frames) at
+  where
+    go : (fs : List Frame) → InBase i ≡ in_current fs (length (current_text fs s) + n) → past ≡ n
+    go [] at = let place : i ≡ length s.base + n = cc in omega (arith, far, place)
+    go (f ∷ fs) at = absurd (cc)
+
+pub past_elsewhere : (s : State) (p : Place) (depth n : ℕ) → is_in_text p ≡ false →
+    let fs = drop (length s.frames - depth) s.frames in
+    p ≡ in_current fs (length (current_text fs s) + n) → 0 ≡ n
+past_elsewhere s p depth n other at = go (drop (length s.frames - depth) s.frames) at
+  where
+    go : (fs : List Frame) → p ≡ in_current fs (length (current_text fs s) + n) → 0 ≡ n
+    go [] at = absurd (let text : false ≡ true = sym other ∙ ap is_in_text at in cc)
+    go (f ∷ fs) at = absurd (let text : false ≡ true = sym other ∙ ap is_in_text at in cc)

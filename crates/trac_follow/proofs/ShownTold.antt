@@ -1,5 +1,5 @@
 -- What is printed of a form, and what is measured in it, as the code finds it.
-use Rattle.std.proofs.Common.{◌≡◌, ℕ, ◌+◌, ◌-◌, ◌<◌, Bool, List, length, take, drop, sym, ap, ◌∙◌, arith}
+use Rattle.std.proofs.Common.{◌≡◌, ℕ, ◌+◌, ◌-◌, ◌<◌, ◌≤◌, Bool, List, length, take, drop, sym, ap, ◌∙◌, arith}
 use Rattle.std.specs.Prelude.{Option, None, Some, slice_get}
 use Rattle.std.specs.FinMap as finite
 use Rattle.std.specs.List.{flat_map}
@@ -14,7 +14,7 @@ use Rattle.trac_follow.specs.declared.items.Given.{Given}
 use Rattle.trac_follow.specs.declared.place.Origin as told
 use Rattle.trac_follow.specs.Formed.{IsShown, of_shown}
 use Rattle.trac_follow.specs.Items.{IsGiven, IsMeasured}
-use Rattle.trac_follow.proofs.Spans.{after_those, front_at, front_taken, front_whole}
+use Rattle.trac_follow.proofs.Spans.{after_those, front_at, front_taken, front_whole, whole_span}
 
 module _ (form : Form) (pointer i : ℕ) (begins : pointer ≡ length form.before) where
   -- before the pointer
@@ -38,6 +38,13 @@ module _ (form : Form) (pointer i : ℕ) (begins : pointer ≡ length form.befor
   shown_past rest sum =
       let all : pointer - 0 ≡ length form.before = omega (arith, begins) in
       sym sum ∙ ap (λ k. length (shown_items (take k (all_items form))) + rest) all ∙ ap (λ (xs : List Item). length (shown_items xs) + rest) (front_whole form.before form.after)
+
+  -- past all
+  pub shown_end : (to rest : ℕ) → to ≡ length (all_items form) → length (flat_map shown_item (take (to - pointer) (drop pointer (all_items form)))) + rest ≡ i → length (shown_items form.after) ≤ i
+  shown_end to rest ends sum =
+      let span : take (to - pointer) (drop pointer (all_items form)) ≡ form.after =
+      whole_span (all_items form) pointer to ends ∙ ap (λ k. drop k (all_items form)) begins ∙ after_those form.before form.after in
+      omega (arith, sum, ap (λ (xs : List Item). length (shown_items xs)) span)
 
   -- after it
   pub shown_behind : (given : Given) (o : told.Origin) → IsGiven shown_item (drop pointer (all_items form)) i given → o ≡ of_shown given.item (pointer + given.at) →

@@ -1,5 +1,5 @@
 -- A byte that is followed back, step by step.
-use Rattle.std.proofs.Common.{◌≡◌, ℕ, suc, ◌+◌, ◌-◌, ◌<◌, Bool, true, false, List, [], ◌∷◌, ◌++◌, length, take, refl, sym, ap, ap₂, subst, ◌∙◌, ⊎_elim, arith}
+use Rattle.std.proofs.Common.{◌≡◌, ℕ, suc, ◌+◌, ◌-◌, ◌^◌, ◌<◌, Bool, true, false, List, [], ◌∷◌, ◌++◌, length, take, refl, sym, ap, ap₂, subst, ◌∙◌, ⊎_elim, arith}
 use Rattle.std.specs.Prelude.{◌⊎◌, Option, None, Some, is_some, option_and_then}
 use Rattle.std.proofs.lemmas.List.{append-nil, append_assoc, length-append}
 use Rattle.std.proofs.Math.Seq.{take-append-add}
@@ -205,13 +205,6 @@ module _ (width : Width) (old cur next : PlainSession) (place here : Place) (ste
       let q = InForm (argument 1 tells.0.arguments) i in
       (tells.0, ap (λ (p : PlainSession). scan p.last) went.next_is ∙ tells.1, followed_one trail (Carried q) tells.2)
 
-  pub ends_unknown : (most : ℕ) (trail : IsKnown width old) (there : code_place.Place) → here ≡ place_of there → IsSource old place most next (steps + 1) (code.TheVariants.Unknown there)
-  ends_unknown most trail there same =
-      let back : steps + 1 - 1 ≡ steps = omega arith in
-      let carried : IsOrigin old place steps steps (Carried (place_of there)) =
-      all_carried environment pre place here (goes.stood trail).carried ∙ ap₂ (λ n q. record { carried = n; origin = Carried q }) goes.count same in
-      (omega arith, subst (λ n. IsOrigin old place n n (Carried (place_of there))) (sym back) carried)
-
 -- ---- as the code finds it
 
 pub none_by_test : (why : Option Refusal) (some : Bool) → some ≡ is_some why → some ≡ false → why ≡ None
@@ -279,11 +272,6 @@ module _ (old cur next : PlainSession) (place here : Place) (steps : ℕ) (told 
       (ends_form width old cur next place here steps has.goes has.went most i trail
       (subst (λ o. Tells has.went.before o (origin (over old.width old.tape) has.went.before here)) is (has.tells trail)))
 
-  pub told_unknown : (most : ℕ) (found : Found) (there : code_place.Place) → here ≡ place_of there → found.steps ≡ steps + 1 → found.source ≡ code.TheVariants.Unknown there → IsKnown width old →
-      IsFollowed old place most next found
-  told_unknown most found there same count source trail =
-      found_is most found (code.TheVariants.Unknown there) count source (ends_unknown width old cur next place here steps has.goes has.went most trail there same)
-
   -- how it turned
   pub turned_on : (now : code_place.Place) (turn : turning.Turn) (there : code_place.Place) → IsTurn now told turn → turn ≡ turning.TheVariants.On there → GoesBack width old next place (place_of there) (steps + 1)
   turned_on now turn there turned on = told_carried there (go told turned)
@@ -294,7 +282,7 @@ module _ (old cur next : PlainSession) (place here : Place) (steps : ℕ) (told 
       go (code_origin.TheVariants.OfForm i) is = absurd (cc)
       go (code_origin.TheVariants.Read n) is = absurd (cc)
       go code_origin.TheVariants.Made is = absurd (cc)
-      go code_origin.TheVariants.Unknown is = absurd (cc)
+      go code_origin.TheVariants.Nothing is = absurd (cc)
 
   pub turned_end : (most : ℕ) (now : code_place.Place) (turn : turning.Turn) (source : code.Source) (found : Found) → here ≡ place_of now → IsTurn now told turn → turn ≡ turning.TheVariants.End source →
       found.steps ≡ steps + 1 → found.source ≡ source → IsKnown width old → IsFollowed old place most next found
@@ -311,14 +299,16 @@ module _ (old cur next : PlainSession) (place here : Place) (steps : ℕ) (told 
       go (code_origin.TheVariants.OfForm i) from at = let ends : source ≡ code.TheVariants.OfForm i = cc in told_form most i found from count (is ∙ ends) trail
       go (code_origin.TheVariants.Read n) from at = let ends : source ≡ code.TheVariants.Read n = cc in told_read most n found from count (is ∙ ends) trail
       go code_origin.TheVariants.Made from at = let ends : source ≡ code.TheVariants.Made = cc in told_made most found from count (is ∙ ends) trail
-      go code_origin.TheVariants.Unknown from at = let ends : source ≡ code.TheVariants.Unknown now = cc in told_unknown most found now same count (is ∙ ends) trail
+      go code_origin.TheVariants.Nothing from at =
+          absurd (subst (λ o. Tells has.went.before o (origin (over old.width old.tape) has.went.before here)) from (has.tells trail))
 
 -- what is told of a session
 pub seen_lengths : (after : After) (u : State) (m : PlainSession) (here : Place) (bytes : ℕ) (gap : Bool) → after.active ≡ length u.active → after.output ≡ length u.output →
-    after.extent ≡ bytes → after.is_gap ≡ gap → u ≡ m.last → IsMeasured bytes gap m.last here → AreLengths after u here
-seen_lengths after u m here bytes gap active output extent is_gap last measured = record {
+    after.extent ≡ bytes → after.is_gap ≡ gap → u.position < 2 ^ 64 → u ≡ m.last → IsMeasured bytes gap m.last here → AreLengths after u here
+seen_lengths after u m here bytes gap active output extent is_gap read last measured = record {
   active = active;
   output = output;
+  read = read;
   measured = subst (λ (v : State). IsMeasured after.extent after.is_gap v here) (sym last)
       (subst (λ n. IsMeasured n after.is_gap m.last here) (sym extent) (subst (λ g. IsMeasured bytes g m.last here) (sym is_gap) measured));
 }

@@ -1,15 +1,18 @@
 -- Bytes of values, and of what is printed and put, as the code tells them.
-use Rattle.std.proofs.Common.{◌≡◌, ℕ, ◌+◌, ◌-◌, ◌<◌, ◌≤◌, Bool, true, false, List, [], ◌∷◌, length, refl, sym, ap, ap₂, subst, ◌∙◌, ℤ, inl, inr, not, ⊎_elim, arith}
+use Rattle.std.proofs.Common.{◌≡◌, ℕ, ◌+◌, ◌-◌, ◌^◌, ◌<◌, ◌≤◌, Bool, true, false, List, [], ◌∷◌, length, get_or, refl, sym, ap, ap₂, subst, ◌∙◌, ℤ, inl, inr, not, ⊎_elim, arith}
 use Rattle.std.specs.Prelude.{Option, None, Some, Ok, ◌⊎◌, bytes_eq, is_none, is_some}
+use Rattle.std.specs.FinMap as finite
 use Rattle.std.proofs.lemmas.List.{length-append}
+use Rattle.std.proofs.lemmas.Option.{slice_get-get_or}
 use Rattle.std.proofs.lemmas.Slice.Eq.{bytes_eq-Decides}
 use Rattle.trac_rules.specs.declared.item.Item.{Item}
 use Rattle.trac_rules.specs.declared.kind.Kind.{Kind}
 use Rattle.trac_rules.specs.declared.kind.Kind.TheVariants.{Active, Neutral}
-use Rattle.trac_rules.specs.declared.primitive.BlockAction.TheVariants.{StoreBlock}
+use Rattle.trac_rules.specs.declared.primitive.BlockAction.TheVariants.{StoreBlock, FetchBlock, EraseBlock}
 use Rattle.trac_rules.specs.declared.primitive.Computation.{Computation}
 use Rattle.trac_rules.specs.declared.primitive.Computation.TheVariants.{Equal, Greater, Calculate}
-use Rattle.trac_rules.specs.declared.primitive.FormAction.TheVariants.{Define}
+use Rattle.trac_rules.specs.declared.primitive.FormAction.{FormAction}
+use Rattle.trac_rules.specs.declared.primitive.FormAction.TheVariants.{Define, Delete, DeleteAll, Segment, Restore, Call as Calling, Read as Reads, ListNames, PrintForm}
 use Rattle.trac_rules.specs.declared.primitive.Operation.{Operation}
 use Rattle.trac_rules.specs.declared.primitive.Primitive.{Primitive}
 use Rattle.trac_rules.specs.declared.primitive.Primitive.TheVariants.{PrintString, ReadString, ReadByte, Halt, SetMeta, SetTrace, Compute, Handle, HandleBlock, Unknown}
@@ -24,15 +27,21 @@ use Rattle.trac_rules.specs.Scanning.{Call, Calls, gathered_in, scan}
 use Rattle.trac_rules.specs.State.{Block, Environment, Frame, State, Storage, storage_of}
 use Rattle.trac_rules.specs.Stepping.{step}
 use Rattle.trac_origins.specs.Lengths.{IsCallOf, gives_bits, is_silent, may_put, number_chosen, of_argument, value_at}
-use Rattle.trac_origins.specs.Places.{InArgument, InForm, InHeld, InOutput, Carried, Read, Made, found_at}
+use Rattle.trac_origins.specs.Places.{InArgument, InForm, InHeld, InOutput, Carried, Read, Made, found_at, items_of}
 use Rattle.trac_origins.specs.Stepping.{origin}
 use Rattle.trac_origins.proofs.ToldEffects.{length_argument, length_printed, line_told, silent_told}
 use Rattle.trac_origins.proofs.ToldPut.{address_told, defined_told, stored_told}
 use Rattle.trac_origins.proofs.ToldValues.{bits_told, byte_told, default_told, digits_told, equal_told, greater_told, prefix_told, string_told, text_printed}
+use Rattle.trac_follow.specs.declared.called.Put as code_put
+use Rattle.trac_follow.specs.Putting.{put_by}
 use Rattle.trac_follow.specs.declared.place.Origin as code_origin
 use Rattle.trac_follow.specs.declared.place.Place as code_place
-use Rattle.trac_follow.specs.Places.{Tells, TellsComputed, TellsValue, ToldAsPrinted, ToldAsPut, ToldAsRead, ToldAsStored, reads_tape}
-use Rattle.trac_follow.proofs.CallsTold.{blocks_are, form_without, given_call, has_done, number_is, output_is, position_is}
+use Rattle.trac_follow.specs.Places.{Tells, TellsComputed, TellsValue, ToldAsPrinted, ToldAsPut, ToldAsRead, reads_tape}
+use Rattle.trac_origins.specs.Accounts.{Accounts}
+use Rattle.trac_origins.proofs.Accounted.{accounted}
+use Rattle.trac_follow.proofs.Giving.{others_give_none}
+use Rattle.trac_follow.proofs.Within.{defined_within, no_block, stored_within}
+use Rattle.trac_follow.proofs.CallsTold.{blocks_are, given_call, has_done, number_is, output_is, position_is}
 
 -- a call is one
 one_call : (s : State) (a b : Call) → scan s ≡ Calls a → scan s ≡ Calls b → a ≡ b
@@ -60,29 +69,47 @@ reads_one (Handle action) e = absurd (cc)
 reads_one (HandleBlock action) e = absurd (cc)
 reads_one Unknown e = absurd (cc)
 
-pub read_told : (s : State) (width : Width) (i : ℕ) (told : code_origin.Origin) (arguments : List (List ℕ)) (kind : Kind) (primitive : Primitive) →
+pub read_told : (s : State) (width : Width) (seen : Option ℕ) (i : ℕ) (told : code_origin.Origin) (arguments : List (List ℕ)) (kind : Kind) (primitive : Primitive) →
     IsCall (next_call s) kind arguments → primitive ≡ primitive_of (argument 0 arguments) →
-    reads_tape primitive ≡ true → ToldAsRead s.position i told → TellsValue s width i told
-read_told s width i (code_origin.TheVariants.Carried place) arguments kind primitive is named which told = absurd told
-read_told s width i (code_origin.TheVariants.OfForm n) arguments kind primitive is named which told = absurd told
-read_told s width i code_origin.TheVariants.Made arguments kind primitive is named which told = absurd told
-read_told s width i code_origin.TheVariants.Unknown arguments kind primitive is named which told = λ environment call e wide scans does l. tt
-read_told s width i (code_origin.TheVariants.Read n) arguments kind primitive is named which told = λ environment call e wide scans does l.
-    let called : primitive_of (argument 0 call.arguments) ≡ primitive =
-    ap (λ (texts : List (List ℕ)). primitive_of (argument 0 texts)) (arguments_given s kind arguments call is scans) ∙ sym named in
-    let place : call.state.position + i ≡ n = ap (λ m. m + i) (position_is s call scans) ∙ sym told in
-    ⊎_elim
-    (λ (string : primitive ≡ ReadString). string_told environment s call e (record { scans = scans; named = called ∙ string; does = does }) i l ∙ ap Read place)
-    (λ (byte : primitive ≡ ReadByte). byte_told environment s call e (record { scans = scans; named = called ∙ byte; does = does }) i l ∙ ap Read place)
-    (reads_one primitive which)
+    reads_tape primitive ≡ true → ToldAsRead s.position i told → TellsValue s width seen i told
+read_told s width seen i told arguments kind primitive is named which tells environment t call e item wide h readable scans does is_seen stands l = go told tells
+  where
+    is_read : origin environment s (value_at call.kind e.forced call.state i) ≡ Read (s.position + i)
+    is_read =
+        let called : primitive_of (argument 0 call.arguments) ≡ primitive =
+        ap (λ (texts : List (List ℕ)). primitive_of (argument 0 texts)) (arguments_given s kind arguments call is scans) ∙ sym named in
+        let place : call.state.position + i ≡ s.position + i = ap (λ m. m + i) (position_is s call scans) in
+        ⊎_elim
+        (λ (string : primitive ≡ ReadString). string_told environment s call e (record { scans = scans; named = called ∙ string; does = does }) i l ∙ ap Read place)
+        (λ (byte : primitive ≡ ReadByte). byte_told environment s call e (record { scans = scans; named = called ∙ byte; does = does }) i l ∙ ap Read place)
+        (reads_one primitive which)
+
+    go : (o : code_origin.Origin) → ToldAsRead s.position i o → Tells s o (origin environment s (value_at call.kind e.forced call.state i))
+    go (code_origin.TheVariants.Carried place) at = absurd at
+    go (code_origin.TheVariants.OfForm n) at = absurd at
+    go code_origin.TheVariants.Made at = absurd at
+    go (code_origin.TheVariants.Read n) at = is_read ∙ ap Read (sym at)
+    go code_origin.TheVariants.Nothing at =
+        let within = subst (λ o. Accounts environment s t o item) is_read (accounted environment s t h (value_at call.kind e.forced call.state i) item stands) in
+        absurd (omega (arith, at, within.1, readable))
+
+-- ---- primitives without a value
+
+pub nothing_told : (s : State) (width : Width) (seen : Option ℕ) (i : ℕ) (arguments : List (List ℕ)) (kind : Kind) (primitive : Primitive) →
+    IsCall (next_call s) kind arguments → primitive_of (argument 0 arguments) ≡ primitive → reads_tape primitive ≡ false → ((computation : Computation) → primitive ≡ Compute computation → ⊥) →
+    ((a : FormAction) → primitive ≡ Handle a → ⊥) → TellsValue s width seen i code_origin.TheVariants.Nothing
+nothing_told s width seen i arguments kind primitive is named reads computes handles environment t call e item wide h readable scans does is_seen stands l =
+    let same = arguments_given s kind arguments call is scans in
+    others_give_none environment s call e primitive reads computes handles
+    (record { scans = scans; named = ap (λ (texts : List (List ℕ)). primitive_of (argument 0 texts)) same ∙ named; does = does }) i l
 
 -- ---- computations
 
 -- from what a computation tells
-pub computed_told : (s : State) (width : Width) (i function : ℕ) (told : code_origin.Origin) (arguments : List (List ℕ)) (kind : Kind) (computation : Computation) →
+pub computed_told : (s : State) (width : Width) (seen : Option ℕ) (i function : ℕ) (told : code_origin.Origin) (arguments : List (List ℕ)) (kind : Kind) (computation : Computation) →
     IsCall (next_call s) kind arguments → primitive_of (argument 0 arguments) ≡ Compute computation →
-    function + 1 ≡ length s.frames → TellsComputed computation arguments function width i told → TellsValue s width i told
-computed_told s width i function told arguments kind computation is named number tells environment call e wide scans does l =
+    function + 1 ≡ length s.frames → TellsComputed computation arguments function width i told → TellsValue s width seen i told
+computed_told s width seen i function told arguments kind computation is named number tells environment t call e item wide h readable scans does is_seen stands l =
     let same = arguments_given s kind arguments call is scans in
     tells environment s call e wide
     (record { scans = scans; named = ap (λ (texts : List (List ℕ)). primitive_of (argument 0 texts)) same ∙ named; does = does })
@@ -109,6 +136,12 @@ module _ (arguments : List (List ℕ)) (function : ℕ) (width : Width) (i : ℕ
       as_given environment s call e (number_chosen (is_greater (numeral_of (argument 1 call.arguments)) (numeral_of (argument 2 call.arguments)))) k number
       (ap (λ (texts : List (List ℕ)). number_chosen (is_greater (numeral_of (argument 1 texts)) (numeral_of (argument 2 texts)))) same ∙ ap number_chosen (sym test) ∙ sym chosen)
       (greater_told environment s call e is i l)
+
+  pub rest_bits : (computation : Computation) → (computation ≡ Equal → ⊥) → (computation ≡ Greater → ⊥) → ((operation : Operation) → computation ≡ Calculate operation → ⊥) → gives_bits computation ≡ true
+  rest_bits Equal equal greater calculate = absurd (equal refl)
+  rest_bits Greater equal greater calculate = absurd (greater refl)
+  rest_bits (Calculate operation) equal greater calculate = absurd (calculate operation refl)
+  rest_bits computation equal greater calculate = refl
 
   pub bits_are : (computation : Computation) → gives_bits computation ≡ true → TellsComputed computation arguments function width i code_origin.TheVariants.Made
   bits_are computation bits environment s call e wide is same number l = bits_told environment s call e computation bits is i l
@@ -179,6 +212,63 @@ output-placed Neutral false value u = go u.frames
     go [] = refl
     go (f ∷ fs) = refl
 
+-- what may put a form
+pub record IsPutBy (p : Primitive) (put : code_put.Put) : Type 0 where
+  pub text : put ≡ code_put.TheVariants.Text → p ≡ Handle Define
+  pub cut : put ≡ code_put.TheVariants.Cut → p ≡ Handle Segment
+  pub fetched : put ≡ code_put.TheVariants.Fetched → p ≡ HandleBlock FetchBlock
+  pub address : put ≡ code_put.TheVariants.Address → p ≡ HandleBlock StoreBlock
+  pub nothing : put ≡ code_put.TheVariants.Nothing → (given name : List ℕ) → may_put p given name ≡ false
+
+puts_none : (p : Primitive) → ((given name : List ℕ) → may_put p given name ≡ false) → IsPutBy p code_put.TheVariants.Nothing
+puts_none p none = record { text = λ e. absurd (cc); cut = λ e. absurd (cc); fetched = λ e. absurd (cc); address = λ e. absurd (cc); nothing = λ e. none }
+
+action_puts : (a : FormAction) → IsPutBy (Handle a) (put_by (Handle a))
+action_puts Define = record { text = λ e. refl; cut = λ e. absurd (cc); fetched = λ e. absurd (cc); address = λ e. absurd (cc); nothing = λ e. absurd (cc) }
+action_puts Segment = record { text = λ e. absurd (cc); cut = λ e. refl; fetched = λ e. absurd (cc); address = λ e. absurd (cc); nothing = λ e. absurd (cc) }
+action_puts Delete = puts_none (Handle Delete) (λ given name. refl)
+action_puts DeleteAll = puts_none (Handle DeleteAll) (λ given name. refl)
+action_puts Restore = puts_none (Handle Restore) (λ given name. refl)
+action_puts Calling = puts_none (Handle Calling) (λ given name. refl)
+action_puts (Reads reading) = puts_none (Handle (Reads reading)) (λ given name. refl)
+action_puts ListNames = puts_none (Handle ListNames) (λ given name. refl)
+action_puts PrintForm = puts_none (Handle PrintForm) (λ given name. refl)
+
+pub is_put_by : (p : Primitive) → IsPutBy p (put_by p)
+is_put_by PrintString = puts_none PrintString (λ given name. refl)
+is_put_by ReadString = puts_none ReadString (λ given name. refl)
+is_put_by ReadByte = puts_none ReadByte (λ given name. refl)
+is_put_by Halt = puts_none Halt (λ given name. refl)
+is_put_by SetMeta = puts_none SetMeta (λ given name. refl)
+is_put_by (SetTrace trace) = puts_none (SetTrace trace) (λ given name. refl)
+is_put_by (Compute computation) = puts_none (Compute computation) (λ given name. refl)
+is_put_by (Handle a) = action_puts a
+is_put_by (HandleBlock StoreBlock) = record { text = λ e. absurd (cc); cut = λ e. absurd (cc); fetched = λ e. absurd (cc); address = λ e. refl; nothing = λ e. absurd (cc) }
+is_put_by (HandleBlock FetchBlock) = record { text = λ e. absurd (cc); cut = λ e. absurd (cc); fetched = λ e. refl; address = λ e. absurd (cc); nothing = λ e. absurd (cc) }
+is_put_by (HandleBlock EraseBlock) = puts_none (HandleBlock EraseBlock) (λ given name. refl)
+is_put_by Unknown = puts_none Unknown (λ given name. refl)
+
+-- what prints and is not `ps` is `pf`
+pub prints_form : (p : Primitive) → is_silent p ≡ false → (p ≡ PrintString → ⊥) → p ≡ Handle PrintForm
+prints_form PrintString loud other = absurd (other refl)
+prints_form ReadString loud other = absurd (cc)
+prints_form ReadByte loud other = absurd (cc)
+prints_form Halt loud other = absurd (cc)
+prints_form SetMeta loud other = absurd (cc)
+prints_form (SetTrace trace) loud other = absurd (cc)
+prints_form (Compute computation) loud other = absurd (cc)
+prints_form (Handle PrintForm) loud other = refl
+prints_form (Handle Define) loud other = absurd (cc)
+prints_form (Handle Delete) loud other = absurd (cc)
+prints_form (Handle DeleteAll) loud other = absurd (cc)
+prints_form (Handle Segment) loud other = absurd (cc)
+prints_form (Handle Restore) loud other = absurd (cc)
+prints_form (Handle Calling) loud other = absurd (cc)
+prints_form (Handle (Reads reading)) loud other = absurd (cc)
+prints_form (Handle ListNames) loud other = absurd (cc)
+prints_form (HandleBlock action) loud other = absurd (cc)
+prints_form Unknown loud other = absurd (cc)
+
 -- a name that is given
 pub named_by : (s : State) (kind : Kind) (arguments : List (List ℕ)) (call : Call) (primitive : Primitive) (name : List ℕ) → IsCall (next_call s) kind arguments → scan s ≡ Calls call →
     name ≡ argument 0 arguments → primitive ≡ primitive_of name → primitive_of (argument 0 call.arguments) ≡ primitive
@@ -199,8 +289,8 @@ module _ (environment : Environment) (s t : State) (call : Call) (h : step envir
       ap (λ n. origin environment s (InOutput n)) index ∙ silent_told environment s call primitive done.0 done.1 silent (i - length s.output)
 
   pub printed_tells : primitive_of (argument 0 call.arguments) ≡ PrintString → (text function end i : ℕ) (told : code_origin.Origin) → text ≡ length (argument 1 call.arguments) →
-      length call.state.frames ≡ function → end ≡ length t.output → length s.output ≤ i → ToldAsPrinted text function end i told → Tells s told (origin environment s (InOutput i))
-  printed_tells named text function end i told long number ends past tells = go told tells
+      length call.state.frames ≡ function → end ≡ length t.output → length s.output ≤ i → i < length t.output → ToldAsPrinted text function end i told → Tells s told (origin environment s (InOutput i))
+  printed_tells named text function end i told long number ends past stands tells = go told tells
     where
       done : (e : Effect) × IsCallOf environment s call PrintString e × (t ≡ after_call call e)
       done = call_does PrintString named
@@ -240,7 +330,8 @@ module _ (environment : Environment) (s t : State) (call : Call) (h : step envir
       go (code_origin.TheVariants.Carried (code_place.TheVariants.Output j)) at = absurd at
       go (code_origin.TheVariants.OfForm n) at = absurd at
       go (code_origin.TheVariants.Read n) at = absurd at
-      go code_origin.TheVariants.Unknown at = tt
+      go code_origin.TheVariants.Nothing at =
+          ⊎_elim (λ (l : end < text). absurd (omega (arith, l, whole))) (λ (l : end ≤ i). absurd (omega (arith, l, ends, stands))) at
       go code_origin.TheVariants.Made at =
           let index : i ≡ length call.state.output + (i - length s.output) = omega (arith, past, before) in
           ap (λ m. origin environment s (InOutput m)) index
@@ -261,25 +352,15 @@ module _ (environment : Environment) (s t : State) (call : Call) (h : step envir
       let done = call_does (HandleBlock StoreBlock) named in
       ap (λ q. origin environment s (InForm q i)) ((bytes_eq-Decides name (argument 1 call.arguments)).0 same) ∙ address_told environment s call done.0 done.1 i
 
-  pub stored_is : (number : ℕ) (name : List ℕ) (i : ℕ) (x : Item) → primitive_of (argument 0 call.arguments) ≡ HandleBlock StoreBlock → number ≡ length s.blocks →
-      found_at s (InForm name i) ≡ Some x → origin environment s (InHeld number name i) ≡ Carried (InForm name i)
-  stored_is number name i x named last stands =
-      let done = call_does (HandleBlock StoreBlock) named in
-      let count : number ≡ length call.state.blocks = last ∙ sym (ap (λ (bs : List Block). length bs) (blocks_are s call scans)) in
-      ap (λ n. origin environment s (InHeld n name i)) count ∙ stored_told environment s call done.0 done.1 name i x (form_without s call scans name i x stands)
-
-  pub put_tells : (primitive : Primitive) → primitive_of (argument 0 call.arguments) ≡ primitive → (name : List ℕ) (i function text : ℕ) (told : code_origin.Origin) →
-      may_put primitive (argument 1 call.arguments) name ≡ true → length call.state.frames ≡ function → text ≡ length (argument 2 call.arguments) →
-      ToldAsPut primitive text function i told → Tells s told (origin environment s (InForm name i))
-  put_tells primitive named name i function text told may number long tells = go told tells
+  pub put_tells : primitive_of (argument 0 call.arguments) ≡ Handle Define → (name : List ℕ) (i function text : ℕ) (told : code_origin.Origin) → bytes_eq name (argument 1 call.arguments) ≡ true →
+      length call.state.frames ≡ function → text ≡ length (argument 2 call.arguments) → (item : Item) → found_at t (InForm name i) ≡ Some item →
+      ToldAsPut text function i told → Tells s told (origin environment s (InForm name i))
+  put_tells named name i function text told same number long item stands tells = go told tells
     where
-      given_name : (p : Primitive) → p ≡ primitive → may_put p (argument 1 call.arguments) name ≡ true
-      given_name p same = ap (λ q. may_put q (argument 1 call.arguments) name) same ∙ may
-
-      go : (o : code_origin.Origin) → ToldAsPut primitive text function i o → Tells s o (origin environment s (InForm name i))
+      go : (o : code_origin.Origin) → ToldAsPut text function i o → Tells s o (origin environment s (InForm name i))
       go (code_origin.TheVariants.Carried (code_place.TheVariants.Argument n k j)) at =
-          defined_is name i function (named ∙ at.0) (given_name (Handle Define) (sym at.0)) number (omega (arith, at.4, long))
-          ∙ ap₂ (λ m a. Carried (InArgument m a i)) (sym at.1) (sym at.2) ∙ ap (λ b. Carried (InArgument n k b)) (sym at.3)
+          defined_is name i function named same number (omega (arith, at.3, long))
+          ∙ ap₂ (λ m a. Carried (InArgument m a i)) (sym at.0) (sym at.1) ∙ ap (λ b. Carried (InArgument n k b)) (sym at.2)
       go (code_origin.TheVariants.Carried (code_place.TheVariants.Active j)) at = absurd at
       go (code_origin.TheVariants.Carried (code_place.TheVariants.Base j)) at = absurd at
       go (code_origin.TheVariants.Carried (code_place.TheVariants.Form q j)) at = absurd at
@@ -287,14 +368,23 @@ module _ (environment : Environment) (s t : State) (call : Call) (h : step envir
       go (code_origin.TheVariants.Carried (code_place.TheVariants.Output j)) at = absurd at
       go (code_origin.TheVariants.OfForm n) at = absurd at
       go (code_origin.TheVariants.Read n) at = absurd at
-      go code_origin.TheVariants.Unknown at = tt
-      go code_origin.TheVariants.Made at = address_is name i (named ∙ at) (given_name (HandleBlock StoreBlock) (sym at))
+      go code_origin.TheVariants.Made at = absurd at
+      go code_origin.TheVariants.Nothing at =
+          let done = call_does (Handle Define) named in
+          absurd (omega (arith, at, long, defined_within environment s t call done.0 h done.1 name i item same stands))
 
-  pub stored_tells : (number : ℕ) (name : List ℕ) (i : ℕ) (told : code_origin.Origin) → primitive_of (argument 0 call.arguments) ≡ HandleBlock StoreBlock → number ≡ length s.blocks →
-      ToldAsStored s name i told → Tells s told (origin environment s (InHeld number name i))
-  stored_tells number name i (code_origin.TheVariants.Carried place) named last tells =
-      stored_is number name i tells.1.0 named last tells.1.1 ∙ ap Carried (sym tells.0)
-  stored_tells number name i (code_origin.TheVariants.OfForm n) named last tells = absurd tells
-  stored_tells number name i (code_origin.TheVariants.Read n) named last tells = absurd tells
-  stored_tells number name i code_origin.TheVariants.Made named last tells = absurd tells
-  stored_tells number name i code_origin.TheVariants.Unknown named last tells = tt
+  pub stored_tells : (number : ℕ) (name : List ℕ) (i : ℕ) (item : Item) → primitive_of (argument 0 call.arguments) ≡ HandleBlock StoreBlock → number ≡ length s.blocks →
+      found_at t (InHeld number name i) ≡ Some item → origin environment s (InHeld number name i) ≡ Carried (InForm name i)
+  stored_tells number name i item named last stands =
+      let done = call_does (HandleBlock StoreBlock) named in
+      let count : number ≡ length call.state.blocks = last ∙ sym (ap (λ (bs : List Block). length bs) (blocks_are s call scans)) in
+      let within = stored_within environment s t call done.0 h done.1 number name i item count stands in
+      let items = items_of (finite.get call.state.forms name) in
+      ap (λ n. origin environment s (InHeld n name i)) count ∙ stored_told environment s call done.0 done.1 name i (get_or items i item) (slice_get-get_or items i item within)
+
+  pub unstored : (primitive : Primitive) → primitive_of (argument 0 call.arguments) ≡ primitive → (number : ℕ) (name : List ℕ) (i : ℕ) (item : Item) → length s.blocks ≤ number →
+      (primitive ≡ HandleBlock StoreBlock → number ≡ length s.blocks → ⊥) → found_at t (InHeld number name i) ≡ Some item → ⊥
+  unstored primitive named number name i item past other stands =
+      let done = call_does primitive named in
+      let count = ap (λ (bs : List Block). length bs) (blocks_are s call scans) in
+      no_block environment s t call primitive done.0 done.1 h number name i item (omega (arith, past, count)) (λ stores last. other stores (last ∙ count)) stands

@@ -1,42 +1,76 @@
 -- What is told of a form that a call reads, prints or cuts.
-use Rattle.std.specs.Prelude.{◌≡◌, ◌⊎◌, ℕ, ◌+◌, ◌<◌, min, List, length, take, Bool, true, false, None, Some, slice_get}
+use Rattle.std.specs.Prelude.{◌≡◌, ◌==◌, ◌⊎◌, ℕ, ◌+◌, ◌<◌, ◌≤◌, min, List, length, take, drop, Bool, true, false, Option, None, Some, slice_get}
 use Rattle.std.specs.FinMap as finite
 use Rattle.std.specs.List.{All}
 use Rattle.trac_rules.specs.declared.item.Item.{Item}
 use Rattle.trac_rules.specs.declared.item.Item.TheVariants.{Byte, Gap}
+use Rattle.trac_rules.specs.declared.limit.TheConstants.{OUTPUT_LIMIT}
 use Rattle.trac_rules.specs.declared.primitive.Primitive.{Primitive}
 use Rattle.trac_rules.specs.declared.width.Width.{Width}
 use Rattle.trac_rules.specs.Effect.{Effect}
 use Rattle.trac_rules.specs.Form.{Form, IsWide, all_items, extent}
 use Rattle.trac_rules.specs.Handling.{named_form}
-use Rattle.trac_rules.specs.Pieces.{bytes_in}
+use Rattle.trac_rules.specs.Listing.{names_of}
+use Rattle.trac_rules.specs.Pieces.{begin_with, bytes_in}
 use Rattle.trac_rules.specs.Scanning.{Call}
 use Rattle.trac_rules.specs.Showing.{shown, shown_item, shown_items}
-use Rattle.trac_rules.specs.State.{Environment, State, storage_of}
+use Rattle.trac_rules.specs.State.{Environment, Forms, State, storage_of}
 use Rattle.trac_forms.specs.declared.piece.Piece.{Piece as Measured}
-use Rattle.trac_forms.specs.Taken.{items_from}
+use Rattle.trac_forms.specs.Listed.{IsListed, listed_len}
 use Rattle.trac_origins.specs.Lengths.{IsCallOf, value_at}
 use Rattle.trac_origins.specs.Places.{InForm}
 use Rattle.trac_origins.specs.Stepping.{origin}
 use Rattle.trac_follow.specs.declared.place.After.{After}
 use Rattle.trac_follow.specs.declared.place.Origin as told
-use Rattle.trac_follow.specs.Places.{Tells, place_of}
+use Rattle.trac_follow.specs.declared.place.Place as code_place
+use Rattle.trac_follow.specs.Places.{IsSeen, Tells, place_of}
 
 -- what is told of the byte of this number of the value of a call of this primitive, which names this form and has these arguments, and is
--- that of the function of this number
-abbrev pub TellsOfForm : Primitive → Form → List (List ℕ) → ℕ → Width → ℕ → told.Origin → Type 0
-TellsOfForm primitive form arguments function width i o =
+-- that of the function of this number; so much is known of the value
+abbrev pub TellsOfForm : Primitive → Form → List (List ℕ) → ℕ → Width → Option ℕ → ℕ → told.Origin → Type 0
+TellsOfForm primitive form arguments function width seen i o =
     (environment : Environment) (s : State) (call : Call) (e : Effect) → environment.width ≡ width → IsCallOf environment s call primitive e → call.arguments ≡ arguments →
-    length call.state.frames ≡ function → named_form call.arguments (storage_of call.state) ≡ Some form → i < length e.value →
+    length call.state.frames ≡ function → named_form call.arguments (storage_of call.state) ≡ Some form → IsSeen seen e → i < length e.value →
     Tells s o (origin environment s (value_at call.kind e.forced call.state i))
 
--- the item of a form that stands in a piece after so many bytes
-abbrev pub ToldAsPiece : Form → Measured → ℕ → told.Origin → Type 0
-ToldAsPiece form piece i (told.TheVariants.OfForm n) =
-    (m : ℕ) × (b : ℕ) × (n ≡ min piece.pointer (length form.before) + m) × (slice_get (items_from piece form) m ≡ Some (Byte b))
-    × (length (bytes_in (take m (items_from piece form))) ≡ i)
-ToldAsPiece form piece i told.TheVariants.Unknown = Unit {0}
-ToldAsPiece form piece i o = ⊥
+-- the item of a form that has so many bytes before it, those from this place on
+abbrev pub ToldFrom : Form → ℕ → ℕ → told.Origin → Type 0
+ToldFrom form first i (told.TheVariants.OfForm n) =
+    (m : ℕ) × (b : ℕ) × (n ≡ first + m) × (slice_get (drop first (all_items form)) m ≡ Some (Byte b)) × (length (bytes_in (take m (drop first (all_items form)))) ≡ i)
+ToldFrom form first i told.TheVariants.Nothing = length (bytes_in (drop first (all_items form))) ≤ i
+ToldFrom form first i o = ⊥
+
+-- of a piece that is read of a form; without one, of an argument
+abbrev pub ToldAsPiece : Form → Option Measured → ℕ → ℕ → ℕ → told.Origin → Type 0
+ToldAsPiece form None function other i o = o ≡ told.TheVariants.Carried (code_place.TheVariants.Argument function other i)
+ToldAsPiece form (Some piece) function other i o = ToldFrom form (min piece.pointer (length form.before)) i o
+
+-- whether a text stands in a form after so many bytes that stand after the pointer: at the byte of that number
+pub record StandsAfter (text : List ℕ) (bytes : ℕ) (form : Form) : Type 0 where
+  pub place : ℕ
+  pub byte : ℕ
+  pub there : slice_get form.after place ≡ Some (Byte byte)
+  pub before : length (bytes_in (take place form.after)) ≡ bytes
+  pub begins : begin_with text (drop place form.after) ≡ true
+
+-- whether an item is this byte
+abbrev pub is_byte : Option Item → ℕ → Bool
+is_byte (Some (Byte c)) b = b == c
+is_byte found b = false
+
+-- whether `in` found a text, told by what is known of its value: it is not forced, or the text stands after it
+abbrev pub IsFound : Form → List ℕ → Option ℕ → Bool → Type 0
+IsFound form text None found = found ≡ true
+IsFound form text (Some len) true = StandsAfter text len form
+IsFound form text (Some len) false = StandsAfter text len form → ⊥
+
+-- of the names of forms, rising by their bytes, with argument 1 before each
+abbrev pub ToldAsListed : Forms → ℕ → ℕ → ℕ → told.Origin → Type 0
+ToldAsListed forms text function i (told.TheVariants.Carried (code_place.TheVariants.Argument n k j)) =
+    (n ≡ function) × (k ≡ 1) × (j < text) × IsListed (names_of forms) text i j
+ToldAsListed forms text function i told.TheVariants.Made = (j : ℕ) × (text ≤ j) × IsListed (names_of forms) text i j
+ToldAsListed forms text function i told.TheVariants.Nothing = listed_len text (names_of forms) ≤ i
+ToldAsListed forms text function i o = ⊥
 
 -- a byte that is printed is the form's, and a mark is made
 abbrev pub of_shown : Item → ℕ → told.Origin
@@ -53,9 +87,9 @@ pub record IsShown (items : List Item) (first i : ℕ) (o : told.Origin) : Type 
   pub within : byte < length (shown_item item)
   pub shows : o ≡ of_shown item (first + at)
 
--- of what is printed after the mark of the pointer
+-- of what is printed after the mark of the pointer; nothing is past it
 abbrev pub ToldAsShownAfter : Form → ℕ → told.Origin → Type 0
-ToldAsShownAfter form i o = (o ≡ told.TheVariants.Unknown) ⊎ IsShown form.after (length form.before) i o
+ToldAsShownAfter form i o = ((o ≡ told.TheVariants.Nothing) × (length (shown_items form.after) ≤ i)) ⊎ IsShown form.after (length form.before) i o
 
 -- of the whole form, as it is printed
 abbrev pub ToldAsShownAt : Form → ℕ → told.Origin → Type 0
@@ -64,10 +98,11 @@ ToldAsShownAt form i o =
     ⊎ (((o ≡ told.TheVariants.Made) × ((j : ℕ) × (j < 3) × (i ≡ length (shown_items form.before) + j)))
     ⊎ ((j : ℕ) × (i ≡ length (shown_items form.before) + (3 + j)) × ToldAsShownAfter form j o))
 
--- of the form, which ends the output at `end`, and of the line that is made before it
+-- of the form, which ends the output at `end`, and of the line that is made before it; no such output is within the limit, or nothing is
+-- past its end
 abbrev pub ToldAsShown : Form → ℕ → ℕ → told.Origin → Type 0
 ToldAsShown form end i o =
-    (o ≡ told.TheVariants.Unknown)
+    ((o ≡ told.TheVariants.Nothing) × ((length (shown form) ≤ OUTPUT_LIMIT → ⊥) ⊎ ((end < length (shown form)) ⊎ (end ≤ i))))
     ⊎ (((o ≡ told.TheVariants.Made) × (i + length (shown form) < end)) ⊎ ((j : ℕ) × (j + end ≡ i + length (shown form)) × ToldAsShownAt form j o))
 
 -- of the form of a name; without one nothing is printed of it, and what is new is made
@@ -96,12 +131,14 @@ pub record IsAfter (form : Form) (bytes n : ℕ) (item : Item) : Type 0 where
   pub before : extent (take n (all_items form)) ≡ bytes
   pub wide : All IsWide (all_items form)
 
--- of an item that `ss` leaves: that of the form which stood after as many bytes, and made where it is a gap over a byte
+-- of an item that `ss` leaves: that of the form which stood after as many bytes, and made where it is a gap over a byte; nothing where none
+-- stood so
 abbrev pub ToldAsCut : Form → List ℕ → After → told.Origin → Type 0
 ToldAsCut form name after o =
-    (o ≡ told.TheVariants.Unknown)
+    ((o ≡ told.TheVariants.Nothing) × ((n : ℕ) (was : Item) → slice_get (all_items form) n ≡ Some was → extent (take n (all_items form)) ≡ after.extent → ⊥))
     ⊎ ((n : ℕ) × (was : Item) × IsAfter form after.extent n was × told_of (is_cut after.is_gap was) o name n)
 
--- of the form of a name, where there is one
+-- of the form of a name; nothing where there is none
 abbrev pub ToldAsFormCut : State → List ℕ → After → told.Origin → Type 0
-ToldAsFormCut s name after o = (o ≡ told.TheVariants.Unknown) ⊎ ((form : Form) × (finite.get s.forms name ≡ Some form) × ToldAsCut form name after o)
+ToldAsFormCut s name after o =
+    ((o ≡ told.TheVariants.Nothing) × (finite.get s.forms name ≡ None)) ⊎ ((form : Form) × (finite.get s.forms name ≡ Some form) × ToldAsCut form name after o)

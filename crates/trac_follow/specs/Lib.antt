@@ -5,3 +5,4 @@ pub mod Formed
 pub mod Fetched
 pub mod Following
 pub mod Running
+pub mod Putting

@@ -1,5 +1,5 @@
 -- Places and origins as the definitions see them.
-use Rattle.std.specs.Prelude.{◌≡◌, ℕ, ◌+◌, ◌<◌, List, length, Bool, true, false, Some, Ok}
+use Rattle.std.specs.Prelude.{◌≡◌, ◌⊎◌, ℕ, ◌+◌, ◌^◌, ◌<◌, ◌≤◌, List, length, Bool, true, false, Option, None, Some, Ok}
 use Rattle.trac_rules.specs.declared.item.Item.{Item}
 use Rattle.trac_rules.specs.declared.primitive.BlockAction.TheVariants.{StoreBlock}
 use Rattle.trac_rules.specs.declared.primitive.Computation.{Computation}
@@ -34,12 +34,14 @@ Tells s (code_origin.TheVariants.Carried place) o = o ≡ Carried (place_of plac
 Tells s (code_origin.TheVariants.OfForm i) o = (call : Call) × (scan s ≡ Calls call) × (o ≡ Carried (InForm (argument 1 call.arguments) i))
 Tells s (code_origin.TheVariants.Read n) o = o ≡ Read n
 Tells s code_origin.TheVariants.Made o = o ≡ Made
-Tells s code_origin.TheVariants.Unknown o = Unit {0}
+Tells s code_origin.TheVariants.Nothing o = ⊥
 
 -- this is told of a state and of a place in it
 pub record AreLengths (after : After) (t : State) (place : Place) : Type 0 where
   pub active : after.active ≡ length t.active
   pub output : after.output ≡ length t.output
+  -- as of each machine
+  pub read : t.position < 2 ^ 64
   pub measured : IsMeasured after.extent after.is_gap t place
 
 -- what is told in the state `s` of a place: it is the origin of what stands there after the step, of whatever input, where that step leads
@@ -49,10 +51,17 @@ TellsOf s width after place told =
     (environment : Environment) (t : State) (item : Item) → environment.width ≡ width → step environment s ≡ Ok t → AreLengths after t place → found_at t place ≡ Some item →
     Tells s told (origin environment s place)
 
--- what is told in the state `s` of the byte of this number of the value of the call that the step performs
-abbrev pub TellsValue : State → Width → ℕ → code_origin.Origin → Type 0
-TellsValue s width i told =
-    (environment : Environment) (call : Call) (e : Effect) → environment.width ≡ width → scan s ≡ Calls call → performed environment call ≡ Ok e → i < length e.value →
+-- what the state after a call tells of its value: how long it is, where it is scanned; where it is not, that it is not forced
+abbrev pub IsSeen : Option ℕ → Effect → Type 0
+IsSeen (Some len) e = length e.value ≡ len
+IsSeen None e = e.forced ≡ false
+
+-- what is told in the state `s` of the byte of this number of the value of the call that the step performs, where so much is known of the
+-- value
+abbrev pub TellsValue : State → Width → Option ℕ → ℕ → code_origin.Origin → Type 0
+TellsValue s width seen i told =
+    (environment : Environment) (t : State) (call : Call) (e : Effect) (item : Item) → environment.width ≡ width → step environment s ≡ Ok t → t.position < 2 ^ 64 → scan s ≡ Calls call →
+    performed environment call ≡ Ok e → IsSeen seen e → found_at t (value_at call.kind e.forced call.state i) ≡ Some item → i < length e.value →
     Tells s told (origin environment s (value_at call.kind e.forced call.state i))
 
 -- the same, where the call is of this computation, has these arguments, and is that of the function of this number
@@ -61,10 +70,10 @@ TellsComputed computation arguments function width i told =
     (environment : Environment) (s : State) (call : Call) (e : Effect) → environment.width ≡ width → IsCallOf environment s call (Compute computation) e → call.arguments ≡ arguments →
     length call.state.frames ≡ function → i < length e.value → Tells s told (origin environment s (value_at call.kind e.forced call.state i))
 
--- read from this position on, or not told
+-- read from this position on, which no machine passes
 abbrev pub ToldAsRead : ℕ → ℕ → code_origin.Origin → Type 0
 ToldAsRead position i (code_origin.TheVariants.Read n) = n ≡ position + i
-ToldAsRead position i code_origin.TheVariants.Unknown = Unit {0}
+ToldAsRead position i code_origin.TheVariants.Nothing = 2 ^ 64 ≤ position + i
 ToldAsRead position i told = ⊥
 
 -- a place is in no function from this number on
@@ -72,30 +81,32 @@ abbrev pub IsOutside : ℕ → Place → Type 0
 IsOutside function (InArgument number argument byte) = number < function
 IsOutside function place = Unit {0}
 
+-- whether a place is in the base text or in an argument
+abbrev pub is_in_text : Place → Bool
+is_in_text (InBase i) = true
+is_in_text (InArgument number argument byte) = true
+is_in_text place = false
+
 -- of a text of this length, an argument 1, that ends the output at `end`, and of the line that is made before it
 abbrev pub ToldAsPrinted : ℕ → ℕ → ℕ → ℕ → code_origin.Origin → Type 0
 ToldAsPrinted text function end i (code_origin.TheVariants.Carried (code_place.TheVariants.Argument n k j)) = (n ≡ function) × (k ≡ 1) × (j + end ≡ i + text) × (j < text)
 ToldAsPrinted text function end i code_origin.TheVariants.Made = i + text < end
-ToldAsPrinted text function end i code_origin.TheVariants.Unknown = Unit {0}
+ToldAsPrinted text function end i code_origin.TheVariants.Nothing = (end < text) ⊎ (end ≤ i)
 ToldAsPrinted text function end i told = ⊥
 
--- of argument 2, which is so long, where the primitive is `ds`; and made, where it is `sb`
-abbrev pub ToldAsPut : Primitive → ℕ → ℕ → ℕ → code_origin.Origin → Type 0
-ToldAsPut primitive text function i (code_origin.TheVariants.Carried (code_place.TheVariants.Argument n k j)) =
-    (primitive ≡ Handle Define) × (n ≡ function) × (k ≡ 2) × (j ≡ i) × (i < text)
-ToldAsPut primitive text function i code_origin.TheVariants.Made = primitive ≡ HandleBlock StoreBlock
-ToldAsPut primitive text function i code_origin.TheVariants.Unknown = Unit {0}
-ToldAsPut primitive text function i told = ⊥
+-- of argument 2, which is so long
+abbrev pub ToldAsPut : ℕ → ℕ → ℕ → code_origin.Origin → Type 0
+ToldAsPut text function i (code_origin.TheVariants.Carried (code_place.TheVariants.Argument n k j)) = (n ≡ function) × (k ≡ 2) × (j ≡ i) × (i < text)
+ToldAsPut text function i code_origin.TheVariants.Nothing = text ≤ i
+ToldAsPut text function i told = ⊥
 
 -- something stands at a place
 abbrev pub Stands : State → Place → Type 0
 Stands s place = (item : Item) × (found_at s place ≡ Some item)
 
--- carried from this item of a form
-abbrev pub ToldAsStored : State → List ℕ → ℕ → code_origin.Origin → Type 0
-ToldAsStored s name i (code_origin.TheVariants.Carried place) = (place_of place ≡ InForm name i) × Stands s (InForm name i)
-ToldAsStored s name i code_origin.TheVariants.Unknown = Unit {0}
-ToldAsStored s name i told = ⊥
+-- and nothing does
+abbrev pub IsBare : State → Place → Type 0
+IsBare s place = (item : Item) → found_at s place ≡ Some item → ⊥
 
 -- whether a primitive reads the input
 abbrev pub reads_tape : Primitive → Bool

@@ -26,7 +26,7 @@ IsTurn here (told.TheVariants.Carried there) turn = (turn ≡ turning.TheVariant
 IsTurn here (told.TheVariants.OfForm i) turn = turn ≡ turning.TheVariants.End (code.TheVariants.OfForm i)
 IsTurn here (told.TheVariants.Read n) turn = turn ≡ turning.TheVariants.End (code.TheVariants.Read n)
 IsTurn here told.TheVariants.Made turn = turn ≡ turning.TheVariants.End code.TheVariants.Made
-IsTurn here told.TheVariants.Unknown turn = turn ≡ turning.TheVariants.End (code.TheVariants.Unknown here)
+IsTurn here told.TheVariants.Nothing turn = turn ≡ turning.TheVariants.End code.TheVariants.Nothing
 
 abbrev pub HasTurned : State → Width → After → code_place.Place → turning.Turn → Type 0
 HasTurned s width after here turn = (o : told.Origin) × TellsOf s width after (place_of here) o × IsTurn here o turn

@@ -1,5 +1,5 @@
 //! Where bytes come from by a call.
-ghost use Rattle.std.specs.Prelude.{◌≡◌, ◌+◌, length, IsTrue};
+ghost use Rattle.std.specs.Prelude.{◌≡◌, ◌+◌, length, true, MatchBool};
 ghost use Rattle.trac_origins.specs.Lengths.{is_silent, may_put};
 ghost use Rattle.trac_origins.specs.Places.{InActive, InForm, InHeld, InOutput};
 ghost use Rattle.trac_rules.specs.declared.primitive.BlockAction.TheVariants.{StoreBlock};
@@ -8,17 +8,17 @@ ghost use Rattle.trac_rules.specs.declared.width.Width.{Width};
 ghost use Rattle.trac_rules.specs.Goals.{IsCall, next_call};
 ghost use Rattle.trac_follow.specs.declared.place.After.{After as Lengths};
 ghost use Rattle.trac_follow.specs.Formed.{ToldAsFormCut, ToldAsFormShown};
-ghost use Rattle.trac_follow.specs.Places.{TellsOf, ToldAsPrinted, ToldAsPut, ToldAsStored, place_of};
+ghost use Rattle.trac_follow.specs.Putting.{put_by};
+ghost use Rattle.trac_follow.specs.Places.{TellsOf, ToldAsPrinted, ToldAsPut, is_in_text, place_of};
 
 use crate::fetched::before_fetch;
 use crate::formed::{cut_item, shown_byte};
-use crate::name::primitive_named;
 use crate::place::{After, Origin, Place};
-use crate::standing::{past_current, stands_around, stands_in_form};
+use crate::standing::{past_current, stands_around};
 use crate::valued::{argument_byte, value_byte};
 use std::alloc::Allocator;
 use trac_gap::TwoEnds;
-use trac_prims::{Args, Kind};
+use trac_prims::{Args, Kind, primitive_named};
 use trac_rules::primitive::{BlockAction, FormAction, Primitive};
 use trac_rules::width::Width;
 use trac_step::{Core, Mark};
@@ -37,14 +37,16 @@ pub(crate) fn called<'a, E: TwoEnds<u8, A>, M: TwoEnds<Mark, A>, A: Allocator + 
 {
     let depth = before.depth();
     if depth == 0 {
-        return Origin::Unknown;
+        return Origin::Nothing;
     }
     match place {
         Place::Active(i) => of_active(before, width, kind, arguments, depth - 1, after, i),
         Place::Form(name, i) => of_form(before, kind, arguments, depth - 1, after, name, i),
         Place::Held(number, name, i) => of_block(before, kind, arguments, number, name, i),
         Place::Output(i) => of_output(before, kind, arguments, depth - 1, after, i),
-        _ => of_text(before, width, kind, arguments, depth - 1, place),
+        Place::Base(_) | Place::Argument { .. } => {
+            of_text(before, width, kind, arguments, depth - 1, place)
+        }
     }
 }
 
@@ -62,16 +64,16 @@ fn of_active<'a, E: TwoEnds<u8, A>, M: TwoEnds<Mark, A>, A: Allocator + Copy>(
     requires number { function + 1 ≡ length before.now.state.frames }
     ensures { TellsOf before.now.state width after (InActive i) result }
 {
-    let len = before.active().len();
-    if len == 0 || after.active < len - 1 {
-        return Origin::Unknown;
+    let rest = before.active().len().saturating_sub(1);
+    if after.active < rest {
+        return Origin::Nothing;
     }
-    let value = after.active - (len - 1);
+    let value = after.active - rest;
     if i < value {
-        return value_byte(before, kind, arguments, function, width, i);
+        return value_byte(before, kind, arguments, function, width, Some(value), i);
     }
-    if i - value >= len - 1 {
-        return Origin::Unknown;
+    if i - value >= rest {
+        return Origin::Nothing;
     }
     Origin::Carried(Place::Active(i - value + 1))
 }
@@ -87,15 +89,14 @@ fn of_text<'a, E: TwoEnds<u8, A>, M: TwoEnds<Mark, A>, A: Allocator + Copy>(
 ) -> Origin<'a>
     requires call { IsCall (next_call before.now.state) kind arguments.now }
     requires number { function + 1 ≡ length before.now.state.frames }
+    requires text { is_in_text (place_of place) ≡ true }
     ensures { (after : Lengths) → TellsOf before.now.state width after (place_of place.entry) result }
 {
     if stands_around(before, function, place) {
         return Origin::Carried(place);
     }
-    match past_current(before, function, place) {
-        Some(n) => value_byte(before, kind, arguments, function, width, n),
-        None => Origin::Unknown,
-    }
+    let n = past_current(before, function, place);
+    value_byte(before, kind, arguments, function, width, None, n)
 }
 
 // Of the output: what was printed, then the line of the trace, and what the primitive prints.
@@ -120,10 +121,8 @@ fn of_output<'a, E: TwoEnds<u8, A>, M: TwoEnds<Mark, A>, A: Allocator + Copy>(
     }
     match primitive {
         Primitive::PrintString => printed(arguments.get(1).len(), function, after.output, i),
-        Primitive::Handle(FormAction::PrintForm) => {
-            form_shown(before, arguments.get(1), after.output, i)
-        }
-        _ => Origin::Unknown,
+        // No other primitive but `pf` prints.
+        _ => form_shown(before, arguments.get(1), after.output, i),
     }
 }
 
@@ -158,13 +157,13 @@ fn printed<'a>(text: usize, function: usize, end: usize, i: usize) -> Origin<'a>
     ensures { ToldAsPrinted text function end i result }
 {
     if text > end {
-        return Origin::Unknown;
+        return Origin::Nothing;
+    }
+    if i >= end {
+        return Origin::Nothing;
     }
     if i < end - text {
         return Origin::Made;
-    }
-    if i - (end - text) >= text {
-        return Origin::Unknown;
     }
     argument_byte(function, 1, i - (end - text))
 }
@@ -185,12 +184,14 @@ fn of_form<'a, E: TwoEnds<u8, A>, M: TwoEnds<Mark, A>, A: Allocator + Copy>(
 {
     let primitive = primitive_named(arguments.get(0));
     if may_put(primitive, arguments.get(1), name) {
-        return match primitive {
-            Primitive::Handle(FormAction::Segment) => form_cut(before, name, after),
-            Primitive::HandleBlock(BlockAction::FetchBlock) => {
+        return match put_by(primitive) {
+            Put::Text => put_byte(arguments.get(2).len(), function, i),
+            Put::Cut => form_cut(before, name, after),
+            Put::Fetched => {
                 Origin::Carried(before_fetch(before.store(), arguments.get(1), name, i))
             }
-            _ => put_item(primitive, arguments.get(2).len(), function, i),
+            Put::Address => Origin::Made,
+            Put::Nothing => Origin::Nothing,
         };
     }
     Origin::Carried(Place::Form(name, i))
@@ -206,18 +207,43 @@ fn form_cut<'a, E: TwoEnds<u8, A>, M: TwoEnds<Mark, A>, A: Allocator + Copy>(
 {
     match before.store().get(name) {
         Some(form) => cut_item(form, name, after),
-        None => Origin::Unknown,
+        None => Origin::Nothing,
     }
 }
 
-// Of a form that the primitive puts, where argument 2 is so long.
-fn put_item<'a>(primitive: Primitive, text: usize, function: usize, i: usize) -> Origin<'a>
-    ensures { ToldAsPut primitive text function i result }
+// Of a form that is a text of this length, argument 2.
+fn put_byte<'a>(text: usize, function: usize, i: usize) -> Origin<'a>
+    ensures { ToldAsPut text function i result }
+{
+    if i < text {
+        return argument_byte(function, 2, i);
+    }
+    Origin::Nothing
+}
+
+// What a primitive may put under a name.
+#[derive(Clone, Copy)]
+pub(crate) enum Put {
+    // Its argument 2.
+    Text,
+    // The form that stood there, cut.
+    Cut,
+    // A form of a block.
+    Fetched,
+    // The number of a new block.
+    Address,
+    Nothing,
+}
+
+fn put_by(primitive: Primitive) -> Put
+    ensures { result ≡ put_by primitive }
 {
     match primitive {
-        Primitive::Handle(FormAction::Define) if i < text => argument_byte(function, 2, i),
-        Primitive::HandleBlock(BlockAction::StoreBlock) => Origin::Made,
-        _ => Origin::Unknown,
+        Primitive::Handle(FormAction::Define) => Put::Text,
+        Primitive::Handle(FormAction::Segment) => Put::Cut,
+        Primitive::HandleBlock(BlockAction::FetchBlock) => Put::Fetched,
+        Primitive::HandleBlock(BlockAction::StoreBlock) => Put::Address,
+        _ => Put::Nothing,
     }
 }
 
@@ -250,31 +276,17 @@ fn of_block<'a, E: TwoEnds<u8, A>, M: TwoEnds<Mark, A>, A: Allocator + Copy>(
         return Origin::Carried(Place::Held(number, name, i));
     }
     if number > count {
-        return Origin::Unknown;
+        return Origin::Nothing;
     }
     if stores_block(primitive_named(arguments.get(0))) {
-        return stored_item(before, name, i);
-    }
-    Origin::Unknown
-}
-
-// Of a form that went into a block with others.
-fn stored_item<'a, E: TwoEnds<u8, A>, M: TwoEnds<Mark, A>, A: Allocator + Copy>(
-    before: &Core<E, M, A>,
-    name: &'a [u8],
-    i: usize,
-) -> Origin<'a>
-    ensures { ToldAsStored before.now.state name.now i result }
-{
-    if stands_in_form(before, name, i) {
         return Origin::Carried(Place::Form(name, i));
     }
-    Origin::Unknown
+    Origin::Nothing
 }
 
 // Whether a primitive puts forms into a new block.
 fn stores_block(primitive: Primitive) -> bool
-    ensures { IsTrue result → primitive ≡ HandleBlock StoreBlock }
+    ensures { MatchBool result (primitive ≡ HandleBlock StoreBlock) (primitive ≡ HandleBlock StoreBlock → ⊥) }
 {
     matches!(primitive, Primitive::HandleBlock(BlockAction::StoreBlock))
 }

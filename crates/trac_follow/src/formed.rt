@@ -1,20 +1,22 @@
 //! Where bytes come from that a call takes out of a form, prints of it, or cuts in it.
-ghost use Rattle.std.specs.Prelude.{◌≡◌, ◌+◌, ◌≤◌, length, map, min, option_map, IfOk, IfSome, IsOkUnless, ℕ};
-ghost use Rattle.std.specs.List.{flat_map};
+ghost use Rattle.std.specs.Prelude.{◌≡◌, ◌≤◌, drop, length, option_map, IfSome, List, Option, Some, ℕ};
 ghost use Rattle.trac_forms.specs.Taken.{IsThere, taken};
-ghost use Rattle.trac_origins.specs.Lengths.{number_of_default};
-ghost use Rattle.trac_rules.specs.Computing.{number_argument};
+ghost use Rattle.trac_rules.specs.Effect.{argument};
+ghost use Rattle.trac_rules.specs.Form.{all_items};
 ghost use Rattle.trac_rules.specs.Handling.{piece_read};
+ghost use Rattle.trac_rules.specs.Pieces.{begin_with};
 ghost use Rattle.trac_rules.specs.declared.primitive.FormAction.TheVariants.{Call, Read as Reads};
 ghost use Rattle.trac_rules.specs.declared.primitive.Primitive.TheVariants.{Handle};
-ghost use Rattle.trac_rules.specs.declared.refusal.Refusal.{Refusal};
-ghost use Rattle.trac_follow.specs.Formed.{TellsOfForm, ToldAsCut, ToldAsPiece, ToldAsShown, ToldAsShownAfter, ToldAsShownAt, is_cut, of_shown};
+ghost use Rattle.trac_rules.specs.declared.primitive.FormReading.TheVariants.{ReadCount, ReadUntil};
+ghost use Rattle.trac_rules.specs.declared.width.Width.{Width};
+ghost use Rattle.trac_follow.specs.Formed.{IsFound, TellsOfForm, ToldAsCut, ToldAsPiece, ToldAsShown, ToldAsShownAfter, ToldAsShownAt, ToldFrom, is_byte, is_cut, of_shown};
 
 use crate::items::{Among, Giving, byte_among, item_after};
 use crate::place::{After, Origin, Place};
-use crate::valued::{argument_byte, number_at};
+use crate::valued::argument_byte;
 use std::alloc::Allocator;
-use trac_forms::{Form, FormError, Item, Piece};
+use trac_forms::{Form, Item, Piece};
+use trac_prims::number_at;
 use trac_rules::primitive::FormReading;
 use trac_rules::width::Width;
 use trac_text::Args;
@@ -26,12 +28,12 @@ pub(crate) fn called_byte<'a, A: Allocator + Copy>(
     function: usize,
     i: usize,
 ) -> Origin<'a>
-    ensures { (width : Width) → TellsOfForm (Handle Call) form.now arguments.now function width i result }
+    ensures { (width : Width) (seen : Option ℕ) → TellsOfForm (Handle Call) form.now arguments.now function width seen i result }
 {
     let start = form.pointer();
     let Among::Here(given) = byte_among(form, start, form.len(), Giving::Filled(arguments), i)
     else {
-        return Origin::Unknown;
+        return Origin::Nothing;
     };
     match given.item {
         Item::Byte(_) => Origin::OfForm(start + given.at),
@@ -41,65 +43,129 @@ pub(crate) fn called_byte<'a, A: Allocator + Copy>(
     }
 }
 
-// Of the value of `cs`, `cc`, `cn` or `in`: of the form, or of the default argument.
+// Of the value of `cs`, `cc`, `cn` or `in`, of which so much is known: of the form, or of the default argument.
 pub(crate) fn read_byte_of<'a, A: Allocator + Copy>(
     reading: FormReading,
     form: &Form<A>,
     arguments: &Args<'_>,
     function: usize,
     width: Width,
+    seen: Option<usize>,
     i: usize,
 ) -> Origin<'a>
-    ensures { TellsOfForm (Handle (Reads reading)) form.now arguments.now function width i result }
+    ensures { TellsOfForm (Handle (Reads reading)) form.now arguments.now function width seen i result }
 {
-    match piece_of(reading, arguments, form, width) {
-        Ok(Some(piece)) => piece_byte(form, piece, i),
-        Ok(None) => argument_byte(function, default_number(reading), i),
-        Err(_) => Origin::Unknown,
+    match reading {
+        FormReading::ReadSegment => piece_byte(form, form.read_segment(), function, 2, i),
+        FormReading::ReadChar => piece_byte(form, form.read_char(), function, 2, i),
+        FormReading::ReadCount => {
+            piece_byte(form, counted(form, arguments, width), function, 3, i)
+        }
+        FormReading::ReadUntil => until_byte(form, arguments.get(2), function, seen, i),
     }
 }
 
-// Of a piece that is read of a form.
-fn piece_byte<'a, A: Allocator + Copy>(form: &Form<A>, piece: Piece, i: usize) -> Origin<'a>
-    requires { IsThere form.now piece }
-    ensures { ToldAsPiece form.now piece i result }
+// What `cn` reads of a form: as many bytes as the number says; nothing where that does not fit the width.
+fn counted<A: Allocator + Copy>(form: &Form<A>, arguments: &Args<'_>, width: Width) -> Option<Piece>
+    ensures read { option_map (λ piece. taken piece form.now) result ≡ piece_read ReadCount width arguments.now form.now }
+    ensures there { IfSome result (IsThere form.now) }
 {
-    let first = piece.pointer.min(form.pointer());
-    let Among::Here(given) = byte_among(form, first, form.len(), Giving::Read, i) else {
-        return Origin::Unknown;
-    };
-    match given.item {
-        Item::Byte(_) => Origin::OfForm(first + given.at),
-        Item::Gap { .. } => Origin::Unknown,
-    }
+    form.read_count(number_at(arguments, 2, width).unwrap_or(0))
 }
 
-// What is read of a form with these arguments; none in the case of the default argument.
-fn piece_of<A: Allocator + Copy>(
-    reading: FormReading,
-    arguments: &Args<'_>,
+// Of a piece that is read of a form; without one, of the default argument.
+fn piece_byte<'a, A: Allocator + Copy>(
     form: &Form<A>,
-    width: Width,
-) -> Result<Option<Piece>, FormError>
-    ensures read { IfOk result (λ found. option_map (λ piece. taken piece form.now) found ≡ piece_read reading width arguments.now form.now) }
-    ensures there { IfOk result (λ found. IfSome found (IsThere form.now)) }
+    found: Option<Piece>,
+    function: usize,
+    other: usize,
+    i: usize,
+) -> Origin<'a>
+    requires { IfSome found (IsThere form.now) }
+    ensures { ToldAsPiece form.now found function other i result }
 {
-    match reading {
-        FormReading::ReadSegment => Ok(form.read_segment()),
-        FormReading::ReadChar => Ok(form.read_char()),
-        FormReading::ReadCount => Ok(form.read_count(number_at(arguments, 2, width).unwrap_or(0))),
-        FormReading::ReadUntil => form.read_until(arguments.get(2)),
+    match found {
+        Some(piece) => byte_from(form, piece.pointer.min(form.pointer()), i),
+        None => argument_byte(function, other, i),
     }
 }
 
-// Which argument is the default of a reading.
-fn default_number(reading: FormReading) -> usize
-    ensures { result ≡ number_of_default reading }
+// Of the value of `in`, which searches this text: what stands before it is the form's. Where the text is not found, the value
+// is the default argument.
+fn until_byte<'a, A: Allocator + Copy>(
+    form: &Form<A>,
+    text: &[u8],
+    function: usize,
+    seen: Option<usize>,
+    i: usize,
+) -> Origin<'a>
+    ensures { (arguments : List (List ℕ)) (width : Width) → argument 2 arguments ≡ text.now →
+        TellsOfForm (Handle (Reads ReadUntil)) form.now arguments function width seen i result }
 {
-    match reading {
-        FormReading::ReadSegment | FormReading::ReadChar => 2,
-        FormReading::ReadCount | FormReading::ReadUntil => 3,
+    if is_found(form, text, seen) {
+        return byte_from(form, form.pointer(), i);
     }
+    argument_byte(function, 3, i)
+}
+
+// Whether `in` found a text: its value then is not forced, and the text stands after it.
+fn is_found<A: Allocator + Copy>(form: &Form<A>, text: &[u8], seen: Option<usize>) -> bool
+    ensures { IsFound form.now text.now seen result }
+{
+    match seen {
+        Some(len) => stands_after(form, text, len),
+        None => true,
+    }
+}
+
+// Whether a text stands in a form after so many bytes that stand after the pointer.
+fn stands_after<A: Allocator + Copy>(form: &Form<A>, text: &[u8], bytes: usize) -> bool
+    ensures { IsFound form.now text.now (Some bytes) result }
+{
+    let start = form.pointer();
+    match byte_among(form, start, form.len(), Giving::Read, bytes) {
+        Among::Here(given) => begins_at(form, start + given.at, text),
+        Among::Past(_) => false,
+    }
+}
+
+// Whether the items of a form from this place on begin with a text.
+fn begins_at<A: Allocator + Copy>(form: &Form<A>, place: usize, text: &[u8]) -> bool
+    requires { place ≤ length (all_items form.now) }
+    ensures { result ≡ begin_with text.now (drop place (all_items form.now)) }
+{
+    let mut rest = text;
+    for at in place..form.len() {
+        let Some((first, others)) = rest.split_first() else {
+            return true;
+        };
+        if !is_byte(form.item(at), *first) {
+            return false;
+        }
+        rest = others;
+    }
+    rest.is_empty()
+}
+
+// Whether an item is this byte.
+fn is_byte(item: Option<Item>, b: u8) -> bool
+    ensures { result ≡ is_byte item b }
+{
+    match item {
+        Some(Item::Byte(c)) => b == c,
+        _ => false,
+    }
+}
+
+// Of the bytes of a form from a place on.
+fn byte_from<'a, A: Allocator + Copy>(form: &Form<A>, first: usize, i: usize) -> Origin<'a>
+    requires { first ≤ length (all_items form.now) }
+    ensures { ToldFrom form.now first i result }
+{
+    let Among::Here(given) = byte_among(form, first, form.len(), Giving::Read, i) else {
+        return Origin::Nothing;
+    };
+    Origin::OfForm(first + given.at)
 }
 
 // Of what `pf` prints of a form, after which the output ends: bytes are the form's, and marks made, as is the line before it.
@@ -111,10 +177,13 @@ pub(crate) fn shown_byte<'a, A: Allocator + Copy>(
     ensures { ToldAsShown form.now end i result }
 {
     let Some(len) = form.show_len() else {
-        return Origin::Unknown;
+        return Origin::Nothing;
     };
-    if len > end || i >= end {
-        return Origin::Unknown;
+    if len > end {
+        return Origin::Nothing;
+    }
+    if i >= end {
+        return Origin::Nothing;
     }
     if i < end - len {
         return Origin::Made;
@@ -141,7 +210,7 @@ fn shown_after<'a, A: Allocator + Copy>(form: &Form<A>, i: usize) -> Origin<'a>
     let pointer = form.pointer();
     match byte_among(form, pointer, form.len(), Giving::Shown, i) {
         Among::Here(given) => of_shown(given.item, pointer + given.at),
-        Among::Past(_) => Origin::Unknown,
+        Among::Past(_) => Origin::Nothing,
     }
 }
 
@@ -165,7 +234,7 @@ pub(crate) fn cut_item<'a, A: Allocator + Copy>(
     ensures { ToldAsCut form.now name.now after result }
 {
     let Some((place, item)) = item_after(form, after.extent) else {
-        return Origin::Unknown;
+        return Origin::Nothing;
     };
     if is_cut(after.is_gap, item) {
         return Origin::Made;

@@ -1,5 +1,5 @@
 //! Following a byte back over many steps.
-ghost use Rattle.std.specs.Prelude.{◌≡◌, ◌≤◌, length, Some};
+ghost use Rattle.std.specs.Prelude.{◌≡◌, ◌^◌, ◌<◌, ◌≤◌, length, Some};
 ghost use Rattle.trac_follow.specs.Following.{IsFollowed};
 ghost use Rattle.trac_follow.specs.Items.{IsMeasured};
 ghost use Rattle.trac_follow.specs.Places.{place_of};
@@ -35,8 +35,6 @@ pub enum Source<'a> {
     Read(usize),
     /// The step that comes next made it.
     Made,
-    /// After the step that comes next it stood at this place. Where that step has it from is not told.
-    Unknown(Place<'a>),
 }
 
 /// How a byte was followed back.
@@ -50,8 +48,8 @@ pub struct Followed<'a> {
 
 /// Goes back over up to `most` steps, as long as these carried the byte at a place, or the item of a form: until one made or
 /// read it, or has it from a form. The width of the session's numbers has to be given. Bytes that moved one by one are
-/// passed at once, as `Session::back` passes them. Only for a byte of the value of `in` it takes memory, for what that call
-/// searched; where that is refused it ends with `Unknown` (this project's profile).
+/// passed at once, as `Session::back` passes them. It takes no memory, and says that nothing is there only where nothing stands
+/// at the place (this project's profile).
 pub fn follow<'a, A: Allocator + Copy>(
     session: &mut Session<A>,
     width: Width,
@@ -104,9 +102,12 @@ fn seen_after<E: TwoEnds<u8, A>, M: TwoEnds<Mark, A>, A: Allocator + Copy>(
 ) -> After
     ensures active { result.active ≡ length machine.now.state.active }
     ensures output { result.output ≡ length machine.now.state.output }
+    ensures read { machine.now.state.position < 2 ^ 64 }
     ensures extent { result.extent ≡ measure.0 }
     ensures gap { result.is_gap ≡ measure.1 }
 {
+    // For the clause `read`: a machine counts what it read.
+    let _read = machine.position();
     After {
         active: machine.active().len(),
         output: machine.output().len(),
@@ -144,7 +145,7 @@ fn turned<'a, E: TwoEnds<u8, A>, M: TwoEnds<Mark, A>, A: Allocator + Copy>(
         Origin::OfForm(i) => Turn::End(Source::OfForm(i)),
         Origin::Read(n) => Turn::End(Source::Read(n)),
         Origin::Made => Turn::End(Source::Made),
-        Origin::Unknown => Turn::End(Source::Unknown(here)),
+        Origin::Nothing => Turn::End(Source::Nothing),
     }
 }
 

@@ -1,5 +1,5 @@
 //! Which item of a form gives a byte.
-ghost use Rattle.std.specs.Prelude.{◌≡◌, ◌<◌, ◌≤◌, ◌-◌, drop, length, take, IfSome, Some, slice_get};
+ghost use Rattle.std.specs.Prelude.{◌≡◌, ◌<◌, ◌≤◌, ◌-◌, drop, length, take, MatchOption, Some, slice_get, ℕ};
 ghost use Rattle.trac_rules.specs.Filling.{text_numbered};
 ghost use Rattle.trac_rules.specs.Form.{all_items, extent, width_of};
 ghost use Rattle.trac_rules.specs.Pieces.{is_gap};
@@ -139,7 +139,8 @@ pub(crate) fn extent_before<A: Allocator + Copy>(form: &Form<A>, place: usize) -
 
 // The item before which items stand that stand for so many bytes, and its place.
 pub(crate) fn item_after<A: Allocator + Copy>(form: &Form<A>, bytes: usize) -> Option<(usize, Item)>
-    ensures { IfSome result (λ found. IsAfter form.now bytes found.0 found.1) }
+    ensures { MatchOption result ((n : ℕ) (item : Item) → slice_get (all_items form.now) n ≡ Some item → extent (take n (all_items form.now)) ≡ bytes → ⊥)
+        (λ found. IsAfter form.now bytes found.0 found.1) }
 {
     let mut left = bytes;
     for place in 0..form.len() {

@@ -8,7 +8,6 @@ mod front;
 pub mod history;
 mod items;
 mod moving;
-mod name;
 pub mod origin;
 pub mod place;
 mod running;

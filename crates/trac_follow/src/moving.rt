@@ -1,11 +1,13 @@
 //! Where bytes come from by the rules of scanning that move on.
-ghost use Rattle.std.specs.Prelude.{◌≡◌, length, Some};
+ghost use Rattle.std.specs.Prelude.{◌≡◌, length, true, Ok, Some};
+ghost use Rattle.trac_origins.specs.Lengths.{is_outside};
 ghost use Rattle.trac_origins.specs.Places.{InActive, found_at};
 ghost use Rattle.trac_origins.specs.Stepping.{origin};
 ghost use Rattle.trac_rules.specs.declared.item.Item.{Item};
 ghost use Rattle.trac_rules.specs.Scanning.{Moves, scan};
 ghost use Rattle.trac_rules.specs.State.{Environment, State};
-ghost use Rattle.trac_follow.specs.Places.{Tells, place_of};
+ghost use Rattle.trac_rules.specs.Stepping.{step};
+ghost use Rattle.trac_follow.specs.Places.{IsBare, Tells, place_of};
 
 use crate::front::first_moved_at;
 use crate::place::{Origin, Place};
@@ -21,8 +23,8 @@ pub(crate) fn moved<'a, E: TwoEnds<u8, A>, M: TwoEnds<Mark, A>, A: Allocator + C
     left: usize,
     place: Place<'a>,
 ) -> Origin<'a>
-    ensures { (environment : Environment) (t : State) (item : Item) → scan before.now.state ≡ Moves t → left ≡ length t.active → found_at t (place_of place.entry) ≡ Some item →
-        Tells before.now.state result (origin environment before.now.state (place_of place.entry)) }
+    ensures { (environment : Environment) (t : State) (item : Item) → step environment before.now.state ≡ Ok t → scan before.now.state ≡ Moves t → left ≡ length t.active →
+        found_at t (place_of place.entry) ≡ Some item → Tells before.now.state result (origin environment before.now.state (place_of place.entry)) }
 {
     if let Place::Active(i) = place {
         return left_over(before.active(), left, i);
@@ -35,15 +37,18 @@ pub(crate) fn moved<'a, E: TwoEnds<u8, A>, M: TwoEnds<Mark, A>, A: Allocator + C
 
 // Of the active text that is left.
 fn left_over<'a>(active: &[u8], left: usize, i: usize) -> Origin<'a>
-    ensures { (environment : Environment) (s t : State) (item : Item) → scan s ≡ Moves t → s.active ≡ active.now → left ≡ length t.active →
+    ensures { (environment : Environment) (s t : State) (item : Item) → step environment s ≡ Ok t → scan s ≡ Moves t → s.active ≡ active.now → left ≡ length t.active →
         found_at t (InActive i) ≡ Some item →
         Tells s result (origin environment s (InActive i)) }
 {
     if active.is_empty() {
         return Origin::Made;
     }
-    if left > active.len() || i >= left {
-        return Origin::Unknown;
+    if left > active.len() {
+        return Origin::Nothing;
+    }
+    if i >= left {
+        return Origin::Nothing;
     }
     Origin::Carried(Place::Active(active.len() - left + i))
 }
@@ -53,17 +58,17 @@ fn gathered<'a, E: TwoEnds<u8, A>, M: TwoEnds<Mark, A>, A: Allocator + Copy>(
     before: &Core<E, M, A>,
     place: Place<'a>,
 ) -> Origin<'a>
-    ensures { (environment : Environment) (t : State) (item : Item) → scan before.now.state ≡ Moves t → found_at t (place_of place.entry) ≡ Some item →
-        Tells before.now.state result (origin environment before.now.state (place_of place.entry)) }
+    requires new { is_outside (place_of place) ≡ true }
+    requires bare { IsBare before.now.state (place_of place) }
+    ensures { (environment : Environment) (t : State) (item : Item) → step environment before.now.state ≡ Ok t → scan before.now.state ≡ Moves t →
+        found_at t (place_of place.entry) ≡ Some item → Tells before.now.state result (origin environment before.now.state (place_of place.entry)) }
 {
     let Some(first) = first_moved_at(before.active()) else {
-        return Origin::Unknown;
+        return Origin::Nothing;
     };
-    let Some(n) = past_current(before, before.depth(), place) else {
-        return Origin::Unknown;
-    };
+    let n = past_current(before, before.depth(), place);
     if n >= before.active().len() {
-        return Origin::Unknown;
+        return Origin::Nothing;
     }
     Origin::Carried(Place::Active(first + n))
 }

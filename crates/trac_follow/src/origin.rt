@@ -11,10 +11,9 @@ use trac_session::Machine;
 use trac_step::{Core, Mark};
 
 /// Where what stands at a place comes from after the next step of a machine, whose numbers are of this width, if that step
-/// leaves texts of these lengths: for any input the origin that the definitions of `trac_origins` say. Of some calls it does not
-/// tell. It takes memory only for a byte of the value of `in`, for what that call searched, and does not tell where that is
-/// refused; and time for the begun functions, for the arguments of the call, for the form that is named, and where that call
-/// fetches a block for each block.
+/// leaves texts of these lengths: for any input the origin that the definitions of `trac_origins` say, of whatever stands
+/// there. It takes no memory; and time for the begun functions, for the arguments of the call, for the form that is named, where
+/// the call fetches a block for each block, and where it lists names for each of them with each.
 pub fn origin_of<'a, A: Allocator + Copy>(
     before: &Machine<A>,
     width: Width,

@@ -33,8 +33,8 @@ pub enum Origin<'a> {
     Read(usize),
     /// The step made it.
     Made,
-    /// This function does not tell.
-    Unknown,
+    /// Nothing stands at the place after the step.
+    Nothing,
 }
 
 /// What is told of the state after a step: how long texts are, and of a place in a form what stands before it and there.

@@ -10,11 +10,10 @@ ghost use Rattle.trac_rules.specs.Performing.{primitive_of};
 ghost use Rattle.trac_rules.specs.PlainRuns.{moved_on};
 
 use crate::called::may_put;
-use crate::name::primitive_named;
 use crate::place::Place;
 use std::alloc::Allocator;
 use trac_gap::TwoEnds;
-use trac_prims::Args;
+use trac_prims::{Args, primitive_named};
 use trac_step::{Core, Mark};
 
 // ---- runs of bytes that moved one by one

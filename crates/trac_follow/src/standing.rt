@@ -1,9 +1,9 @@
 //! What stands at a place, and what is past the current text.
-ghost use Rattle.std.specs.Prelude.{◌≡◌, ◌+◌, ◌-◌, drop, length, slice_get, true, Some, IfSome, IsTrue};
+ghost use Rattle.std.specs.Prelude.{◌≡◌, ◌+◌, ◌-◌, drop, false, length, slice_get, true, Some, IsTrue, ℕ};
 ghost use Rattle.trac_origins.specs.Lengths.{current_text, in_current, is_of_text, is_outside};
 ghost use Rattle.trac_origins.specs.Places.{byte_at, held_form, items_of, InArgument, InForm, InHeld};
 ghost use Rattle.trac_rules.specs.declared.item.Item.{Item};
-ghost use Rattle.trac_follow.specs.Places.{IsOutside, Stands, place_of};
+ghost use Rattle.trac_follow.specs.Places.{IsBare, IsOutside, Stands, is_in_text, place_of};
 
 use crate::fetched::held_in;
 use crate::place::Place;
@@ -12,12 +12,13 @@ use trac_forms::Block;
 use trac_gap::TwoEnds;
 use trac_step::{Core, Mark};
 
-// Whether a byte stands at a place of the texts or the output, or an item in a form or in a block: then something does.
+// Whether something stands at a place: a byte in the texts or in the output, an item in a form or in a block.
 pub(crate) fn stands<E: TwoEnds<u8, A>, M: TwoEnds<Mark, A>, A: Allocator + Copy>(
     machine: &Core<E, M, A>,
     place: Place<'_>,
 ) -> bool
-    ensures { IsTrue result → Stands machine.now.state (place_of place.entry) }
+    ensures there { IsTrue result → Stands machine.now.state (place_of place.entry) }
+    ensures bare { result ≡ false → IsBare machine.now.state (place_of place.entry) }
 {
     match place {
         Place::Active(i) => has_byte(machine.active(), i),
@@ -30,7 +31,8 @@ pub(crate) fn stands_elsewhere<E: TwoEnds<u8, A>, M: TwoEnds<Mark, A>, A: Alloca
     machine: &Core<E, M, A>,
     place: Place<'_>,
 ) -> bool
-    ensures { IsTrue result → Stands machine.now.state (place_of place.entry) × (is_outside (place_of place.entry) ≡ true) }
+    ensures there { IsTrue result → Stands machine.now.state (place_of place.entry) × (is_outside (place_of place.entry) ≡ true) }
+    ensures bare { result ≡ false → is_outside (place_of place.entry) ≡ true → IsBare machine.now.state (place_of place.entry) }
 {
     match place {
         Place::Base(i) => has_byte(machine.base(), i),
@@ -52,7 +54,8 @@ pub(crate) fn stands_around<E: TwoEnds<u8, A>, M: TwoEnds<Mark, A>, A: Allocator
     function: usize,
     place: Place<'_>,
 ) -> bool
-    ensures { IsTrue result → Stands machine.now.state (place_of place.entry) × ((is_of_text (place_of place.entry) ≡ true) × IsOutside function (place_of place.entry)) }
+    ensures there { IsTrue result → Stands machine.now.state (place_of place.entry) × ((is_of_text (place_of place.entry) ≡ true) × IsOutside function (place_of place.entry)) }
+    ensures bare { result ≡ false → is_in_text (place_of place.entry) ≡ true → IsOutside function (place_of place.entry) → IsBare machine.now.state (place_of place.entry) }
 {
     match place {
         Place::Base(i) => has_byte(machine.base(), i),
@@ -67,7 +70,8 @@ pub(crate) fn stands_around<E: TwoEnds<u8, A>, M: TwoEnds<Mark, A>, A: Allocator
 
 // Whether a text has such a byte.
 fn has_byte(text: &[u8], i: usize) -> bool
-    ensures { IsTrue result → (item : Item) × (byte_at i text.now ≡ Some item) }
+    ensures there { IsTrue result → (item : Item) × (byte_at i text.now ≡ Some item) }
+    ensures bare { result ≡ false → (item : Item) → byte_at i text.now ≡ Some item → ⊥ }
 {
     i < text.len()
 }
@@ -79,7 +83,8 @@ fn stands_in_argument<E: TwoEnds<u8, A>, M: TwoEnds<Mark, A>, A: Allocator + Cop
     argument: usize,
     byte: usize,
 ) -> bool
-    ensures { IsTrue result → Stands machine.now.state (InArgument function argument byte) }
+    ensures there { IsTrue result → Stands machine.now.state (InArgument function argument byte) }
+    ensures bare { result ≡ false → IsBare machine.now.state (InArgument function argument byte) }
 {
     match machine.frame(function) {
         Some((_, arguments)) => byte < arguments.get(argument).len(),
@@ -88,12 +93,13 @@ fn stands_in_argument<E: TwoEnds<u8, A>, M: TwoEnds<Mark, A>, A: Allocator + Cop
 }
 
 // Whether a form has such an item.
-pub(crate) fn stands_in_form<E: TwoEnds<u8, A>, M: TwoEnds<Mark, A>, A: Allocator + Copy>(
+fn stands_in_form<E: TwoEnds<u8, A>, M: TwoEnds<Mark, A>, A: Allocator + Copy>(
     machine: &Core<E, M, A>,
     name: &[u8],
     i: usize,
 ) -> bool
-    ensures { IsTrue result → Stands machine.now.state (InForm name.now i) }
+    ensures there { IsTrue result → Stands machine.now.state (InForm name.now i) }
+    ensures bare { result ≡ false → IsBare machine.now.state (InForm name.now i) }
 {
     match machine.store().get(name) {
         Some(form) => form.item(i).is_some(),
@@ -108,7 +114,8 @@ fn stands_in_block<E: TwoEnds<u8, A>, M: TwoEnds<Mark, A>, A: Allocator + Copy>(
     name: &[u8],
     i: usize,
 ) -> bool
-    ensures { IsTrue result → Stands machine.now.state (InHeld number name.now i) }
+    ensures there { IsTrue result → Stands machine.now.state (InHeld number name.now i) }
+    ensures bare { result ≡ false → IsBare machine.now.state (InHeld number name.now i) }
 {
     match machine.store().block(number) {
         Some(block) => holds_item(block, name, i),
@@ -118,7 +125,8 @@ fn stands_in_block<E: TwoEnds<u8, A>, M: TwoEnds<Mark, A>, A: Allocator + Copy>(
 
 // The same, of this block.
 fn holds_item<A: Allocator + Copy>(block: &Block<A>, name: &[u8], i: usize) -> bool
-    ensures { IsTrue result → (item : Item) × (slice_get (items_of (held_form name.now (Some block.now.held))) i ≡ Some item) }
+    ensures there { IsTrue result → (item : Item) × (slice_get (items_of (held_form name.now (Some block.now.held))) i ≡ Some item) }
+    ensures bare { result ≡ false → (item : Item) → slice_get (items_of (held_form name.now (Some block.now.held))) i ≡ Some item → ⊥ }
 {
     match held_in(block, name) {
         Some(form) => form.item(i).is_some(),
@@ -126,51 +134,38 @@ fn holds_item<A: Allocator + Copy>(block: &Block<A>, name: &[u8], i: usize) -> b
     }
 }
 
-// How far a place is past the current text, as it is when only so many functions are begun; none where it is not.
+// How far a place is past the current text, where it is, as it is when only so many functions are begun.
 pub(crate) fn past_current<E: TwoEnds<u8, A>, M: TwoEnds<Mark, A>, A: Allocator + Copy>(
     machine: &Core<E, M, A>,
     depth: usize,
     place: Place<'_>,
-) -> Option<usize>
-    ensures { IfSome result (λ n. place_of place.entry ≡ in_current (drop (length machine.now.state.frames - depth) machine.now.state.frames)
-        (length (current_text (drop (length machine.now.state.frames - depth) machine.now.state.frames) machine.now.state) + n)) }
+) -> usize
+    ensures { (n : ℕ) → place_of place.entry ≡ in_current (drop (length machine.now.state.frames - depth) machine.now.state.frames)
+        (length (current_text (drop (length machine.now.state.frames - depth) machine.now.state.frames) machine.now.state) + n) → result ≡ n }
 {
     match place {
-        Place::Base(i) if depth == 0 => past(machine.base().len(), i),
+        Place::Base(i) => i.saturating_sub(machine.base().len()),
         Place::Argument {
             function,
             argument,
             byte,
-        } if function < depth && depth - function == 1 => {
-            past_argument(machine, function, argument, byte)
-        }
-        _ => None,
+        } => past_argument(machine, function, argument, byte),
+        _ => 0,
     }
 }
 
-// How far a byte is past the last argument of a begun function; none where it is not, or is one of another argument.
+// How far a byte is past an argument of a begun function.
 fn past_argument<E: TwoEnds<u8, A>, M: TwoEnds<Mark, A>, A: Allocator + Copy>(
     machine: &Core<E, M, A>,
     function: usize,
     argument: usize,
     byte: usize,
-) -> Option<usize>
-    ensures { IfSome result (λ n. InArgument function argument byte ≡ in_current (drop (length machine.now.state.frames - (function + 1)) machine.now.state.frames)
-        (length (current_text (drop (length machine.now.state.frames - (function + 1)) machine.now.state.frames) machine.now.state) + n)) }
+) -> usize
+    ensures { (depth n : ℕ) → InArgument function argument byte ≡ in_current (drop (length machine.now.state.frames - depth) machine.now.state.frames)
+        (length (current_text (drop (length machine.now.state.frames - depth) machine.now.state.frames) machine.now.state) + n) → result ≡ n }
 {
-    let (_, arguments) = machine.frame(function)?;
-    if argument != arguments.comma_count() {
-        return None;
+    match machine.frame(function) {
+        Some((_, arguments)) => byte.saturating_sub(arguments.get(argument).len()),
+        None => 0,
     }
-    past(arguments.get(argument).len(), byte)
-}
-
-// How far a byte is past a text of this length; none where it is within.
-fn past(len: usize, i: usize) -> Option<usize>
-    ensures { IfSome result (λ n. n + len ≡ i) }
-{
-    if i < len {
-        return None;
-    }
-    Some(i - len)
 }

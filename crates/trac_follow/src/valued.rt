@@ -1,41 +1,42 @@
 //! Where the bytes of a value come from.
 ghost use Rattle.std.specs.Prelude.{◌≡◌, ◌+◌, length, ℕ};
-ghost use Rattle.trac_rules.specs.Computing.{number_argument, result_of};
 ghost use Rattle.trac_rules.specs.Effect.{argument};
 ghost use Rattle.trac_rules.specs.Goals.{IsCall, next_call};
-ghost use Rattle.trac_rules.specs.Number.{is_greater, numeral_of, on_both};
+ghost use Rattle.trac_rules.specs.Number.{is_greater, numeral_of};
 ghost use Rattle.trac_rules.specs.Performing.{primitive_of};
 ghost use Rattle.trac_rules.specs.declared.primitive.Computation.TheVariants.{Calculate};
+ghost use Rattle.trac_rules.specs.declared.primitive.FormAction.TheVariants.{ListNames};
 ghost use Rattle.trac_rules.specs.declared.primitive.Primitive.TheVariants.{Handle};
-ghost use Rattle.trac_origins.specs.Lengths.{gives_bits, number_chosen};
+ghost use Rattle.trac_origins.specs.Lengths.{number_chosen};
 ghost use Rattle.trac_follow.specs.declared.place.Origin.TheVariants.{Carried};
 ghost use Rattle.trac_follow.specs.declared.place.Place.TheVariants.{Argument};
+ghost use Rattle.trac_follow.specs.Formed.{ToldAsListed};
 ghost use Rattle.trac_follow.specs.Places.{TellsComputed, TellsValue, ToldAsRead, reads_tape};
 
 use crate::formed::{called_byte, read_byte_of};
-use crate::name::primitive_named;
 use crate::place::{Origin, Place};
 use std::alloc::Allocator;
 use trac_gap::TwoEnds;
-use trac_num::{add, div, greater, mul, read_tail, sub, value};
-use trac_prims::{Args, Kind};
+use trac_num::{greater, read_tail};
+use trac_prims::{Args, Kind, primitive_named, result_on};
 use trac_rules::primitive::{Computation, FormAction, Operation, Primitive};
 use trac_rules::width::Width;
 use trac_step::{Core, Mark};
 
-// Where the byte of this number of the value comes from that the next step gives, which performs this call. The call's
-// function has this number.
+// Where the byte of this number of the value comes from that the next step gives, which performs this call, where so much is
+// seen of the value. The call's function has this number.
 pub(crate) fn value_byte<'a, E: TwoEnds<u8, A>, M: TwoEnds<Mark, A>, A: Allocator + Copy>(
     before: &Core<E, M, A>,
     kind: Kind,
     arguments: &Args<'_>,
     function: usize,
     width: Width,
+    seen: Option<usize>,
     i: usize,
 ) -> Origin<'a>
     requires call { IsCall (next_call before.now.state) kind arguments.now }
     requires number { function + 1 ≡ length before.now.state.frames }
-    ensures { TellsValue before.now.state width i result }
+    ensures { TellsValue before.now.state width seen i result }
 {
     let primitive = primitive_named(arguments.get(0));
     if reads_tape(primitive) {
@@ -46,13 +47,13 @@ pub(crate) fn value_byte<'a, E: TwoEnds<u8, A>, M: TwoEnds<Mark, A>, A: Allocato
             computed_byte(computation, arguments, function, width, i)
         }
         Primitive::Handle(action) => {
-            handled_byte(before, action, kind, arguments, function, width, i)
+            handled_byte(before, action, kind, arguments, function, width, seen, i)
         }
-        _ => Origin::Unknown,
+        _ => Origin::Nothing,
     }
 }
 
-// Of a call on a form.
+// Of a call on forms.
 fn handled_byte<'a, E: TwoEnds<u8, A>, M: TwoEnds<Mark, A>, A: Allocator + Copy>(
     before: &Core<E, M, A>,
     action: FormAction,
@@ -60,20 +61,62 @@ fn handled_byte<'a, E: TwoEnds<u8, A>, M: TwoEnds<Mark, A>, A: Allocator + Copy>
     arguments: &Args<'_>,
     function: usize,
     width: Width,
+    seen: Option<usize>,
     i: usize,
 ) -> Origin<'a>
     requires call { IsCall (next_call before.now.state) kind arguments.now }
     requires named { primitive_of (argument 0 arguments.now) ≡ Handle action }
     requires number { function + 1 ≡ length before.now.state.frames }
-    ensures { TellsValue before.now.state width i result }
+    ensures { TellsValue before.now.state width seen i result }
+{
+    match action {
+        FormAction::ListNames => listed_byte(before, arguments.get(1).len(), function, i),
+        _ => formed_byte(before, action, kind, arguments, function, width, seen, i),
+    }
+}
+
+// Of a call on the form that argument 1 names.
+fn formed_byte<'a, E: TwoEnds<u8, A>, M: TwoEnds<Mark, A>, A: Allocator + Copy>(
+    before: &Core<E, M, A>,
+    action: FormAction,
+    kind: Kind,
+    arguments: &Args<'_>,
+    function: usize,
+    width: Width,
+    seen: Option<usize>,
+    i: usize,
+) -> Origin<'a>
+    requires call { IsCall (next_call before.now.state) kind arguments.now }
+    requires named { primitive_of (argument 0 arguments.now) ≡ Handle action }
+    requires other { action ≡ ListNames → ⊥ }
+    requires number { function + 1 ≡ length before.now.state.frames }
+    ensures { TellsValue before.now.state width seen i result }
 {
     let Some(form) = before.store().get(arguments.get(1)) else {
-        return Origin::Unknown;
+        return Origin::Nothing;
     };
     match action {
         FormAction::Call => called_byte(form, arguments, function, i),
-        FormAction::Read(reading) => { read_byte_of(reading, form, arguments, function, width, i) }
-        _ => Origin::Unknown,
+        FormAction::Read(reading) => {
+            read_byte_of(reading, form, arguments, function, width, seen, i)
+        }
+        _ => Origin::Nothing,
+    }
+}
+
+// Of the value of `ln`, which has a text of this length before each name: of the text, and names are made.
+fn listed_byte<'a, E: TwoEnds<u8, A>, M: TwoEnds<Mark, A>, A: Allocator + Copy>(
+    before: &Core<E, M, A>,
+    text: usize,
+    function: usize,
+    i: usize,
+) -> Origin<'a>
+    ensures { ToldAsListed before.now.state.forms text function i result }
+{
+    match before.store().byte_listed(text, i) {
+        Some(byte) if byte < text => argument_byte(function, 1, byte),
+        Some(_) => Origin::Made,
+        None => Origin::Nothing,
     }
 }
 
@@ -89,7 +132,7 @@ fn read_byte<'a>(position: usize, i: usize) -> Origin<'a>
     ensures { ToldAsRead position i result }
 {
     if i > usize::MAX - position {
-        return Origin::Unknown;
+        return Origin::Nothing;
     }
     Origin::Read(position + i)
 }
@@ -104,9 +147,6 @@ fn computed_byte<'a>(
 ) -> Origin<'a>
     ensures { TellsComputed computation arguments.now function width i result }
 {
-    if gives_bits(computation) {
-        return Origin::Made;
-    }
     match computation {
         Computation::Equal => argument_byte(
             function,
@@ -117,18 +157,8 @@ fn computed_byte<'a>(
         Computation::Calculate(operation) => {
             calculated_byte(operation, arguments, function, width, i)
         }
-        _ => Origin::Unknown,
+        _ => Origin::Made,
     }
-}
-
-// Whether a computation gives bits.
-fn gives_bits(computation: Computation) -> bool
-    ensures { result ≡ gives_bits computation }
-{
-    !matches!(
-        computation,
-        Computation::Equal | Computation::Greater | Computation::Calculate(_)
-    )
 }
 
 // A byte of an argument of this function.
@@ -179,34 +209,4 @@ fn calculated_byte<'a>(
         return argument_byte(function, 1, i);
     }
     Origin::Made
-}
-
-// The number of an argument, its prefix dropped; none where it does not fit the width.
-pub(crate) fn number_at(arguments: &Args<'_>, k: usize, width: Width) -> Option<i128>
-    ensures { result ≡ number_argument width k arguments.now }
-{
-    value(read_tail(arguments.get(k)).numeral, width)
-}
-
-// The result of an operation on the numbers of the two arguments after the name, if it fits.
-fn result_on(operation: Operation, arguments: &Args<'_>, width: Width) -> Option<i128>
-    ensures { result ≡ on_both (result_of operation width) (number_argument width 1 arguments.now) (number_argument width 2 arguments.now) }
-{
-    operate(
-        operation,
-        number_at(arguments, 1, width)?,
-        number_at(arguments, 2, width)?,
-        width,
-    )
-}
-
-fn operate(operation: Operation, a: i128, b: i128, width: Width) -> Option<i128>
-    ensures { result ≡ result_of operation width a b }
-{
-    match operation {
-        Operation::Add => add(a, b, width),
-        Operation::Subtract => sub(a, b, width),
-        Operation::Multiply => mul(a, b, width),
-        Operation::Divide => div(a, b, width),
-    }
 }

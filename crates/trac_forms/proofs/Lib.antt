@@ -11,3 +11,4 @@ pub mod Parted
 pub mod Passing
 pub mod ByteRuns
 pub mod Searching
+pub mod InOrder

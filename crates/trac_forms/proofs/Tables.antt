@@ -260,7 +260,7 @@ known_swept es apart =
     ∙ sym (set.contains-from_list nat_list_cmp_total (names_of (forms_of es)) q))
 
 -- no entry where no key is equal
-lookup_none : (q : List ℕ) (es : Entries) → AllByRecursion (λ y. bytes_eq q y ≡ false) (keys_of es) → lookup (bytes_eq q) es ≡ None
+pub lookup_none : (q : List ℕ) (es : Entries) → AllByRecursion (λ y. bytes_eq q y ≡ false) (keys_of es) → lookup (bytes_eq q) es ≡ None
 lookup_none q [] h = refl
 lookup_none q (e ∷ es) h = cond-false (bytes_eq q e.0) (Some e.1) (lookup (bytes_eq q) es) h.0 ∙ lookup_none q es h.1
 

@@ -1,9 +1,11 @@
 //! The forms by their names, and the blocks.
-ghost use Rattle.std.specs.Prelude.{◌≡◌, ◌-◌, ◌^◌, ◌<◌, ◌≤◌, ◌++◌, ◌∷◌, [], filter, is_some, length, map, nat_lt, option_map, slice_get, slice_set, take, true, vec_capacity, vec_len, IfOk, IfSome, IsOk, IsOkUnless, IsTrue, MatchOption, None, OnErr, OnOk, Some};
+ghost use Rattle.std.specs.Prelude.{◌≡◌, ◌+◌, ◌-◌, ◌^◌, ◌<◌, ◌≤◌, ◌++◌, ◌∷◌, [], filter, is_some, length, map, nat_lt, option_map, slice_get, slice_set, take, true, vec_capacity, vec_len, IfOk, IfSome, IsOk, IsOkUnless, IsTrue, MatchOption, None, OnErr, OnOk, Some};
 ghost use Rattle.std.specs.FinMap as finite;
 ghost use Rattle.std.specs.FinSet as set;
 ghost use Rattle.std.specs.List.Sorted.{IsPermutation};
 ghost use Rattle.std.specs.Option.{option_copied, option_flatten};
+ghost use Rattle.std.specs.Cmp.Lexicographic.{slice_cmp};
+ghost use Rattle.std.specs.Ordering.{is_lt, nat_cmp};
 ghost use Rattle.std.specs.Str.{bytes_eq};
 ghost use Rattle.indexmap.specs.IndexMap.{get_by, index_map_len, set_value_at, values, IsUnique};
 ghost use Rattle.trac_rules.specs.Blocks.{block_at};
@@ -12,6 +14,7 @@ ghost use Rattle.trac_rules.specs.Form.{all_items, pointed_at};
 ghost use Rattle.trac_rules.specs.Listing.{names_of};
 ghost use Rattle.trac_rules.specs.Segmenting.{segmented};
 ghost use Rattle.trac_forms.specs.Layout.{IsSound};
+ghost use Rattle.trac_forms.specs.Listed.{AreMissed, IsHit, IsListed, lesser_len, listed_len};
 ghost use Rattle.trac_forms.specs.Stored.{KnowsAll, changed_at, nothing_stored, swept, unsegmented};
 ghost use Rattle.trac_forms.specs.Table.{IsParted, full_keys, named};
 
@@ -22,6 +25,7 @@ use crate::form::Form;
 use crate::text_lists::Texts;
 use indexmap::IndexMap;
 use std::alloc::{Allocator, Global};
+use std::cmp::Ordering;
 use std::hash::{BuildHasher, BuildHasherDefault, FoldHasher, Hash};
 use std::marker::Model;
 
@@ -443,4 +447,77 @@ fn full_names<A: Allocator + Copy>(table: &Table<A>) -> Result<Vec<&[u8], A>, Fo
         names.push(name.as_slice())?;
     }
     Ok(names)
+}
+
+// ---- names in order, without memory
+
+impl<A: Allocator + Copy> Store<A> {
+    /// Where a byte stands in the list of all names of forms, which rise by their bytes, each with a text of this length before
+    /// it: how many bytes of its own text and name stand before the byte of this number. `None` past the end of the list. It
+    /// takes no memory, and for each name that is tried time for all names (this project's profile).
+    pub fn byte_listed(&self, text: usize, i: usize) -> Option<usize>
+        ensures { MatchOption result (listed_len text (names_of self.now.forms) ≤ i) (IsListed (names_of self.now.forms) text i) }
+    {
+        // `len` is called for its clause that no key stands twice.
+        let _len = self.table.len();
+        byte_in_list(&self.table, text, i)
+    }
+}
+
+// The same, of the entries that have a form.
+fn byte_in_list<A: Allocator + Copy>(table: &Table<A>, text: usize, i: usize) -> Option<usize>
+    ensures { MatchOption result (AreMissed text i (full_keys (named (λ k. k.items) table.now.entries))) (IsHit text i (full_keys (named (λ k. k.items) table.now.entries))) }
+{
+    for (name, held) in table.iter() {
+        if held.is_none() {
+            continue;
+        }
+        let Some(byte) = past_lesser(table, name, text, i) else {
+            continue;
+        };
+        if is_within(byte, text, name.len()) {
+            return Some(byte);
+        }
+    }
+    None
+}
+
+// How far a byte of the list is past the names that are less than this one.
+fn past_lesser<A: Allocator + Copy>(
+    table: &Table<A>,
+    name: &[u8],
+    text: usize,
+    i: usize,
+) -> Option<usize>
+    ensures { MatchOption result (i < lesser_len text name.now (full_keys (named (λ k. k.items) table.now.entries)))
+        (λ byte. lesser_len text name.now (full_keys (named (λ k. k.items) table.now.entries)) + byte ≡ i) }
+{
+    let mut left = i;
+    for (other, held) in table.iter() {
+        if held.is_none() {
+            continue;
+        }
+        if !is_less(other, name) {
+            continue;
+        }
+        if is_within(left, text, other.len()) {
+            return None;
+        }
+        left = left - text - other.len();
+    }
+    Some(left)
+}
+
+// Whether a name stands before another one.
+fn is_less(name: &[u8], other: &[u8]) -> bool
+    ensures { result ≡ is_lt (slice_cmp nat_cmp name.now other.now) }
+{
+    name.cmp(other) == Ordering::Less
+}
+
+// Whether a byte of this number is one of a text and a name of these lengths.
+fn is_within(byte: usize, text: usize, name: usize) -> bool
+    ensures { result ≡ nat_lt byte (text + name) }
+{
+    byte < text || byte - text < name
 }

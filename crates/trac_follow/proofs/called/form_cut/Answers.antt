@@ -7,4 +7,4 @@ returns-in-Some g c =
     inr (c.in-Some.form.now, ap (λ stored. finite.get stored.forms c.args.name.now) (sym c.store.ensures) ∙ sym c.in-Some.ensures.value, c.cut_item.ensures)
 
 pub returns-in-None : goal.returns-in-None
-returns-in-None g c = inl refl
+returns-in-None g c = inl (refl, ap (λ stored. finite.get stored.forms c.args.name.now) (sym c.store.ensures) ∙ sym c.in-None.ensures.value)

@@ -1,7 +1,12 @@
-use Rattle.std.proofs.Common.{length, ap, ◌∙◌, arith}
+use Rattle.std.proofs.Common.{◌≡◌, length, refl, ap, subst, ◌∙◌, arith}
+use Rattle.std.specs.Prelude.{MatchBool}
+use Rattle.trac_rules.specs.declared.primitive.BlockAction.TheVariants.{StoreBlock}
+use Rattle.trac_rules.specs.declared.primitive.Primitive.TheVariants.{HandleBlock}
+use Rattle.trac_rules.specs.Effect.{argument}
+use Rattle.trac_rules.specs.Performing.{primitive_of}
 use Rattle.trac_follow.proofs.CallsTold.{given_call}
 use Rattle.trac_follow.proofs.Staying.{held_stays}
-use Rattle.trac_follow.proofs.ValuesTold.{named_by, stored_tells}
+use Rattle.trac_follow.proofs.ValuesTold.{named_by, stored_tells, unstored}
 use Rattle.trac_follow.proofs.called.of_block.Goals as goal
 
 pub returns-then-number-count : goal.returns-then-number-count
@@ -9,11 +14,30 @@ returns-then-number-count g c = λ width after environment t item wide h lengths
     (held_stays c.args.before.now.state c.args.number c.args.name.now c.args.i
     (omega (arith, c.if-number-count.true, c.block_count-count.ensures.count, ap (λ stored. length stored.blocks) c.store.ensures)) environment t item h stands).0
 
+pub returns-then-number-count-2 : goal.returns-then-number-count-2
+returns-then-number-count-2 g c = λ width after environment t item wide h lengths stands.
+    let s = c.args.before.now.state in
+    let call = given_call s c.args.kind c.args.arguments.now c.requires.call in
+    absurd (unstored environment s t call.0 h call.1 (primitive_of (argument 0 call.0.arguments)) refl c.args.number c.args.name.now c.args.i item
+    (omega (arith, c.if-number-count-2.true, c.block_count-count.ensures.count, ap (λ stored. length stored.blocks) c.store.ensures))
+    (λ stores last. absurd (omega (arith, last, c.if-number-count-2.true, c.block_count-count.ensures.count, ap (λ stored. length stored.blocks) c.store.ensures))) stands)
+
 pub returns-then-stores_block : goal.returns-then-stores_block
 returns-then-stores_block g c = λ width after environment t item wide h lengths stands.
     let s = c.args.before.now.state in
     let call = given_call s c.args.kind c.args.arguments.now c.requires.call in
-    stored_tells environment s t call.0 h call.1 c.args.number c.args.name.now c.args.i c.stored_item.result
+    stored_tells environment s t call.0 h call.1 c.args.number c.args.name.now c.args.i item
     (named_by s c.args.kind c.args.arguments.now call.0 c.primitive_named.result c.get.result.now c.requires.call call.1 c.get.ensures c.primitive_named.ensures
-    ∙ c.stores_block.ensures c.if-stores_block.true)
-    (omega (arith, c.if-number-count.false, c.if-number-count-2.false, c.block_count-count.ensures.count, ap (λ stored. length stored.blocks) c.store.ensures)) c.stored_item.ensures
+    ∙ subst (λ b. MatchBool b (c.primitive_named.result ≡ HandleBlock StoreBlock) (c.primitive_named.result ≡ HandleBlock StoreBlock → ⊥)) c.if-stores_block.true c.stores_block.ensures)
+    (omega (arith, c.if-number-count.false, c.if-number-count-2.false, c.block_count-count.ensures.count, ap (λ stored. length stored.blocks) c.store.ensures)) stands
+
+pub returns : goal.returns
+returns g c = λ width after environment t item wide h lengths stands.
+    let s = c.args.before.now.state in
+    let call = given_call s c.args.kind c.args.arguments.now c.requires.call in
+    absurd (unstored environment s t call.0 h call.1 c.primitive_named.result
+    (named_by s c.args.kind c.args.arguments.now call.0 c.primitive_named.result c.get.result.now c.requires.call call.1 c.get.ensures c.primitive_named.ensures)
+    c.args.number c.args.name.now c.args.i item
+    (omega (arith, c.if-number-count.false, c.block_count-count.ensures.count, ap (λ stored. length stored.blocks) c.store.ensures))
+    (λ stores last.
+    subst (λ b. MatchBool b (c.primitive_named.result ≡ HandleBlock StoreBlock) (c.primitive_named.result ≡ HandleBlock StoreBlock → ⊥)) c.if-stores_block.false c.stores_block.ensures stores) stands)

@@ -1,8 +1,8 @@
-use Rattle.std.proofs.Common.{◌≡◌, length, sym, ap, ◌∙◌}
+use Rattle.std.proofs.Common.{◌≡◌, true, false, length, sym, ap, ◌∙◌}
 use Rattle.std.specs.Prelude.{bytes_eq}
 use Rattle.trac_forms.specs.Stored.{Stored, storage_in}
-use Rattle.trac_rules.specs.declared.primitive.BlockAction.TheVariants.{FetchBlock}
-use Rattle.trac_rules.specs.declared.primitive.FormAction.TheVariants.{Segment}
+use Rattle.trac_rules.specs.declared.primitive.BlockAction.TheVariants.{FetchBlock, StoreBlock}
+use Rattle.trac_rules.specs.declared.primitive.FormAction.TheVariants.{Define, Segment}
 use Rattle.trac_rules.specs.declared.primitive.Primitive.TheVariants.{Handle, HandleBlock}
 use Rattle.trac_rules.specs.Effect.{argument}
 use Rattle.trac_rules.specs.Performing.{primitive_of}
@@ -13,21 +13,10 @@ use Rattle.trac_follow.specs.Places.{place_of}
 use Rattle.trac_follow.proofs.FetchedTold.{fetched_tells}
 use Rattle.trac_follow.proofs.FormCalls.{cut_tells}
 use Rattle.trac_follow.proofs.Staying.{form_stays_calling}
-use Rattle.trac_follow.proofs.ValuesTold.{named_by, put_tells}
+use Rattle.trac_follow.proofs.ValuesTold.{address_is, is_put_by, named_by, put_tells}
+use Rattle.trac_follow.specs.Putting.{put_by}
+use Rattle.trac_follow.specs.declared.called.Put.TheVariants.{Text, Cut, Fetched, Address, Nothing}
 use Rattle.trac_follow.proofs.called.of_form.Goals as goal
-
-pub returns-in_default : goal.returns-in_default
-returns-in_default g c = λ width environment t item wide h lengths stands.
-    let s = c.args.before.now.state in
-    let call = given_call s c.args.kind c.args.arguments.now c.requires.call in
-    put_tells environment s t call.0 h call.1 c.primitive_named-primitive.result
-    (named_by s c.args.kind c.args.arguments.now call.0 c.primitive_named-primitive.result c.get.result.now c.requires.call call.1 c.get.ensures c.primitive_named-primitive.ensures)
-    c.args.name.now c.args.i c.args.function (length c.get-in_default.result.now) c.put_item.result
-    (ap (λ texts. may_put c.primitive_named-primitive.result (argument 1 texts) c.args.name.now) call.3
-    ∙ ap (λ text. may_put c.primitive_named-primitive.result text c.args.name.now) (sym c.get-2.ensures)
-    ∙ sym c.may_put.ensures ∙ c.if-may_put.true)
-    (number_is s call.0 call.1 c.args.function c.requires.number)
-    (ap (λ text. length text) c.get-in_default.ensures ∙ ap (λ texts. length (argument 2 texts)) (sym call.3)) c.put_item.ensures
 
 pub returns : goal.returns
 returns g c = λ width environment t item wide h lengths stands.
@@ -36,27 +25,57 @@ returns g c = λ width environment t item wide h lengths stands.
     ∙ ap (λ text. may_put c.primitive_named-primitive.result text c.args.name.now) (sym c.get-2.ensures)
     ∙ sym c.may_put.ensures ∙ c.if-may_put.false) c.args.i environment t item h stands).0
 
-pub returns-in-Handle-Segment : goal.returns-in-Handle-Segment
-returns-in-Handle-Segment g c = λ width environment t item wide h lengths stands.
+pub returns-in-Text : goal.returns-in-Text
+returns-in-Text g c = λ width environment t item wide h lengths stands.
     let s = c.args.before.now.state in
     let call = given_call s c.args.kind c.args.arguments.now c.requires.call in
-    let inner : c.in-Handle-Segment.field-0 ≡ Segment = rw c.in-Handle-Segment.is at c.in-Handle-Segment.field-0-is in
-    cut_tells environment s t call.0 h call.1
-    (named_by s c.args.kind c.args.arguments.now call.0 c.primitive_named-primitive.result c.get.result.now c.requires.call call.1 c.get.ensures c.primitive_named-primitive.ensures ∙ c.in-Handle-Segment.is ∙ ap Handle inner)
-    c.args.name.now c.args.after c.args.i item c.form_cut.result
-    (ap (λ texts. bytes_eq c.args.name.now (argument 1 texts)) call.3 ∙ ap (bytes_eq c.args.name.now) (sym c.get-2.ensures)
-    ∙ ap (λ p. may_put p c.get-2.result.now c.args.name.now) (sym (c.in-Handle-Segment.is ∙ ap Handle inner)) ∙ sym c.may_put.ensures ∙ c.if-may_put.true)
-    lengths.measured stands c.form_cut.ensures
+    let p = c.primitive_named-primitive.result in
+    let is = (is_put_by p).text (sym c.put_by.ensures ∙ c.in-Text.is) in
+    let named = named_by s c.args.kind c.args.arguments.now call.0 p c.get.result.now c.requires.call call.1 c.get.ensures c.primitive_named-primitive.ensures ∙ is in
+    let same = ap (λ texts. bytes_eq c.args.name.now (argument 1 texts)) call.3 ∙ ap (bytes_eq c.args.name.now) (sym c.get-2.ensures)
+    ∙ ap (λ q. may_put q c.get-2.result.now c.args.name.now) (sym is) ∙ sym c.may_put.ensures ∙ c.if-may_put.true in
+    put_tells environment s t call.0 h call.1 named c.args.name.now c.args.i c.args.function (length c.get-in-Text.result.now) c.put_byte.result same
+    (number_is s call.0 call.1 c.args.function c.requires.number)
+    (ap (λ text. length text) c.get-in-Text.ensures ∙ ap (λ texts. length (argument 2 texts)) (sym call.3)) item stands c.put_byte.ensures
 
-pub returns-in-HandleBlock-FetchBlock : goal.returns-in-HandleBlock-FetchBlock
-returns-in-HandleBlock-FetchBlock g c = λ width environment t item wide h lengths stands.
+pub returns-in-Cut : goal.returns-in-Cut
+returns-in-Cut g c = λ width environment t item wide h lengths stands.
     let s = c.args.before.now.state in
     let call = given_call s c.args.kind c.args.arguments.now c.requires.call in
-    let inner : c.in-HandleBlock-FetchBlock.field-0 ≡ FetchBlock = rw c.in-HandleBlock-FetchBlock.is at c.in-HandleBlock-FetchBlock.field-0-is in
+    let p = c.primitive_named-primitive.result in
+    let is = (is_put_by p).cut (sym c.put_by.ensures ∙ c.in-Cut.is) in
+    let named = named_by s c.args.kind c.args.arguments.now call.0 p c.get.result.now c.requires.call call.1 c.get.ensures c.primitive_named-primitive.ensures ∙ is in
+    let same = ap (λ texts. bytes_eq c.args.name.now (argument 1 texts)) call.3 ∙ ap (bytes_eq c.args.name.now) (sym c.get-2.ensures)
+    ∙ ap (λ q. may_put q c.get-2.result.now c.args.name.now) (sym is) ∙ sym c.may_put.ensures ∙ c.if-may_put.true in
+    cut_tells environment s t call.0 h call.1 named c.args.name.now c.args.after c.args.i item c.form_cut.result same lengths.measured stands c.form_cut.ensures
+
+pub returns-in-Fetched : goal.returns-in-Fetched
+returns-in-Fetched g c = λ width environment t item wide h lengths stands.
+    let s = c.args.before.now.state in
+    let call = given_call s c.args.kind c.args.arguments.now c.requires.call in
+    let p = c.primitive_named-primitive.result in
+    let is = (is_put_by p).fetched (sym c.put_by.ensures ∙ c.in-Fetched.is) in
     fetched_tells environment s t call.0 h call.1
-    (named_by s c.args.kind c.args.arguments.now call.0 c.primitive_named-primitive.result c.get.result.now c.requires.call call.1 c.get.ensures c.primitive_named-primitive.ensures
-    ∙ c.in-HandleBlock-FetchBlock.is ∙ ap HandleBlock inner)
-    c.get-in-HandleBlock-FetchBlock.result.now c.args.name.now c.args.i item (place_of c.before_fetch.result)
-    (c.get-in-HandleBlock-FetchBlock.ensures ∙ ap (argument 1) (sym call.3))
+    (named_by s c.args.kind c.args.arguments.now call.0 p c.get.result.now c.requires.call call.1 c.get.ensures c.primitive_named-primitive.ensures ∙ is)
+    c.get-in-Fetched.result.now c.args.name.now c.args.i item (place_of c.before_fetch.result)
+    (c.get-in-Fetched.ensures ∙ ap (argument 1) (sym call.3))
     (c.before_fetch.ensures
-    ∙ ap (λ (stored : Stored). place_fetched (block_named c.get-in-HandleBlock-FetchBlock.result.now (storage_in stored)) c.args.name.now c.args.i (storage_in stored)) c.store.ensures) stands
+    ∙ ap (λ (stored : Stored). place_fetched (block_named c.get-in-Fetched.result.now (storage_in stored)) c.args.name.now c.args.i (storage_in stored)) c.store.ensures) stands
+
+pub returns-in-Address : goal.returns-in-Address
+returns-in-Address g c = λ width environment t item wide h lengths stands.
+    let s = c.args.before.now.state in
+    let call = given_call s c.args.kind c.args.arguments.now c.requires.call in
+    let p = c.primitive_named-primitive.result in
+    let is = (is_put_by p).address (sym c.put_by.ensures ∙ c.in-Address.is) in
+    let named = named_by s c.args.kind c.args.arguments.now call.0 p c.get.result.now c.requires.call call.1 c.get.ensures c.primitive_named-primitive.ensures ∙ is in
+    let same = ap (λ texts. bytes_eq c.args.name.now (argument 1 texts)) call.3 ∙ ap (bytes_eq c.args.name.now) (sym c.get-2.ensures)
+    ∙ ap (λ q. may_put q c.get-2.result.now c.args.name.now) (sym is) ∙ sym c.may_put.ensures ∙ c.if-may_put.true in
+    address_is environment s t call.0 h call.1 c.args.name.now c.args.i named same
+
+pub returns-in-Nothing : goal.returns-in-Nothing
+returns-in-Nothing g c = λ width environment t item wide h lengths stands.
+    let p = c.primitive_named-primitive.result in
+    let may : may_put p c.get-2.result.now c.args.name.now ≡ true = sym c.may_put.ensures ∙ c.if-may_put.true in
+    let not : may_put p c.get-2.result.now c.args.name.now ≡ false = (is_put_by p).nothing (sym c.put_by.ensures ∙ c.in-Nothing.is) c.get-2.result.now c.args.name.now in
+    absurd (cc)

@@ -1,10 +1,9 @@
 use Rattle.std.proofs.Common.{◌≡◌, ◌<◌, ◌≤◌, length, sym, ap, subst, ◌∙◌}
-use Rattle.trac_rules.specs.declared.primitive.FormAction.TheVariants.{PrintForm}
-use Rattle.trac_rules.specs.declared.primitive.Primitive.TheVariants.{Handle}
 use Rattle.trac_rules.specs.Effect.{argument}
+use Rattle.trac_origins.proofs.Told.{byte_within}
 use Rattle.trac_follow.proofs.CallsTold.{given_call, number_is, output_carried}
 use Rattle.trac_follow.proofs.FormCalls.{shown_tells}
-use Rattle.trac_follow.proofs.ValuesTold.{named_by, printed_tells, silent_made}
+use Rattle.trac_follow.proofs.ValuesTold.{named_by, printed_tells, prints_form, silent_made}
 use Rattle.trac_follow.proofs.called.of_output.Goals as goal
 
 pub returns-then-i-output : goal.returns-then-i-output
@@ -31,15 +30,15 @@ returns-in-PrintString g c = λ width environment t item wide h lengths stands.
     (length c.get-in-PrintString.result.now) c.args.function c.args.after.output c.args.i c.printed.result
     (ap (λ text. length text) c.get-in-PrintString.ensures ∙ ap (λ texts. length (argument 1 texts)) (sym call.3))
     (number_is s call.0 call.1 c.args.function c.requires.number) lengths.output
-    (subst (λ text. length text ≤ c.args.i) c.output.ensures c.if-i-output.false) c.printed.ensures
+    (subst (λ text. length text ≤ c.args.i) c.output.ensures c.if-i-output.false) (byte_within c.args.i t.output item stands) c.printed.ensures
 
-pub returns-in-Handle-PrintForm : goal.returns-in-Handle-PrintForm
-returns-in-Handle-PrintForm g c = λ width environment t item wide h lengths stands.
+pub returns-in_default : goal.returns-in_default
+returns-in_default g c = λ width environment t item wide h lengths stands.
     let s = c.args.before.now.state in
     let call = given_call s c.args.kind c.args.arguments.now c.requires.call in
-    let inner : c.in-Handle-PrintForm.field-0 ≡ PrintForm = rw c.in-Handle-PrintForm.is at c.in-Handle-PrintForm.field-0-is in
+    let shows = prints_form c.primitive_named-primitive.result (sym c.is_silent.ensures ∙ c.if-is_silent.false) c.in_default.not-PrintString in
     shown_tells environment s t call.0 h call.1
-    (named_by s c.args.kind c.args.arguments.now call.0 c.primitive_named-primitive.result c.get.result.now c.requires.call call.1 c.get.ensures c.primitive_named-primitive.ensures ∙ c.in-Handle-PrintForm.is ∙ ap Handle inner)
-    c.get-in-Handle-PrintForm.result.now c.args.after.output c.args.i c.form_shown.result
-    (c.get-in-Handle-PrintForm.ensures ∙ ap (argument 1) (sym call.3)) lengths.output
-    (subst (λ text. length text ≤ c.args.i) c.output.ensures c.if-i-output.false) c.form_shown.ensures
+    (named_by s c.args.kind c.args.arguments.now call.0 c.primitive_named-primitive.result c.get.result.now c.requires.call call.1 c.get.ensures c.primitive_named-primitive.ensures ∙ shows)
+    c.get-in_default.result.now c.args.after.output c.args.i c.form_shown.result
+    (c.get-in_default.ensures ∙ ap (argument 1) (sym call.3)) lengths.output
+    (subst (λ text. length text ≤ c.args.i) c.output.ensures c.if-i-output.false) (byte_within c.args.i t.output item stands) c.form_shown.ensures

@@ -2,16 +2,20 @@ use Rattle.std.proofs.Common.{◌+◌, refl, sym, subst}
 use Rattle.trac_rules.specs.declared.primitive.FormAction.TheVariants.{Call}
 use Rattle.trac_rules.specs.declared.primitive.Primitive.TheVariants.{Handle}
 use Rattle.trac_follow.specs.Formed.{TellsOfForm}
-use Rattle.trac_follow.proofs.FormsTold.{called_item, filled_text}
+use Rattle.trac_follow.proofs.FormsTold.{called_item, called_past, filled_text}
 use Rattle.trac_follow.proofs.formed.called_byte.Goals as goal
 
 pub returns-in-Byte : goal.returns-in-Byte
-returns-in-Byte g c = λ width.
+returns-in-Byte g c = λ width seen.
     called_item c.args.form.now c.args.arguments.now c.args.function c.args.i c.pointer-start.result c.in-Here.given c.pointer-start.ensures c.in-Here.ensures.1
-    c.in-Byte.field-0 (c.pointer-start.result + c.in-Here.given.at) c.in-Byte.is refl width
+    c.in-Byte.field-0 (c.pointer-start.result + c.in-Here.given.at) c.in-Byte.is refl width seen
 
 pub returns-in-Gap : goal.returns-in-Gap
-returns-in-Gap g c = λ width.
-    subst (λ o. TellsOfForm (Handle Call) c.args.form.now c.args.arguments.now c.args.function width c.args.i o) (sym c.argument_byte.ensures)
+returns-in-Gap g c = λ width seen.
+    subst (λ o. TellsOfForm (Handle Call) c.args.form.now c.args.arguments.now c.args.function width seen c.args.i o) (sym c.argument_byte.ensures)
     (filled_text c.args.form.now c.args.arguments.now c.args.function c.args.i c.pointer-start.result c.in-Here.given c.pointer-start.ensures c.in-Here.ensures.1
-    c.in-Gap.ordinal c.in-Gap.width (c.in-Gap.ordinal + 1) c.in-Gap.is refl width)
+    c.in-Gap.ordinal c.in-Gap.width (c.in-Gap.ordinal + 1) c.in-Gap.is refl width seen)
+
+pub returns-in_default : goal.returns-in_default
+returns-in_default g c =
+    called_past c.args.form.now c.args.arguments.now c.args.function c.args.i c.pointer-start.result c.len.result c.in_default.field-0 c.pointer-start.ensures c.len.ensures.len c.in_default.ensures

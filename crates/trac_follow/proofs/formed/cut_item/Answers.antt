@@ -1,4 +1,4 @@
-use Rattle.std.proofs.Common.{inr, refl, sym, subst, ◌∙◌}
+use Rattle.std.proofs.Common.{inl, inr, refl, sym, subst, ◌∙◌}
 use Rattle.trac_follow.specs.declared.place.Origin.TheVariants.{Carried, Made}
 use Rattle.trac_follow.specs.declared.place.Place.TheVariants.{Form}
 use Rattle.trac_follow.specs.Formed.{told_of}
@@ -16,3 +16,6 @@ returns g c =
       c.in-Some.ensures,
       subst (λ b. told_of b (Carried (Form c.args.name c.in-Some.place)) c.args.name.now c.in-Some.place) (sym (sym c.is_cut.ensures ∙ c.if-is_cut.false)) refl,
     )
+
+pub returns-in_default : goal.returns-in_default
+returns-in_default g c = inl (refl, c.in_default.ensures)

@@ -1,17 +1,31 @@
-use Rattle.std.proofs.Common.{sym, ap, subst, ◌∙◌}
-use Rattle.std.specs.Prelude.{option_map}
-use Rattle.trac_forms.specs.Taken.{taken}
+use Rattle.std.proofs.Common.{refl, sym, subst}
 use Rattle.trac_rules.specs.declared.primitive.FormAction.TheVariants.{Read}
+use Rattle.trac_rules.specs.declared.primitive.FormReading.{FormReading}
+use Rattle.trac_rules.specs.declared.primitive.FormReading.TheVariants.{ReadSegment, ReadChar, ReadCount, ReadUntil}
 use Rattle.trac_rules.specs.declared.primitive.Primitive.TheVariants.{Handle}
 use Rattle.trac_follow.specs.Formed.{TellsOfForm}
-use Rattle.trac_follow.proofs.FormsTold.{default_read, piece_item}
+use Rattle.trac_follow.proofs.FormsTold.{reading_tells}
 use Rattle.trac_follow.proofs.formed.read_byte_of.Goals as goal
 
-pub returns-in-Ok-Some : goal.returns-in-Ok-Some
-returns-in-Ok-Some g c =
-    piece_item c.args.reading c.args.form.now c.args.arguments.now c.args.function c.args.width c.args.i c.in-Ok-Some.piece c.piece_byte.result (ap (option_map (λ piece. taken piece c.args.form.now)) (sym c.in-Ok-Some.field-0-is) ∙ c.in-Ok-Some.ensures.read) c.piece_byte.ensures
+pub returns-in-ReadSegment : goal.returns-in-ReadSegment
+returns-in-ReadSegment g c =
+    subst (λ (r : FormReading). TellsOfForm (Handle (Read r)) c.args.form.now c.args.arguments.now c.args.function c.args.width c.args.seen c.args.i c.piece_byte.result) (sym c.in-ReadSegment.is)
+    (reading_tells ReadSegment c.args.form.now c.args.arguments.now c.args.function c.args.width c.args.seen c.args.i c.read_segment.result 2 c.piece_byte.result
+    c.read_segment.ensures.read c.read_segment.ensures.there refl c.piece_byte.ensures)
 
-pub returns-in-Ok-None : goal.returns-in-Ok-None
-returns-in-Ok-None g c =
-    subst (λ o. TellsOfForm (Handle (Read c.args.reading)) c.args.form.now c.args.arguments.now c.args.function c.args.width c.args.i o) (sym c.argument_byte.ensures)
-    (default_read c.args.reading c.args.form.now c.args.arguments.now c.args.function c.args.width c.args.i c.default_number.result (ap (option_map (λ piece. taken piece c.args.form.now)) (sym c.in-Ok-None.field-0-is) ∙ c.in-Ok-None.ensures.read) c.default_number.ensures)
+pub returns-in-ReadChar : goal.returns-in-ReadChar
+returns-in-ReadChar g c =
+    subst (λ (r : FormReading). TellsOfForm (Handle (Read r)) c.args.form.now c.args.arguments.now c.args.function c.args.width c.args.seen c.args.i c.piece_byte-in-ReadChar.result) (sym c.in-ReadChar.is)
+    (reading_tells ReadChar c.args.form.now c.args.arguments.now c.args.function c.args.width c.args.seen c.args.i c.read_char.result 2 c.piece_byte-in-ReadChar.result
+    c.read_char.ensures.read c.read_char.ensures.there refl c.piece_byte-in-ReadChar.ensures)
+
+pub returns-in-ReadCount : goal.returns-in-ReadCount
+returns-in-ReadCount g c =
+    subst (λ (r : FormReading). TellsOfForm (Handle (Read r)) c.args.form.now c.args.arguments.now c.args.function c.args.width c.args.seen c.args.i c.piece_byte-in-ReadCount.result) (sym c.in-ReadCount.is)
+    (reading_tells ReadCount c.args.form.now c.args.arguments.now c.args.function c.args.width c.args.seen c.args.i c.counted.result 3 c.piece_byte-in-ReadCount.result
+    c.counted.ensures.read c.counted.ensures.there refl c.piece_byte-in-ReadCount.ensures)
+
+pub returns-in-ReadUntil : goal.returns-in-ReadUntil
+returns-in-ReadUntil g c =
+    subst (λ (r : FormReading). TellsOfForm (Handle (Read r)) c.args.form.now c.args.arguments.now c.args.function c.args.width c.args.seen c.args.i c.until_byte.result) (sym c.in-ReadUntil.is)
+    (c.until_byte.ensures c.args.arguments.now c.args.width (sym c.get.ensures))

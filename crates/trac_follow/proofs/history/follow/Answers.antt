@@ -1,11 +1,11 @@
 -- Each end of the loop is that of a byte that was carried so far.
 use Rattle.std.proofs.Common.{refl, sym, ◌∙◌, inl, inr, ap, subst, arith}
-use Rattle.trac_rules.specs.Session.{PlainSession}
+use Rattle.trac_rules.specs.Session.{PlainSession, Back, repeated}
 use Rattle.trac_rules.specs.State.{State}
 use Rattle.trac_follow.specs.Items.{IsMeasured}
-use Rattle.trac_follow.specs.Places.{place_of}
+use Rattle.trac_follow.specs.Places.{IsBare, place_of}
 use Rattle.trac_follow.proofs.RunsBack.{before_by, run_measured, run_on, same_session}
-use Rattle.trac_follow.proofs.StepsBack.{GoesBack, IsKnown, has_told, no_way_back, seen_lengths, some_by_test, step_on, stops, turned_end, turned_on}
+use Rattle.trac_follow.proofs.StepsBack.{GoesBack, IsKnown, has_told, no_way_back, none_by_test, seen_lengths, some_by_test, step_on, stops, turned_end, turned_on, walked_on, went_back}
 use Rattle.trac_follow.proofs.history.follow.Goals as goal
 use Rattle.trac_follow.proofs.history.follow.Goals.{else-loop-steps-test, then-loop-steps-test+else-count-gt0+then-is_some}
 
@@ -44,7 +44,7 @@ loop-steps-preserved g c =
     goes c.back.ensures c.is_some.ensures c.if-is_some.false c.machine-in-loop-steps.ensures.last
     (λ trail.
     seen_lengths c.seen_after-after.result c.machine-in-loop-steps.result.now.state c.pass_back-count.new.self (place_of c.loop-steps.here) c.loop-steps.measure.0 c.loop-steps.measure.1
-    c.seen_after-after.ensures.active c.seen_after-after.ensures.output c.seen_after-after.ensures.extent c.seen_after-after.ensures.gap c.machine-in-loop-steps.ensures.last (measured trail))
+    c.seen_after-after.ensures.active c.seen_after-after.ensures.output c.seen_after-after.ensures.extent c.seen_after-after.ensures.gap c.seen_after-after.ensures.read c.machine-in-loop-steps.ensures.last (measured trail))
     c.machine-in-loop-steps-3.ensures.last c.turned.ensures.1) in (
       omega (arith, c.loop-steps-test.true),
       turned_on c.args.session.now c.pass_back-count.new.self c.back.new.self (place_of c.args.place) (place_of c.loop-steps.here) c.loop-steps.steps c.turned.ensures.0 c.args.width has
@@ -64,7 +64,7 @@ returns-in-End-clause-followed g c = λ wide trail.
     goes c.back.ensures c.is_some.ensures c.if-is_some.false c.machine-in-loop-steps.ensures.last
     (λ trail.
     seen_lengths c.seen_after-after.result c.machine-in-loop-steps.result.now.state c.pass_back-count.new.self (place_of c.loop-steps.here) c.loop-steps.measure.0 c.loop-steps.measure.1
-    c.seen_after-after.ensures.active c.seen_after-after.ensures.output c.seen_after-after.ensures.extent c.seen_after-after.ensures.gap c.machine-in-loop-steps.ensures.last (measured trail))
+    c.seen_after-after.ensures.active c.seen_after-after.ensures.output c.seen_after-after.ensures.extent c.seen_after-after.ensures.gap c.seen_after-after.ensures.read c.machine-in-loop-steps.ensures.last (measured trail))
     c.machine-in-loop-steps-3.ensures.last c.turned.ensures.1) in
     turned_end c.args.session.now c.pass_back-count.new.self c.back.new.self (place_of c.args.place) (place_of c.loop-steps.here) c.loop-steps.steps c.turned.ensures.0 c.args.width has
     c.args.most c.loop-steps.here c.turned.result c.in-End.source c.found.result refl c.turned.ensures.2 c.in-End.is c.found.ensures.steps c.found.ensures.source (wide, trail)
@@ -82,3 +82,15 @@ returns-clause-followed g c = λ wide trail. elim c.loop-steps-test.branch [
       c.loop-steps.invariant.1 (inr (ap (λ (p : PlainSession). p.earlier) (same ∙ sym nowhere.0) ∙ nowhere.1)) (w.session-is ∙ nowhere.0 ∙ sym same)
       c.found-2.ensures.steps c.found-2.ensures.source (wide, trail)
 ]
+
+pub returns-in-End-clause-back : goal.returns-in-End-clause-back
+returns-in-End-clause-back g c =
+    let same = same_session c.pass_back-count.result c.loop-steps.session c.pass_back-count.new.self c.pass_back-count.ensures.passed c.if-count-gt0.false in
+    let goes = subst (λ (p : PlainSession). GoesBack c.args.width c.args.session.now p (place_of c.args.place) (place_of c.loop-steps.here) c.loop-steps.steps) same c.loop-steps.invariant.1 in
+    let went = went_back c.pass_back-count.new.self c.back.new.self c.back.result.done c.back.result.why c.back.ensures (none_by_test c.back.result.why c.is_some.result c.is_some.ensures c.if-is_some.false) in
+    ap (λ n. repeated Back n c.args.session.now) c.found.ensures.steps
+    ∙ walked_on c.args.width c.args.session.now c.pass_back-count.new.self c.back.new.self (place_of c.args.place) (place_of c.loop-steps.here) c.loop-steps.steps goes went
+
+pub returns-then-not-stands-clause-followed : goal.returns-then-not-stands-clause-followed
+returns-then-not-stands-clause-followed g c = λ wide trail.
+    (refl, subst (λ (s : State). IsBare s (place_of c.args.place)) c.machine.ensures.last (c.stands.ensures.bare c.if-not-stands.true))

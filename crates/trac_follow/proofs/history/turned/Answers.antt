@@ -24,6 +24,6 @@ pub returns-in-Made : goal.returns-in-Made
 returns-in-Made g c =
     (c.told_of.result, c.told_of.ensures, subst (λ o. IsTurn c.args.here o (turning.TheVariants.End code.TheVariants.Made)) (sym c.in-Made.is) (refl))
 
-pub returns-in-Unknown : goal.returns-in-Unknown
-returns-in-Unknown g c =
-    (c.told_of.result, c.told_of.ensures, subst (λ o. IsTurn c.args.here o (turning.TheVariants.End (code.TheVariants.Unknown c.args.here))) (sym c.in-Unknown.is) (refl))
+pub returns-in-Nothing : goal.returns-in-Nothing
+returns-in-Nothing g c =
+    (c.told_of.result, c.told_of.ensures, subst (λ o. IsTurn c.args.here o (turning.TheVariants.End code.TheVariants.Nothing)) (sym c.in-Nothing.is) (refl))

@@ -1,8 +1,31 @@
+use Rattle.std.proofs.Common.{◌≡◌, ◌+◌, ◌<◌, ◌≤◌, length, true, sym, ap, subst, ◌∙◌, arith}
+use Rattle.trac_origins.specs.Lengths.{moves_bytes}
+use Rattle.trac_rules.specs.Scanning.{front_of}
 use Rattle.trac_follow.specs.Places.{place_of}
-use Rattle.trac_follow.proofs.Scanned.{gathered_by}
+use Rattle.trac_follow.proofs.Scanned.{carried_within, gathered_by, new_moved, new_so_far}
 use Rattle.trac_follow.proofs.moving.gathered.Goals as goal
 
+pub returns-in_default : goal.returns-in_default
+returns-in_default g c = λ environment t item h is stands.
+    let s = c.args.before.now.state in
+    let moves : moves_bytes (front_of s.active) ≡ true = (new_moved environment s t (place_of c.args.place) item h is c.requires.new c.requires.bare stands).0 in
+    let still = c.in_default.ensures.moves in
+    let same = ap (λ text. moves_bytes (front_of text)) c.active.ensures in
+    absurd (cc)
+
+pub returns-then-n-active : goal.returns-then-n-active
+returns-then-n-active g c = λ environment t item h is stands.
+    let s = c.args.before.now.state in
+    let p = place_of c.args.place in
+    let new = (new_moved environment s t p item h is c.requires.new c.requires.bare stands).1 in
+    let at = new_so_far s p c.depth.result c.past_current-n.result c.depth.ensures new c.past_current-n.ensures in
+    let carried = gathered_by environment s t p c.past_current-n.result c.in-Some.first c.depth.result c.active.result.now item is c.active.ensures c.in-Some.ensures.moves c.depth.ensures at stands in
+    absurd (omega (arith, carried_within environment s t p (c.in-Some.first + c.past_current-n.result) item h stands carried, c.if-n-active.true, ap (λ text. length text) c.active-2.ensures))
+
 pub returns : goal.returns
-returns g c = λ environment t item is stands.
-    gathered_by environment c.args.before.now.state t (place_of c.args.place) c.in-Some-past_current.n c.in-Some.first c.depth.result c.active.result.now item is c.active.ensures
-    c.in-Some.ensures.moves c.depth.ensures c.in-Some-past_current.ensures stands
+returns g c = λ environment t item h is stands.
+    let s = c.args.before.now.state in
+    let p = place_of c.args.place in
+    let new = (new_moved environment s t p item h is c.requires.new c.requires.bare stands).1 in
+    let at = new_so_far s p c.depth.result c.past_current-n.result c.depth.ensures new c.past_current-n.ensures in
+    gathered_by environment s t p c.past_current-n.result c.in-Some.first c.depth.result c.active.result.now item is c.active.ensures c.in-Some.ensures.moves c.depth.ensures at stands

@@ -9,7 +9,7 @@ some_there : (found : Option Item) → is_some found ≡ true → (item : Item) 
 some_there None e = absurd (cc)
 some_there (Some item) e = (item, refl)
 
-pub returns-in-Some : goal.returns-in-Some
-returns-in-Some g c = λ test.
+pub returns-in-Some-clause-there : goal.returns-in-Some-clause-there
+returns-in-Some-clause-there g c = λ test.
     let at = some_there c.item.result (sym c.is_some.ensures ∙ test) in
     (at.0, ap (λ (f : Option Form). slice_get (items_of f) c.args.i) (sym c.in-Some.ensures) ∙ sym c.item.ensures ∙ at.1)

@@ -6,7 +6,7 @@ use Rattle.trac_origins.specs.Places.{byte_at}
 use Rattle.trac_follow.specs.Places.{IsOutside, Stands, place_of}
 use Rattle.trac_follow.proofs.standing.stands_around.Goals as goal
 
-pub returns-in-Base : goal.returns-in-Base
-returns-in-Base g c = λ test.
+pub returns-in-Base-clause-there : goal.returns-in-Base-clause-there
+returns-in-Base-clause-there g c = λ test.
     subst (λ p. Stands c.args.machine.now.state (place_of p) × ((is_of_text (place_of p) ≡ true) × IsOutside c.args.function (place_of p))) (sym c.in-Base.is)
-    (subst (λ text. (item : Item) × (byte_at c.in-Base.i text ≡ Some item)) c.base.ensures (c.has_byte.ensures test), (refl, tt))
+    (subst (λ text. (item : Item) × (byte_at c.in-Base.i text ≡ Some item)) c.base.ensures (c.has_byte.ensures.there test), (refl, tt))

@@ -4,12 +4,8 @@ use Rattle.trac_rules.specs.declared.primitive.Computation.{Computation}
 use Rattle.trac_rules.specs.declared.primitive.Computation.TheVariants.{Equal, Greater}
 use Rattle.trac_rules.specs.Effect.{argument}
 use Rattle.trac_follow.specs.Places.{TellsComputed}
-use Rattle.trac_follow.proofs.ValuesTold.{bits_are, equal_is, greater_is}
+use Rattle.trac_follow.proofs.ValuesTold.{bits_are, equal_is, greater_is, rest_bits}
 use Rattle.trac_follow.proofs.valued.computed_byte.Goals as goal
-
-pub returns-then-gives_bits : goal.returns-then-gives_bits
-returns-then-gives_bits c =
-    bits_are c.args.arguments.now c.args.function c.args.width c.args.i c.args.computation (sym c.gives_bits.ensures ∙ c.if-gives_bits.true)
 
 pub returns-in-Equal : goal.returns-in-Equal
 returns-in-Equal c =
@@ -24,3 +20,8 @@ returns-in-Greater c =
     subst (λ (k : Computation). TellsComputed k c.args.arguments.now c.args.function c.args.width c.args.i c.argument_byte-in-Greater.result) (sym c.in-Greater.is)
     (subst (λ told. TellsComputed Greater c.args.arguments.now c.args.function c.args.width c.args.i told) (sym c.argument_byte-in-Greater.ensures)
     (greater_is c.args.arguments.now c.args.function c.args.width c.args.i c.has_greater.result c.has_greater.ensures c.chosen-in-Greater.result c.chosen-in-Greater.ensures))
+
+pub returns-in_default : goal.returns-in_default
+returns-in_default c =
+    bits_are c.args.arguments.now c.args.function c.args.width c.args.i c.args.computation
+    (rest_bits c.args.arguments.now c.args.function c.args.width c.args.i c.args.computation c.in_default.not-Equal c.in_default.not-Greater c.in_default.not-Calculate)

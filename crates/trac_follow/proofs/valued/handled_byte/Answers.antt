@@ -1,22 +1,9 @@
-use Rattle.std.proofs.Common.{sym, ap, ◌∙◌}
-use Rattle.std.specs.FinMap as finite
-use Rattle.trac_rules.specs.declared.primitive.FormAction.TheVariants.{Call, Read}
+use Rattle.std.proofs.Common.{length, ap, ◌∙◌}
 use Rattle.trac_rules.specs.declared.primitive.Primitive.TheVariants.{Handle}
-use Rattle.trac_follow.proofs.FormCalls.{form_value_told}
+use Rattle.trac_follow.proofs.NamesTold.{listed_tells}
 use Rattle.trac_follow.proofs.valued.handled_byte.Goals as goal
 
-pub returns-in-Call : goal.returns-in-Call
-returns-in-Call g c =
-    let s = c.args.before.now.state in
-    form_value_told s c.args.width c.args.i c.args.function c.called_byte.result c.args.arguments.now c.args.kind (Handle Call) c.in-Some.form.now c.requires.call
-    (c.requires.named ∙ ap Handle c.in-Call.is) c.requires.number
-    (ap (finite.get s.forms) (sym c.get.ensures) ∙ ap (λ stored. finite.get stored.forms c.get.result.now) (sym c.store.ensures) ∙ sym c.in-Some.ensures.value)
-    (c.called_byte.ensures c.args.width)
-
-pub returns-in-Read : goal.returns-in-Read
-returns-in-Read g c =
-    let s = c.args.before.now.state in
-    form_value_told s c.args.width c.args.i c.args.function c.read_byte_of.result c.args.arguments.now c.args.kind (Handle (Read c.in-Read.reading)) c.in-Some.form.now c.requires.call
-    (c.requires.named ∙ ap Handle c.in-Read.is) c.requires.number
-    (ap (finite.get s.forms) (sym c.get.ensures) ∙ ap (λ stored. finite.get stored.forms c.get.result.now) (sym c.store.ensures) ∙ sym c.in-Some.ensures.value)
-    c.read_byte_of.ensures
+pub returns-in-ListNames : goal.returns-in-ListNames
+returns-in-ListNames g c =
+    listed_tells c.args.before.now.state c.args.width c.args.seen c.args.i c.args.function (length c.get.result.now) c.args.arguments.now c.args.kind c.requires.call
+    (c.requires.named ∙ ap Handle c.in-ListNames.is) c.requires.number (ap (λ text. length text) c.get.ensures) c.listed_byte.result c.listed_byte.ensures

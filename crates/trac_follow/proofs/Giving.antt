@@ -1,0 +1,176 @@
+-- What calls give.
+use Rattle.std.proofs.Common.{◌≡◌, ℕ, ◌+◌, ◌<◌, ◌≤◌, Bool, true, false, cond, List, [], ◌∷◌, ◌++◌, drop, length, refl, sym, ap, ◌∙◌, arith}
+use Rattle.std.specs.Prelude.{Option, None, Some, Ok}
+use Rattle.trac_rules.specs.declared.primitive.BlockAction.TheVariants.{StoreBlock, FetchBlock, EraseBlock}
+use Rattle.trac_rules.specs.declared.primitive.Computation.{Computation}
+use Rattle.trac_rules.specs.declared.primitive.FormAction.{FormAction}
+use Rattle.trac_rules.specs.declared.primitive.FormAction.TheVariants as action
+use Rattle.trac_rules.specs.declared.primitive.FormReading.{FormReading}
+use Rattle.trac_rules.specs.declared.primitive.Primitive.{Primitive}
+use Rattle.trac_rules.specs.declared.primitive.Primitive.TheVariants.{PrintString, ReadString, ReadByte, Halt, SetMeta, SetTrace, Compute, Handle, HandleBlock, Unknown}
+use Rattle.trac_rules.specs.Blocks.{named_block_number}
+use Rattle.trac_rules.specs.declared.kind.Kind.{Kind}
+use Rattle.trac_rules.specs.declared.kind.Kind.TheVariants.{Active, Neutral}
+use Rattle.trac_rules.specs.Effect.{Effect, argument, gives, leaves}
+use Rattle.trac_rules.specs.Filling.{called}
+use Rattle.trac_rules.specs.Form.{Form}
+use Rattle.trac_rules.specs.Handling.{default_argument, form_read, gives_piece, named_form, on_form, piece_read, putting}
+use Rattle.trac_rules.specs.Listing.{listed}
+use Rattle.trac_rules.specs.Outcomes.{seen_as}
+use Rattle.trac_rules.specs.Performing.{after_call, changed_by, effect_of, performed, placed, printed_after, trace_line}
+use Rattle.trac_rules.specs.Pieces.{Piece}
+use Rattle.trac_rules.specs.Scanning.{Call, gathered_in}
+use Rattle.trac_rules.specs.Segmenting.{segmented}
+use Rattle.trac_rules.specs.State.{Environment, Frame, State, Storage, storage_of}
+use Rattle.trac_origins.specs.Lengths.{IsCallOf}
+use Rattle.trac_origins.specs.Performing.{EffectOrigins, Performed, called_from, fetched_from, gives_from, handled_from, on_block_from, on_form_from, reading_from}
+use Rattle.trac_origins.specs.Places.{Origin}
+use Rattle.trac_origins.proofs.ToldEffects.{call_of, length_value}
+use Rattle.trac_follow.specs.Places.{reads_tape}
+
+-- ---- primitives without a value
+
+form_empty : (d : Performed) (found : Option Form) (act : Form → EffectOrigins) → ((form : Form) → (act form).value ≡ []) → (on_form_from found act d).value ≡ []
+form_empty d None act empty = refl
+form_empty d (Some form) act empty = empty form
+
+block_empty : (d : Performed) (found : Option ℕ) → (on_block_from found (λ number. fetched_from number d) d).value ≡ []
+block_empty d None = refl
+block_empty d (Some number) = refl
+
+-- whether a call on forms gives something
+abbrev pub gives_form : FormAction → Type 0
+gives_form action.Call = Unit {0}
+gives_form (action.Read reading) = Unit {0}
+gives_form action.ListNames = Unit {0}
+gives_form other = ⊥
+
+pub other_silent : (a : FormAction) → (a ≡ action.ListNames → ⊥) → (a ≡ action.Call → ⊥) → ((reading : FormReading) → a ≡ action.Read reading → ⊥) → gives_form a → ⊥
+other_silent action.Call lists calls reads gives = calls refl
+other_silent (action.Read reading) lists calls reads gives = reads reading refl
+other_silent action.ListNames lists calls reads gives = lists refl
+other_silent action.Define lists calls reads gives = gives
+other_silent action.Delete lists calls reads gives = gives
+other_silent action.DeleteAll lists calls reads gives = gives
+other_silent action.Segment lists calls reads gives = gives
+other_silent action.Restore lists calls reads gives = gives
+other_silent action.PrintForm lists calls reads gives = gives
+
+action_empty : (a : FormAction) (d : Performed) → (gives_form a → ⊥) → (handled_from a d).value ≡ []
+action_empty action.Define d none = refl
+action_empty action.Delete d none = refl
+action_empty action.DeleteAll d none = refl
+action_empty action.Segment d none = form_empty d (named_form d.call.arguments (storage_of d.call.state)) _ (λ form. refl)
+action_empty action.Restore d none = refl
+action_empty action.Call d none = absurd (none tt)
+action_empty (action.Read reading) d none = absurd (none tt)
+action_empty action.ListNames d none = absurd (none tt)
+action_empty action.PrintForm d none = form_empty d (named_form d.call.arguments (storage_of d.call.state)) _ (λ form. refl)
+
+-- without a form all but `ln` give nothing
+formless_empty : (a : FormAction) (d : Performed) → (a ≡ action.ListNames → ⊥) → named_form d.call.arguments (storage_of d.call.state) ≡ None → (handled_from a d).value ≡ []
+formless_empty action.Define d other none = refl
+formless_empty action.Delete d other none = refl
+formless_empty action.DeleteAll d other none = refl
+formless_empty action.Segment d other none = form_empty d (named_form d.call.arguments (storage_of d.call.state)) _ (λ form. refl)
+formless_empty action.Restore d other none = refl
+formless_empty action.Call d other none = ap (λ (found : Option Form). (on_form_from found (λ form. gives_from (called_from form d) d) d).value) none
+formless_empty (action.Read reading) d other none = ap (λ (found : Option Form). (on_form_from found (λ form. gives_from (reading_from reading form d) d) d).value) none
+formless_empty action.ListNames d other none = absurd (other refl)
+formless_empty action.PrintForm d other none = form_empty d (named_form d.call.arguments (storage_of d.call.state)) _ (λ form. refl)
+
+module _ (environment : Environment) (s : State) (call : Call) (e : Effect) where
+  pub action_gives_none : (a : FormAction) → (gives_form a → ⊥) → IsCallOf environment s call (Handle a) e → (i : ℕ) → i < length e.value → ⊥
+  action_gives_none a none is i l =
+      absurd (omega (arith, l, length_value environment s call (Handle a) e is, ap (λ (os : List Origin). length os) (action_empty a (call_of environment s call (Handle a) e is) none)))
+
+  pub formless_gives_none : (a : FormAction) → (a ≡ action.ListNames → ⊥) → IsCallOf environment s call (Handle a) e → named_form call.arguments (storage_of call.state) ≡ None → (i : ℕ) → i < length e.value → ⊥
+  formless_gives_none a other is none i l =
+      absurd (omega (arith, l, length_value environment s call (Handle a) e is, ap (λ (os : List Origin). length os) (formless_empty a (call_of environment s call (Handle a) e is) other none)))
+
+  pub others_give_none : (p : Primitive) → reads_tape p ≡ false → ((computation : Computation) → p ≡ Compute computation → ⊥) → ((a : FormAction) → p ≡ Handle a → ⊥) →
+      IsCallOf environment s call p e → (i : ℕ) → i < length e.value → ⊥
+  others_give_none PrintString reads computes handles is i l = absurd (omega (arith, l, length_value environment s call PrintString e is))
+  others_give_none ReadString reads computes handles is i l = absurd (cc)
+  others_give_none ReadByte reads computes handles is i l = absurd (cc)
+  others_give_none Halt reads computes handles is i l = absurd (omega (arith, l, length_value environment s call Halt e is))
+  others_give_none SetMeta reads computes handles is i l = absurd (omega (arith, l, length_value environment s call SetMeta e is))
+  others_give_none (SetTrace trace) reads computes handles is i l = absurd (omega (arith, l, length_value environment s call (SetTrace trace) e is))
+  others_give_none (Compute computation) reads computes handles is i l = absurd (computes computation refl)
+  others_give_none (Handle a) reads computes handles is i l = absurd (handles a refl)
+  others_give_none (HandleBlock StoreBlock) reads computes handles is i l = absurd (omega (arith, l, length_value environment s call (HandleBlock StoreBlock) e is))
+  others_give_none (HandleBlock FetchBlock) reads computes handles is i l =
+      let d : Performed = call_of environment s call (HandleBlock FetchBlock) e is in
+      absurd (omega (arith, l, length_value environment s call (HandleBlock FetchBlock) e is, ap (λ (os : List Origin). length os) (block_empty d (named_block_number d.call.arguments (storage_of d.call.state)))))
+  others_give_none (HandleBlock EraseBlock) reads computes handles is i l = absurd (omega (arith, l, length_value environment s call (HandleBlock EraseBlock) e is))
+  others_give_none Unknown reads computes handles is i l = absurd (omega (arith, l, length_value environment s call Unknown e is))
+
+  -- ---- what calls on forms give
+
+  abbrev line : List ℕ
+  line = trace_line call.state.trace call.kind call.arguments
+
+  done_by : (primitive : Primitive) → IsCallOf environment s call primitive e → seen_as (printed_after line) (effect_of primitive environment call.arguments call.state) ≡ Ok e
+  unfolding performed
+  done_by primitive is = ap (λ p. seen_as (printed_after line) (effect_of p environment call.arguments call.state)) (sym is.named) ∙ is.does
+
+  pub called_gives : (form : Form) → IsCallOf environment s call (Handle action.Call) e → named_form call.arguments (storage_of call.state) ≡ Some form → e.value ≡ called (drop 2 call.arguments) form
+  called_gives form is names =
+      let storage : Storage = storage_of call.state in
+      let done : Ok (printed_after line (gives (called (drop 2 call.arguments) form) storage)) ≡ Ok e =
+      ap (λ (found : Option Form). seen_as (printed_after line) (on_form found (λ f. Ok (gives (called (drop 2 call.arguments) f) storage)) storage)) (sym names) ∙ done_by (Handle action.Call) is in
+      let same : printed_after line (gives (called (drop 2 call.arguments) form) storage) ≡ e = cc in
+      ap (λ (f : Effect). f.value) (sym same)
+
+  pub names_given : IsCallOf environment s call (Handle action.ListNames) e → e.value ≡ listed (argument 1 call.arguments) call.state.forms
+  names_given is =
+      let done : Ok (printed_after line (gives (listed (argument 1 call.arguments) call.state.forms) (storage_of call.state))) ≡ Ok e = done_by (Handle action.ListNames) is in
+      let same : printed_after line (gives (listed (argument 1 call.arguments) call.state.forms) (storage_of call.state)) ≡ e = cc in
+      ap (λ (f : Effect). f.value) (sym same)
+
+  reads_form : (reading : FormReading) (form : Form) (found : Option Piece) → IsCallOf environment s call (Handle (action.Read reading)) e →
+      named_form call.arguments (storage_of call.state) ≡ Some form → piece_read reading environment.width call.arguments form ≡ found →
+      printed_after line (gives_piece found (default_argument reading call.arguments) (argument 1 call.arguments) form (storage_of call.state)) ≡ e
+  reads_form reading form found is names read =
+      let storage : Storage = storage_of call.state in
+      let name = argument 1 call.arguments in
+      let other = default_argument reading call.arguments in
+      let done : Ok (printed_after line (gives_piece found other name form storage)) ≡ Ok e =
+      ap (λ (piece : Option Piece). Ok (printed_after line (gives_piece piece other name form storage))) (sym read)
+      ∙ ap (λ (f : Option Form). seen_as (printed_after line) (on_form f (λ g. Ok (form_read reading environment.width call.arguments g storage)) storage)) (sym names)
+      ∙ done_by (Handle (action.Read reading)) is in
+      cc
+
+  pub piece_gives : (reading : FormReading) (form : Form) (piece : Piece) → IsCallOf environment s call (Handle (action.Read reading)) e →
+      named_form call.arguments (storage_of call.state) ≡ Some form → piece_read reading environment.width call.arguments form ≡ Some piece → e.value ≡ piece.value
+  piece_gives reading form piece is names read = ap (λ (f : Effect). f.value) (sym (reads_form reading form (Some piece) is names read))
+
+  pub default_forces : (reading : FormReading) (form : Form) → IsCallOf environment s call (Handle (action.Read reading)) e →
+      named_form call.arguments (storage_of call.state) ≡ Some form → piece_read reading environment.width call.arguments form ≡ None → e.forced ≡ true
+  default_forces reading form is names read = ap (λ (f : Effect). f.forced) (sym (reads_form reading form None is names read))
+
+  -- ---- forms and blocks afterwards
+
+  pub parts_after : (t : State) → t ≡ after_call call e → (t.forms ≡ e.storage.forms) × (t.blocks ≡ e.storage.blocks)
+  parts_after t after =
+      let placed_forms = go call.kind e.forced (changed_by e call.state) in
+      (ap (λ (u : State). u.forms) after ∙ placed_forms.0, ap (λ (u : State). u.blocks) after ∙ placed_forms.1)
+    where
+      gathered : (fs : List Frame) (u : State) → ((gathered_in fs e.value u).forms ≡ u.forms) × ((gathered_in fs e.value u).blocks ≡ u.blocks)
+      gathered [] u = (refl, refl)
+      gathered (f ∷ fs) u = (refl, refl)
+
+      go : (kind : Kind) (forced : Bool) (u : State) → ((placed kind forced e.value u).forms ≡ u.forms) × ((placed kind forced e.value u).blocks ≡ u.blocks)
+      go Active forced u = (refl, refl)
+      go Neutral true u = (refl, refl)
+      go Neutral false u = gathered u.frames u
+
+  -- `ss` of no form leaves all
+  pub segment_left : IsCallOf environment s call (Handle action.Segment) e → named_form call.arguments (storage_of call.state) ≡ None → (t : State) → t ≡ after_call call e → t.forms ≡ call.state.forms
+  segment_left is none t after =
+      let storage : Storage = storage_of call.state in
+      let done : Ok (printed_after line (leaves storage)) ≡ Ok e =
+      ap (λ (found : Option Form). seen_as (printed_after line) (on_form found (λ f. putting (argument 1 call.arguments) (segmented (drop 2 call.arguments) f) storage) storage)) (sym none)
+      ∙ done_by (Handle action.Segment) is in
+      let same : printed_after line (leaves storage) ≡ e = cc in
+      (parts_after t after).0 ∙ ap (λ (f : Effect). f.storage.forms) (sym same)
