@@ -28,7 +28,7 @@ use Rattle.trac_follow.specs.declared.place.Place as code_place
 use Rattle.trac_follow.specs.Following.{IsFollowed, IsOrigin, IsSource}
 use Rattle.trac_follow.specs.Items.{IsMeasured}
 use Rattle.trac_follow.specs.Running.{IsTurn, StaysAt}
-use Rattle.trac_follow.specs.Places.{AreLengths, Stands, Tells, TellsOf, place_of}
+use Rattle.trac_follow.specs.Places.{AreLengths, IsPassed, Stands, Tells, TellsOf, place_of}
 
 -- ---- over some states, and then over more
 
@@ -203,7 +203,7 @@ module _ (width : Width) (old cur next : PlainSession) (place here : Place) (ste
       IsSource old place most next (steps + 1) (code.TheVariants.OfForm i)
   ends_form most i trail tells =
       let q = InForm (argument 1 tells.0.arguments) i in
-      (tells.0, ap (λ (p : PlainSession). scan p.last) went.next_is ∙ tells.1, followed_one trail (Carried q) tells.2)
+      (omega arith, (tells.0, ap (λ (p : PlainSession). scan p.last) went.next_is ∙ tells.1, followed_one trail (Carried q) tells.2))
 
 -- ---- as the code finds it
 
@@ -234,14 +234,11 @@ has_told old cur next place here steps done why some width after u v told goes w
           (subst (λ s. TellsOf s width after here told) before tells);
     }
 
--- where a call carried it
-pub passes : (width : Width) (old next : PlainSession) (place here : Place) (most steps : ℕ) (there : code_place.Place) (found : Found) → here ≡ place_of there → GoesBack width old next place here steps →
-    found.steps ≡ steps → found.source ≡ code.TheVariants.Passed there → IsKnown width old → IsFollowed old place most next found
-passes width old next place here most steps there found same goes count source trail =
-    subst (λ n. IsSource old place most next n found.source) (sym count)
-    (subst (λ s. IsSource old place most next steps s) (sym source)
-    (all_carried (over old.width old.tape) (take steps old.earlier) place here (goes.stood trail).carried
-    ∙ ap₂ (λ n q. record { carried = n; origin = Carried q }) goes.count same))
+-- so many steps carried it
+carried_so : (width : Width) (old cur : PlainSession) (place here : Place) (steps : ℕ) → GoesBack width old cur place here steps → IsKnown width old → IsOrigin old place steps steps (Carried here)
+carried_so width old cur place here steps goes trail =
+    all_carried (over old.width old.tape) (take steps old.earlier) place here (goes.stood trail).carried
+    ∙ ap (λ n. record { carried = n; origin = Carried here }) goes.count
 
 module _ (old cur next : PlainSession) (place here : Place) (steps : ℕ) (told : code_origin.Origin) (width : Width) (has : HasTold width old cur next place here steps told) where
   pub told_carried : (there : code_place.Place) → told ≡ code_origin.TheVariants.Carried there → GoesBack width old next place (place_of there) (steps + 1)
@@ -273,28 +270,34 @@ module _ (old cur next : PlainSession) (place here : Place) (steps : ℕ) (told 
       (subst (λ o. Tells has.went.before o (origin (over old.width old.tape) has.went.before here)) is (has.tells trail)))
 
   -- how it turned
-  pub turned_on : (now : code_place.Place) (turn : turning.Turn) (there : code_place.Place) → IsTurn now told turn → turn ≡ turning.TheVariants.On there → GoesBack width old next place (place_of there) (steps + 1)
-  turned_on now turn there turned on = told_carried there (go told turned)
+  pub turned_on : (v : State) (now : code_place.Place) (turn : turning.Turn) (there : code_place.Place) → IsTurn v now told turn → turn ≡ turning.TheVariants.On there → GoesBack width old next place (place_of there) (steps + 1)
+  turned_on v now turn there turned on = told_carried there (go told turned)
     where
-      go : (o : code_origin.Origin) → IsTurn now o turn → o ≡ code_origin.TheVariants.Carried there
+      go : (o : code_origin.Origin) → IsTurn v now o turn → o ≡ code_origin.TheVariants.Carried there
       go (code_origin.TheVariants.Carried q) is =
-          ⊎_elim (λ (e : turn ≡ turning.TheVariants.On q). cc) (λ (e : turn ≡ turning.TheVariants.End (code.TheVariants.Passed q)). absurd (cc)) is
+          ⊎_elim (λ (e : turn ≡ turning.TheVariants.On q). cc)
+          (λ (e : (turn ≡ turning.TheVariants.End (code.TheVariants.Passed q)) × IsPassed v (place_of now) (place_of q)). let ends = e.0 in absurd (cc)) is
       go (code_origin.TheVariants.OfForm i) is = absurd (cc)
       go (code_origin.TheVariants.Read n) is = absurd (cc)
       go code_origin.TheVariants.Made is = absurd (cc)
       go code_origin.TheVariants.Nothing is = absurd (cc)
 
-  pub turned_end : (most : ℕ) (now : code_place.Place) (turn : turning.Turn) (source : code.Source) (found : Found) → here ≡ place_of now → IsTurn now told turn → turn ≡ turning.TheVariants.End source →
+  pub turned_end : (v : State) (most : ℕ) (now : code_place.Place) (turn : turning.Turn) (source : code.Source) (found : Found) → v ≡ next.last → here ≡ place_of now → IsTurn v now told turn → turn ≡ turning.TheVariants.End source →
       found.steps ≡ steps + 1 → found.source ≡ source → IsKnown width old → IsFollowed old place most next found
-  turned_end most now turn source found same turned end count is trail = go told refl turned
+  turned_end v most now turn source found last same turned end count is trail = go told refl turned
     where
-      go : (o : code_origin.Origin) → told ≡ o → IsTurn now o turn → IsFollowed old place most next found
+      go : (o : code_origin.Origin) → told ≡ o → IsTurn v now o turn → IsFollowed old place most next found
       go (code_origin.TheVariants.Carried q) from at =
           ⊎_elim
           (λ (e : turn ≡ turning.TheVariants.On q). absurd (cc))
-          (λ (e : turn ≡ turning.TheVariants.End (code.TheVariants.Passed q)).
+          (λ (e : (turn ≡ turning.TheVariants.End (code.TheVariants.Passed q)) × IsPassed v (place_of now) (place_of q)).
+          let is_end = e.0 in
           let ends : source ≡ code.TheVariants.Passed q = cc in
-          passes width old next place (place_of q) most (steps + 1) q found refl (told_carried q from) count (is ∙ ends) trail)
+          found_is most found (code.TheVariants.Passed q) count (is ∙ ends) (
+            carried_so width old next place (place_of q) (steps + 1) (told_carried q from) trail,
+            (steps, (here, refl, carried_so width old cur place here steps has.goes trail,
+            subst (λ x. IsPassed x here (place_of q)) last (subst (λ h. IsPassed v h (place_of q)) (sym same) e.1))),
+          ))
           at
       go (code_origin.TheVariants.OfForm i) from at = let ends : source ≡ code.TheVariants.OfForm i = cc in told_form most i found from count (is ∙ ends) trail
       go (code_origin.TheVariants.Read n) from at = let ends : source ≡ code.TheVariants.Read n = cc in told_read most n found from count (is ∙ ends) trail

@@ -28,6 +28,18 @@ place_of (code_place.TheVariants.Form name i) = InForm name.now i
 place_of (code_place.TheVariants.Held number name i) = InHeld number name.now i
 place_of (code_place.TheVariants.Output i) = InOutput i
 
+-- the step from a state performs the function of this number, the innermost
+abbrev pub IsCalled : State → ℕ → Type 0
+IsCalled s function = (call : Call) × (scan s ≡ Calls call) × (function + 1 ≡ length s.frames)
+
+-- the step from a state carried a byte to one place from another that a reader of the call wants to see: an argument of its own, or a form
+-- that went into a block or came out of it
+abbrev pub IsPassed : State → Place → Place → Type 0
+IsPassed s (InForm name i) (InHeld number held j) = Unit {0}
+IsPassed s (InHeld number held j) (InForm name i) = Unit {0}
+IsPassed s here (InArgument function argument byte) = IsCalled s function
+IsPassed s here there = ⊥
+
 -- what is told in a state is this origin of what stands somewhere after the step from it
 abbrev pub Tells : State → code_origin.Origin → Origin → Type 0
 Tells s (code_origin.TheVariants.Carried place) o = o ≡ Carried (place_of place)

@@ -12,7 +12,7 @@ use Rattle.trac_follow.specs.declared.place.After.{After}
 use Rattle.trac_follow.specs.declared.place.Origin as told
 use Rattle.trac_follow.specs.declared.place.Place as code_place
 use Rattle.trac_follow.specs.Items.{IsMeasured}
-use Rattle.trac_follow.specs.Places.{TellsOf, place_of}
+use Rattle.trac_follow.specs.Places.{IsPassed, TellsOf, place_of}
 
 -- what stands at a place after the step from a state stood there before it, and what is measured of the place stays
 abbrev pub StaysAt : State → Place → Type 0
@@ -21,12 +21,13 @@ StaysAt s place =
     (origin environment s place ≡ Carried place) × ((bytes : ℕ) (gap : Bool) → IsMeasured bytes gap t place → IsMeasured bytes gap s place)
 
 -- how it goes on from a place here, by what is told of it
-abbrev pub IsTurn : code_place.Place → told.Origin → turning.Turn → Type 0
-IsTurn here (told.TheVariants.Carried there) turn = (turn ≡ turning.TheVariants.On there) ⊎ (turn ≡ turning.TheVariants.End (code.TheVariants.Passed there))
-IsTurn here (told.TheVariants.OfForm i) turn = turn ≡ turning.TheVariants.End (code.TheVariants.OfForm i)
-IsTurn here (told.TheVariants.Read n) turn = turn ≡ turning.TheVariants.End (code.TheVariants.Read n)
-IsTurn here told.TheVariants.Made turn = turn ≡ turning.TheVariants.End code.TheVariants.Made
-IsTurn here told.TheVariants.Nothing turn = turn ≡ turning.TheVariants.End code.TheVariants.Nothing
+abbrev pub IsTurn : State → code_place.Place → told.Origin → turning.Turn → Type 0
+IsTurn s here (told.TheVariants.Carried there) turn =
+    (turn ≡ turning.TheVariants.On there) ⊎ ((turn ≡ turning.TheVariants.End (code.TheVariants.Passed there)) × IsPassed s (place_of here) (place_of there))
+IsTurn s here (told.TheVariants.OfForm i) turn = turn ≡ turning.TheVariants.End (code.TheVariants.OfForm i)
+IsTurn s here (told.TheVariants.Read n) turn = turn ≡ turning.TheVariants.End (code.TheVariants.Read n)
+IsTurn s here told.TheVariants.Made turn = turn ≡ turning.TheVariants.End code.TheVariants.Made
+IsTurn s here told.TheVariants.Nothing turn = turn ≡ turning.TheVariants.End code.TheVariants.Nothing
 
 abbrev pub HasTurned : State → Width → After → code_place.Place → turning.Turn → Type 0
-HasTurned s width after here turn = (o : told.Origin) × TellsOf s width after (place_of here) o × IsTurn here o turn
+HasTurned s width after here turn = (o : told.Origin) × TellsOf s width after (place_of here) o × IsTurn s here o turn

@@ -1,8 +1,8 @@
 //! Following a byte back over many steps.
-ghost use Rattle.std.specs.Prelude.{◌≡◌, ◌^◌, ◌<◌, ◌≤◌, length, Some};
+ghost use Rattle.std.specs.Prelude.{◌≡◌, ◌+◌, ◌^◌, ◌<◌, ◌≤◌, length, IsTrue, Some};
 ghost use Rattle.trac_follow.specs.Following.{IsFollowed};
 ghost use Rattle.trac_follow.specs.Items.{IsMeasured};
-ghost use Rattle.trac_follow.specs.Places.{place_of};
+ghost use Rattle.trac_follow.specs.Places.{IsCalled, IsPassed, place_of};
 ghost use Rattle.trac_follow.specs.Running.{HasTurned};
 ghost use Rattle.trac_rules.specs.Session.{Back, repeated};
 ghost use Rattle.trac_rules.specs.Trails.{IsTrail};
@@ -171,19 +171,34 @@ fn is_passed<E: TwoEnds<u8, A>, M: TwoEnds<Mark, A>, A: Allocator + Copy>(
     machine: &Core<E, M, A>,
     here: Place<'_>,
     there: Place<'_>,
-) -> bool {
+) -> bool
+    ensures { IsTrue result → IsPassed machine.now.state (place_of here.entry) (place_of there.entry) }
+{
     match (here, there) {
         (Place::Form(_, _), Place::Held(_, _, _)) => true,
         (Place::Held(_, _, _), Place::Form(_, _)) => true,
-        (_, Place::Argument { function, .. }) => {
-            machine.next_call().is_some() && is_innermost(function, machine.depth())
-        }
+        (_, Place::Argument { function, .. }) => is_called(machine, function),
         _ => false,
     }
 }
 
+// Whether the step that comes next performs the function of this number.
+fn is_called<E: TwoEnds<u8, A>, M: TwoEnds<Mark, A>, A: Allocator + Copy>(
+    machine: &Core<E, M, A>,
+    function: usize,
+) -> bool
+    ensures { IsTrue result → IsCalled machine.now.state function }
+{
+    match machine.next_call() {
+        Some(_) => is_innermost(function, machine.depth()),
+        None => false,
+    }
+}
+
 // Whether the begun function of this number is the last of so many.
-fn is_innermost(function: usize, depth: usize) -> bool {
+fn is_innermost(function: usize, depth: usize) -> bool
+    ensures { IsTrue result → function + 1 ≡ depth }
+{
     function < depth && depth - function == 1
 }
 

@@ -48,7 +48,7 @@ loop-steps-preserved g c =
     c.machine-in-loop-steps-3.ensures.last c.turned.ensures.1) in (
       omega (arith, c.loop-steps-test.true),
       turned_on c.args.session.now c.pass_back-count.new.self c.back.new.self (place_of c.args.place) (place_of c.loop-steps.here) c.loop-steps.steps c.turned.ensures.0 c.args.width has
-          c.loop-steps.here c.turned.result c.in-On.there c.turned.ensures.2 c.in-On.is,
+          c.machine-in-loop-steps-3.result.now.state c.loop-steps.here c.turned.result c.in-On.there c.turned.ensures.2 c.in-On.is,
       λ trail.
           subst (λ (s : State). IsMeasured c.measured-measure-in-On.result.0 c.measured-measure-in-On.result.1 s (place_of c.in-On.there)) c.machine-in-On.ensures.last
           c.measured-measure-in-On.ensures,
@@ -67,7 +67,7 @@ returns-in-End-clause-followed g c = λ wide trail.
     c.seen_after-after.ensures.active c.seen_after-after.ensures.output c.seen_after-after.ensures.extent c.seen_after-after.ensures.gap c.seen_after-after.ensures.read c.machine-in-loop-steps.ensures.last (measured trail))
     c.machine-in-loop-steps-3.ensures.last c.turned.ensures.1) in
     turned_end c.args.session.now c.pass_back-count.new.self c.back.new.self (place_of c.args.place) (place_of c.loop-steps.here) c.loop-steps.steps c.turned.ensures.0 c.args.width has
-    c.args.most c.loop-steps.here c.turned.result c.in-End.source c.found.result refl c.turned.ensures.2 c.in-End.is c.found.ensures.steps c.found.ensures.source (wide, trail)
+    c.machine-in-loop-steps-3.result.now.state c.args.most c.loop-steps.here c.turned.result c.in-End.source c.found.result c.machine-in-loop-steps-3.ensures.last refl c.turned.ensures.2 c.in-End.is c.found.ensures.steps c.found.ensures.source (wide, trail)
 
 pub returns-clause-followed : goal.returns-clause-followed
 returns-clause-followed g c = λ wide trail. elim c.loop-steps-test.branch [

@@ -6,24 +6,24 @@ use Rattle.trac_follow.proofs.history.turned.Goals as goal
 
 pub returns-then-is_passed : goal.returns-then-is_passed
 returns-then-is_passed g c =
-    (c.told_of.result, c.told_of.ensures, subst (λ o. IsTurn c.args.here o (turning.TheVariants.End (code.TheVariants.Passed c.in-Carried.there))) (sym c.in-Carried.is) (inr refl))
+    (c.told_of.result, c.told_of.ensures, subst (λ o. IsTurn c.args.before.now.state c.args.here o (turning.TheVariants.End (code.TheVariants.Passed c.in-Carried.there))) (sym c.in-Carried.is) (inr (refl, c.is_passed.ensures c.if-is_passed.true)))
 
 pub returns-else-is_passed : goal.returns-else-is_passed
 returns-else-is_passed g c =
-    (c.told_of.result, c.told_of.ensures, subst (λ o. IsTurn c.args.here o (turning.TheVariants.On c.in-Carried.there)) (sym c.in-Carried.is) (inl refl))
+    (c.told_of.result, c.told_of.ensures, subst (λ o. IsTurn c.args.before.now.state c.args.here o (turning.TheVariants.On c.in-Carried.there)) (sym c.in-Carried.is) (inl refl))
 
 pub returns-in-OfForm : goal.returns-in-OfForm
 returns-in-OfForm g c =
-    (c.told_of.result, c.told_of.ensures, subst (λ o. IsTurn c.args.here o (turning.TheVariants.End (code.TheVariants.OfForm c.in-OfForm.i))) (sym c.in-OfForm.is) (refl))
+    (c.told_of.result, c.told_of.ensures, subst (λ o. IsTurn c.args.before.now.state c.args.here o (turning.TheVariants.End (code.TheVariants.OfForm c.in-OfForm.i))) (sym c.in-OfForm.is) (refl))
 
 pub returns-in-Read : goal.returns-in-Read
 returns-in-Read g c =
-    (c.told_of.result, c.told_of.ensures, subst (λ o. IsTurn c.args.here o (turning.TheVariants.End (code.TheVariants.Read c.in-Read.n))) (sym c.in-Read.is) (refl))
+    (c.told_of.result, c.told_of.ensures, subst (λ o. IsTurn c.args.before.now.state c.args.here o (turning.TheVariants.End (code.TheVariants.Read c.in-Read.n))) (sym c.in-Read.is) (refl))
 
 pub returns-in-Made : goal.returns-in-Made
 returns-in-Made g c =
-    (c.told_of.result, c.told_of.ensures, subst (λ o. IsTurn c.args.here o (turning.TheVariants.End code.TheVariants.Made)) (sym c.in-Made.is) (refl))
+    (c.told_of.result, c.told_of.ensures, subst (λ o. IsTurn c.args.before.now.state c.args.here o (turning.TheVariants.End code.TheVariants.Made)) (sym c.in-Made.is) (refl))
 
 pub returns-in-Nothing : goal.returns-in-Nothing
 returns-in-Nothing g c =
-    (c.told_of.result, c.told_of.ensures, subst (λ o. IsTurn c.args.here o (turning.TheVariants.End code.TheVariants.Nothing)) (sym c.in-Nothing.is) (refl))
+    (c.told_of.result, c.told_of.ensures, subst (λ o. IsTurn c.args.before.now.state c.args.here o (turning.TheVariants.End code.TheVariants.Nothing)) (sym c.in-Nothing.is) (refl))
