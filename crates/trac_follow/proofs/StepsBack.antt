@@ -1,5 +1,5 @@
 -- A byte that is followed back, step by step.
-use Rattle.std.proofs.Common.{◌≡◌, ℕ, suc, ◌+◌, ◌-◌, ◌^◌, ◌<◌, Bool, true, false, List, [], ◌∷◌, ◌++◌, length, take, refl, sym, ap, ap₂, subst, ◌∙◌, ⊎_elim, arith}
+use Rattle.std.proofs.Common.{◌≡◌, ℕ, suc, ◌+◌, ◌^◌, ◌<◌, Bool, true, false, List, [], ◌∷◌, ◌++◌, length, take, refl, sym, ap, ap₂, subst, ◌∙◌, ⊎_elim, arith}
 use Rattle.std.specs.Prelude.{◌⊎◌, Option, None, Some, is_some, option_and_then}
 use Rattle.std.proofs.lemmas.List.{append-nil, append_assoc, length-append}
 use Rattle.std.proofs.Math.Seq.{take-append-add}
@@ -25,7 +25,7 @@ use Rattle.trac_follow.specs.declared.history.Turn as turning
 use Rattle.trac_follow.specs.declared.place.After.{After}
 use Rattle.trac_follow.specs.declared.place.Origin as code_origin
 use Rattle.trac_follow.specs.declared.place.Place as code_place
-use Rattle.trac_follow.specs.Following.{IsFollowed, IsOrigin, IsSource}
+use Rattle.trac_follow.specs.Following.{IsFollowed, IsSource}
 use Rattle.trac_follow.specs.Items.{IsMeasured}
 use Rattle.trac_follow.specs.Running.{IsTurn, StaysAt}
 use Rattle.trac_follow.specs.Places.{AreLengths, Stands, Tells, TellsOf, place_of}
