@@ -203,7 +203,7 @@ module _ (width : Width) (old cur next : PlainSession) (place here : Place) (ste
       IsSource old place most next (steps + 1) (code.TheVariants.OfForm i)
   ends_form most i trail tells =
       let q = InForm (argument 1 tells.0.arguments) i in
-      (tells.0, ap (λ (p : PlainSession). scan p.last) went.next_is ∙ tells.1, followed_one trail (Carried q) tells.2)
+      (omega arith, tells.0, ap (λ (p : PlainSession). scan p.last) went.next_is ∙ tells.1, followed_one trail (Carried q) tells.2)
 
 -- ---- as the code finds it
 
@@ -236,12 +236,15 @@ has_told old cur next place here steps done why some width after u v told goes w
 
 -- where a call carried it
 pub passes : (width : Width) (old next : PlainSession) (place here : Place) (most steps : ℕ) (there : code_place.Place) (found : Found) → here ≡ place_of there → GoesBack width old next place here steps →
-    found.steps ≡ steps → found.source ≡ code.TheVariants.Passed there → IsKnown width old → IsFollowed old place most next found
-passes width old next place here most steps there found same goes count source trail =
+    0 < steps → found.steps ≡ steps → found.source ≡ code.TheVariants.Passed there → IsKnown width old → IsFollowed old place most next found
+passes width old next place here most steps there found same goes some count source trail =
     subst (λ n. IsSource old place most next n found.source) (sym count)
     (subst (λ s. IsSource old place most next steps s) (sym source)
-    (all_carried (over old.width old.tape) (take steps old.earlier) place here (goes.stood trail).carried
-    ∙ ap₂ (λ n q. record { carried = n; origin = Carried q }) goes.count same))
+    (
+      some,
+      all_carried (over old.width old.tape) (take steps old.earlier) place here (goes.stood trail).carried
+          ∙ ap₂ (λ n q. record { carried = n; origin = Carried q }) goes.count same,
+    ))
 
 module _ (old cur next : PlainSession) (place here : Place) (steps : ℕ) (told : code_origin.Origin) (width : Width) (has : HasTold width old cur next place here steps told) where
   pub told_carried : (there : code_place.Place) → told ≡ code_origin.TheVariants.Carried there → GoesBack width old next place (place_of there) (steps + 1)
@@ -294,7 +297,7 @@ module _ (old cur next : PlainSession) (place here : Place) (steps : ℕ) (told 
           (λ (e : turn ≡ turning.TheVariants.On q). absurd (cc))
           (λ (e : turn ≡ turning.TheVariants.End (code.TheVariants.Passed q)).
           let ends : source ≡ code.TheVariants.Passed q = cc in
-          passes width old next place (place_of q) most (steps + 1) q found refl (told_carried q from) count (is ∙ ends) trail)
+          passes width old next place (place_of q) most (steps + 1) q found refl (told_carried q from) (omega arith) count (is ∙ ends) trail)
           at
       go (code_origin.TheVariants.OfForm i) from at = let ends : source ≡ code.TheVariants.OfForm i = cc in told_form most i found from count (is ∙ ends) trail
       go (code_origin.TheVariants.Read n) from at = let ends : source ≡ code.TheVariants.Read n = cc in told_read most n found from count (is ∙ ends) trail

@@ -18,9 +18,9 @@ IsOrigin p place steps carried source = followed (over p.width p.tape) (take ste
 abbrev pub IsSource : PlainSession → Place → ℕ → PlainSession → ℕ → code.Source → Type 0
 IsSource old place most new steps code.TheVariants.Nothing = (steps ≡ 0) × IsBare old.last place
 IsSource old place most new steps (code.TheVariants.Here there) = IsOrigin old place steps steps (Carried (place_of there)) × ((steps ≡ most) ⊎ (new.earlier ≡ []))
-IsSource old place most new steps (code.TheVariants.Passed there) = IsOrigin old place steps steps (Carried (place_of there))
+IsSource old place most new steps (code.TheVariants.Passed there) = (0 < steps) × IsOrigin old place steps steps (Carried (place_of there))
 IsSource old place most new steps (code.TheVariants.OfForm i) =
-    (call : Call) × (scan new.last ≡ Calls call) × IsOrigin old place steps steps (Carried (InForm (argument 1 call.arguments) i))
+    (0 < steps) × (call : Call) × (scan new.last ≡ Calls call) × IsOrigin old place steps steps (Carried (InForm (argument 1 call.arguments) i))
 IsSource old place most new steps (code.TheVariants.Read n) = (0 < steps) × IsOrigin old place steps (steps - 1) (Read n)
 IsSource old place most new steps code.TheVariants.Made = (0 < steps) × IsOrigin old place steps (steps - 1) Made
 
