@@ -1,6 +1,6 @@
 """A model of `y` of trac-walk, written from the definition of the language: each byte has the way by which it came.
 
-It knows ds, ss, cl, cs, cc, eq, gr, ad, su, ml, sb, fb, eb, ps and rs. It was written before the program was tried, and not from it.
+It knows ds, ss, cl, cs, cc, in, ln, eq, gr, ad, su, ml, sb, fb, eb, ps and rs. It was written before the program was tried, and not from it.
 """
 import re
 
@@ -179,6 +179,24 @@ class Machine:
             return moved(arguments[2], did("gives it")), True
         form[1] = place + 1
         return moved(items[place:place + 1], did("gives it")), False
+
+    def do_in(self, arguments, did):
+        form = self.forms.get(plain(arguments[1]))
+        if not form:
+            return [], False
+        items, pointer = form
+        word = list(plain(arguments[2]))
+        for place in range(pointer, len(items) + 1):
+            if [byte for byte, _ in items[place:place + len(word)]] == word:
+                form[1] = place + len(word)
+                return moved([item for item in items[pointer:place] if item[0] < GAP], did("gives it")), False
+        return moved(arguments[3], did("gives it")), True
+
+    def do_ln(self, arguments, did):
+        value = []
+        for name in sorted(self.forms):
+            value += moved(arguments[1], did("gives it")) + made(name, did("makes it"))
+        return value, False
 
     def put(self, forms, names, did):
         """Forms of these names with all that they hold, which the call puts elsewhere."""

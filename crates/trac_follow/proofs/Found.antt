@@ -1,15 +1,13 @@
 -- What stands at a place of a state.
-use Rattle.std.proofs.Common.{◌≡◌, ℕ, zero, suc, ◌+◌, ◌-◌, ◌<◌, ◌≤◌, true, false, List, [], ◌∷◌, length, drop, reverse, get_or, refl, sym, ap, ap₂, ◌∙◌, ⊎_elim, arith}
-use Rattle.std.specs.Prelude.{Option, None, Some, IfSome, IsTrue, ◌==◌, is_some, option_and_then, option_map, slice_get}
-use Rattle.std.specs.FinMap as finite
+use Rattle.std.proofs.Common.{◌≡◌, ℕ, zero, suc, ◌+◌, ◌-◌, ◌<◌, ◌≤◌, true, false, List, [], ◌∷◌, length, drop, reverse, get_or, refl, sym, ap, ◌∙◌, ⊎_elim, arith}
+use Rattle.std.specs.Prelude.{Option, None, Some, ◌==◌, option_and_then, option_map, slice_get}
 use Rattle.std.proofs.lemmas.Bool.{cases_Bool, cond-true, cond-false, eqb-true, eqb-false}
-use Rattle.std.proofs.lemmas.List.{drop_all, get_or-reverse, get_or_at, length-append, length-drop, length-reverse}
+use Rattle.std.proofs.lemmas.List.{get_or-reverse, get_or_at, length-drop, length-reverse}
 use Rattle.std.proofs.lemmas.Option.{get_or_from_slice_get, slice_get-get_or, slice_get_within}
 use Rattle.trac_rules.specs.declared.item.Item.{Item}
 use Rattle.trac_rules.specs.declared.item.Item.TheVariants.{Byte}
 use Rattle.trac_rules.specs.declared.kind.Kind.{Kind}
 use Rattle.trac_rules.specs.Effect.{argument}
-use Rattle.trac_rules.specs.Form.{Form, all_items}
 use Rattle.trac_rules.specs.State.{Frame, State}
 use Rattle.trac_origins.specs.Lengths.{current_text, in_current}
 use Rattle.trac_origins.specs.Places.{Place, InBase, InArgument, arguments_of, byte_at, found_at, numbered}

@@ -1,21 +1,20 @@
 -- The value of `ln`: names, rising by their bytes, and a text before each.
-use Rattle.std.proofs.Common.{◌≡◌, ℕ, ◌+◌, ◌-◌, ◌<◌, ◌≤◌, List, [], ◌∷◌, ◌++◌, length, take, refl, sym, ap, ap₂, subst, ◌∙◌, arith}
-use Rattle.std.specs.Prelude.{Option, Some, slice_get}
+use Rattle.std.proofs.Common.{◌≡◌, ℕ, ◌+◌, ◌-◌, List, [], ◌∷◌, ◌++◌, length, take, refl, sym, ap, ap₂, subst, ◌∙◌, arith}
+use Rattle.std.specs.Prelude.{Option}
 use Rattle.std.specs.List.{flat_map}
 use Rattle.std.proofs.lemmas.List.{length-append}
 use Rattle.trac_rules.specs.declared.kind.Kind.{Kind}
 use Rattle.trac_rules.specs.declared.primitive.FormAction.TheVariants.{ListNames}
 use Rattle.trac_rules.specs.declared.primitive.Primitive.TheVariants.{Handle}
 use Rattle.trac_rules.specs.declared.width.Width.{Width}
-use Rattle.trac_rules.specs.Effect.{Effect, argument}
+use Rattle.trac_rules.specs.Effect.{argument}
 use Rattle.trac_rules.specs.Goals.{IsCall, next_call}
 use Rattle.trac_rules.specs.Listing.{names_of}
 use Rattle.trac_rules.specs.Performing.{primitive_of}
-use Rattle.trac_rules.specs.Scanning.{Call}
-use Rattle.trac_rules.specs.State.{Environment, Forms, State}
+use Rattle.trac_rules.specs.State.{Forms, State}
 use Rattle.trac_forms.specs.Listed.{IsListed, listed_len}
 use Rattle.trac_origins.specs.Lengths.{IsCallOf, value_at}
-use Rattle.trac_origins.specs.Places.{Carried, InArgument, Made}
+use Rattle.trac_origins.specs.Places.{Carried, InArgument}
 use Rattle.trac_origins.specs.Stepping.{origin}
 use Rattle.trac_origins.proofs.ToldCalls.{ended}
 use Rattle.trac_origins.proofs.ToldValues.{listed_told, name_told}

@@ -16,7 +16,7 @@ use Rattle.trac_rules.proofs.Replies.{Back_refused, accepted_done, answer_Back_f
 use Rattle.trac_rules.proofs.TakenAgain.{Back_done}
 use Rattle.trac_origins.specs.Accounts.{Accounts}
 use Rattle.trac_origins.specs.Following.{Followed, followed, going_back, one_more}
-use Rattle.trac_origins.specs.Places.{Place, InForm, Origin, Carried, Read, Made, found_at}
+use Rattle.trac_origins.specs.Places.{Place, InActive, InBase, InArgument, InForm, InHeld, InOutput, Origin, Carried, Read, Made, found_at}
 use Rattle.trac_origins.specs.Stepping.{origin}
 use Rattle.trac_origins.proofs.Accounted.{accounted}
 use Rattle.trac_follow.specs.declared.history.Followed.{Followed as Found}
@@ -28,7 +28,7 @@ use Rattle.trac_follow.specs.declared.place.Place as code_place
 use Rattle.trac_follow.specs.Following.{IsFollowed, IsOrigin, IsSource}
 use Rattle.trac_follow.specs.Items.{IsMeasured}
 use Rattle.trac_follow.specs.Running.{IsTurn, StaysAt}
-use Rattle.trac_follow.specs.Places.{AreLengths, IsPassed, Stands, Tells, TellsOf, place_of}
+use Rattle.trac_follow.specs.Places.{AreLengths, IsCalled, IsPassed, Stands, Tells, TellsOf, place_of}
 
 -- ---- over some states, and then over more
 
@@ -234,6 +234,15 @@ has_told old cur next place here steps done why some width after u v told goes w
           (subst (λ s. TellsOf s width after here told) before tells);
     }
 
+-- whatever an argument of the call that is performed becomes, it is passed
+pub passed_argument : (s : State) (here : Place) (function argument byte : ℕ) → IsCalled s function → IsPassed s here (InArgument function argument byte)
+passed_argument s (InActive i) function argument byte called = called
+passed_argument s (InBase i) function argument byte called = called
+passed_argument s (InArgument f a i) function argument byte called = called
+passed_argument s (InForm name i) function argument byte called = called
+passed_argument s (InHeld number name i) function argument byte called = called
+passed_argument s (InOutput i) function argument byte called = called
+
 -- so many steps carried it
 carried_so : (width : Width) (old cur : PlainSession) (place here : Place) (steps : ℕ) → GoesBack width old cur place here steps → IsKnown width old → IsOrigin old place steps steps (Carried here)
 carried_so width old cur place here steps goes trail =
@@ -295,8 +304,15 @@ module _ (old cur next : PlainSession) (place here : Place) (steps : ℕ) (told 
           let ends : source ≡ code.TheVariants.Passed q = cc in
           found_is most found (code.TheVariants.Passed q) count (is ∙ ends) (
             carried_so width old next place (place_of q) (steps + 1) (told_carried q from) trail,
-            (steps, (here, refl, carried_so width old cur place here steps has.goes trail,
-            subst (λ x. IsPassed x here (place_of q)) last (subst (λ h. IsPassed v h (place_of q)) (sym same) e.1))),
+            (
+              steps,
+              (
+                here,
+                refl,
+                carried_so width old cur place here steps has.goes trail,
+                subst (λ x. IsPassed x here (place_of q)) last (subst (λ h. IsPassed v h (place_of q)) (sym same) e.1),
+              ),
+            ),
           ))
           at
       go (code_origin.TheVariants.OfForm i) from at = let ends : source ≡ code.TheVariants.OfForm i = cc in told_form most i found from count (is ∙ ends) trail

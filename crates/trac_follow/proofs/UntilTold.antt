@@ -1,5 +1,5 @@
 -- The value of `in`, told by what is known of it after the step.
-use Rattle.std.proofs.Common.{◌≡◌, ℕ, zero, suc, ◌+◌, ◌-◌, ◌<◌, ◌≤◌, true, false, ◌==◌, ◌&&◌, Bool, List, [], ◌∷◌, length, take, drop, min, refl, sym, ap, ap₂, subst, ◌∙◌, arith, ⊎_elim}
+use Rattle.std.proofs.Common.{◌≡◌, ℕ, zero, suc, ◌+◌, ◌-◌, ◌<◌, ◌≤◌, true, false, ◌==◌, ◌&&◌, Bool, List, [], ◌∷◌, length, take, drop, refl, sym, ap, ap₂, ◌∙◌, arith, ⊎_elim}
 use Rattle.std.specs.Prelude.{Option, None, Some, option_map, slice_get}
 use Rattle.std.proofs.lemmas.Bool.Decides.{nat_tests}
 use Rattle.std.specs.List.{flat_map}
@@ -11,15 +11,14 @@ use Rattle.trac_rules.specs.declared.primitive.FormAction.TheVariants as action
 use Rattle.trac_rules.specs.declared.primitive.FormReading.TheVariants.{ReadUntil}
 use Rattle.trac_rules.specs.declared.primitive.Primitive.TheVariants.{Handle}
 use Rattle.trac_rules.specs.declared.width.Width.{Width}
-use Rattle.trac_rules.specs.Bytes.{first_place}
-use Rattle.trac_rules.specs.Effect.{Effect, argument}
+use Rattle.trac_rules.specs.Effect.{argument}
 use Rattle.trac_rules.specs.Form.{Form, all_items}
-use Rattle.trac_rules.specs.Handling.{named_form, piece_read}
+use Rattle.trac_rules.specs.Handling.{piece_read}
 use Rattle.trac_rules.specs.Pieces.{Piece, begin_with, byte_of, bytes_in, place_of_text, read_on, until_read}
-use Rattle.trac_rules.specs.State.{Environment, State, storage_of}
+use Rattle.trac_rules.specs.State.{Environment}
 use Rattle.trac_rules.specs.Scanning.{Call}
 use Rattle.trac_rules.proofs.Balanced.{first_place_cases, first_place_passes, first_place_some}
-use Rattle.trac_origins.specs.Lengths.{IsCallOf, value_at}
+use Rattle.trac_origins.specs.Lengths.{value_at}
 use Rattle.trac_origins.specs.Stepping.{origin}
 use Rattle.trac_follow.specs.declared.items.Given.{Given}
 use Rattle.trac_follow.specs.Items.{IsGiven}

@@ -1,10 +1,10 @@
 -- What stands in forms and blocks after a call is within what its origins tell.
-use Rattle.std.proofs.Common.{◌≡◌, ℕ, ◌+◌, ◌<◌, ◌≤◌, Bool, true, false, List, [], ◌∷◌, length, get_or, refl, sym, ap, subst, ◌∙◌, arith}
+use Rattle.std.proofs.Common.{◌≡◌, ℕ, ◌<◌, ◌≤◌, true, List, length, refl, ap, ◌∙◌, arith}
 use Rattle.std.specs.Prelude.{Option, None, Some, Ok, ◌==◌, bytes_eq, slice_get}
 use Rattle.std.specs.FinMap as finite
 use Rattle.std.proofs.lemmas.Bool.{cond-true, cond-false, eq-eqb, ne_eqb}
 use Rattle.std.proofs.lemmas.List.{get_or_past}
-use Rattle.std.proofs.lemmas.Option.{slice_get-get_or, slice_get_within}
+use Rattle.std.proofs.lemmas.Option.{slice_get_within}
 use Rattle.trac_rules.specs.declared.item.Item.{Item}
 use Rattle.trac_rules.specs.declared.primitive.BlockAction.TheVariants.{StoreBlock, FetchBlock, EraseBlock}
 use Rattle.trac_rules.specs.declared.primitive.FormAction.{FormAction}
@@ -16,7 +16,7 @@ use Rattle.trac_rules.specs.Effect.{Effect, argument}
 use Rattle.trac_rules.specs.Form.{Form, all_items}
 use Rattle.trac_rules.specs.Handling.{named_form}
 use Rattle.trac_rules.specs.Scanning.{Call}
-use Rattle.trac_rules.specs.State.{Block, Environment, State, storage_of}
+use Rattle.trac_rules.specs.State.{Environment, State, storage_of}
 use Rattle.trac_rules.specs.Stepping.{step}
 use Rattle.trac_origins.specs.Lengths.{IsCallOf}
 use Rattle.trac_origins.specs.Lists.{Origins, kept}

@@ -1,11 +1,9 @@
 -- Places and origins as the definitions see them.
 use Rattle.std.specs.Prelude.{◌≡◌, ◌⊎◌, ℕ, ◌+◌, ◌^◌, ◌<◌, ◌≤◌, List, length, Bool, true, false, Option, None, Some, Ok}
 use Rattle.trac_rules.specs.declared.item.Item.{Item}
-use Rattle.trac_rules.specs.declared.primitive.BlockAction.TheVariants.{StoreBlock}
 use Rattle.trac_rules.specs.declared.primitive.Computation.{Computation}
-use Rattle.trac_rules.specs.declared.primitive.FormAction.TheVariants.{Define}
 use Rattle.trac_rules.specs.declared.primitive.Primitive.{Primitive}
-use Rattle.trac_rules.specs.declared.primitive.Primitive.TheVariants.{ReadString, ReadByte, Compute, Handle, HandleBlock}
+use Rattle.trac_rules.specs.declared.primitive.Primitive.TheVariants.{ReadString, ReadByte, Compute}
 use Rattle.trac_rules.specs.declared.width.Width.{Width}
 use Rattle.trac_rules.specs.Effect.{Effect, argument}
 use Rattle.trac_rules.specs.Performing.{performed}

@@ -174,10 +174,10 @@ fn is_passed<E: TwoEnds<u8, A>, M: TwoEnds<Mark, A>, A: Allocator + Copy>(
 ) -> bool
     ensures { IsTrue result → IsPassed machine.now.state (place_of here.entry) (place_of there.entry) }
 {
-    match (here, there) {
-        (Place::Form(_, _), Place::Held(_, _, _)) => true,
-        (Place::Held(_, _, _), Place::Form(_, _)) => true,
-        (_, Place::Argument { function, .. }) => is_called(machine, function),
+    match there {
+        Place::Argument { function, .. } => is_called(machine, function),
+        Place::Held(_, _, _) => matches!(here, Place::Form(_, _)),
+        Place::Form(_, _) => matches!(here, Place::Held(_, _, _)),
         _ => false,
     }
 }
@@ -190,7 +190,7 @@ fn is_called<E: TwoEnds<u8, A>, M: TwoEnds<Mark, A>, A: Allocator + Copy>(
     ensures { IsTrue result → IsCalled machine.now.state function }
 {
     match machine.next_call() {
-        Some(_) => is_innermost(function, machine.depth()),
+        Some(_call) => is_innermost(function, machine.depth()),
         None => false,
     }
 }

@@ -1,9 +1,6 @@
 use Rattle.std.proofs.Common.{◌≡◌, true, false, length, sym, ap, ◌∙◌}
 use Rattle.std.specs.Prelude.{bytes_eq}
 use Rattle.trac_forms.specs.Stored.{Stored, storage_in}
-use Rattle.trac_rules.specs.declared.primitive.BlockAction.TheVariants.{FetchBlock, StoreBlock}
-use Rattle.trac_rules.specs.declared.primitive.FormAction.TheVariants.{Define, Segment}
-use Rattle.trac_rules.specs.declared.primitive.Primitive.TheVariants.{Handle, HandleBlock}
 use Rattle.trac_rules.specs.Effect.{argument}
 use Rattle.trac_rules.specs.Performing.{primitive_of}
 use Rattle.trac_origins.specs.Lengths.{may_put}
@@ -14,8 +11,6 @@ use Rattle.trac_follow.proofs.FetchedTold.{fetched_tells}
 use Rattle.trac_follow.proofs.FormCalls.{cut_tells}
 use Rattle.trac_follow.proofs.Staying.{form_stays_calling}
 use Rattle.trac_follow.proofs.ValuesTold.{address_is, is_put_by, named_by, put_tells}
-use Rattle.trac_follow.specs.Putting.{put_by}
-use Rattle.trac_follow.specs.declared.called.Put.TheVariants.{Text, Cut, Fetched, Address, Nothing}
 use Rattle.trac_follow.proofs.called.of_form.Goals as goal
 
 pub returns : goal.returns

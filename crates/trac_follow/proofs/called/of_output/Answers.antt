@@ -1,4 +1,4 @@
-use Rattle.std.proofs.Common.{◌≡◌, ◌<◌, ◌≤◌, length, sym, ap, subst, ◌∙◌}
+use Rattle.std.proofs.Common.{◌<◌, ◌≤◌, length, sym, ap, subst, ◌∙◌}
 use Rattle.trac_rules.specs.Effect.{argument}
 use Rattle.trac_origins.proofs.Told.{byte_within}
 use Rattle.trac_follow.proofs.CallsTold.{given_call, number_is, output_carried}

@@ -1,8 +1,6 @@
 -- One byte after another.
 use Rattle.std.proofs.Common.{sym, ap, ◌∙◌, arith}
-use Rattle.std.specs.Prelude.{not}
 use Rattle.trac_rules.specs.Form.{all_items}
-use Rattle.trac_rules.specs.Pieces.{begin_with}
 use Rattle.trac_follow.specs.Formed.{is_byte}
 use Rattle.trac_follow.proofs.UntilTold.{begins_end, begins_not, begins_on}
 use Rattle.trac_follow.proofs.formed.begins_at.Goals as goal

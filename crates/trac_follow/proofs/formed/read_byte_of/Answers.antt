@@ -1,7 +1,7 @@
 use Rattle.std.proofs.Common.{refl, sym, subst}
 use Rattle.trac_rules.specs.declared.primitive.FormAction.TheVariants.{Read}
 use Rattle.trac_rules.specs.declared.primitive.FormReading.{FormReading}
-use Rattle.trac_rules.specs.declared.primitive.FormReading.TheVariants.{ReadSegment, ReadChar, ReadCount, ReadUntil}
+use Rattle.trac_rules.specs.declared.primitive.FormReading.TheVariants.{ReadSegment, ReadChar, ReadCount}
 use Rattle.trac_rules.specs.declared.primitive.Primitive.TheVariants.{Handle}
 use Rattle.trac_follow.specs.Formed.{TellsOfForm}
 use Rattle.trac_follow.proofs.FormsTold.{reading_tells}

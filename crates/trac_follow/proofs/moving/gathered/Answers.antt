@@ -1,4 +1,4 @@
-use Rattle.std.proofs.Common.{◌≡◌, ◌+◌, ◌<◌, ◌≤◌, length, true, sym, ap, subst, ◌∙◌, arith}
+use Rattle.std.proofs.Common.{◌≡◌, ◌+◌, length, true, ap, arith}
 use Rattle.trac_origins.specs.Lengths.{moves_bytes}
 use Rattle.trac_rules.specs.Scanning.{front_of}
 use Rattle.trac_follow.specs.Places.{place_of}

@@ -1,5 +1,4 @@
-use Rattle.std.proofs.Common.{◌≡◌, ℕ, ◌-◌, false, refl, length, ap, subst, sym, ◌∙◌}
-use Rattle.trac_origins.specs.Places.{Place}
+use Rattle.std.proofs.Common.{◌≡◌, ℕ, ◌-◌, false, refl, length, ap, sym, ◌∙◌}
 use Rattle.trac_follow.specs.Places.{is_in_text, place_of}
 use Rattle.trac_follow.specs.declared.place.Place as code_place
 use Rattle.trac_follow.proofs.Found.{past_elsewhere, past_in_base}
