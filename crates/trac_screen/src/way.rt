@@ -26,8 +26,6 @@ pub enum Deed {
     Reads(u64, u64),
     /// A call read it, as the byte of this number, counted from 1, of the input after the program.
     ReadsFed(u64),
-    /// The step before brought it here, and where from is not told.
-    Hides,
     /// The way back begins after the step that brought it here.
     Keeps,
 }
@@ -127,7 +125,6 @@ fn words_of(deed: Deed) -> &'static [u8] {
         Deed::Makes => b"makes it",
         Deed::Reads(_, _) => b"reads it: line ",
         Deed::ReadsFed(_) => b"reads it: byte ",
-        Deed::Hides => b"brings it",
         Deed::Keeps => b"it is there already",
     }
 }

@@ -302,7 +302,6 @@ fn found_from<A: Allocator + Copy>(
         Source::Made => Found::End(Deed::Makes),
         Source::Read(n) => Found::End(read_as(walker.input_number(n), program)),
         Source::Here(_) => Found::End(Deed::Keeps),
-        Source::Unknown(_) => Found::End(Deed::Hides),
         Source::Nothing => Found::Nothing,
     }
 }
