@@ -26,8 +26,6 @@ pub enum Treatment {
     Reads(u64, u64),
     /// A call read it, as the byte of this number, counted from 1, of the input after the program.
     ReadsFed(u64),
-    /// The step before brought it here, and where from is not told.
-    Hides,
     /// The way back begins after the step that brought it here.
     Keeps,
 }
@@ -130,7 +128,6 @@ fn words_of(treatment: Treatment) -> &'static [u8] {
         Treatment::Makes => b"makes it",
         Treatment::Reads(_, _) => b"reads it: line ",
         Treatment::ReadsFed(_) => b"reads it: byte ",
-        Treatment::Hides => b"brings it",
         Treatment::Keeps => b"it is there already",
     }
 }

@@ -303,7 +303,6 @@ fn found_from<A: Allocator + Copy>(
         Source::Made => Found::End(Treatment::Makes),
         Source::Read(n) => Found::End(read_as(walker.input_number(n), program)),
         Source::Here(_) => Found::End(Treatment::Keeps),
-        Source::Unknown(_) => Found::End(Treatment::Hides),
         Source::Nothing => Found::Nothing,
     }
 }

@@ -8,7 +8,8 @@ use std::alloc::{AllocError, Allocator};
 use trac_orders::{
     HELP, Move, NOT_UNDERSTOOD, Order, Word, is_second_quoted, order_of, texts_of, words_of,
 };
-use trac_rules::primitive::NAMES;
+use trac_prims::primitive_named;
+use trac_rules::primitive::Primitive;
 use trac_screen::{
     NO_PRIMITIVE, Stop, form_into, list_into, no_end_into, reads_text, refused, screen_into,
     standing_into, stop_into, window_into,
@@ -168,17 +169,8 @@ fn is_unmet(stop: Option<Stop>) -> bool {
 // Whether a move looks for a call whose first word is the name of no primitive.
 fn names_no_primitive(way: Move<'_>) -> bool {
     match way {
-        Move::Until([name, ..]) | Move::Return([name, ..]) => !is_primitive(*name),
-        _ => false,
-    }
-}
-
-// Whether a primitive has this name, each letter in either case.
-fn is_primitive(name: &[u8]) -> bool {
-    match name {
-        [first, second] => {
-            let letters = [first.to_ascii_lowercase(), second.to_ascii_lowercase()];
-            NAMES.iter().any(|entry| entry.letters == letters)
+        Move::Until([name, ..]) | Move::Return([name, ..]) => {
+            primitive_named(name) == Primitive::Unknown
         }
         _ => false,
     }
