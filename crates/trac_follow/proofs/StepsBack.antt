@@ -239,8 +239,7 @@ pub passes : (width : Width) (old next : PlainSession) (place here : Place) (mos
     0 < steps → found.steps ≡ steps → found.source ≡ code.TheVariants.Passed there → IsKnown width old → IsFollowed old place most next found
 passes width old next place here most steps there found same goes some count source trail =
     subst (λ n. IsSource old place most next n found.source) (sym count)
-    (subst (λ s. IsSource old place most next steps s) (sym source)
-    (
+    (subst (λ s. IsSource old place most next steps s) (sym source) (
       some,
       all_carried (over old.width old.tape) (take steps old.earlier) place here (goes.stood trail).carried
           ∙ ap₂ (λ n q. record { carried = n; origin = Carried q }) goes.count same,
