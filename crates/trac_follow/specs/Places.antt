@@ -46,11 +46,11 @@ Tells s (code_origin.TheVariants.Read n) o = o ≡ Read n
 Tells s code_origin.TheVariants.Made o = o ≡ Made
 Tells s code_origin.TheVariants.Nothing o = ⊥
 
--- this is told of a state and of a place in it
+-- this is told of a state and of a place in it: lengths, how much stands before an item of a form, and whether a gap stands there
 pub record AreLengths (after : After) (t : State) (place : Place) : Type 0 where
   pub active : after.active ≡ length t.active
   pub output : after.output ≡ length t.output
-  -- as of each machine
+  -- a machine counts what it read in 64 bits
   pub read : t.position < 2 ^ 64
   pub measured : IsMeasured after.extent after.is_gap t place
 

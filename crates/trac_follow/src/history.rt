@@ -29,7 +29,8 @@ pub enum Source<'a> {
     /// All steps that were gone back over carried it; it stands at this place, and the call that comes next carried it from
     /// there: from an argument of its own, or between a form and a block.
     Passed(Place<'a>),
-    /// The same, and the step that comes next carried it from this item of the form that argument 1 of its call names.
+    /// All steps that were gone back over carried it, the last of them from this item of the form that argument 1 of the call
+    /// that comes next names.
     OfForm(usize),
     /// The step that comes next read it, as the byte of this number of the tape.
     Read(usize),
@@ -47,7 +48,7 @@ pub struct Followed<'a> {
 }
 
 /// Goes back over up to `most` steps, as long as these carried the byte at a place, or the item of a form: until one made or
-/// read it, or has it from a form. The width of the session's numbers has to be given. Bytes that moved one by one are
+/// read it, has it from a form, or performs a call that passed it on. The width of the session's numbers has to be given. Bytes that moved one by one are
 /// passed at once, as `Session::back` passes them. It takes no memory, and says that nothing is there only where nothing stands
 /// at the place (this project's profile).
 pub fn follow<'a, A: Allocator + Copy>(

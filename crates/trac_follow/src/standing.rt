@@ -134,7 +134,7 @@ fn holds_item<A: Allocator + Copy>(block: &Block<A>, name: &[u8], i: usize) -> b
     }
 }
 
-// How far a place is past the current text, where it is, as it is when only so many functions are begun.
+// How far a place is past the current text of the state in which only so many functions are begun.
 pub(crate) fn past_current<E: TwoEnds<u8, A>, M: TwoEnds<Mark, A>, A: Allocator + Copy>(
     machine: &Core<E, M, A>,
     depth: usize,

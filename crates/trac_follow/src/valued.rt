@@ -23,8 +23,8 @@ use trac_rules::primitive::{Computation, FormAction, Operation, Primitive};
 use trac_rules::width::Width;
 use trac_step::{Core, Mark};
 
-// Where the byte of this number of the value comes from that the next step gives, which performs this call, where so much is
-// seen of the value. The call's function has this number.
+// Where byte `i` of the value comes from that the next step gives, which performs this call. Of a value that is scanned its
+// length is `seen`. The call's function has the number `function`.
 pub(crate) fn value_byte<'a, E: TwoEnds<u8, A>, M: TwoEnds<Mark, A>, A: Allocator + Copy>(
     before: &Core<E, M, A>,
     kind: Kind,

@@ -35,7 +35,7 @@ pub struct Made<A: Allocator + Copy = Global> {
     pub print: Vec<u8, A>,
 }
 
-/// What a call will do beside the texts that it makes, and the change that it makes of forms and blocks.
+/// What a call will do, but for the texts that it makes and what becomes of forms and blocks.
 #[derive(Clone, Copy)]
 pub struct Deed {
     /// Whether the value is scanned, though the function may be neutral.
@@ -79,7 +79,7 @@ impl<A: Allocator + Copy> Made<A> {
 }
 
 impl Deed {
-    // Nothing.
+    // It reads and sets nothing.
     pub(crate) fn nothing() -> Self
         ensures { result ≡ nothing }
     {

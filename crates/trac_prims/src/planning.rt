@@ -203,7 +203,7 @@ fn handle_block<A: Allocator + Copy>(
     }
 }
 
-// A change of forms and blocks is all that a call does.
+// Puts a planned change in its place. The call does nothing else.
 fn make<A: Allocator + Copy>(
     planned: Result<Change<A>, Refusal>,
     change: &mut Change<A>,

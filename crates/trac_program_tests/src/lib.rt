@@ -9,6 +9,8 @@ mod faults;
 #[cfg(test)]
 mod faulty;
 #[cfg(test)]
+mod following;
+#[cfg(test)]
 mod logs;
 #[cfg(test)]
 mod programs;

@@ -39,7 +39,7 @@ use trac_storage::{Places, change_forms, make_place, places_for};
 use trac_text::calls::{cut_function, put_value};
 use trac_text::{Args, Beginning, Kind, Mark, Pieces, Refusal, ends};
 
-// What is known of a call that may be performed, beside the texts that it makes, and what becomes of forms and blocks.
+// What is known of a call that may be performed, but for the texts that it makes and what becomes of forms and blocks.
 #[derive(Clone, Copy)]
 pub(crate) struct Plan {
     // where its function begins
@@ -208,7 +208,7 @@ impl<E: TwoEnds<u8, A>, M: TwoEnds<Mark, A>, A: Allocator + Copy> Core<E, M, A> 
     }
 
     // The same, with the memory for it taken first. It is refused memory alone, and then the state stays. Most calls change
-    // nothing of forms and blocks, and need nothing for that.
+    // nothing of forms and blocks, and need nothing for that. The change is taken out of its place.
     fn change_storage(
         &mut self,
         beginning: Beginning,

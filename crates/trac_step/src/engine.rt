@@ -9,7 +9,6 @@ use std::alloc::{Allocator, Global};
 use std::marker::Model;
 use trac_forms::Store;
 use trac_gap::{GapBuf, SlidingBuf, TwoEnds};
-use trac_prims::Made;
 use trac_rules::byte;
 use trac_rules::refusal::Refusal;
 use trac_rules::width::Width;

@@ -9,7 +9,6 @@ ghost use Rattle.trac_step.specs.Room.{HasRoom};
 use crate::engine::Core;
 use std::alloc::Allocator;
 use trac_gap::{SlidingBuf, TwoEnds};
-use trac_prims::Made;
 use trac_rules::width::Width;
 pub use trac_storage::Parts;
 use trac_storage::{lengths_within, stored};

@@ -91,7 +91,7 @@ pub fn written_into<A: Allocator + Copy>(
     };
     let end = walker.step();
     let mut line = step_line(alloc, end, walker.machine())?;
-    let found = deed_from(alloc, walker, program, here)?;
+    let found = treatment_from(alloc, walker, program, here)?;
     let source = walker.step();
     if let Some(refusal) = walker.forward(end.saturating_sub(source)) {
         return stay(alloc, walker, Stop::Refused(refusal), out);
@@ -265,7 +265,7 @@ fn trail_into<A: Allocator + Copy>(
 }
 
 // Goes back to where a byte comes from that stands in no form; none where no byte stands there.
-fn deed_from<A: Allocator + Copy>(
+fn treatment_from<A: Allocator + Copy>(
     alloc: A,
     walker: &mut Walker<A>,
     program: &[u8],

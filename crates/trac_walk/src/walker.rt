@@ -135,7 +135,7 @@ impl<A: Allocator + Copy> Walker<A> {
         self.fed.saturating_sub(there).saturating_add(n as u64)
     }
 
-    /// Goes back as long as steps carried the byte at a place.
+    /// Goes back as long as steps carried the byte at a place, and to the call that passed it on, where one did.
     pub fn follow<'p>(&mut self, place: Place<'p>) -> Source<'p> {
         let most = self.session.len() as u64;
         source_of(&mut self.session, self.width, place, most)
