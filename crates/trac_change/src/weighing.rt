@@ -11,6 +11,7 @@ use trac_forms::{Block, Form};
 impl<A: Allocator + Copy> Undone<A> {
     /// What this weighs: items of forms and places of gaps, bytes of names, and one for each name. Places are not weighed.
     /// The sum has to fit a `usize`. It takes time for the forms alone, whatever their length.
+    #[inline(always)]
     pub fn weight(&self) -> usize
         requires { undone_weight (undone_in self.now) < 2 ^ 64 }
         ensures { result ≡ undone_weight (undone_in self.now) }

@@ -1,5 +1,5 @@
 //! Lists with two ends over one raw block.
-ghost use Rattle.std.specs.Prelude.{◌≡◌, ◌≤◌, IfOk};
+ghost use Rattle.std.specs.Prelude.{◌≡◌, ◌+◌, ◌<◌, ◌≤◌, IfOk, OnErr, OnOk};
 ghost use Rattle.trac_gap.specs.Ends.{item_count};
 
 use crate::error::GapError;
@@ -48,6 +48,26 @@ impl<T: Copy, A: Allocator + Copy> GapBuf<T, A> {
         block.put_right(self.right());
         Ok(block)
     }
+
+    // Makes room for `n` more items by a larger block. It is rarely called, and kept out of the way of `reserve`.
+    #[cold]
+    #[inline(never)]
+    fn grow(&mut self, n: usize) -> Result<(), GapError>
+        requires { self.old.capacity < item_count self.old + n }
+        ensures left { self.new.left ≡ self.old.left }
+        ensures right { self.new.right ≡ self.old.right }
+        ensures grows { self.old.capacity ≤ self.new.capacity }
+        ensures ok { OnOk result (item_count self.new + n ≤ self.new.capacity) }
+        ensures err { OnErr result (self.new ≡ self.old) }
+    {
+        let room = self.room();
+        let used = self.left().len() + self.right().len();
+        let Some(wanted) = used.checked_add(n) else {
+            return Err(GapError::Memory);
+        };
+        self.block = Some(self.copied(grown(used + room, wanted))?);
+        Ok(())
+    }
 }
 
 impl<T: Copy, A: Allocator + Copy> TwoEnds<T, A> for GapBuf<T, A> {
@@ -59,16 +79,10 @@ impl<T: Copy, A: Allocator + Copy> TwoEnds<T, A> for GapBuf<T, A> {
 
     #[inline]
     fn reserve(&mut self, n: usize) -> Result<(), GapError> {
-        let room = self.room();
-        if n <= room {
+        if n <= self.room() {
             return Ok(());
         }
-        let used = self.left().len() + self.right().len();
-        let Some(wanted) = used.checked_add(n) else {
-            return Err(GapError::Memory);
-        };
-        self.block = Some(self.copied(grown(used + room, wanted))?);
-        Ok(())
+        self.grow(n)
     }
 
     #[inline]

@@ -14,8 +14,8 @@ pub struct RawGap<T: Copy, A: Allocator + Copy> {
     places: Slots<T>,
     lease: Lease<T, A>,
     alloc: A,
-    capacity: usize,
     gap_start: usize,
+    capacity: usize,
     gap_end: usize,
 }
 

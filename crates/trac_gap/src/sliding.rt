@@ -1,5 +1,5 @@
 //! A list that grows at its end and loses items at both ends.
-ghost use Rattle.std.specs.Prelude.{◌≡◌, ◌==◌, ◌+◌, ◌≤◌, [], ◌++◌, length, take, drop, vec_len, vec_capacity, IsOk, OnOk, OnErr, IfOk};
+ghost use Rattle.std.specs.Prelude.{◌≡◌, ◌==◌, ◌+◌, ◌≤◌, [], ◌∷◌, ◌++◌, length, take, drop, vec_len, vec_capacity, IsOk, OnOk, OnErr, IfOk};
 
 use std::alloc::{AllocError, Allocator, Global};
 use std::marker::Model;
@@ -127,6 +127,19 @@ impl<T: Copy, A: Allocator> SlidingBuf<T, A> {
         let Ok(()) = self.list.extend_from_slice(items) else {
             unreachable!()
         };
+    }
+
+    /// Puts one item at the end, as `put` does. There has to be room for it.
+    pub fn push(&mut self, item: T)
+        requires { length self.old.items + 1 ≤ self.old.capacity }
+        ensures items { self.new.items ≡ self.old.items ++ item ∷ [] }
+        ensures grows { self.old.capacity ≤ self.new.capacity }
+    {
+        if self.list.len() == self.list.capacity() {
+            cut_front(&mut self.list, self.gone);
+            self.gone = 0;
+        }
+        self.list.push_reserved(item);
     }
 
     /// Puts `items`, in order, at the end, with more memory where there is no room for them.

@@ -4,16 +4,16 @@ use trac_rules::kind::Kind;
 /// What the record of a call says beside its arguments, and what was destroyed of forms and blocks.
 #[derive(Clone, Copy)]
 pub struct Called {
-    /// The kind of the function.
-    pub kind: Kind,
     /// How many bytes its value has.
     pub value: usize,
-    /// Whether the value went before the active text, to be scanned, and not to the current text.
-    pub scanned: bool,
     /// How many bytes were printed.
     pub printed: usize,
     /// How many bytes of the tape were read.
     pub read: usize,
+    /// The kind of the function.
+    pub kind: Kind,
+    /// Whether the value went before the active text, to be scanned, and not to the current text.
+    pub scanned: bool,
     /// The meta character before, where the call set one.
     pub meta: Option<u8>,
     /// Whether each call was printed before.

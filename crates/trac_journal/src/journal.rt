@@ -32,14 +32,14 @@ use trac_text::Args;
 /// journal holds at most 1,048,576 records.
 #[derive(Drop)]
 pub struct Journal<A: Allocator + Copy = Global> {
-    // an entry for each record that is not of a moved byte
-    pub(crate) entries: VecDeque<Entry, A>,
-    // what these records destroyed, but for what an entry holds
-    pub(crate) lists: Lists<A>,
     // how many bytes were moved since the last entry, a step each
     pub(crate) moved: usize,
+    // an entry for each record that is not of a moved byte
+    pub(crate) entries: VecDeque<Entry, A>,
     // how many records there are in all
     pub(crate) len: usize,
+    // what these records destroyed, but for what an entry holds
+    pub(crate) lists: Lists<A>,
     // what they weigh together
     pub(crate) weight: u64,
 }
@@ -180,6 +180,7 @@ impl<A: Allocator + Copy> Journal<A> {
     /// Keeps the record of one call more, the newest: what it says beside its arguments, these, and what it destroyed of forms
     /// and blocks. There has to be room for it, each number to be below 2^32, and the record to weigh no more than 2^42, as that
     /// of every step from a proper state does.
+    #[inline(always)]
     pub fn push_call(&mut self, called: Called, arguments: &Args<'_>, undone: Undone<A>)
         requires not_full { length self.old.records < JOURNAL_LIMIT }
         requires small { AreSmall called (length (concat arguments.now)) (length arguments.now) }
@@ -288,6 +289,7 @@ fn weigh_brief(kept: Kept) -> u64
 
 // What the record of a call weighs whose arguments have so many bytes and commas together, which set the meta character where
 // there is one here, and which destroyed this of forms and blocks.
+#[inline(always)]
 fn weigh_call<A: Allocator + Copy>(len: usize, meta: Option<u8>, undone: &Undone<A>) -> u64
     requires { len + meta_weight meta + undone_weight (undone_in undone.now) < 2 ^ 64 }
     ensures { result ≡ len + meta_weight meta + undone_weight (undone_in undone.now) }

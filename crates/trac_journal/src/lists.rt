@@ -111,6 +111,7 @@ impl<A: Allocator + Copy> Lists<A> {
 
     // Puts a call with its arguments, and what it destroyed of forms and blocks, after all others, and returns what an entry
     // is to keep. There has to be room.
+    #[inline(always)]
     pub(crate) fn push_call(
         &mut self,
         called: Called,

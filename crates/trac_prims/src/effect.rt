@@ -38,10 +38,10 @@ pub struct Made<A: Allocator + Copy = Global> {
 /// What a call will do, but for the texts that it makes and what becomes of forms and blocks.
 #[derive(Clone, Copy)]
 pub struct Deed {
-    /// Whether the value is scanned, though the function may be neutral.
-    pub forced: bool,
     /// How many bytes of the tape are read.
     pub read: usize,
+    /// Whether the value is scanned, though the function may be neutral.
+    pub forced: bool,
     /// The byte that ends a text of the input from then on, where it is set.
     pub meta: Option<u8>,
     /// Whether each call is printed from then on, where that is set.
@@ -51,16 +51,16 @@ pub struct Deed {
 /// What a call has to know of the machine.
 #[derive(Clone, Copy, Debug)]
 pub struct Now {
-    /// The byte that ends a text of the input.
-    pub meta: u8,
-    /// Whether each call is printed.
-    pub trace: bool,
     /// How many bytes of the tape are read.
     pub position: usize,
     /// How many bytes of output are kept.
     pub output: usize,
     /// How many bytes the active text and the neutral text hold without the call: its arguments and the `)` that ends it.
     pub text: usize,
+    /// The byte that ends a text of the input.
+    pub meta: u8,
+    /// Whether each call is printed.
+    pub trace: bool,
     /// How wide numbers are.
     pub width: Width,
 }

@@ -95,7 +95,7 @@ impl<A: Allocator + Copy> Session<A> {
     /// Refused, with nothing changed, as `JournalFull` where the journal holds as many records as it may; else as
     /// `NeedInput` or `Ended` where the step reads input that is not there; else as `TooLong` where the state
     /// after the step passes a limit; and with `Memory` where there is not enough of it.
-    #[inline(never)]
+    #[inline(always)]
     pub(crate) fn step(&mut self) -> Result<(), Refusal>
         ensures { Answers Step self.old (reply_of result) self.new }
     {

@@ -26,26 +26,28 @@ can_change s t plan made change ready same =
       proper = storage_proper s ready.front plan.beginning ready.begins plan made change ready.proper;
     })
 
+-- a call changes forms and blocks: it stands there still, with its arguments
+module _ {A : Type 0} (s t : State) (beginning : Beginning) (change : Change A) (can : CanChange s beginning change)
+    (is : t ≡ with_storage (changed (arguments_in (scan s)) change (storage_of s)) s) where
+  pub front_then : front_of t.active ≡ Closing
+  front_then = ap (λ (x : State). front_of x.active) is ∙ can.front
+
+  pub begins_then : BeginsInnermost t beginning
+  begins_then = subst (λ (x : State). BeginsInnermost x beginning) (sym is) can.begins
+
+  pub given_then : arguments_in (scan t) ≡ arguments_in (scan s)
+  given_then = ap (λ (x : State). arguments_in (scan x)) is ∙ arguments_stay s can.front (changed (arguments_in (scan s)) change (storage_of s))
+
 -- the machine with its memory taken, and then with its forms and blocks changed
 module _ {A : Type 0} (s : State) (m n : Shown) (plan : Plan) (made : Made A) (change : Change A) (ready : IsReady s made plan change) (same : m.state ≡ s)
     (is : n.state ≡ with_storage (changed (arguments_in (scan m.state)) change (storage_of m.state)) m.state) where
   ready_still : IsReady m.state made plan change
   ready_still = subst (λ (t : State). IsReady t made plan change) (sym same) ready
 
-  -- the call stands there still, with its arguments
-  pub front_then : front_of n.state.active ≡ Closing
-  front_then = ap (λ (t : State). front_of t.active) is ∙ ready_still.front
+  can_still : CanChange m.state plan.beginning change
+  can_still = can_change s m.state plan made change ready same
 
-  pub begins_then : BeginsInnermost n.state plan.beginning
-  begins_then = subst (λ (t : State). BeginsInnermost t plan.beginning) (sym is) ready_still.begins
-
-  pub given_then : arguments_in (scan n.state) ≡ arguments_in (scan s)
-  given_then =
-      ap (λ (t : State). arguments_in (scan t)) is
-      ∙ arguments_stay m.state ready_still.front (changed (arguments_in (scan m.state)) change (storage_of m.state))
-      ∙ ap (λ (t : State). arguments_in (scan t)) same
-
-  -- and what is left of it leads to the state after it
+  -- what is left of the call leads to the state after it
   pub ended_then : state_ended plan made (scan n.state) ≡ state_after plan made change (scan s)
   ended_then =
       ap (λ (t : State). state_ended plan made (scan t)) is
@@ -57,8 +59,8 @@ module _ {A : Type 0} (s : State) (m n : Shown) (plan : Plan) (made : Made A) (c
       let texts : text_bytes n.state ≡ text_bytes m.state = ap (λ (t : State). text_bytes t) is in
       let printed : length n.state.output ≡ length m.state.output = ap (λ (t : State). length t.output) is in
       record {
-        front = front_then;
-        begins = begins_then;
+        front = front_then m.state n.state plan.beginning change can_still is;
+        begins = begins_then m.state n.state plan.beginning change can_still is;
         position = ready_still.position ∙ ap (λ (t : State). t.position + plan.called.read) (sym is);
         text_room = omega (arith, room.text, more.text, texts);
         output_room = omega (arith, room.output, more.output, printed);

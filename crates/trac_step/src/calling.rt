@@ -50,10 +50,10 @@ pub(crate) struct Plan {
     pub(crate) bytes: usize,
     // how many commas stand between them
     pub(crate) commas: usize,
-    // whether its value is scanned, though the function may be neutral
-    pub(crate) forced: bool,
     // how many bytes of the tape are read then
     pub(crate) position: usize,
+    // whether its value is scanned, though the function may be neutral
+    pub(crate) forced: bool,
     // the meta character, where it is set
     pub(crate) meta: Option<u8>,
     // the trace, where it is set
@@ -303,6 +303,7 @@ impl<E: TwoEnds<u8, A>, M: TwoEnds<Mark, A>, A: Allocator + Copy> Core<E, M, A> 
 
     // Keeps the record of the call that the next step performs in the journal, which has room for it: its arguments are copied
     // there. This is what it destroyed of forms and blocks.
+    #[inline(always)]
     fn keep_call(&self, journal: &mut Journal<A>, plan: &Plan, undone: Undone<A>)
         requires front { front_of self.now.state.active ≡ Front.Closing }
         requires begins { BeginsInnermost self.now.state plan.now.beginning }
@@ -313,6 +314,55 @@ impl<E: TwoEnds<u8, A>, M: TwoEnds<Mark, A>, A: Allocator + Copy> Core<E, M, A> 
     {
         let arguments = self.arguments(plan.beginning);
         journal.push_call(plan.called, &arguments, undone);
+    }
+
+    // Changes forms and blocks as the call planned it, and keeps its record in the journal, which has room for it. It is refused
+    // memory alone, and then the state and the records stay. Most calls change nothing of forms and blocks, and for these the
+    // compiler makes a way of its own.
+    fn change_into(
+        &mut self,
+        journal: &mut Journal<A>,
+        plan: &Plan,
+        change: &mut Change<A>,
+    ) -> Result<(), Refusal>
+        requires can { CanChange self.old.state plan.now.beginning change.old }
+        requires not_full { length journal.old.records < JOURNAL_LIMIT }
+        requires place { HasPlaceForCall (length (concat (arguments_in (scan self.old.state)))) (length (arguments_in (scan self.old.state)) - 1) journal.old }
+        requires fits { FitsJournal plan.now.called (arguments_in (scan self.old.state)) (undone_of change.old (storage_of self.old.state)) }
+        ensures changed { OnOk result (self.new.state ≡ with_storage (changed (arguments_in (scan self.old.state)) change.old (storage_of self.old.state)) self.old.state) }
+        ensures kept { OnOk result (journal.new.records ≡ recorded_after plan.now change.old self.old.state ∷ journal.old.records) }
+        ensures unchanged { OnErr result ((self.new.state ≡ self.old.state) × (journal.new.records ≡ journal.old.records)) }
+        ensures err { IsOkUnless result Refusal.Memory }
+        ensures room { IsNoLess self.old self.new }
+    {
+        if let Change::Keep = change {
+            self.keep_call(journal, plan, Undone::Nothing);
+            return Ok(());
+        }
+        self.change_storage_into(journal, *plan, change)
+    }
+
+    // The same, where something may change. It is lent no plan, so that this can stay in registers where nothing changes.
+    #[inline(never)]
+    fn change_storage_into(
+        &mut self,
+        journal: &mut Journal<A>,
+        plan: Plan,
+        change: &mut Change<A>,
+    ) -> Result<(), Refusal>
+        requires can { CanChange self.old.state plan.beginning change.old }
+        requires not_full { length journal.old.records < JOURNAL_LIMIT }
+        requires place { HasPlaceForCall (length (concat (arguments_in (scan self.old.state)))) (length (arguments_in (scan self.old.state)) - 1) journal.old }
+        requires fits { FitsJournal plan.called (arguments_in (scan self.old.state)) (undone_of change.old (storage_of self.old.state)) }
+        ensures changed { OnOk result (self.new.state ≡ with_storage (changed (arguments_in (scan self.old.state)) change.old (storage_of self.old.state)) self.old.state) }
+        ensures kept { OnOk result (journal.new.records ≡ recorded_after plan change.old self.old.state ∷ journal.old.records) }
+        ensures unchanged { OnErr result ((self.new.state ≡ self.old.state) × (journal.new.records ≡ journal.old.records)) }
+        ensures err { IsOkUnless result Refusal.Memory }
+        ensures room { IsNoLess self.old self.new }
+    {
+        let undone = self.change_storage(plan.beginning, change)?;
+        self.keep_call(journal, &plan, undone);
+        Ok(())
     }
 
     // Performs the call that is planned, and keeps its record. It is refused memory alone, and then the state and the records
@@ -335,13 +385,13 @@ impl<E: TwoEnds<u8, A>, M: TwoEnds<Mark, A>, A: Allocator + Copy> Core<E, M, A> 
     {
         journal.reserve_call(plan.bytes, plan.commas)?;
         self.make_room(made)?;
-        let undone = self.change_storage(plan.beginning, change)?;
-        self.keep_call(journal, plan, undone);
+        self.change_into(journal, plan, change)?;
         self.end_call(plan, made);
         Ok(())
     }
 
     // The next step, where it performs a function, and its record is kept. Its texts are made in these buffers.
+    #[inline(never)]
     pub(crate) fn call_step_into(
         &mut self,
         journal: &mut Journal<A>,

@@ -108,6 +108,7 @@ impl<E: TwoEnds<u8, A>, M: TwoEnds<Mark, A>, A: Allocator + Copy> Core<E, M, A> 
     }
 
     // The next step, where it performs no function, and its record is kept.
+    #[inline(always)]
     pub(crate) fn move_step_into(
         &mut self,
         journal: &mut Journal<A>,
@@ -165,6 +166,7 @@ impl<E: TwoEnds<u8, A>, M: TwoEnds<Mark, A>, A: Allocator + Copy> Core<E, M, A> 
     }
 
     // The active text is empty: all other text goes into the journal, and the idle program is loaded.
+    #[inline(never)]
     fn empty_into(&mut self, journal: &mut Journal<A>) -> Result<(), Refusal>
         requires front { front_of self.old.state.active ≡ Front.Nothing }
         requires proper { IsProper self.old.state }

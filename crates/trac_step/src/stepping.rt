@@ -61,6 +61,7 @@ impl<E: TwoEnds<u8, A>, M: TwoEnds<Mark, A>, A: Allocator + Copy> Core<E, M, A> 
     /// are as they were. All memory is taken before anything changes. Where the journal has a place for one record more, a step
     /// of scanning is refused memory only where `step` may be. A call makes its texts in these buffers, which serve one step after
     /// another. The journal may not be full, and the tape has to have fewer than 2^32 bytes and at least as many as are read.
+    #[inline(always)]
     pub fn step_into(
         &mut self,
         journal: &mut Journal<A>,
@@ -84,6 +85,7 @@ impl<E: TwoEnds<u8, A>, M: TwoEnds<Mark, A>, A: Allocator + Copy> Core<E, M, A> 
     }
 
     // The next step, by whether it performs a function, with its record kept.
+    #[inline(always)]
     fn next_step_into(
         &mut self,
         journal: &mut Journal<A>,

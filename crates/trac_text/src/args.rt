@@ -89,7 +89,7 @@ fn put_lengths_between<A: Allocator>(from: usize, marks: &[Mark], commas: &mut S
 {
     let mut start = from;
     for mark in marks {
-        commas.put(&[(mark.place - start) as u32]);
+        commas.push((mark.place - start) as u32);
         start = mark.place;
     }
 }
