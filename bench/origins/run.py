@@ -2,9 +2,11 @@
 """Times `y` of trac-walk beside going back over the same steps, and prints a table.
 
 Each program defines a form and prints a byte first, and then calls much, for up to 990,000 steps. The way back of that byte of
-the output, and of the form's byte, goes over all of them. Walks are made with a journal of 1,048,576 records, the most that there
-may be: the time of a session that goes forward and then back, or follows a byte, less that of one that only goes forward. Each is
-the least processor time of all rounds: other work on the machine can only add to it.
+the output, and of the form's byte, goes over all of them. In a second table a call prints a byte that waited in its argument
+while a loop called itself last, or while functions were begun within one another, and a byte that was not scanned meanwhile.
+Walks are made with a journal of 1,048,576 records, the most that there may be: the time of a session that goes forward and then
+back, or follows a byte, less that of one that only goes forward. Each is the least processor time of all rounds: other work on
+the machine can only add to it.
 
     python3 bench/origins/run.py [--program TRAC_WALK] [ROUNDS]
 """
@@ -18,6 +20,8 @@ import tempfile
 ROOT = pathlib.Path(__file__).resolve().parent.parent.parent
 STEPS = 990_000
 FIRST = b"#(ds,keep,x)'\n#(ps,a)'\n"
+LOOP = b"#(ds,Loop,(#(gr,N,0,(#(cl,Loop,##(su,N,1))),)))'\n#(ss,Loop,N)'\n#(ps,a#(cl,Loop,25000)b)'\n"
+DEEP = b"#(ds,Deep,(#(eq,N,0,,(#(ad,1,#(cl,Deep,##(su,N,1)))))))'\n#(ss,Deep,N)'\n#(ps,a#(cl,Deep,18000)b)'\n"
 
 
 def calls():
@@ -46,6 +50,26 @@ def least(program, path, commands, rounds):
     return min(seconds(program, path, commands)[0] for _ in range(rounds))
 
 
+def row(program, text, forward, ways, rounds):
+    """How many steps go back from where these commands lead, and how long that takes, and each of these ways."""
+    with tempfile.NamedTemporaryFile(suffix=".trac") as file:
+        file.write(text)
+        file.flush()
+        steps = int(seconds(program, file.name, forward)[1].splitlines()[-1].split()[0])
+        alone = least(program, file.name, forward, rounds)
+        return steps, [least(program, file.name, f"{forward}{way}\n", rounds) - alone for way in [f"b {STEPS}", *ways]]
+
+
+def table(program, heads, rows, rounds):
+    """Prints a row for each of these programs: its name, itself, and the ways to go back."""
+    print(f"| | steps | back | {' | '.join(heads)} | over back |")
+    print("|---|---|---|---|---|---|")
+    for name, text, forward, ways in rows:
+        steps, (back, *times) = row(program, text, forward, ways, rounds)
+        spent_on = " | ".join(f"{1000 * time:.1f} ms" for time in (back, *times))
+        print(f"| {name} | {steps:,} | {spent_on} | {', '.join(f'{time / back:.1f}' for time in times)} |")
+
+
 def main():
     words = sys.argv[1:]
     program = ROOT / "out" / "trac-walk"
@@ -53,27 +77,20 @@ def main():
         program, words = pathlib.Path(words[1]).resolve(), words[2:]
     rounds = int(words[0]) if words else 9
     made = calls()
-    rows = [
-        ("factorials, 4,000", made.factorials(4000)),
-        ("the 20th Fibonacci number", made.fibonacci(20)),
-        ("4,000 different words counted", made.counting(4000)),
-    ]
-    print("| | steps | back | `y` of the output | of a form | over back |")
-    print("|---|---|---|---|---|---|")
-    for name, text in rows:
-        with tempfile.NamedTemporaryFile(suffix=".trac") as file:
-            file.write(FIRST + text)
-            file.flush()
-            forward = f"s {STEPS}\n"
-            steps = int(seconds(program, file.name, forward)[1].splitlines()[-1].split()[0])
-            alone = least(program, file.name, forward, rounds)
-            back = least(program, file.name, forward + f"b {STEPS}\n", rounds) - alone
-            printed = least(program, file.name, forward + "y #1\n", rounds) - alone
-            kept = least(program, file.name, forward + "y keep 1\n", rounds) - alone
-            print(
-                f"| {name} | {steps:,} | {1000 * back:.1f} ms | {1000 * printed:.1f} ms | {1000 * kept:.1f} ms "
-                f"| {printed / back:.1f}, {kept / back:.1f} |"
-            )
+    forward = f"s {STEPS}\n"
+    printed = ["y #1", "y keep 1"]
+    table(program, ["`y` of the output", "of a form"], [
+        ("factorials, 4,000", FIRST + made.factorials(4000), forward, printed),
+        ("the 20th Fibonacci number", FIRST + made.fibonacci(20), forward, printed),
+        ("4,000 different words counted", FIRST + made.counting(4000), forward, printed),
+    ], rounds)
+    # back to the call that prints, before that of the idle program
+    call = forward + "r ps\nr ps\n"
+    print()
+    table(program, ["`y` of an argument", "of the active text"], [
+        ("a loop of 25,000 turns", LOOP, call, ["y . 1 1", "y . 1 2"]),
+        ("18,000 functions within one another", DEEP, call, ["y . 1 1", "y . 1 7"]),
+    ], rounds)
 
 
 if __name__ == "__main__":

@@ -2,6 +2,8 @@ pub mod Found
 pub mod Fetching
 pub mod Within
 pub mod Renewed
+pub mod Offsets
+pub mod Counted
 pub mod Scanned
 pub mod CallsTold
 pub mod ValuesTold

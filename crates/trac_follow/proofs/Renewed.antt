@@ -47,15 +47,15 @@ empty_last (suc k) [] = refl
 empty_last zero (x ∷ xs) = refl
 empty_last (suc k) (x ∷ xs) = empty_last k xs
 
-abbrev look : ℕ → ℕ → Option Frame → Option Item
+abbrev pub look : ℕ → ℕ → Option Frame → Option Item
 look k i = option_and_then (λ (g : Frame). byte_at i (argument k (arguments_of g)))
 
 -- of one function more
 module _ (f : Frame) (fs : List Frame) (n k i : ℕ) where
-  look_first : (n == length fs) ≡ true → look k i (numbered n (f ∷ fs)) ≡ byte_at i (argument k (arguments_of f))
+  pub look_first : (n == length fs) ≡ true → look k i (numbered n (f ∷ fs)) ≡ byte_at i (argument k (arguments_of f))
   look_first t = ap (look k i) (cond-true (n == length fs) (Some f) (numbered n fs) t)
 
-  look_rest : (n == length fs) ≡ false → look k i (numbered n (f ∷ fs)) ≡ look k i (numbered n fs)
+  pub look_rest : (n == length fs) ≡ false → look k i (numbered n (f ∷ fs)) ≡ look k i (numbered n fs)
   look_rest t = ap (look k i) (cond-false (n == length fs) (Some f) (numbered n fs) t)
 
 gathered_new : (fs : List Frame) (text : List ℕ) (u : State) (p : Place) (item : Item) → u.frames ≡ fs → is_in_text p ≡ true → found_at (gathered_in fs text u) p ≡ Some item →
@@ -139,7 +139,7 @@ still_new : (fs : List Frame) (u : State) (text : List ℕ) (p : Place) → IsNe
 still_new [] u text p new = record { number = new.number; at = new.at }
 still_new (f ∷ fs) u text p new = record { number = new.number; at = new.at }
 
-at_front : (s : State) → scan s ≡ scan_at (front_of s.active) s
+pub at_front : (s : State) → scan s ≡ scan_at (front_of s.active) s
 unfolding scan
 at_front s = refl
 

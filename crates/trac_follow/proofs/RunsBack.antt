@@ -16,8 +16,8 @@ use Rattle.trac_origins.specs.Places.{Place, Carried, found_at}
 use Rattle.trac_origins.proofs.Moved.{run_told}
 use Rattle.trac_session.specs.Runs.{HasMovedBack}
 use Rattle.trac_session.proofs.Walked.{repeated-from}
-use Rattle.trac_follow.specs.Items.{IsMeasured}
-use Rattle.trac_follow.proofs.Staying.{measured_before}
+use Rattle.trac_follow.specs.Offsets.{IsPlaced}
+use Rattle.trac_follow.proofs.Staying.{placed_before}
 use Rattle.trac_follow.proofs.StepsBack.{GoesBack, IsKnown, followed_on}
 
 length-way : (n : ℕ) (s : State) → length (on_the_way n s) ≡ n
@@ -34,14 +34,20 @@ first_steps environment zero s rest all = subst (λ (u : State). AreSteps enviro
 first_steps environment (suc n) s rest all = first_steps environment n s rest all.1
 
 -- where what stands after them is
-abbrev pub IsBefore : ℕ → PlainSession → PlainSession → Place → Place → Type 0
-IsBefore n cur next here there = (item : Item) → found_at cur.last here ≡ Some item → there ≡ before_moved n next.last here
+abbrev pub IsBefore : ℕ → PlainSession → PlainSession → Place → Place → ℕ → Bool → Type 0
+IsBefore n cur next here there bytes gap = (item : Item) → found_at cur.last here ≡ Some item → IsPlaced bytes gap cur.last here → there ≡ before_moved n next.last here
 
-pub before_by : (n : ℕ) (cur next : PlainSession) (here there : Place) (s : State) → HasMovedBack n cur next → s ≡ next.last →
-    ((item : Item) → n ≤ length s.active → found_at (moved_on n s) here ≡ Some item → there ≡ before_moved n s here) → IsBefore n cur next here there
-before_by n cur next here there s moved is says item stands =
-    subst (λ (u : State). ((x : Item) → n ≤ length u.active → found_at (moved_on n u) here ≡ Some x → there ≡ before_moved n u here)) is says item moved.within
+-- as the code finds it
+abbrev Says : ℕ → State → Place → Place → ℕ → Bool → Type 0
+Says n s here there bytes gap =
+    (item : Item) → n ≤ length s.active → found_at (moved_on n s) here ≡ Some item → IsPlaced bytes gap (moved_on n s) here → there ≡ before_moved n s here
+
+pub before_by : (n : ℕ) (cur next : PlainSession) (here there : Place) (bytes : ℕ) (gap : Bool) (s : State) → HasMovedBack n cur next → s ≡ next.last → Says n s here there bytes gap →
+    IsBefore n cur next here there bytes gap
+before_by n cur next here there bytes gap s moved is says item stands placed =
+    subst (λ (u : State). Says n u here there bytes gap) is says item moved.within
     (subst (λ (u : State). found_at u here ≡ Some item) moved.last stands)
+    (subst (λ (u : State). IsPlaced bytes gap u here) moved.last placed)
 
 -- no step back leaves a session
 pub same_session : (n : ℕ) (cur next : PlainSession) → repeated Back n cur ≡ Some next → n ≤ 0 → cur ≡ next
@@ -49,7 +55,7 @@ same_session zero cur next h none = cc
 same_session (suc n) cur next h none = absurd (omega (arith, none))
 
 module _ (width : Width) (old cur next : PlainSession) (place here there : Place) (steps n : ℕ) (goes : GoesBack width old cur place here steps) (h : repeated Back n cur ≡ Some next)
-    (moved : HasMovedBack n cur next) (at : IsBefore n cur next here there) where
+    (moved : HasMovedBack n cur next) (bytes : ℕ) (gap : Bool) (placed : IsKnown width old → IsPlaced bytes gap cur.last here) (at : IsBefore n cur next here there bytes gap) where
   environment : Environment
   environment = over old.width old.tape
 
@@ -87,7 +93,7 @@ module _ (width : Width) (old cur next : PlainSession) (place here there : Place
     stood = λ trail.
         let stood = goes.stood trail in
         let item : Item = stood.stands.0 in
-        let is : there ≡ before_moved n next.last here = at item stood.stands.1 in
+        let is : there ≡ before_moved n next.last here = at item stood.stands.1 (placed trail) in
         let stands : found_at (moved_on n next.last) here ≡ Some item = subst (λ (u : State). found_at u here ≡ Some item) moved.last stood.stands.1 in
         let all = steps_there trail in
         let few : AreSteps environment (way ++ []) (moved_on n next.last) =
@@ -103,8 +109,10 @@ module _ (width : Width) (old cur next : PlainSession) (place here there : Place
         };
   }
 
-  pub run_measured : (bytes : ℕ) (gap : Bool) → (IsKnown width old → IsMeasured bytes gap cur.last here) → IsKnown width old → IsMeasured bytes gap next.last there
-  run_measured bytes gap measured trail =
+  pub run_placed : IsKnown width old → IsPlaced bytes gap next.last there
+  run_placed trail =
       let stood = goes.stood trail in
-      subst (λ p. IsMeasured bytes gap next.last p) (sym (at stood.stands.0 stood.stands.1))
-      (measured_before n next.last here bytes gap (subst (λ (u : State). IsMeasured bytes gap u here) moved.last (measured trail)))
+      let item : Item = stood.stands.0 in
+      subst (λ p. IsPlaced bytes gap next.last p) (sym (at item stood.stands.1 (placed trail)))
+      (placed_before n next.last here bytes gap item (subst (λ (u : State). found_at u here ≡ Some item) moved.last stood.stands.1)
+      (subst (λ (u : State). IsPlaced bytes gap u here) moved.last (placed trail)))

@@ -1,33 +1,41 @@
 -- What a step leaves as it is, and where what stands after a run of bytes stood before it, as the code tells them.
-use Rattle.std.proofs.Common.{◌≡◌, ◌⊎◌, ℕ, ◌+◌, ◌-◌, ◌<◌, ◌≤◌, Bool, true, false, not, ◌&&◌, List, [], ◌∷◌, length, take, drop, reverse, get_or, inl, inr, refl, sym, ap, ap₂, subst, ◌∙◌, ⊎_elim, arith}
-use Rattle.std.specs.Prelude.{Option, None, Some, Ok, ◌==◌, if◌then◌else◌, nat_lt, slice_get}
+use Rattle.std.proofs.Common.{◌≡◌, ◌⊎◌, ℕ, ◌+◌, ◌-◌, ◌<◌, ◌≤◌, Bool, true, false, not, List, length, take, drop, inl, inr, refl, sym, ap, subst, ◌∙◌, ⊎_elim, arith}
+use Rattle.std.specs.Prelude.{Option, None, Some, Ok, if◌then◌else◌, nat_lt, slice_get}
 use Rattle.std.specs.FinMap as finite
-use Rattle.std.proofs.lemmas.Bool.{cases_Bool, eq-eqb, eqb-true, eqb-false, ne_eqb}
-use Rattle.std.proofs.lemmas.List.{get_or_at, length-append, length-drop}
+use Rattle.std.specs.List.{concat}
+use Rattle.std.proofs.lemmas.Bool.{cond-true, cond-false, lt-ltb}
+use Rattle.std.proofs.lemmas.List.{length-drop}
 use Rattle.trac_rules.specs.declared.item.Item.{Item}
 use Rattle.trac_rules.specs.declared.kind.Kind.{Kind}
 use Rattle.trac_rules.specs.Effect.{argument}
 use Rattle.trac_rules.specs.Form.{extent}
-use Rattle.trac_rules.specs.Goals.{IsCall, next_call}
-use Rattle.trac_rules.specs.Limits.{texts_fit}
-use Rattle.trac_rules.specs.Performing.{primitive_of}
+use Rattle.trac_rules.specs.Goals.{IsCall, call_asked, next_call}
+use Rattle.trac_rules.specs.Limits.{argument_bytes, texts_fit}
+use Rattle.trac_rules.specs.Performing.{after_call, primitive_of}
 use Rattle.trac_rules.specs.Pieces.{is_gap}
 use Rattle.trac_rules.specs.PlainRuns.{moved_on}
-use Rattle.trac_rules.specs.Scanning.{Call, Scanned, Moves, Calls, deleted, scan}
+use Rattle.trac_rules.specs.Scanning.{Call, Scanned, Moves, Calls, deleted, front_of, scan}
 use Rattle.trac_rules.specs.State.{Environment, Forms, Frame, State}
 use Rattle.trac_rules.specs.Stepping.{carried_out, step}
 use Rattle.trac_rules.proofs.Outcomes.{limited_Ok}
 use Rattle.trac_rules.proofs.Scans.{gathered_in_shows}
-use Rattle.trac_origins.specs.Lengths.{before_moved, in_active, may_put, past_in}
-use Rattle.trac_origins.specs.Places.{Place, InActive, InBase, InArgument, InForm, InHeld, InOutput, found_at, items_of}
+use Rattle.trac_origins.specs.Lengths.{before_moved, in_active, is_of_text, is_outside, may_put, moves_bytes, past_in}
+use Rattle.trac_origins.specs.Places.{Place, InActive, InBase, InArgument, InForm, InHeld, InOutput, Carried, found_at, items_of}
+use Rattle.trac_origins.specs.Stepping.{origin}
+use Rattle.trac_origins.proofs.Moved.{not_less, past_place, stood}
 use Rattle.trac_origins.proofs.Told.{byte_within}
+use Rattle.trac_origins.proofs.ToldCalls.{ended}
 use Rattle.trac_rules.proofs.MovedOn.{active-gathered}
-use Rattle.trac_origins.proofs.Unchanged.{calls_held, calls_unchanged, moves_held, moves_unchanged}
-use Rattle.trac_text.specs.Frames.{IsFrame}
+use Rattle.trac_origins.proofs.Unchanged.{Unchanged, calls_held, calls_unchanged, moves_held, moves_unchanged}
+use Rattle.trac_text.proofs.NeutralAgain.{function_bytes}
 use Rattle.trac_follow.specs.Items.{IsMeasured}
+use Rattle.trac_follow.specs.Offsets.{IsPlaced, bytes_left, left_by, neutral_bytes, offset}
+use Rattle.trac_follow.specs.Places.{is_in_text}
 use Rattle.trac_follow.specs.Running.{StaysAt}
-use Rattle.trac_follow.proofs.CallsTold.{given_call, moves_done, output_carried}
-use Rattle.trac_follow.proofs.Found.{around, byte_there, given_frame}
+use Rattle.trac_follow.proofs.CallsTold.{given_call, has_done, moves_done, output_carried, text_carried}
+use Rattle.trac_follow.proofs.Found.{byte_there}
+use Rattle.trac_follow.proofs.Offsets.{around_offset, called_offset, moved_offset, new_past, offset_before, stands_within}
+use Rattle.trac_follow.proofs.Renewed.{IsNew, around_it, called_new, moved_new}
 use Rattle.trac_follow.proofs.Scanned.{stays_carried}
 
 -- ---- what stays
@@ -44,15 +52,19 @@ step_scans environment s t h = go (scan s) refl (limited_Ok texts_fit (carried_o
     go (Moves u) is out = let same : u ≡ t = cc in inl (is ∙ ap Moves same)
     go (Calls call) is out = inr (call, is)
 
-pub output_stays : (s : State) (i : ℕ) → i < length s.output → StaysAt s (InOutput i)
-output_stays s i l environment t item h stands = (
+-- what is known of a place that is in no text
+pub aside : (bytes : ℕ) (gap : Bool) (s : State) (p : Place) → is_in_text p ≡ false → IsMeasured bytes gap s p → IsPlaced bytes gap s p
+aside bytes gap s p other measured = record { measured = measured; before = λ text. absurd (let unset : true ≡ false = sym text ∙ other in cc) }
+
+pub output_stays : (s : State) (bytes : ℕ) (gap : Bool) (i : ℕ) → i < length s.output → StaysAt s bytes gap (InOutput i)
+output_stays s bytes gap i l environment t item h stands placed = (
   ⊎_elim
       (λ (moves : scan s ≡ Moves t).
       let byte = byte_there i s.output l in
       stays_carried environment s t (InOutput i) byte.0 item moves refl byte.1 stands)
       (λ (calls : (call : Call) × (scan s ≡ Calls call)). output_carried environment s t calls.0 item h calls.1 environment.width refl i l)
       (step_scans environment s t h),
-  λ bytes gap measured. tt,
+  aside bytes gap s (InOutput i) refl tt,
 )
 
 measured_alike : (bytes : ℕ) (gap : Bool) (s t : State) (name : List ℕ) (i : ℕ) → items_of (finite.get t.forms name) ≡ items_of (finite.get s.forms name) →
@@ -60,27 +72,117 @@ measured_alike : (bytes : ℕ) (gap : Bool) (s t : State) (name : List ℕ) (i :
 measured_alike bytes gap s t name i same measured =
     subst (λ (items : List Item). (item : Item) → slice_get items i ≡ Some item → (bytes ≡ extent (take i items)) × (gap ≡ is_gap item)) same measured
 
-pub form_stays_moving : (s : State) (name : List ℕ) → next_call s ≡ None → (i : ℕ) → StaysAt s (InForm name i)
-form_stays_moving s name none i environment t item h stands =
+pub form_stays_moving : (s : State) (name : List ℕ) → next_call s ≡ None → (bytes i : ℕ) (gap : Bool) → StaysAt s bytes gap (InForm name i)
+form_stays_moving s name none bytes i gap environment t item h stands placed =
     let same = moves_unchanged environment s t name i item h (moves_done environment s t none h) stands in
-    (same.carried, λ bytes gap measured. measured_alike bytes gap s t name i same.items measured)
+    (same.carried, aside bytes gap s (InForm name i) refl (measured_alike bytes gap s t name i same.items placed.measured))
+
+pub form_unchanged : (s : State) (name : List ℕ) (kind : Kind) (arguments : List (List ℕ)) → IsCall (next_call s) kind arguments →
+    may_put (primitive_of (argument 0 arguments)) (argument 1 arguments) name ≡ false →
+    (i : ℕ) (environment : Environment) (t : State) (item : Item) → step environment s ≡ Ok t → found_at t (InForm name i) ≡ Some item → Unchanged environment s t name i
+form_unchanged s name kind arguments is other i environment t item h stands =
+    let call = given_call s kind arguments is in
+    calls_unchanged environment s t call.0 name i item h call.1
+    (ap (λ (texts : List (List ℕ)). may_put (primitive_of (argument 0 texts)) (argument 1 texts) name) call.3 ∙ other) stands
 
 pub form_stays_calling : (s : State) (name : List ℕ) (kind : Kind) (arguments : List (List ℕ)) → IsCall (next_call s) kind arguments →
-    may_put (primitive_of (argument 0 arguments)) (argument 1 arguments) name ≡ false → (i : ℕ) → StaysAt s (InForm name i)
-form_stays_calling s name kind arguments is other i environment t item h stands =
-    let call = given_call s kind arguments is in
-    let same = calls_unchanged environment s t call.0 name i item h call.1
-    (ap (λ (texts : List (List ℕ)). may_put (primitive_of (argument 0 texts)) (argument 1 texts) name) call.3 ∙ other) stands in
-    (same.carried, λ bytes gap measured. measured_alike bytes gap s t name i same.items measured)
+    may_put (primitive_of (argument 0 arguments)) (argument 1 arguments) name ≡ false → (bytes i : ℕ) (gap : Bool) → StaysAt s bytes gap (InForm name i)
+form_stays_calling s name kind arguments is other bytes i gap environment t item h stands placed =
+    let same = form_unchanged s name kind arguments is other i environment t item h stands in
+    (same.carried, aside bytes gap s (InForm name i) refl (measured_alike bytes gap s t name i same.items placed.measured))
 
-pub held_stays : (s : State) (number : ℕ) (name : List ℕ) (i : ℕ) → number < length s.blocks → StaysAt s (InHeld number name i)
-held_stays s number name i within environment t item h stands = (
-  ⊎_elim
-      (λ (moves : scan s ≡ Moves t). moves_held environment s t number name i item h moves stands)
-      (λ (calls : (call : Call) × (scan s ≡ Calls call)). calls_held environment s t calls.0 number name i item h calls.1 within stands)
-      (step_scans environment s t h),
-  λ bytes gap measured. tt,
-)
+pub held_carried : (s : State) (number : ℕ) (name : List ℕ) (i : ℕ) → number < length s.blocks →
+    (environment : Environment) (t : State) (item : Item) → step environment s ≡ Ok t → found_at t (InHeld number name i) ≡ Some item →
+    origin environment s (InHeld number name i) ≡ Carried (InHeld number name i)
+held_carried s number name i within environment t item h stands =
+    ⊎_elim
+    (λ (moves : scan s ≡ Moves t). moves_held environment s t number name i item h moves stands)
+    (λ (calls : (call : Call) × (scan s ≡ Calls call)). calls_held environment s t calls.0 number name i item h calls.1 within stands)
+    (step_scans environment s t h)
+
+pub held_stays : (s : State) (bytes : ℕ) (gap : Bool) (number : ℕ) (name : List ℕ) (i : ℕ) → number < length s.blocks → StaysAt s bytes gap (InHeld number name i)
+held_stays s bytes gap number name i within environment t item h stands placed =
+    (held_carried s number name i within environment t item h stands, aside bytes gap s (InHeld number name i) refl tt)
+
+-- ---- in the neutral text
+
+of_text : (p : Place) → is_in_text p ≡ true → (is_outside p ≡ true) × (is_of_text p ≡ true)
+of_text (InActive i) text = absurd (cc)
+of_text (InBase i) text = (refl, refl)
+of_text (InArgument n k i) text = (refl, refl)
+of_text (InForm name i) text = absurd (cc)
+of_text (InHeld number name i) text = absurd (cc)
+of_text (InOutput i) text = absurd (cc)
+
+measured_aside : (bytes : ℕ) (gap : Bool) (s : State) (p : Place) → is_in_text p ≡ true → IsMeasured bytes gap s p
+measured_aside bytes gap s (InActive i) text = tt
+measured_aside bytes gap s (InBase i) text = tt
+measured_aside bytes gap s (InArgument n k i) text = tt
+measured_aside bytes gap s (InForm name i) text = absurd (cc)
+measured_aside bytes gap s (InHeld number name i) text = tt
+measured_aside bytes gap s (InOutput i) text = tt
+
+module _ (environment : Environment) (s t : State) (bytes : ℕ) (p : Place) (item : Item) (h : step environment s ≡ Ok t) (text : is_in_text p ≡ true) (less : bytes < bytes_left s) (stands : found_at t p ≡ Some item)
+    (at : bytes ≡ offset t p) where
+  -- by a rule that moves on
+  moving : scan s ≡ Moves t → (origin environment s p ≡ Carried p) × (bytes ≡ offset s p)
+  moving moves =
+      let there : bytes ≡ offset s p = at ∙ moved_offset s t p item moves text stands in
+      let within : bytes < neutral_bytes s = subst (λ x. bytes < left_by x s) moves less in
+      let old : found_at s p ≡ Some item =
+      ⊎_elim
+      (λ (old : found_at s p ≡ Some item). old)
+      (λ (new : (moves_bytes (front_of s.active) ≡ true) × IsNew s.frames s p).
+      absurd (omega (arith, within, there, ap (offset s) new.1.at, new_past s.frames s new.1.number refl)))
+      (moved_new s t p item moves text stands) in
+      (stays_carried environment s t p item item moves (of_text p text).0 old stands, there)
+
+  -- by a call
+  calling : (call : Call) → scan s ≡ Calls call → (origin environment s p ≡ Carried p) × (bytes ≡ offset s p)
+  calling call calls =
+      let done = has_done environment s t call h calls in
+      let after : found_at (after_call call done.effect) p ≡ Some item = subst (λ (u : State). found_at u p ≡ Some item) done.after stands in
+      let there : bytes ≡ offset call.state p = at ∙ ap (λ (u : State). offset u p) done.after ∙ called_offset call done.effect p item text after in
+      let within : bytes < neutral_bytes call.state = subst (λ x. bytes < left_by x s) calls less in
+      ⊎_elim
+      (λ (old : found_at call.state p ≡ Some item).
+      let around = around_it s call p item calls text old in
+      (text_carried environment s t call item h calls environment.width refl p item (of_text p text).1 around.0 around.1, there ∙ sym (around_offset s call p calls text around.1)))
+      (λ (new : IsNew call.state.frames call.state p).
+      absurd (omega (arith, within, there, ap (offset call.state) new.at, new_past call.state.frames call.state new.number refl)))
+      (called_new call done.effect p item text after)
+
+pub text_stays : (s : State) (bytes : ℕ) (gap : Bool) (p : Place) → is_in_text p ≡ true → bytes < bytes_left s → StaysAt s bytes gap p
+text_stays s bytes gap p text less environment t item h stands placed =
+    let at : bytes ≡ offset t p = placed.before text in
+    let both : (origin environment s p ≡ Carried p) × (bytes ≡ offset s p) =
+    ⊎_elim
+    (λ (moves : scan s ≡ Moves t). moving environment s t bytes p item h text less stands at moves)
+    (λ (calls : (call : Call) × (scan s ≡ Calls call)). calling environment s t bytes p item h text less stands at calls.0 calls.1)
+    (step_scans environment s t h) in
+    (both.0, record { measured = measured_aside bytes gap s p text; before = λ text. both.1 })
+
+-- so much a step leaves
+pub all_left : (s : State) → next_call s ≡ None → bytes_left s ≡ neutral_bytes s
+all_left s none = go (scan s) none
+  where
+    go : (x : Scanned) → call_asked x ≡ None → left_by x s ≡ neutral_bytes s
+    go (Moves t) none = refl
+    go (Calls call) none = absurd (cc)
+
+pub call_leaves : (s : State) (kind : Kind) (arguments : List (List ℕ)) → IsCall (next_call s) kind arguments → neutral_bytes s ≡ bytes_left s + length (concat arguments)
+call_leaves s kind arguments is =
+    let call = given_call s kind arguments is in
+    let at = ended s call.0 call.1 in
+    let f : Frame = at.0 in
+    omega (
+      arith,
+      ap (λ x. left_by x s) call.1,
+      ap argument_bytes at.2.frames,
+      ap neutral_bytes at.2.state,
+      function_bytes f.arguments f.gathered,
+      ap (λ (texts : List (List ℕ)). length (concat texts)) (sym at.2.arguments ∙ call.3),
+    )
 
 -- ---- before a run
 
@@ -112,36 +214,46 @@ measured_before n s (InForm name i) bytes gap m =
 measured_before n s (InHeld number name i) bytes gap m = measured_or bytes gap s (past_in s.frames s (InHeld number name i)) (InHeld number name i) tt
 measured_before n s (InOutput i) bytes gap m = measured_or bytes gap s (past_in s.frames s (InOutput i)) (InOutput i) tt
 
--- ---- past the current text
+pub placed_before : (n : ℕ) (s : State) (here : Place) (bytes : ℕ) (gap : Bool) (item : Item) → found_at (moved_on n s) here ≡ Some item → IsPlaced bytes gap (moved_on n s) here →
+    IsPlaced bytes gap s (before_moved n s here)
+placed_before n s here bytes gap item stands placed =
+    record { measured = measured_before n s here bytes gap placed.measured; before = go here (offset_before n s here bytes gap item stands placed) }
+  where
+    one_of : (past : Option ℕ) (p : Place) → (is_in_text p ≡ true → bytes ≡ offset s p) → is_in_text (in_active past p) ≡ true → bytes ≡ offset s (in_active past p)
+    one_of None p at text = at text
+    one_of (Some i) p at text = absurd (cc)
 
-pub base_past : (fs : List Frame) (s : State) (i : ℕ) (base : List ℕ) (found : Option ℕ) → length fs ≡ 0 → base ≡ s.base →
-    found ≡ (if nat_lt i (length base) then None else Some (i - length base)) → found ≡ past_in fs s (InBase i)
-base_past [] s i base found none same is = is ∙ ap (λ (text : List ℕ). if nat_lt i (length text) then None else Some (i - length text)) same
-base_past (f ∷ fs) s i base found none same is = absurd (omega (arith, none))
+    go : (p : Place) → (is_in_text p ≡ true → bytes ≡ offset s p) → is_in_text (before_moved n s p) ≡ true → bytes ≡ offset s (before_moved n s p)
+    go (InActive i) at text = absurd (cc)
+    go (InBase i) at text = one_of (past_in s.frames s (InBase i)) (InBase i) at text
+    go (InArgument m k i) at text = one_of (past_in s.frames s (InArgument m k i)) (InArgument m k i) at text
+    go (InForm name i) at text = one_of (past_in s.frames s (InForm name i)) (InForm name i) at text
+    go (InHeld number name i) at text = one_of (past_in s.frames s (InHeld number name i)) (InHeld number name i) at text
+    go (InOutput i) at text = one_of (past_in s.frames s (InOutput i)) (InOutput i) at text
 
-abbrev gives : ℕ → Bool → List ℕ → Option ℕ
-gives i last text = if last && not (nat_lt i (length text)) then Some (i - length text) else None
+moved_in_text : (n : ℕ) (s : State) (p : Place) → is_in_text p ≡ true → before_moved n s p ≡ in_active (past_in s.frames s p) p
+moved_in_text n s (InActive i) text = absurd (cc)
+moved_in_text n s (InBase i) text = refl
+moved_in_text n s (InArgument m k i) text = refl
+moved_in_text n s (InForm name i) text = absurd (cc)
+moved_in_text n s (InHeld number name i) text = absurd (cc)
+moved_in_text n s (InOutput i) text = absurd (cc)
 
-pub argument_past : (s : State) (n k i : ℕ) (kind : Kind) (arguments : List (List ℕ)) (found : Option ℕ) → IsFrame (slice_get (reverse s.frames) n) kind arguments → n + 1 ≡ length s.frames →
-    found ≡ gives i (k + 1 == length arguments) (get_or arguments k []) → found ≡ past_in s.frames s (InArgument n k i)
-argument_past s n k i kind arguments found is innermost value =
-    let given = given_frame (slice_get (reverse s.frames) n) kind arguments is in
-    let f : Frame = given.0 in
-    let at = around s.frames n f given.1 in
-    let none : length s.frames - (n + 1) ≡ 0 = omega (arith, innermost) in
-    let frames : s.frames ≡ f ∷ at.0 = ap (λ j. drop j s.frames) (sym none) ∙ at.1 in
-    let first : (n == length at.0) ≡ true = eq-eqb n (length at.0) (sym at.2) in
-    let count : length arguments ≡ length f.arguments + 1 = ap (λ (texts : List (List ℕ)). length texts) (sym given.2) ∙ length-append f.arguments (f.gathered ∷ []) in
-    value
-    ∙ ⊎_elim
-    (λ (t : (k == length f.arguments) ≡ true).
-    let last : k ≡ length f.arguments = eqb-true k (length f.arguments) t in
-    let text : get_or arguments k [] ≡ f.gathered =
-    ap (λ (texts : List (List ℕ)). get_or texts k []) (sym given.2) ∙ get_or_at f.arguments f.gathered [] [] k (sym last) in
-    ap₂ (λ a (b : List ℕ). gives i a b) (eq-eqb (k + 1) (length arguments) (omega (arith, last, count)) ∙ sym t) text)
-    (λ (t : (k == length f.arguments) ≡ false).
-    let other : (k + 1 == length arguments) ≡ false = ne_eqb (k + 1) (length arguments) (λ same. eqb-false k (length f.arguments) t (omega (arith, same, count))) in
-    ap (λ a. gives i a (get_or arguments k [])) other ∙ sym (ap (λ a. gives i a f.gathered) t))
-    (cases_Bool (k == length f.arguments))
-    ∙ sym (ap (λ a. if a && (k == length f.arguments) && not (nat_lt i (length f.gathered)) then Some (i - length f.gathered) else None) first)
-    ∙ sym (ap (λ (fs : List Frame). past_in fs s (InArgument n k i)) frames)
+-- a byte of a text, as the code finds it
+pub text_before : (n : ℕ) (s : State) (p : Place) (bytes : ℕ) (gap : Bool) (item : Item) (past : Option ℕ) → is_in_text p ≡ true → found_at (moved_on n s) p ≡ Some item → IsPlaced bytes gap (moved_on n s) p →
+    past ≡ (if nat_lt bytes (neutral_bytes s) then None else Some (bytes - neutral_bytes s)) → in_active past p ≡ before_moved n s p
+text_before n s p bytes gap item past text stands placed is = ap (λ q. in_active q p) (go (past_in s.frames s p) refl) ∙ sym (moved_in_text n s p text)
+  where
+    at : bytes ≡ offset s p
+    at = offset_before n s p bytes gap item stands placed text
+
+    go : (found : Option ℕ) → past_in s.frames s p ≡ found → past ≡ past_in s.frames s p
+    go None none =
+        let old : found_at s p ≡ Some item = stood s.frames s (take n s.active) (drop n s.active) p item refl (of_text p text).0 none stands in
+        let within : bytes < neutral_bytes s = omega (arith, at, stands_within s p item text old) in
+        is ∙ cond-true (nat_lt bytes (neutral_bytes s)) None (Some (bytes - neutral_bytes s)) (lt-ltb bytes (neutral_bytes s) within) ∙ sym none
+    go (Some j) found =
+        let past_end : bytes ≡ neutral_bytes s + j = at ∙ ap (offset s) (past_place s.frames s p j found) ∙ new_past s.frames s j refl in
+        is
+        ∙ cond-false (nat_lt bytes (neutral_bytes s)) None (Some (bytes - neutral_bytes s)) (not_less bytes (neutral_bytes s) (omega (arith, past_end)))
+        ∙ ap Some (omega (arith, past_end)) ∙ sym found

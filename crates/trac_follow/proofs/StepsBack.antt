@@ -1,5 +1,5 @@
 -- A byte that is followed back, step by step.
-use Rattle.std.proofs.Common.{◌≡◌, ℕ, suc, ◌+◌, ◌-◌, ◌^◌, ◌<◌, Bool, true, false, List, [], ◌∷◌, ◌++◌, length, take, refl, sym, ap, ap₂, subst, ◌∙◌, ⊎_elim, arith}
+use Rattle.std.proofs.Common.{◌≡◌, ℕ, suc, ◌+◌, ◌^◌, ◌<◌, Bool, true, false, List, [], ◌∷◌, ◌++◌, length, take, refl, sym, ap, ap₂, subst, ◌∙◌, ⊎_elim, arith}
 use Rattle.std.specs.Prelude.{◌⊎◌, Option, None, Some, is_some, option_and_then}
 use Rattle.std.proofs.lemmas.List.{append-nil, append_assoc, length-append}
 use Rattle.std.proofs.Math.Seq.{take-append-add}
@@ -27,6 +27,7 @@ use Rattle.trac_follow.specs.declared.place.Origin as code_origin
 use Rattle.trac_follow.specs.declared.place.Place as code_place
 use Rattle.trac_follow.specs.Following.{IsFollowed, IsOrigin, IsSource}
 use Rattle.trac_follow.specs.Items.{IsMeasured}
+use Rattle.trac_follow.specs.Offsets.{IsPlaced}
 use Rattle.trac_follow.specs.Running.{IsTurn, StaysAt}
 use Rattle.trac_follow.specs.Places.{AreLengths, IsCalled, IsPassed, Stands, Tells, TellsOf, place_of}
 
@@ -323,31 +324,30 @@ module _ (old cur next : PlainSession) (place here : Place) (steps : ℕ) (told 
 
 -- what is told of a session
 pub seen_lengths : (after : After) (u : State) (m : PlainSession) (here : Place) (bytes : ℕ) (gap : Bool) → after.active ≡ length u.active → after.output ≡ length u.output →
-    after.extent ≡ bytes → after.is_gap ≡ gap → u.position < 2 ^ 64 → u ≡ m.last → IsMeasured bytes gap m.last here → AreLengths after u here
-seen_lengths after u m here bytes gap active output extent is_gap read last measured = record {
+    after.extent ≡ bytes → after.is_gap ≡ gap → u.position < 2 ^ 64 → u ≡ m.last → IsPlaced bytes gap m.last here → AreLengths after u here
+seen_lengths after u m here bytes gap active output extent is_gap read last placed = record {
   active = active;
   output = output;
   read = read;
   measured = subst (λ (v : State). IsMeasured after.extent after.is_gap v here) (sym last)
-      (subst (λ n. IsMeasured n after.is_gap m.last here) (sym extent) (subst (λ g. IsMeasured bytes g m.last here) (sym is_gap) measured));
+      (subst (λ n. IsMeasured n after.is_gap m.last here) (sym extent) (subst (λ g. IsMeasured bytes g m.last here) (sym is_gap) placed.measured));
 }
 
 -- a step that leaves what stands there
 pub step_on : (width : Width) (old cur next : PlainSession) (place here : Place) (steps done : ℕ) (why : Option Refusal) (some : Bool) (v : State) (bytes : ℕ) (gap : Bool) →
-    GoesBack width old cur place here steps → (IsKnown width old → IsMeasured bytes gap cur.last here) → IsWalk Back no_goal 1 cur done why next → some ≡ is_some why → some ≡ false →
-    v ≡ next.last → StaysAt v here → GoesBack width old next place here (steps + 1) × (IsKnown width old → IsMeasured bytes gap next.last here)
-step_on width old cur next place here steps done why some v bytes gap goes measured walk test none is_next stays =
+    GoesBack width old cur place here steps → (IsKnown width old → IsPlaced bytes gap cur.last here) → IsWalk Back no_goal 1 cur done why next → some ≡ is_some why → some ≡ false →
+    v ≡ next.last → StaysAt v bytes gap here → GoesBack width old next place here (steps + 1) × (IsKnown width old → IsPlaced bytes gap next.last here)
+step_on width old cur next place here steps done why some v bytes gap goes placed walk test none is_next stays =
     let went = went_back cur next done why walk (none_by_test why some test none) in
     let before : v ≡ went.before = is_next ∙ ap (λ (p : PlainSession). p.last) went.next_is in
-    let stays_there : StaysAt went.before here = subst (λ (u : State). StaysAt u here) before stays in
-    let at : (trail : IsKnown width old) →
-    (origin (over old.width old.tape) went.before here ≡ Carried here) × ((b : ℕ) (g : Bool) → IsMeasured b g cur.last here → IsMeasured b g went.before here) =
+    let stays_there : StaysAt went.before bytes gap here = subst (λ (u : State). StaysAt u bytes gap here) before stays in
+    let at : (trail : IsKnown width old) → (origin (over old.width old.tape) went.before here ≡ Carried here) × IsPlaced bytes gap went.before here =
     λ trail.
     let stood = goes.stood trail in
     let taken = subst (λ (states : List State). AreSteps (over old.width old.tape) states cur.last) went.earlier stood.taken in
-    stays_there (over old.width old.tape) cur.last stood.stands.0 taken.0 stood.stands.1 in (
+    stays_there (over old.width old.tape) cur.last stood.stands.0 taken.0 stood.stands.1 (placed trail) in (
       goes_on width old cur next place here steps goes went here (λ trail. (at trail).0),
-      λ trail. subst (λ (p : PlainSession). IsMeasured bytes gap p.last here) (sym went.next_is) ((at trail).1 bytes gap (measured trail)),
+      λ trail. subst (λ (p : PlainSession). IsPlaced bytes gap p.last here) (sym went.next_is) (at trail).1,
     )
 
 -- where it goes no further

@@ -204,10 +204,6 @@ pub begins_not : (items : List Item) (at b : ℕ) (text others : List ℕ) (whol
 begins_not items at b text others whole so_far split is =
     so_far ∙ ap (λ q. begin_with q (drop at items)) split ∙ begins_next items at b others ∙ ap (λ t. t && begin_with others (drop (at + 1) items)) is
 
-pub begins_empty : (items : List Item) (at : ℕ) (text : List ℕ) (whole : Bool) → whole ≡ begin_with text (drop at items) → length text ≡ 0 → whole ≡ true
-begins_empty items at [] whole so_far none = so_far
-begins_empty items at (b ∷ text) whole so_far none = absurd (omega (arith, none))
-
 pub begins_end : (items : List Item) (at : ℕ) (text : List ℕ) (whole empty : Bool) → whole ≡ begin_with text (drop at items) → length items ≤ at → empty ≡ (length text == 0) → empty ≡ whole
 begins_end items at [] whole empty so_far ends is = is ∙ sym so_far
 begins_end items at (b ∷ text) whole empty so_far ends is =

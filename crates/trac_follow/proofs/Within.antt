@@ -2,31 +2,29 @@
 use Rattle.std.proofs.Common.{◌≡◌, ℕ, ◌<◌, ◌≤◌, true, List, length, refl, ap, ◌∙◌, arith}
 use Rattle.std.specs.Prelude.{Option, None, Some, Ok, ◌==◌, bytes_eq, slice_get}
 use Rattle.std.specs.FinMap as finite
-use Rattle.std.proofs.lemmas.Bool.{cond-true, cond-false, eq-eqb, ne_eqb}
+use Rattle.std.proofs.lemmas.Bool.{cond-true, eq-eqb}
 use Rattle.std.proofs.lemmas.List.{get_or_past}
 use Rattle.std.proofs.lemmas.Option.{slice_get_within}
 use Rattle.trac_rules.specs.declared.item.Item.{Item}
-use Rattle.trac_rules.specs.declared.primitive.BlockAction.TheVariants.{StoreBlock, FetchBlock, EraseBlock}
-use Rattle.trac_rules.specs.declared.primitive.FormAction.{FormAction}
+use Rattle.trac_rules.specs.declared.primitive.BlockAction.TheVariants.{StoreBlock}
 use Rattle.trac_rules.specs.declared.primitive.FormAction.TheVariants as action
 use Rattle.trac_rules.specs.declared.primitive.Primitive.{Primitive}
-use Rattle.trac_rules.specs.declared.primitive.Primitive.TheVariants.{PrintString, ReadString, ReadByte, Halt, SetMeta, SetTrace, Compute, Handle, HandleBlock, Unknown}
-use Rattle.trac_rules.specs.Blocks.{block_at, named_block_number}
+use Rattle.trac_rules.specs.declared.primitive.Primitive.TheVariants.{Handle, HandleBlock}
+use Rattle.trac_rules.specs.Blocks.{block_at}
 use Rattle.trac_rules.specs.Effect.{Effect, argument}
 use Rattle.trac_rules.specs.Form.{Form, all_items}
-use Rattle.trac_rules.specs.Handling.{named_form}
 use Rattle.trac_rules.specs.Scanning.{Call}
-use Rattle.trac_rules.specs.State.{Environment, State, storage_of}
+use Rattle.trac_rules.specs.State.{Environment, State}
 use Rattle.trac_rules.specs.Stepping.{step}
 use Rattle.trac_origins.specs.Lengths.{IsCallOf}
 use Rattle.trac_origins.specs.Lists.{Origins, kept}
-use Rattle.trac_origins.specs.Performing.{EffectOrigins, Performed, after_call_from, argument_from, called_from, changed_from, effect_from, fetched_from, gives_from, handled_from, items_from, on_block_from, on_form_from, performed_from, prints_from, puts_from, reading_from, segmented_from, shown_from}
+use Rattle.trac_origins.specs.Performing.{Performed, after_call_from, argument_from, changed_from, effect_from, performed_from}
 use Rattle.trac_origins.specs.Places.{InForm, InHeld, Origin, Carried, found_at, held_form, items_of}
 use Rattle.trac_origins.specs.Stepping.{call_from, origins, scanned_from}
 use Rattle.trac_origins.proofs.Accounted.{lists_beside}
 use Rattle.trac_origins.proofs.Told.{length-one_each}
 use Rattle.trac_origins.proofs.ToldEffects.{blocks_kept, call_of, forms_kept, length_argument}
-use Rattle.trac_origins.proofs.ToldForms.{blocks-placed, forms-placed}
+use Rattle.trac_origins.proofs.ToldForms.{blocks-placed, blocks_aside, forms-placed}
 use Rattle.trac_origins.proofs.Zips.{same_length}
 use Rattle.trac_follow.proofs.Fetching.{none_held}
 
@@ -46,47 +44,6 @@ blocks_within environment s t k q i item h stands = go (held_form q (block_at k 
     go : (found : Option Form) → held_form q (block_at k t.blocks) ≡ found → slice_get (items_of found) i ≡ Some item → i < length ((origins environment s).blocks k q)
     go None is e = absurd (cc)
     go (Some form) is e = omega (arith, slice_get_within (all_items form) i item e, same_length ((lists_beside environment s t h).blocks k q form is))
-
--- ---- blocks of a call that makes none
-
-form_aside : (d : Performed) (k : ℕ) (q : List ℕ) (found : Option Form) (act : Form → EffectOrigins) → ((form : Form) → (act form).blocks k q ≡ d.from.others.blocks k q) →
-    (on_form_from found act d).blocks k q ≡ d.from.others.blocks k q
-form_aside d k q None act acts = refl
-form_aside d k q (Some form) act acts = acts form
-
-fetched_aside : (d : Performed) (k : ℕ) (q : List ℕ) (found : Option ℕ) → (on_block_from found (λ number. fetched_from number d) d).blocks k q ≡ d.from.others.blocks k q
-fetched_aside d k q None = refl
-fetched_aside d k q (Some number) = refl
-
-handled_aside : (a : FormAction) (d : Performed) (k : ℕ) (q : List ℕ) → (handled_from a d).blocks k q ≡ d.from.others.blocks k q
-handled_aside action.Define d k q = refl
-handled_aside action.Delete d k q = refl
-handled_aside action.DeleteAll d k q = refl
-handled_aside action.Segment d k q =
-    form_aside d k q (named_form d.call.arguments (storage_of d.call.state)) (λ form. puts_from (segmented_from form d) d) (λ form. refl)
-handled_aside action.Restore d k q = refl
-handled_aside action.Call d k q = form_aside d k q (named_form d.call.arguments (storage_of d.call.state)) (λ form. gives_from (called_from form d) d) (λ form. refl)
-handled_aside (action.Read reading) d k q =
-    form_aside d k q (named_form d.call.arguments (storage_of d.call.state)) (λ form. gives_from (reading_from reading form d) d) (λ form. refl)
-handled_aside action.ListNames d k q = refl
-handled_aside action.PrintForm d k q =
-    form_aside d k q (named_form d.call.arguments (storage_of d.call.state)) (λ form. prints_from (shown_from form (items_from d)) d) (λ form. refl)
-
-other_blocks : (p : Primitive) (d : Performed) (k : ℕ) (q : List ℕ) → (p ≡ HandleBlock StoreBlock → k ≡ length d.call.state.blocks → ⊥) → (effect_from p d).blocks k q ≡ d.from.others.blocks k q
-other_blocks PrintString d k q other = refl
-other_blocks ReadString d k q other = refl
-other_blocks ReadByte d k q other = refl
-other_blocks Halt d k q other = refl
-other_blocks SetMeta d k q other = refl
-other_blocks (SetTrace trace) d k q other = refl
-other_blocks (Compute computation) d k q other = refl
-other_blocks (Handle a) d k q other = handled_aside a d k q
-other_blocks (HandleBlock StoreBlock) d k q other =
-    let number = length d.call.state.blocks in
-    ap (λ (from : List ℕ → List Origin). from q) (cond-false (k == number) d.from.others.forms (d.from.others.blocks k) (ne_eqb k number (other refl)))
-other_blocks (HandleBlock FetchBlock) d k q other = fetched_aside d k q (named_block_number d.call.arguments (storage_of d.call.state))
-other_blocks (HandleBlock EraseBlock) d k q other = refl
-other_blocks Unknown d k q other = refl
 
 -- ---- a call
 
@@ -118,7 +75,7 @@ module _ (environment : Environment) (s t : State) (call : Call) (p : Primitive)
       absurd (omega (
         arith,
         blocks_within environment s t k q i item h stands,
-        ap (λ (os : List Origin). length os) (blocks_list k q ∙ other_blocks p d k q other ∙ blocks_kept environment s call p e is k q),
+        ap (λ (os : List Origin). length os) (blocks_list k q ∙ blocks_aside p d k q other ∙ blocks_kept environment s call p e is k q),
         ap (λ (found : Option Form). length (kept (InHeld k q) (items_of found))) nothing,
       ))
 

@@ -1,6 +1,7 @@
 -- What following a byte says, in the words of `trac_origins`.
 pub mod Places
 pub mod Items
+pub mod Offsets
 pub mod Formed
 pub mod Fetched
 pub mod Following

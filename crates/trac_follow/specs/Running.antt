@@ -11,14 +11,14 @@ use Rattle.trac_follow.specs.declared.history.Turn as turning
 use Rattle.trac_follow.specs.declared.place.After.{After}
 use Rattle.trac_follow.specs.declared.place.Origin as told
 use Rattle.trac_follow.specs.declared.place.Place as code_place
-use Rattle.trac_follow.specs.Items.{IsMeasured}
+use Rattle.trac_follow.specs.Offsets.{IsPlaced}
 use Rattle.trac_follow.specs.Places.{IsPassed, TellsOf, place_of}
 
--- what stands at a place after the step from a state stood there before it, and what is measured of the place stays
-abbrev pub StaysAt : State → Place → Type 0
-StaysAt s place =
-    (environment : Environment) (t : State) (item : Item) → step environment s ≡ Ok t → found_at t place ≡ Some item →
-    (origin environment s place ≡ Carried place) × ((bytes : ℕ) (gap : Bool) → IsMeasured bytes gap t place → IsMeasured bytes gap s place)
+-- what stands at a place after the step from a state stood there before it, and what is known of the place stays known
+abbrev pub StaysAt : State → ℕ → Bool → Place → Type 0
+StaysAt s bytes gap place =
+    (environment : Environment) (t : State) (item : Item) → step environment s ≡ Ok t → found_at t place ≡ Some item → IsPlaced bytes gap t place →
+    (origin environment s place ≡ Carried place) × IsPlaced bytes gap s place
 
 -- how it goes on from a place here, by what is told of it
 abbrev pub IsTurn : State → code_place.Place → told.Origin → turning.Turn → Type 0

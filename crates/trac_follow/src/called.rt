@@ -6,6 +6,7 @@ ghost use Rattle.trac_rules.specs.declared.primitive.BlockAction.TheVariants.{St
 ghost use Rattle.trac_rules.specs.declared.primitive.Primitive.TheVariants.{HandleBlock};
 ghost use Rattle.trac_rules.specs.declared.width.Width.{Width};
 ghost use Rattle.trac_rules.specs.Goals.{IsCall, next_call};
+ghost use Rattle.trac_rules.specs.Scanning.{Call, Calls, scan};
 ghost use Rattle.trac_follow.specs.declared.place.After.{After as Lengths};
 ghost use Rattle.trac_follow.specs.Formed.{ToldAsFormCut, ToldAsFormShown};
 ghost use Rattle.trac_follow.specs.Putting.{put_by};
@@ -35,19 +36,22 @@ pub(crate) fn called<'a, E: TwoEnds<u8, A>, M: TwoEnds<Mark, A>, A: Allocator + 
     requires call { IsCall (next_call before.now.state) kind arguments.now }
     ensures { TellsOf before.now.state width after (place_of place.entry) result }
 {
-    let depth = before.depth();
-    if depth == 0 {
-        return Origin::Nothing;
-    }
     match place {
-        Place::Active(i) => of_active(before, width, kind, arguments, depth - 1, after, i),
-        Place::Form(name, i) => of_form(before, kind, arguments, depth - 1, after, name, i),
+        Place::Active(i) => of_active(before, width, kind, arguments, after, i),
+        Place::Form(name, i) => of_form(before, kind, arguments, after, name, i),
         Place::Held(number, name, i) => of_block(before, kind, arguments, number, name, i),
-        Place::Output(i) => of_output(before, kind, arguments, depth - 1, after, i),
-        Place::Base(_) | Place::Argument { .. } => {
-            of_text(before, width, kind, arguments, depth - 1, place)
-        }
+        Place::Output(i) => of_output(before, kind, arguments, after, i),
+        Place::Base(_) | Place::Argument { .. } => of_text(before, width, kind, arguments, place),
     }
+}
+
+// The number of the innermost function, which a call ends.
+fn innermost<E: TwoEnds<u8, A>, M: TwoEnds<Mark, A>, A: Allocator + Copy>(
+    before: &Core<E, M, A>,
+) -> usize
+    ensures { (call : Call) → scan before.now.state ≡ Calls call → result + 1 ≡ length before.now.state.frames }
+{
+    before.depth().saturating_sub(1)
 }
 
 // Of the active text: the value, where it is scanned, and then what was left.
@@ -56,12 +60,10 @@ fn of_active<'a, E: TwoEnds<u8, A>, M: TwoEnds<Mark, A>, A: Allocator + Copy>(
     width: Width,
     kind: Kind,
     arguments: &Args<'_>,
-    function: usize,
     after: After,
     i: usize,
 ) -> Origin<'a>
     requires call { IsCall (next_call before.now.state) kind arguments.now }
-    requires number { function + 1 ≡ length before.now.state.frames }
     ensures { TellsOf before.now.state width after (InActive i) result }
 {
     let rest = before.active().len().saturating_sub(1);
@@ -70,7 +72,15 @@ fn of_active<'a, E: TwoEnds<u8, A>, M: TwoEnds<Mark, A>, A: Allocator + Copy>(
     }
     let value = after.active - rest;
     if i < value {
-        return value_byte(before, kind, arguments, function, width, Some(value), i);
+        return value_byte(
+            before,
+            kind,
+            arguments,
+            innermost(before),
+            width,
+            Some(value),
+            i,
+        );
     }
     if i - value >= rest {
         return Origin::Nothing;
@@ -84,14 +94,13 @@ fn of_text<'a, E: TwoEnds<u8, A>, M: TwoEnds<Mark, A>, A: Allocator + Copy>(
     width: Width,
     kind: Kind,
     arguments: &Args<'_>,
-    function: usize,
     place: Place<'a>,
 ) -> Origin<'a>
     requires call { IsCall (next_call before.now.state) kind arguments.now }
-    requires number { function + 1 ≡ length before.now.state.frames }
     requires text { is_in_text (place_of place) ≡ true }
     ensures { (after : Lengths) → TellsOf before.now.state width after (place_of place.entry) result }
 {
+    let function = innermost(before);
     if stands_around(before, function, place) {
         return Origin::Carried(place);
     }
@@ -104,12 +113,10 @@ fn of_output<'a, E: TwoEnds<u8, A>, M: TwoEnds<Mark, A>, A: Allocator + Copy>(
     before: &Core<E, M, A>,
     kind: Kind,
     arguments: &Args<'_>,
-    function: usize,
     after: After,
     i: usize,
 ) -> Origin<'a>
     requires call { IsCall (next_call before.now.state) kind arguments.now }
-    requires number { function + 1 ≡ length before.now.state.frames }
     ensures { (width : Width) → TellsOf before.now.state width after (InOutput i) result }
 {
     if i < before.output().len() {
@@ -120,7 +127,9 @@ fn of_output<'a, E: TwoEnds<u8, A>, M: TwoEnds<Mark, A>, A: Allocator + Copy>(
         return Origin::Made;
     }
     match primitive {
-        Primitive::PrintString => printed(arguments.get(1).len(), function, after.output, i),
+        Primitive::PrintString => {
+            printed(arguments.get(1).len(), innermost(before), after.output, i)
+        }
         // No other primitive but `pf` prints.
         _ => form_shown(before, arguments.get(1), after.output, i),
     }
@@ -173,19 +182,17 @@ fn of_form<'a, E: TwoEnds<u8, A>, M: TwoEnds<Mark, A>, A: Allocator + Copy>(
     before: &Core<E, M, A>,
     kind: Kind,
     arguments: &Args<'_>,
-    function: usize,
     after: After,
     name: &'a [u8],
     i: usize,
 ) -> Origin<'a>
     requires call { IsCall (next_call before.now.state) kind arguments.now }
-    requires number { function + 1 ≡ length before.now.state.frames }
     ensures { (width : Width) → TellsOf before.now.state width after (InForm name.now i) result }
 {
     let primitive = primitive_named(arguments.get(0));
     if may_put(primitive, arguments.get(1), name) {
         return match put_by(primitive) {
-            Put::Text => put_byte(arguments.get(2).len(), function, i),
+            Put::Text => put_byte(arguments.get(2).len(), innermost(before), i),
             Put::Cut => form_cut(before, name, after),
             Put::Fetched => {
                 Origin::Carried(before_fetch(before.store(), arguments.get(1), name, i))

@@ -2,12 +2,15 @@
 ghost use Rattle.std.specs.Prelude.{◌≡◌, ◌+◌, ◌^◌, ◌<◌, ◌≤◌, length, IsTrue, Some};
 ghost use Rattle.trac_follow.specs.Following.{IsFollowed};
 ghost use Rattle.trac_follow.specs.Items.{IsMeasured};
-ghost use Rattle.trac_follow.specs.Places.{IsCalled, IsPassed, place_of};
+ghost use Rattle.trac_follow.specs.Offsets.{IsPlaced};
+ghost use Rattle.trac_follow.specs.Places.{IsCalled, IsPassed, Stands, place_of};
 ghost use Rattle.trac_follow.specs.Running.{HasTurned};
+ghost use Rattle.trac_origins.specs.Places.{InForm};
 ghost use Rattle.trac_rules.specs.Session.{Back, repeated};
 ghost use Rattle.trac_rules.specs.Trails.{IsTrail};
 
 use crate::items::item_measured;
+use crate::offset::argument_offset;
 use crate::origin::told_of;
 use crate::place::{After, Origin, Place};
 use crate::running::{before_run, stays};
@@ -73,7 +76,7 @@ pub fn follow<'a, A: Allocator + Copy>(
     while steps < most {
         let count = session.pass_back(most - steps);
         if count > 0 {
-            here = before_run(session.machine(), count, here);
+            here = before_run(session.machine(), count, measure, here);
             steps += count;
             continue;
         }
@@ -82,7 +85,7 @@ pub fn follow<'a, A: Allocator + Copy>(
             break;
         }
         steps += 1;
-        if stays(session.machine(), here) {
+        if stays(session.machine(), measure, here) {
             continue;
         }
         match turned(session.machine(), width, after, here) {
@@ -150,19 +153,37 @@ fn turned<'a, E: TwoEnds<u8, A>, M: TwoEnds<Mark, A>, A: Allocator + Copy>(
     }
 }
 
-// Of a place in a form: how many bytes the items before it stand for, and whether a gap stands there.
+// Of a place at which something stands: in a form, how many bytes the items before it stand for, and whether a gap stands there;
+// in the base text or in an argument, how many bytes of the neutral text stand before it.
 fn measured<E: TwoEnds<u8, A>, M: TwoEnds<Mark, A>, A: Allocator + Copy>(
     machine: &Core<E, M, A>,
     place: Place<'_>,
 ) -> (usize, bool)
-    ensures { IsMeasured result.0 result.1 machine.now.state (place_of place.entry) }
+    ensures { Stands machine.now.state (place_of place.entry) → IsPlaced result.0 result.1 machine.now.state (place_of place.entry) }
 {
     match place {
-        Place::Form(name, i) => match machine.store().get(name) {
-            Some(form) => item_measured(form, i),
-            None => (0, false),
-        },
+        Place::Form(name, i) => measured_in(machine, name, i),
+        Place::Base(i) => (i, false),
+        Place::Argument {
+            function,
+            argument,
+            byte,
+        } => (argument_offset(machine, function, argument, byte), false),
         _ => (0, false),
+    }
+}
+
+// The same, of an item of a form.
+fn measured_in<E: TwoEnds<u8, A>, M: TwoEnds<Mark, A>, A: Allocator + Copy>(
+    machine: &Core<E, M, A>,
+    name: &[u8],
+    i: usize,
+) -> (usize, bool)
+    ensures { IsMeasured result.0 result.1 machine.now.state (InForm name.now i) }
+{
+    match machine.store().get(name) {
+        Some(form) => item_measured(form, i),
+        None => (0, false),
     }
 }
 

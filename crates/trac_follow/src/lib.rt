@@ -8,6 +8,7 @@ mod front;
 pub mod history;
 mod items;
 mod moving;
+mod offset;
 pub mod origin;
 pub mod place;
 mod running;

@@ -1,9 +1,10 @@
 //! Steps back over which a byte is followed without a look at where it comes from.
-ghost use Rattle.std.specs.Prelude.{◌≡◌, ◌+◌, ◌-◌, ◌<◌, ◌≤◌, ◌==◌, ◌&&◌, if◌then◌else◌, length, get_or, nat_lt, not, IsTrue, None, Some, [], ℕ, List};
+ghost use Rattle.std.specs.Prelude.{◌≡◌, ◌+◌, ◌-◌, ◌<◌, ◌≤◌, if◌then◌else◌, length, nat_lt, Bool, IsTrue, None, Some, ℕ};
+ghost use Rattle.trac_follow.specs.Offsets.{IsPlaced, bytes_left};
 ghost use Rattle.trac_follow.specs.Places.{place_of};
 ghost use Rattle.trac_follow.specs.Running.{StaysAt};
-ghost use Rattle.trac_origins.specs.Lengths.{before_moved, in_active, may_put, past_in};
-ghost use Rattle.trac_origins.specs.Places.{InArgument, InBase, InForm, found_at};
+ghost use Rattle.trac_origins.specs.Lengths.{before_moved, in_active, may_put};
+ghost use Rattle.trac_origins.specs.Places.{InForm, found_at};
 ghost use Rattle.trac_rules.specs.declared.item.Item.{Item};
 ghost use Rattle.trac_rules.specs.Effect.{argument};
 ghost use Rattle.trac_rules.specs.Performing.{primitive_of};
@@ -18,23 +19,21 @@ use trac_step::{Core, Mark};
 
 // ---- runs of bytes that moved one by one
 
-// Where what stands at a place after so many bytes moved stood before them, in this machine.
+// Where what stands at a place after so many bytes moved stood before them, in this machine; so much is known of the place.
 pub(crate) fn before_run<'a, E: TwoEnds<u8, A>, M: TwoEnds<Mark, A>, A: Allocator + Copy>(
     before: &Core<E, M, A>,
     count: u64,
+    measure: (usize, bool),
     place: Place<'a>,
 ) -> Place<'a>
     ensures { (item : Item) → count ≤ length before.now.state.active → found_at (moved_on count before.now.state) (place_of place.entry) ≡ Some item →
-        place_of result ≡ before_moved count before.now.state (place_of place.entry) }
+        IsPlaced measure.0 measure.1 (moved_on count before.now.state) (place_of place.entry) → place_of result ≡ before_moved count before.now.state (place_of place.entry) }
 {
     match place {
         Place::Active(i) => Place::Active(further_on(before.active(), count, i)),
-        Place::Base(i) => in_active(past_base(before, i), place),
-        Place::Argument {
-            function,
-            argument,
-            byte,
-        } => in_active(past_last(before, function, argument, byte), place),
+        Place::Base(_) | Place::Argument { .. } => {
+            in_active(past_end(before.neutral_len(), measure.0), place)
+        }
         Place::Form(_, _) => place,
         Place::Held(_, _, _) => place,
         Place::Output(_) => place,
@@ -66,53 +65,7 @@ fn further_on(text: &[u8], count: u64, i: usize) -> usize
     first + i
 }
 
-// How far a byte of the base text is past the current text; none where it is not.
-fn past_base<E: TwoEnds<u8, A>, M: TwoEnds<Mark, A>, A: Allocator + Copy>(
-    machine: &Core<E, M, A>,
-    i: usize,
-) -> Option<usize>
-    ensures { result ≡ past_in machine.now.state.frames machine.now.state (InBase i) }
-{
-    if machine.depth() > 0 {
-        return None;
-    }
-    past_end(machine.base().len(), i)
-}
-
-// The same, of a byte of an argument.
-fn past_last<E: TwoEnds<u8, A>, M: TwoEnds<Mark, A>, A: Allocator + Copy>(
-    machine: &Core<E, M, A>,
-    function: usize,
-    argument: usize,
-    byte: usize,
-) -> Option<usize>
-    ensures { result ≡ past_in machine.now.state.frames machine.now.state (InArgument function argument byte) }
-{
-    let depth = machine.depth();
-    if depth == 0 {
-        return None;
-    }
-    if function != depth - 1 {
-        return None;
-    }
-    match machine.frame(function) {
-        Some((_, arguments)) => past_gathered(&arguments, argument, byte),
-        None => None,
-    }
-}
-
-// How far a byte is past the last of these arguments; none where it is one of another, or within.
-fn past_gathered(arguments: &Args<'_>, argument: usize, byte: usize) -> Option<usize>
-    ensures { result ≡ (if (argument + 1 == length arguments.now) && not (nat_lt byte (length (get_or arguments.now argument [])))
-        then Some (byte - length (get_or arguments.now argument [])) else None) }
-{
-    if argument != arguments.comma_count() {
-        return None;
-    }
-    past_end(arguments.get(argument).len(), byte)
-}
-
-// How far a byte is past a text of this length; none where it is within.
+// How far a byte is past so many; none where it is within.
 fn past_end(len: usize, i: usize) -> Option<usize>
     ensures { result ≡ (if nat_lt i len then None else Some (i - len)) }
 {
@@ -124,19 +77,33 @@ fn past_end(len: usize, i: usize) -> Option<usize>
 
 // ---- steps that leave what they do not act on
 
-// Whether it is told at once that what stands at a place after the next step of a machine stood there before it, in a form
-// that held what it holds then.
+// Whether it is told at once that what stands at a place after the next step of a machine, of which so much is known then, stood
+// there before it, in a form or in a text that held what it holds then.
 pub(crate) fn stays<E: TwoEnds<u8, A>, M: TwoEnds<Mark, A>, A: Allocator + Copy>(
     before: &Core<E, M, A>,
+    measure: (usize, bool),
     place: Place<'_>,
 ) -> bool
-    ensures { IsTrue result → StaysAt before.now.state (place_of place.entry) }
+    ensures { IsTrue result → StaysAt before.now.state measure.0 measure.1 (place_of place.entry) }
 {
     match place {
         Place::Output(i) => i < before.output().len(),
         Place::Form(name, _) => stays_in_form(before, name),
         Place::Held(number, _, _) => number < before.store().block_count(),
-        _ => false,
+        Place::Base(_) | Place::Argument { .. } => measure.0 < bytes_left(before),
+        Place::Active(_) => false,
+    }
+}
+
+// How many bytes of the neutral text the next step leaves where they are: all, but for the function that it performs.
+fn bytes_left<E: TwoEnds<u8, A>, M: TwoEnds<Mark, A>, A: Allocator + Copy>(
+    before: &Core<E, M, A>,
+) -> usize
+    ensures { result ≡ bytes_left before.now.state }
+{
+    match before.next_call() {
+        Some((_, arguments)) => before.neutral_len() - arguments.joined().len(),
+        None => before.neutral_len(),
     }
 }
 
@@ -145,7 +112,7 @@ fn stays_in_form<E: TwoEnds<u8, A>, M: TwoEnds<Mark, A>, A: Allocator + Copy>(
     before: &Core<E, M, A>,
     name: &[u8],
 ) -> bool
-    ensures { IsTrue result → (i : ℕ) → StaysAt before.now.state (InForm name.now i) }
+    ensures { IsTrue result → (bytes i : ℕ) (gap : Bool) → StaysAt before.now.state bytes gap (InForm name.now i) }
 {
     match before.next_call() {
         Some((_, arguments)) => !puts(&arguments, name),

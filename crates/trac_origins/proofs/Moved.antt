@@ -186,7 +186,7 @@ base_past true x j e = absurd (cc)
 base_past false x j e = (refl, cc)
 
 -- a place that is past the current text
-past_place : (fs : List Frame) (s : State) (place : Place) (j : ℕ) → past_in fs s place ≡ Some j → place ≡ in_current fs (length (current_text fs s) + j)
+pub past_place : (fs : List Frame) (s : State) (place : Place) (j : ℕ) → past_in fs s place ≡ Some j → place ≡ in_current fs (length (current_text fs s) + j)
 past_place [] s (InActive i) j e = absurd (cc)
 past_place [] s (InBase i) j e =
     let at = base_past (nat_lt i (length s.base)) (i - length s.base) j e in
@@ -208,7 +208,7 @@ past_place (f ∷ fs) s (InHeld number name i) j e = absurd (cc)
 past_place (f ∷ fs) s (InOutput i) j e = absurd (cc)
 
 -- a place that is not stood before
-stood : (fs : List Frame) (s : State) (text left : List ℕ) (place : Place) (item : Item) → s.frames ≡ fs → is_outside place ≡ true → past_in fs s place ≡ None →
+pub stood : (fs : List Frame) (s : State) (text left : List ℕ) (place : Place) (item : Item) → s.frames ≡ fs → is_outside place ≡ true → past_in fs s place ≡ None →
     found_at (gathered_in fs text (record s { active = left })) place ≡ Some item → found_at s place ≡ Some item
 stood [] s text left (InActive i) item is out none e = absurd (cc)
 stood [] s text left (InBase i) item is out none e =
@@ -301,7 +301,7 @@ module _ (environment : Environment) (u t : State) (h : step environment u ≡ O
 
 -- ---- many
 
-not_less : (i k : ℕ) → k ≤ i → nat_lt i k ≡ false
+pub not_less : (i k : ℕ) → k ≤ i → nat_lt i k ≡ false
 not_less i k l = ⊎_elim (λ (t : nat_lt i k ≡ true). absurd (omega (arith, l, ltb-true i k t))) (λ (t : nat_lt i k ≡ false). t) (cases_Bool (nat_lt i k))
 
 -- n bytes, and one more

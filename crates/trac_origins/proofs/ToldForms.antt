@@ -94,21 +94,21 @@ handled_held action.ListNames d k q = refl
 handled_held action.PrintForm d k q =
     held_aside d k q (named_form d.call.arguments (storage_of d.call.state)) (λ form. prints_from (shown_from form (items_from d)) d) (λ form. refl)
 
-pub blocks_aside : (p : Primitive) (d : Performed) (k : ℕ) (q : List ℕ) → k < length d.call.state.blocks → (effect_from p d).blocks k q ≡ d.from.others.blocks k q
-blocks_aside PrintString d k q l = refl
-blocks_aside ReadString d k q l = refl
-blocks_aside ReadByte d k q l = refl
-blocks_aside Halt d k q l = refl
-blocks_aside SetMeta d k q l = refl
-blocks_aside (SetTrace trace) d k q l = refl
-blocks_aside (Compute computation) d k q l = refl
-blocks_aside (Handle a) d k q l = handled_held a d k q
-blocks_aside (HandleBlock StoreBlock) d k q l =
+pub blocks_aside : (p : Primitive) (d : Performed) (k : ℕ) (q : List ℕ) → (p ≡ HandleBlock StoreBlock → k ≡ length d.call.state.blocks → ⊥) → (effect_from p d).blocks k q ≡ d.from.others.blocks k q
+blocks_aside PrintString d k q other = refl
+blocks_aside ReadString d k q other = refl
+blocks_aside ReadByte d k q other = refl
+blocks_aside Halt d k q other = refl
+blocks_aside SetMeta d k q other = refl
+blocks_aside (SetTrace trace) d k q other = refl
+blocks_aside (Compute computation) d k q other = refl
+blocks_aside (Handle a) d k q other = handled_held a d k q
+blocks_aside (HandleBlock StoreBlock) d k q other =
     let number = length d.call.state.blocks in
-    ap (λ (from : List ℕ → List Origin). from q) (cond-false (k == number) d.from.others.forms (d.from.others.blocks k) (ne_eqb k number (λ e. absurd (omega (arith, e, l)))))
-blocks_aside (HandleBlock FetchBlock) d k q l = fetched_aside d k q (named_block_number d.call.arguments (storage_of d.call.state))
-blocks_aside (HandleBlock EraseBlock) d k q l = refl
-blocks_aside Unknown d k q l = refl
+    ap (λ (from : List ℕ → List Origin). from q) (cond-false (k == number) d.from.others.forms (d.from.others.blocks k) (ne_eqb k number (other refl)))
+blocks_aside (HandleBlock FetchBlock) d k q other = fetched_aside d k q (named_block_number d.call.arguments (storage_of d.call.state))
+blocks_aside (HandleBlock EraseBlock) d k q other = refl
+blocks_aside Unknown d k q other = refl
 
 -- ---- after a call
 
@@ -164,6 +164,6 @@ call_held environment s t call number name i item h is e =
     let f : EffectOrigins = performed_from d in
     ap (λ (o : Origins). get_or (o.blocks number name) i Made) after.origins
     ∙ ap (λ (os : List Origin). get_or os i Made) (blocks-placed d.call.kind d.effect.forced f.value (changed_from f d.from.others) number name)
-    ∙ ap (λ (os : List Origin). get_or os i Made) (blocks_aside (primitive_of (argument 0 call.arguments)) d number name (held_within number name i call.state.blocks item e))
+    ∙ ap (λ (os : List Origin). get_or os i Made) (blocks_aside (primitive_of (argument 0 call.arguments)) d number name (λ stores last. absurd (omega (arith, last, held_within number name i call.state.blocks item e))))
     ∙ ap (λ (o : Origins). get_or (o.blocks number name) i Made) after.from
     ∙ kept_told call.state (InHeld number name i) item e

@@ -150,7 +150,7 @@ calls_hold environment s t call number name h is within =
     let same : call.state.blocks ≡ s.blocks = ap (λ (u : State). u.blocks) (ended s call is).2.state in
     ap (λ (o : Origins). o.blocks number name) after.origins
     ∙ blocks-placed d.call.kind d.effect.forced f.value (changed_from f d.from.others) number name
-    ∙ blocks_aside (primitive_of (argument 0 call.arguments)) d number name (omega (arith, within, ap (λ (blocks : List Block). length blocks) same))
+    ∙ blocks_aside (primitive_of (argument 0 call.arguments)) d number name (λ stores last. absurd (omega (arith, last, within, ap (λ (blocks : List Block). length blocks) same)))
     ∙ ap (λ (o : Origins). o.blocks number name) after.from
     ∙ ap (λ (blocks : List Block). kept (InHeld number name) (items_of (held_form name (block_at number blocks)))) same
 

@@ -1,7 +1,8 @@
 //! The readers of a machine's state.
-ghost use Rattle.std.specs.Prelude.{◌≡◌, ◌≤◌, length, reverse, slice_get, None, Some, MatchOption};
+ghost use Rattle.std.specs.Prelude.{◌≡◌, ◌+◌, ◌≤◌, length, reverse, slice_get, None, Some, MatchOption};
 ghost use Rattle.trac_text.specs.Frames.{IsFrame};
 ghost use Rattle.trac_text.specs.Neutral.{neutral_of};
+ghost use Rattle.trac_rules.specs.Limits.{argument_bytes};
 ghost use Rattle.trac_rules.specs.Stepping.{call_at};
 
 use crate::engine::Core;
@@ -25,6 +26,14 @@ impl<E: TwoEnds<u8, A>, M: TwoEnds<Mark, A>, A: Allocator + Copy> Core<E, M, A> 
         ensures { neutral_of result ≡ record { base = self.now.state.base; frames = self.now.state.frames } }
     {
         NeutralText::new(self.text.left(), self.marks.left())
+    }
+
+    /// How many bytes base text and the arguments of all begun functions hold together. It takes the same time however many
+    /// these are (this project's profile).
+    pub fn neutral_len(&self) -> usize
+        ensures { result ≡ length self.now.state.base + argument_bytes self.now.state.frames }
+    {
+        self.text.left().len()
     }
 
     /// The neutral text outside all begun functions, a front of T-64's neutral string.

@@ -1,6 +1,5 @@
-use Rattle.std.proofs.Common.{sym, subst, arith}
+use Rattle.std.proofs.Common.{sym, subst}
 use Rattle.trac_follow.specs.Places.{TellsOf, place_of}
-use Rattle.trac_follow.proofs.CallsTold.{functions_left, given_call}
 use Rattle.trac_follow.proofs.called.called.Goals as goal
 
 pub returns-in-Form : goal.returns-in-Form
@@ -14,11 +13,6 @@ returns-in-Held g c =
 pub returns-in-Output : goal.returns-in-Output
 returns-in-Output g c =
     subst (λ p. TellsOf c.args.before.now.state c.args.width c.args.after (place_of p) c.of_output.result) (sym c.in-Output.is) (c.of_output.ensures c.args.width)
-
-pub returns-then-depth-eq0 : goal.returns-then-depth-eq0
-returns-then-depth-eq0 g c = λ environment t item wide h lengths stands.
-    let call = given_call c.args.before.now.state c.args.kind c.args.arguments.now c.requires.call in
-    absurd (omega (arith, functions_left c.args.before.now.state call.0 call.1, c.depth-depth.ensures, c.if-depth-eq0.true))
 
 pub returns-in-Base : goal.returns-in-Base
 returns-in-Base g c = c.of_text.ensures c.args.after

@@ -5,14 +5,14 @@ use Rattle.trac_rules.specs.declared.primitive.Primitive.TheVariants.{HandleBloc
 use Rattle.trac_rules.specs.Effect.{argument}
 use Rattle.trac_rules.specs.Performing.{primitive_of}
 use Rattle.trac_follow.proofs.CallsTold.{given_call}
-use Rattle.trac_follow.proofs.Staying.{held_stays}
+use Rattle.trac_follow.proofs.Staying.{held_carried}
 use Rattle.trac_follow.proofs.ValuesTold.{named_by, stored_tells, unstored}
 use Rattle.trac_follow.proofs.called.of_block.Goals as goal
 
 pub returns-then-number-count : goal.returns-then-number-count
 returns-then-number-count g c = λ width after environment t item wide h lengths stands.
-    (held_stays c.args.before.now.state c.args.number c.args.name.now c.args.i
-    (omega (arith, c.if-number-count.true, c.block_count-count.ensures.count, ap (λ stored. length stored.blocks) c.store.ensures)) environment t item h stands).0
+    held_carried c.args.before.now.state c.args.number c.args.name.now c.args.i
+    (omega (arith, c.if-number-count.true, c.block_count-count.ensures.count, ap (λ stored. length stored.blocks) c.store.ensures)) environment t item h stands
 
 pub returns-then-number-count-2 : goal.returns-then-number-count-2
 returns-then-number-count-2 g c = λ width after environment t item wide h lengths stands.

@@ -9,16 +9,16 @@ use Rattle.trac_follow.specs.Fetched.{block_named, place_fetched}
 use Rattle.trac_follow.specs.Places.{place_of}
 use Rattle.trac_follow.proofs.FetchedTold.{fetched_tells}
 use Rattle.trac_follow.proofs.FormCalls.{cut_tells}
-use Rattle.trac_follow.proofs.Staying.{form_stays_calling}
+use Rattle.trac_follow.proofs.Staying.{form_unchanged}
 use Rattle.trac_follow.proofs.ValuesTold.{address_is, is_put_by, named_by, put_tells}
 use Rattle.trac_follow.proofs.called.of_form.Goals as goal
 
 pub returns : goal.returns
 returns g c = λ width environment t item wide h lengths stands.
-    (form_stays_calling c.args.before.now.state c.args.name.now c.args.kind c.args.arguments.now c.requires.call
+    (form_unchanged c.args.before.now.state c.args.name.now c.args.kind c.args.arguments.now c.requires.call
     (ap (λ p. may_put p (argument 1 c.args.arguments.now) c.args.name.now) (ap primitive_of (sym c.get.ensures) ∙ sym c.primitive_named-primitive.ensures)
     ∙ ap (λ text. may_put c.primitive_named-primitive.result text c.args.name.now) (sym c.get-2.ensures)
-    ∙ sym c.may_put.ensures ∙ c.if-may_put.false) c.args.i environment t item h stands).0
+    ∙ sym c.may_put.ensures ∙ c.if-may_put.false) c.args.i environment t item h stands).carried
 
 pub returns-in-Text : goal.returns-in-Text
 returns-in-Text g c = λ width environment t item wide h lengths stands.
@@ -29,8 +29,8 @@ returns-in-Text g c = λ width environment t item wide h lengths stands.
     let named = named_by s c.args.kind c.args.arguments.now call.0 p c.get.result.now c.requires.call call.1 c.get.ensures c.primitive_named-primitive.ensures ∙ is in
     let same = ap (λ texts. bytes_eq c.args.name.now (argument 1 texts)) call.3 ∙ ap (bytes_eq c.args.name.now) (sym c.get-2.ensures)
     ∙ ap (λ q. may_put q c.get-2.result.now c.args.name.now) (sym is) ∙ sym c.may_put.ensures ∙ c.if-may_put.true in
-    put_tells environment s t call.0 h call.1 named c.args.name.now c.args.i c.args.function (length c.get-in-Text.result.now) c.put_byte.result same
-    (number_is s call.0 call.1 c.args.function c.requires.number)
+    put_tells environment s t call.0 h call.1 named c.args.name.now c.args.i c.innermost.result (length c.get-in-Text.result.now) c.put_byte.result same
+    (number_is s call.0 call.1 c.innermost.result (c.innermost.ensures call.0 call.1))
     (ap (λ text. length text) c.get-in-Text.ensures ∙ ap (λ texts. length (argument 2 texts)) (sym call.3)) item stands c.put_byte.ensures
 
 pub returns-in-Cut : goal.returns-in-Cut

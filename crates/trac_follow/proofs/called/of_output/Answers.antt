@@ -27,9 +27,9 @@ returns-in-PrintString g c = λ width environment t item wide h lengths stands.
     let call = given_call s c.args.kind c.args.arguments.now c.requires.call in
     printed_tells environment s t call.0 h call.1
     (named_by s c.args.kind c.args.arguments.now call.0 c.primitive_named-primitive.result c.get.result.now c.requires.call call.1 c.get.ensures c.primitive_named-primitive.ensures ∙ c.in-PrintString.is)
-    (length c.get-in-PrintString.result.now) c.args.function c.args.after.output c.args.i c.printed.result
+    (length c.get-in-PrintString.result.now) c.innermost.result c.args.after.output c.args.i c.printed.result
     (ap (λ text. length text) c.get-in-PrintString.ensures ∙ ap (λ texts. length (argument 1 texts)) (sym call.3))
-    (number_is s call.0 call.1 c.args.function c.requires.number) lengths.output
+    (number_is s call.0 call.1 c.innermost.result (c.innermost.ensures call.0 call.1)) lengths.output
     (subst (λ text. length text ≤ c.args.i) c.output.ensures c.if-i-output.false) (byte_within c.args.i t.output item stands) c.printed.ensures
 
 pub returns-in_default : goal.returns-in_default

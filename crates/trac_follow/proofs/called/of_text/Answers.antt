@@ -9,14 +9,19 @@ returns-then-stands_around g c = λ after environment t item wide h lengths stan
     let call = given_call c.args.before.now.state c.args.kind c.args.arguments.now c.requires.call in
     let there = c.stands_around.ensures.there c.if-stands_around.true in
     text_carried environment s t call.0 item h call.1 c.args.width wide (place_of c.args.place) there.0.0 there.1.0 there.0.1
-    (subst (λ n. IsOutside n (place_of c.args.place)) (sym (number_is s call.0 call.1 c.args.function c.requires.number)) there.1.1)
+    (subst (λ n. IsOutside n (place_of c.args.place)) (sym (number_is s call.0 call.1 c.innermost-function.result (c.innermost-function.ensures call.0 call.1))) there.1.1)
 
 pub returns : goal.returns
 returns g c = λ after environment t item wide h lengths stands.
     let s = c.args.before.now.state in
     let p = place_of c.args.place in
     let call = given_call c.args.before.now.state c.args.kind c.args.arguments.now c.requires.call in
-    let new = text_new environment s t call.0 item h call.1 c.args.width wide p c.args.function c.requires.number c.requires.text
+    let new = text_new environment s t call.0 item h call.1 c.args.width wide p c.innermost-function.result (c.innermost-function.ensures call.0 call.1) c.requires.text
     (c.stands_around.ensures.bare c.if-stands_around.false c.requires.text) stands in
     tells_current environment s t call.0 item h call.1 c.args.width wide c.value_byte.result p c.past_current-n.result c.value_byte.ensures lengths.read
-    (text_past environment s t call.0 item h call.1 c.args.width wide p c.args.function c.past_current-n.result c.requires.number new c.past_current-n.ensures) stands
+    (text_past environment s t call.0 item h call.1 c.args.width wide p c.innermost-function.result c.past_current-n.result (c.innermost-function.ensures call.0 call.1) new c.past_current-n.ensures) stands
+
+pub value_byte-requires-clause-number : goal.value_byte-requires-clause-number
+value_byte-requires-clause-number g c =
+    let call = given_call c.args.before.now.state c.args.kind c.args.arguments.now c.requires.call in
+    c.innermost-function.ensures call.0 call.1

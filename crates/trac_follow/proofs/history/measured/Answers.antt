@@ -1,21 +1,37 @@
-use Rattle.std.proofs.Common.{false, sym, ap, subst, ◌∙◌}
-use Rattle.std.specs.FinMap as finite
-use Rattle.trac_follow.specs.Items.{IsMeasured}
-use Rattle.trac_follow.specs.Places.{place_of}
-use Rattle.trac_follow.proofs.ShownTold.{measured_in, none_measured}
+use Rattle.std.proofs.Common.{◌≡◌, ℕ, false, refl, sym, subst}
+use Rattle.trac_rules.specs.State.{State}
+use Rattle.trac_follow.specs.Offsets.{IsPlaced}
+use Rattle.trac_follow.specs.Places.{Stands, place_of}
+use Rattle.trac_follow.specs.declared.place.Place as code_place
+use Rattle.trac_follow.proofs.Staying.{aside}
 use Rattle.trac_follow.proofs.history.measured.Goals as goal
 
-pub returns-in-Some : goal.returns-in-Some
-returns-in-Some g c =
+pub returns-in-Form : goal.returns-in-Form
+returns-in-Form g c = λ stands.
     let s = c.args.machine.now.state in
-    subst (λ p. IsMeasured c.item_measured.result.0 c.item_measured.result.1 s (place_of p)) (sym c.in-Form.is)
-    (measured_in s c.in-Form.name.now c.in-Form.i c.item_measured.result.0 c.item_measured.result.1 c.in-Some.form.now
-    (ap (λ stored. finite.get stored.forms c.in-Form.name.now) (sym c.store.ensures) ∙ sym c.in-Some.ensures.value)
-    c.item_measured.ensures.extent c.item_measured.ensures.gap)
+    subst (λ p. IsPlaced c.measured_in.result.0 c.measured_in.result.1 s (place_of p)) (sym c.in-Form.is)
+    (aside c.measured_in.result.0 c.measured_in.result.1 s (place_of (code_place.TheVariants.Form c.in-Form.name c.in-Form.i)) refl c.measured_in.ensures)
 
-pub returns-in-None : goal.returns-in-None
-returns-in-None g c =
+pub returns-in-Base : goal.returns-in-Base
+returns-in-Base g c = λ stands.
+    subst (λ p. IsPlaced c.in-Base.i false c.args.machine.now.state (place_of p)) (sym c.in-Base.is) (record { measured = tt; before = λ text. refl })
+
+pub returns-in-Argument : goal.returns-in-Argument
+returns-in-Argument g c = λ stands.
     let s = c.args.machine.now.state in
-    subst (λ p. IsMeasured 0 false s (place_of p)) (sym c.in-Form.is)
-    (none_measured s c.in-Form.name.now c.in-Form.i 0 false
-    (ap (λ stored. finite.get stored.forms c.in-Form.name.now) (sym c.store.ensures) ∙ sym c.in-None.ensures.value))
+    subst (λ p. IsPlaced c.argument_offset.result false s (place_of p)) (sym c.in-Argument.is) (record {
+      measured = tt;
+      before = λ text. c.argument_offset.ensures (subst (λ p. Stands s (place_of p)) c.in-Argument.is stands);
+    })
+
+others : (s : State) (p : code_place.Place) → ((i : ℕ) → p ≡ code_place.TheVariants.Base i → ⊥) → ((f k i : ℕ) → p ≡ code_place.TheVariants.Argument f k i → ⊥) →
+    ((name : _) (i : ℕ) → p ≡ code_place.TheVariants.Form name i → ⊥) → IsPlaced 0 false s (place_of p)
+others s (code_place.TheVariants.Active i) base argument form = aside 0 false s (place_of (code_place.TheVariants.Active i)) refl tt
+others s (code_place.TheVariants.Base i) base argument form = absurd (base i refl)
+others s (code_place.TheVariants.Argument f k i) base argument form = absurd (argument f k i refl)
+others s (code_place.TheVariants.Form name i) base argument form = absurd (form name i refl)
+others s (code_place.TheVariants.Held number name i) base argument form = aside 0 false s (place_of (code_place.TheVariants.Held number name i)) refl tt
+others s (code_place.TheVariants.Output i) base argument form = aside 0 false s (place_of (code_place.TheVariants.Output i)) refl tt
+
+pub returns-in_default : goal.returns-in_default
+returns-in_default g c = λ stands. others c.args.machine.now.state c.args.place c.in_default.not-Base c.in_default.not-Argument c.in_default.not-Form

@@ -1,0 +1,60 @@
+//! How far into the neutral text a byte of an argument stands.
+ghost use Rattle.std.specs.Prelude.{◌≡◌, ◌-◌, drop, reverse, take};
+ghost use Rattle.trac_follow.specs.Offsets.{offset};
+ghost use Rattle.trac_follow.specs.Places.{Stands};
+ghost use Rattle.trac_origins.specs.Places.{InArgument};
+ghost use Rattle.trac_rules.specs.Limits.{argument_bytes, total_length};
+
+use std::alloc::Allocator;
+use trac_gap::TwoEnds;
+use trac_step::{Core, Mark};
+use trac_text::Args;
+
+// How many bytes of the neutral text stand before a byte of an argument, where one stands there.
+pub(crate) fn argument_offset<E: TwoEnds<u8, A>, M: TwoEnds<Mark, A>, A: Allocator + Copy>(
+    machine: &Core<E, M, A>,
+    function: usize,
+    argument: usize,
+    byte: usize,
+) -> usize
+    ensures { Stands machine.now.state (InArgument function argument byte) → result ≡ offset machine.now.state (InArgument function argument byte) }
+{
+    match machine.frame(function) {
+        Some((_, arguments)) => {
+            let from_function = bytes_from(machine, function);
+            let from_argument = bytes_after(from_function, &arguments, argument);
+            let from_byte = from_argument.saturating_sub(byte);
+            machine.neutral_len().saturating_sub(from_byte)
+        }
+        None => 0,
+    }
+}
+
+// How many bytes the arguments of the functions from this number on hold, counted from the outermost.
+fn bytes_from<E: TwoEnds<u8, A>, M: TwoEnds<Mark, A>, A: Allocator + Copy>(
+    machine: &Core<E, M, A>,
+    function: usize,
+) -> usize
+    ensures { result ≡ argument_bytes (drop function (reverse machine.now.state.frames)) }
+{
+    let mut functions = machine.begun_functions();
+    let mut bytes = machine.neutral_len() - machine.base().len();
+    for number in 0..function {
+        match functions.next() {
+            Some((_, arguments)) => bytes -= arguments.joined().len(),
+            None => return bytes,
+        }
+    }
+    bytes
+}
+
+// How many of so many bytes are left without these arguments before the one of this number.
+fn bytes_after(bytes: usize, arguments: &Args<'_>, argument: usize) -> usize
+    ensures { result ≡ bytes - total_length (take argument arguments.now) }
+{
+    let mut left = bytes;
+    for i in 0..argument.min(arguments.count()) {
+        left = left.saturating_sub(arguments.get(i).len());
+    }
+    left
+}
