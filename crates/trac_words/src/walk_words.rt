@@ -4,7 +4,7 @@ ghost use Rattle.trac_words.specs.Words.{IsWalkLine};
 
 use crate::help::{VERSION, WALK_USAGE, WALK_USE};
 use crate::tips::with_file_tip;
-use crate::words::{Asked, decimals, file, journal, options_in, path_in};
+use crate::words::{Asked, BACK, described, file, options_in, path_in, with_options};
 use clap::error::ErrorKind;
 use clap::{Arg, ArgAction, ArgMatches, Command, Error};
 use std::alloc::{AllocError, Global};
@@ -64,20 +64,18 @@ fn no_walk(alloc: Global, words: &[&str], error: &Error) -> Result<WalkLine, All
 }
 
 fn walk_command<'a>(alloc: Global) -> Result<Command<'a>, AllocError> {
-    Command::new(alloc, "trac-walk")
-        .about(
-            "Walks through the TRAC T-64 program in FILE, forwards and backwards, for a person at a terminal",
-        )
-        .version(VERSION)
-        .override_usage(WALK_USAGE)
-        .after_help(WALK_USE)
-        .arg(file(alloc))?
-        .arg(journal(
-            alloc,
-            "How many steps can be gone back over: 1 to 1048576 [default: 65536]",
-        ))?
-        .arg(decimals(alloc))?
-        .arg(prompt(alloc))
+    with_options(alloc, bare_command(alloc).arg(file(alloc))?, BACK)?.arg(prompt(alloc))
+}
+
+// The command without its arguments.
+fn bare_command<'a>(alloc: Global) -> Command<'a> {
+    described(
+        Command::new(alloc, "trac-walk"),
+        "Walks through the TRAC T-64 program in FILE, forwards and backwards, for a person at a terminal",
+        WALK_USE,
+    )
+    .version(VERSION)
+    .override_usage(WALK_USAGE)
 }
 
 // The flag that asks for a prompt.

@@ -198,10 +198,21 @@ fn unknown_width(alloc: Global, found: &ArgMatches<'_>) -> Result<String, AllocE
     )
 }
 
-// The program's commands. What can be refused is made before what would have to be let go then.
+// The program's commands. Each is made by small functions: what a call of a command's own costs to prove grows with the ends
+// that still own one.
 fn command<'a>(alloc: Global) -> Result<Command<'a>, AllocError> {
     let debug = debug_command(alloc)?;
-    command_to_run(alloc)?.subcommand(debug)
+    match command_to_run(alloc) {
+        Ok(command) => command.subcommand(debug),
+        Err(error) => {
+            let_go(debug);
+            Err(error)
+        }
+    }
+}
+
+fn let_go(command: Command<'_>) {
+    let _last = command;
 }
 
 fn command_to_run<'a>(alloc: Global) -> Result<Command<'a>, AllocError> {
@@ -219,31 +230,48 @@ fn whole_command<'a>(alloc: Global) -> Command<'a> {
 }
 
 fn run_command<'a>(alloc: Global) -> Result<Command<'a>, AllocError> {
-    Command::new(alloc, "run")
-        .display_name("trac")?
-        .about("Runs the program on standard input")
-        .override_usage(RUN_USAGE)
-        .after_help(RUN_USE)
-        .arg(budget(alloc))?
-        .arg(journal(
-            alloc,
-            "After how many steps output is written at the latest: 1 to 1048576 [default: 65536]",
-        ))?
-        .arg(decimals(alloc))
+    let command = described(
+        subcommand_of_trac(alloc, "run")?,
+        "Runs the program on standard input",
+        RUN_USE,
+    );
+    with_options(
+        alloc,
+        command.override_usage(RUN_USAGE).arg(budget(alloc))?,
+        "After how many steps output is written at the latest: 1 to 1048576 [default: 65536]",
+    )
 }
 
 fn debug_command<'a>(alloc: Global) -> Result<Command<'a>, AllocError> {
-    Command::new(alloc, "debug")
-        .display_name("trac")?
-        .about("Steps through the program in FILE, forwards and backwards")
-        .after_help(DEBUG_USE)
-        .arg(file(alloc))?
-        .arg(journal(
-            alloc,
-            "How many steps can be gone back over: 1 to 1048576 [default: 65536]",
-        ))?
-        .arg(decimals(alloc))
+    let command = described(
+        subcommand_of_trac(alloc, "debug")?,
+        "Steps through the program in FILE, forwards and backwards",
+        DEBUG_USE,
+    );
+    with_options(alloc, command.arg(file(alloc))?, BACK)
 }
+
+// A subcommand of this name, shown as the program's.
+fn subcommand_of_trac<'a>(alloc: Global, name: &'a str) -> Result<Command<'a>, AllocError> {
+    Command::new(alloc, name).display_name("trac")
+}
+
+/// The command with what its help says first and last.
+pub(crate) fn described<'a>(command: Command<'a>, about: &'a str, last: &'a str) -> Command<'a> {
+    command.about(about).after_help(last)
+}
+
+/// The command with the options that each command has, of which `--journal` means this.
+pub(crate) fn with_options<'a>(
+    alloc: Global,
+    command: Command<'a>,
+    records: &'a str,
+) -> Result<Command<'a>, AllocError> {
+    command.arg(journal(alloc, records))?.arg(decimals(alloc))
+}
+
+/// What `--journal` means where steps are gone back over.
+pub(crate) const BACK: &str = "How many steps can be gone back over: 1 to 1048576 [default: 65536]";
 
 pub(crate) fn file<'a>(alloc: Global) -> Arg<'a> {
     Arg::new(alloc, "FILE")
@@ -260,7 +288,7 @@ fn budget<'a>(alloc: Global) -> Arg<'a> {
 }
 
 // The option that says how many records a journal may hold, with what that means for this command.
-pub(crate) fn journal<'a>(alloc: Global, help: &'a str) -> Arg<'a> {
+fn journal<'a>(alloc: Global, help: &'a str) -> Arg<'a> {
     Arg::new(alloc, "journal")
         .long("journal")
         .value_name("N")
@@ -268,7 +296,7 @@ pub(crate) fn journal<'a>(alloc: Global, help: &'a str) -> Arg<'a> {
 }
 
 // The option that says how wide numbers are.
-pub(crate) fn decimals<'a>(alloc: Global) -> Arg<'a> {
+fn decimals<'a>(alloc: Global) -> Arg<'a> {
     Arg::new(alloc, "decimals")
         .long("decimals")
         .value_name("BITS")
