@@ -10,7 +10,7 @@ use Rattle.trac_rules.specs.declared.limit.TheConstants.{FORM_COUNT_LIMIT}
 use Rattle.trac_rules.specs.declared.primitive.BlockAction.{BlockAction}
 use Rattle.trac_rules.specs.declared.primitive.BlockAction.TheVariants.{StoreBlock, FetchBlock, EraseBlock}
 use Rattle.trac_rules.specs.declared.primitive.Computation.{Computation}
-use Rattle.trac_rules.specs.declared.primitive.Computation.TheVariants.{Equal, Greater, Calculate, Union, Meet, Complement, Shift, Rotate}
+use Rattle.trac_rules.specs.declared.primitive.Computation.TheVariants.{Equal, Greater, Calculate}
 use Rattle.trac_rules.specs.declared.primitive.FormAction.{FormAction}
 use Rattle.trac_rules.specs.declared.primitive.FormAction.TheVariants as action
 use Rattle.trac_rules.specs.declared.primitive.FormReading.{FormReading}
@@ -176,11 +176,7 @@ module _ (R : Origin → Item → Type 0) (environment : Environment) (call : Ca
       let b = is_greater (numeral_of (argument 1 call.arguments)) (numeral_of (argument 2 call.arguments)) in
       value_beside _ (chosen b call.arguments) (gives (chosen b call.arguments) storage) (chosen_beside b (gives (chosen b call.arguments) storage)) refl refl refl
   computed_beside (Calculate operation) made = calculated_beside (made refl) operation environment.width _ refl
-  computed_beside Union made = bits_beside (made refl) _
-  computed_beside Meet made = bits_beside (made refl) _
-  computed_beside Complement made = bits_beside (made refl) _
-  computed_beside Shift made = bits_beside (made refl) _
-  computed_beside Rotate made = bits_beside (made refl) _
+  computed_beside other made = bits_beside (made refl) _
 
   -- ---- forms
 

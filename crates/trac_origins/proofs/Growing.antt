@@ -75,11 +75,7 @@ argument_length n f k =
 pub outside_told : (s : State) (rest : List Origin) (place : Place) (item : Item) → is_outside place ≡ true → found_at s place ≡ Some item →
     origin_at (record (all_kept s) { active = rest }) place ≡ Carried place
 outside_told s rest (InActive i) item out e = absurd (cc)
-outside_told s rest (InBase i) item out e = kept_told s (InBase i) item e
-outside_told s rest (InArgument n k i) item out e = kept_told s (InArgument n k i) item e
-outside_told s rest (InForm name i) item out e = kept_told s (InForm name i) item e
-outside_told s rest (InHeld number name i) item out e = kept_told s (InHeld number name i) item e
-outside_told s rest (InOutput i) item out e = kept_told s (InOutput i) item e
+outside_told s rest other item out e = kept_told s other item e
 
 -- a text gathered
 pub gather_told : (s : State) (rest text : List Origin) (place : Place) (item : Item) → is_outside place ≡ true → found_at s place ≡ Some item →
@@ -129,11 +125,8 @@ comma_told s rest place item out e = go s.frames refl place out e
 pub begun_from_told : (s : State) (rest : List Origin) (place : Place) (item : Item) → is_outside place ≡ true → found_at s place ≡ Some item →
     origin_at (begun_from (record (all_kept s) { active = rest })) place ≡ Carried place
 begun_from_told s rest (InActive i) item out e = absurd (cc)
-begun_from_told s rest (InBase i) item out e = kept_told s (InBase i) item e
 begun_from_told s rest (InArgument n k i) item out e = begun_told (record { arguments = []; gathered = [] }) s.frames n k i (is_in s n k i item e)
-begun_from_told s rest (InForm name i) item out e = kept_told s (InForm name i) item e
-begun_from_told s rest (InHeld number name i) item out e = kept_told s (InHeld number name i) item e
-begun_from_told s rest (InOutput i) item out e = kept_told s (InOutput i) item e
+begun_from_told s rest other item out e = kept_told s other item e
 
 -- ---- what is gathered
 

@@ -34,7 +34,7 @@ use Rattle.trac_origins.proofs.ToldSteps.{length-current, scanning_moved, scanni
 -- ---- which rule moves one byte
 
 -- the current text does not depend on the active text
-current_aside : (fs : List Frame) (text : List ℕ) (s : State) → current_text fs (record s { active = text }) ≡ current_text fs s
+pub current_aside : (fs : List Frame) (text : List ℕ) (s : State) → current_text fs (record s { active = text }) ≡ current_text fs s
 current_aside [] text s = refl
 current_aside (f ∷ fs) text s = refl
 
@@ -187,14 +187,9 @@ base_past false x j e = (refl, cc)
 
 -- a place that is past the current text
 pub past_place : (fs : List Frame) (s : State) (place : Place) (j : ℕ) → past_in fs s place ≡ Some j → place ≡ in_current fs (length (current_text fs s) + j)
-past_place [] s (InActive i) j e = absurd (cc)
 past_place [] s (InBase i) j e =
     let at = base_past (nat_lt i (length s.base)) (i - length s.base) j e in
     ap InBase (omega (arith, ltb-false i (length s.base) at.0, at.1))
-past_place [] s (InArgument n k i) j e = absurd (cc)
-past_place [] s (InForm name i) j e = absurd (cc)
-past_place [] s (InHeld number name i) j e = absurd (cc)
-past_place [] s (InOutput i) j e = absurd (cc)
 past_place (f ∷ fs) s (InActive i) j e = absurd (cc)
 past_place (f ∷ fs) s (InBase i) j e = absurd (cc)
 past_place (f ∷ fs) s (InArgument n k i) j e =
@@ -206,6 +201,7 @@ past_place (f ∷ fs) s (InArgument n k i) j e =
 past_place (f ∷ fs) s (InForm name i) j e = absurd (cc)
 past_place (f ∷ fs) s (InHeld number name i) j e = absurd (cc)
 past_place (f ∷ fs) s (InOutput i) j e = absurd (cc)
+past_place [] s other j e = absurd (cc)
 
 -- a place that is not stood before
 pub stood : (fs : List Frame) (s : State) (text left : List ℕ) (place : Place) (item : Item) → s.frames ≡ fs → is_outside place ≡ true → past_in fs s place ≡ None →
@@ -213,10 +209,7 @@ pub stood : (fs : List Frame) (s : State) (text left : List ℕ) (place : Place)
 stood [] s text left (InActive i) item is out none e = absurd (cc)
 stood [] s text left (InBase i) item is out none e =
     front_item s.base text i item (ltb-true i (length s.base) (base_within (nat_lt i (length s.base)) (i - length s.base) none)) e
-stood [] s text left (InArgument n k i) item is out none e = e
-stood [] s text left (InForm name i) item is out none e = e
-stood [] s text left (InHeld number name i) item is out none e = e
-stood [] s text left (InOutput i) item is out none e = e
+stood [] s text left other item is out none e = e
 stood (f ∷ fs) s text left (InActive i) item is out none e = absurd (cc)
 stood (f ∷ fs) s text left (InBase i) item is out none e = e
 stood (f ∷ fs) s text left (InForm name i) item is out none e = e
@@ -262,14 +255,7 @@ module _ (environment : Environment) (u t : State) (h : step environment u ≡ O
 
   not_idle : (f : Front) → moves_bytes f ≡ true → makes_idle f ≡ false
   not_idle Nothing moves = absurd (cc)
-  not_idle Opening moves = refl
-  not_idle Layout moves = refl
-  not_idle Comma moves = refl
-  not_idle ActiveCall moves = refl
-  not_idle NeutralCall moves = refl
-  not_idle Sharp moves = refl
-  not_idle Closing moves = refl
-  not_idle Plain moves = refl
+  not_idle other moves = refl
 
   active_before : (i : ℕ) (item : Item) → found_at t (InActive i) ≡ Some item → origin environment u (InActive i) ≡ Carried (InActive (1 + i))
   active_before i item e =
@@ -293,11 +279,7 @@ module _ (environment : Environment) (u t : State) (h : step environment u ≡ O
 
   one_before : (place : Place) (item : Item) → found_at t place ≡ Some item → origin environment u place ≡ Carried (before_moved 1 u place)
   one_before (InActive i) item e = active_before i item e
-  one_before (InBase i) item e = outside_before (InBase i) item refl e
-  one_before (InArgument n k i) item e = outside_before (InArgument n k i) item refl e
-  one_before (InForm name i) item e = outside_before (InForm name i) item refl e
-  one_before (InHeld number name i) item e = outside_before (InHeld number name i) item refl e
-  one_before (InOutput i) item e = outside_before (InOutput i) item refl e
+  one_before other item e = outside_before other item refl e
 
 -- ---- many
 
@@ -338,10 +320,6 @@ module _ (s : State) (bytes left : List ℕ) where
       ≡ in_active (past_in fs (record s { frames = fs }) place) place
   composes [] (InActive i) out = absurd (cc)
   composes [] (InBase i) out = base_composes i (nat_lt i (length (s.base ++ bytes))) refl
-  composes [] (InArgument n k i) out = refl
-  composes [] (InForm name i) out = refl
-  composes [] (InHeld number name i) out = refl
-  composes [] (InOutput i) out = refl
   composes (f ∷ fs) (InActive i) out = absurd (cc)
   composes (f ∷ fs) (InBase i) out = refl
   composes (f ∷ fs) (InArgument n k i) out =
@@ -349,6 +327,7 @@ module _ (s : State) (bytes left : List ℕ) where
   composes (f ∷ fs) (InForm name i) out = refl
   composes (f ∷ fs) (InHeld number name i) out = refl
   composes (f ∷ fs) (InOutput i) out = refl
+  composes [] other out = refl
 
 one_more_before : (n : ℕ) (s : State) (place : Place) → n ≤ length s.active → before_moved n s (before_moved 1 (moved_on n s) place) ≡ before_moved (suc n) s place
 one_more_before n s place within = go place
@@ -364,11 +343,7 @@ one_more_before n s place within = go place
 
     go : (p : Place) → before_moved n s (before_moved 1 (moved_on n s) p) ≡ before_moved (suc n) s p
     go (InActive i) = ap InActive (omega arith)
-    go (InBase i) = outside (InBase i) refl
-    go (InArgument m k i) = outside (InArgument m k i) refl
-    go (InForm name i) = outside (InForm name i) refl
-    go (InHeld number name i) = outside (InHeld number name i) refl
-    go (InOutput i) = outside (InOutput i) refl
+    go other = outside other refl
 
 -- no byte moved
 none_before : (s : State) (place : Place) (item : Item) → found_at s place ≡ Some item → before_moved 0 s place ≡ place
@@ -383,11 +358,7 @@ none_before s place item e = go place e
 
     go : (p : Place) → found_at s p ≡ Some item → before_moved 0 s p ≡ p
     go (InActive i) stands = ap InActive (omega arith)
-    go (InBase i) stands = outside (InBase i) stands (past_in s.frames s (InBase i)) refl
-    go (InArgument n k i) stands = outside (InArgument n k i) stands (past_in s.frames s (InArgument n k i)) refl
-    go (InForm name i) stands = outside (InForm name i) stands (past_in s.frames s (InForm name i)) refl
-    go (InHeld number name i) stands = outside (InHeld number name i) stands (past_in s.frames s (InHeld number name i)) refl
-    go (InOutput i) stands = outside (InOutput i) stands (past_in s.frames s (InOutput i)) refl
+    go other stands = outside other stands (past_in s.frames s other) refl
 
 -- what is told over a run
 pub record RunTold (environment : Environment) (s : State) (earlier : List State) (n : ℕ) (place : Place) (item : Item) : Type 0 where

@@ -6,7 +6,7 @@ use Rattle.trac_rules.specs.declared.item.Item.{Item}
 use Rattle.trac_rules.specs.declared.kind.Kind.{Kind}
 use Rattle.trac_rules.specs.declared.kind.Kind.TheVariants.{Active, Neutral}
 use Rattle.trac_rules.specs.declared.scan.Front.{Front}
-use Rattle.trac_rules.specs.declared.scan.Front.TheVariants.{Nothing, Opening, Layout, Comma, ActiveCall, NeutralCall, Sharp, Closing, Plain}
+use Rattle.trac_rules.specs.declared.scan.Front.TheVariants.{Closing}
 use Rattle.trac_rules.specs.Effect.{Effect, argument}
 use Rattle.trac_rules.specs.Limits.{texts_fit}
 use Rattle.trac_rules.specs.Performing.{after_call, performed}
@@ -44,15 +44,8 @@ ends_at f s = go f
     closing (g ∷ fs) is = (g, fs, record { frames = is; state = refl; arguments = refl })
 
     go : (g : Front) → EndsAt s (scan_at g s)
-    go Nothing = tt
-    go Opening = tt
-    go Layout = tt
-    go Comma = tt
-    go ActiveCall = tt
-    go NeutralCall = tt
-    go Sharp = tt
     go Closing = closing s.frames refl
-    go Plain = tt
+    go other = tt
 
 pub ended : (s : State) (call : Call) → scan s ≡ Calls call → (f : Frame) × (fs : List Frame) × HasEnded f fs s call
 unfolding scan

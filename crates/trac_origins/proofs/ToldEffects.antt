@@ -6,11 +6,11 @@ use Rattle.std.proofs.lemmas.List.{append-nil, get_or_append_left, get_or-append
 use Rattle.trac_rules.specs.declared.item.Item.{Item}
 use Rattle.trac_rules.specs.declared.kind.Kind.{Kind}
 use Rattle.trac_rules.specs.declared.kind.Kind.TheVariants.{Active, Neutral}
-use Rattle.trac_rules.specs.declared.primitive.BlockAction.TheVariants.{StoreBlock, FetchBlock, EraseBlock}
+use Rattle.trac_rules.specs.declared.primitive.BlockAction.TheVariants.{FetchBlock}
 use Rattle.trac_rules.specs.declared.primitive.FormAction.{FormAction}
 use Rattle.trac_rules.specs.declared.primitive.FormAction.TheVariants as action
 use Rattle.trac_rules.specs.declared.primitive.Primitive.{Primitive}
-use Rattle.trac_rules.specs.declared.primitive.Primitive.TheVariants.{PrintString, ReadString, ReadByte, Halt, SetMeta, SetTrace, Compute, Handle, HandleBlock, Unknown}
+use Rattle.trac_rules.specs.declared.primitive.Primitive.TheVariants.{PrintString, Handle, HandleBlock}
 use Rattle.trac_rules.specs.Blocks.{block_at, named_block_number}
 use Rattle.trac_rules.specs.Effect.{Effect, argument}
 use Rattle.trac_rules.specs.Form.{Form, all_items}
@@ -74,31 +74,19 @@ block_silent d None = refl
 block_silent d (Some number) = refl
 
 action_silent : (a : FormAction) (d : Performed) → is_silent (Handle a) ≡ true → (handled_from a d).printed ≡ []
-action_silent action.Define d silent = refl
-action_silent action.Delete d silent = refl
-action_silent action.DeleteAll d silent = refl
 action_silent action.Segment d silent =
     form_silent d (named_form d.call.arguments (storage_of d.call.state)) (λ form. puts_from (segmented_from form d) d) (λ form. refl)
-action_silent action.Restore d silent = refl
 action_silent action.Call d silent = form_silent d (named_form d.call.arguments (storage_of d.call.state)) (λ form. gives_from (called_from form d) d) (λ form. refl)
 action_silent (action.Read reading) d silent =
     form_silent d (named_form d.call.arguments (storage_of d.call.state)) (λ form. gives_from (reading_from reading form d) d) (λ form. refl)
-action_silent action.ListNames d silent = refl
 action_silent action.PrintForm d silent = absurd (cc)
+action_silent other d silent = refl
 
 silent_prints : (p : Primitive) (d : Performed) → is_silent p ≡ true → (effect_from p d).printed ≡ []
 silent_prints PrintString d silent = absurd (cc)
-silent_prints ReadString d silent = refl
-silent_prints ReadByte d silent = refl
-silent_prints Halt d silent = refl
-silent_prints SetMeta d silent = refl
-silent_prints (SetTrace trace) d silent = refl
-silent_prints (Compute computation) d silent = refl
 silent_prints (Handle a) d silent = action_silent a d silent
-silent_prints (HandleBlock StoreBlock) d silent = refl
 silent_prints (HandleBlock FetchBlock) d silent = block_silent d (named_block_number d.call.arguments (storage_of d.call.state))
-silent_prints (HandleBlock EraseBlock) d silent = refl
-silent_prints Unknown d silent = refl
+silent_prints other d silent = refl
 
 -- ---- a call
 

@@ -6,11 +6,11 @@ use Rattle.std.proofs.lemmas.List.{get_or_past}
 use Rattle.trac_rules.specs.declared.item.Item.{Item}
 use Rattle.trac_rules.specs.declared.kind.Kind.{Kind}
 use Rattle.trac_rules.specs.declared.kind.Kind.TheVariants.{Active, Neutral}
-use Rattle.trac_rules.specs.declared.primitive.BlockAction.TheVariants.{StoreBlock, FetchBlock, EraseBlock}
+use Rattle.trac_rules.specs.declared.primitive.BlockAction.TheVariants.{StoreBlock, FetchBlock}
 use Rattle.trac_rules.specs.declared.primitive.FormAction.{FormAction}
 use Rattle.trac_rules.specs.declared.primitive.FormAction.TheVariants as action
 use Rattle.trac_rules.specs.declared.primitive.Primitive.{Primitive}
-use Rattle.trac_rules.specs.declared.primitive.Primitive.TheVariants.{PrintString, ReadString, ReadByte, Halt, SetMeta, SetTrace, Compute, Handle, HandleBlock, Unknown}
+use Rattle.trac_rules.specs.declared.primitive.Primitive.TheVariants.{Handle, HandleBlock}
 use Rattle.trac_rules.specs.Blocks.{block_at, named_block_number}
 use Rattle.trac_rules.specs.Effect.{argument}
 use Rattle.trac_rules.specs.Form.{Form}
@@ -42,73 +42,50 @@ put_aside d q items other = cond-false (bytes_eq q (text_given 1 d)) items (d.fr
 
 handled_aside : (a : FormAction) (d : Performed) (q : List ℕ) → may_put (Handle a) (text_given 1 d) q ≡ false → (handled_from a d).forms q ≡ d.from.others.forms q
 handled_aside action.Define d q other = put_aside d q (argument_from 2 d) other
-handled_aside action.Delete d q other = refl
-handled_aside action.DeleteAll d q other = refl
 handled_aside action.Segment d q other =
     form_aside d q (named_form d.call.arguments (storage_of d.call.state)) (λ form. puts_from (segmented_from form d) d) (λ form. put_aside d q (segmented_from form d) other)
-handled_aside action.Restore d q other = refl
 handled_aside action.Call d q other =
     form_aside d q (named_form d.call.arguments (storage_of d.call.state)) (λ form. gives_from (called_from form d) d) (λ form. refl)
 handled_aside (action.Read reading) d q other =
     form_aside d q (named_form d.call.arguments (storage_of d.call.state)) (λ form. gives_from (reading_from reading form d) d) (λ form. refl)
-handled_aside action.ListNames d q other = refl
 handled_aside action.PrintForm d q other =
     form_aside d q (named_form d.call.arguments (storage_of d.call.state)) (λ form. prints_from (shown_from form (items_from d)) d) (λ form. refl)
+handled_aside it d q other = refl
 
 pub forms_aside : (p : Primitive) (d : Performed) (q : List ℕ) → may_put p (text_given 1 d) q ≡ false → (effect_from p d).forms q ≡ d.from.others.forms q
-forms_aside PrintString d q other = refl
-forms_aside ReadString d q other = refl
-forms_aside ReadByte d q other = refl
-forms_aside Halt d q other = refl
-forms_aside SetMeta d q other = refl
-forms_aside (SetTrace trace) d q other = refl
-forms_aside (Compute computation) d q other = refl
 forms_aside (Handle a) d q other = handled_aside a d q other
 forms_aside (HandleBlock StoreBlock) d q other = put_aside d q (all_made (decimal (length d.call.state.blocks))) other
 forms_aside (HandleBlock FetchBlock) d q other = absurd (cc)
-forms_aside (HandleBlock EraseBlock) d q other = refl
-forms_aside Unknown d q other = refl
+forms_aside it d q other = refl
 
 -- ---- blocks
 
-held_aside : (d : Performed) (k : ℕ) (q : List ℕ) (found : Option Form) (act : Form → EffectOrigins) → ((form : Form) → (act form).blocks k q ≡ d.from.others.blocks k q) →
+pub held_aside : (d : Performed) (k : ℕ) (q : List ℕ) (found : Option Form) (act : Form → EffectOrigins) → ((form : Form) → (act form).blocks k q ≡ d.from.others.blocks k q) →
     (on_form_from found act d).blocks k q ≡ d.from.others.blocks k q
 held_aside d k q None act acts = refl
 held_aside d k q (Some form) act acts = acts form
 
-fetched_aside : (d : Performed) (k : ℕ) (q : List ℕ) (found : Option ℕ) → (on_block_from found (λ number. fetched_from number d) d).blocks k q ≡ d.from.others.blocks k q
+pub fetched_aside : (d : Performed) (k : ℕ) (q : List ℕ) (found : Option ℕ) → (on_block_from found (λ number. fetched_from number d) d).blocks k q ≡ d.from.others.blocks k q
 fetched_aside d k q None = refl
 fetched_aside d k q (Some number) = refl
 
-handled_held : (a : FormAction) (d : Performed) (k : ℕ) (q : List ℕ) → (handled_from a d).blocks k q ≡ d.from.others.blocks k q
-handled_held action.Define d k q = refl
-handled_held action.Delete d k q = refl
-handled_held action.DeleteAll d k q = refl
+pub handled_held : (a : FormAction) (d : Performed) (k : ℕ) (q : List ℕ) → (handled_from a d).blocks k q ≡ d.from.others.blocks k q
 handled_held action.Segment d k q =
     held_aside d k q (named_form d.call.arguments (storage_of d.call.state)) (λ form. puts_from (segmented_from form d) d) (λ form. refl)
-handled_held action.Restore d k q = refl
 handled_held action.Call d k q = held_aside d k q (named_form d.call.arguments (storage_of d.call.state)) (λ form. gives_from (called_from form d) d) (λ form. refl)
 handled_held (action.Read reading) d k q =
     held_aside d k q (named_form d.call.arguments (storage_of d.call.state)) (λ form. gives_from (reading_from reading form d) d) (λ form. refl)
-handled_held action.ListNames d k q = refl
 handled_held action.PrintForm d k q =
     held_aside d k q (named_form d.call.arguments (storage_of d.call.state)) (λ form. prints_from (shown_from form (items_from d)) d) (λ form. refl)
+handled_held other d k q = refl
 
 pub blocks_aside : (p : Primitive) (d : Performed) (k : ℕ) (q : List ℕ) → (p ≡ HandleBlock StoreBlock → k ≡ length d.call.state.blocks → ⊥) → (effect_from p d).blocks k q ≡ d.from.others.blocks k q
-blocks_aside PrintString d k q other = refl
-blocks_aside ReadString d k q other = refl
-blocks_aside ReadByte d k q other = refl
-blocks_aside Halt d k q other = refl
-blocks_aside SetMeta d k q other = refl
-blocks_aside (SetTrace trace) d k q other = refl
-blocks_aside (Compute computation) d k q other = refl
 blocks_aside (Handle a) d k q other = handled_held a d k q
 blocks_aside (HandleBlock StoreBlock) d k q other =
     let number = length d.call.state.blocks in
     ap (λ (from : List ℕ → List Origin). from q) (cond-false (k == number) d.from.others.forms (d.from.others.blocks k) (ne_eqb k number (other refl)))
 blocks_aside (HandleBlock FetchBlock) d k q other = fetched_aside d k q (named_block_number d.call.arguments (storage_of d.call.state))
-blocks_aside (HandleBlock EraseBlock) d k q other = refl
-blocks_aside Unknown d k q other = refl
+blocks_aside p d k q other = refl
 
 -- ---- after a call
 

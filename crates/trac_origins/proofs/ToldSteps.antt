@@ -192,15 +192,10 @@ moves_on f s moving = go f moving
     }
 
     go : (g : Front) → moves_bytes g ≡ true → MovesAt g s (scan_at g s)
-    go Nothing moving = absurd (cc)
     go Opening moving = opening (match_of (drop 1 s.active))
-    go Layout moving = absurd (cc)
-    go Comma moving = absurd (cc)
-    go ActiveCall moving = absurd (cc)
-    go NeutralCall moving = absurd (cc)
     go Sharp moving = first
-    go Closing moving = absurd (cc)
     go Plain moving = first
+    go other moving = absurd (cc)
 
 -- how long the current text is then
 pub length-current : (fs : List Frame) (bytes : List ℕ) (s : State) → s.frames ≡ fs →
@@ -306,11 +301,4 @@ scanning_idle_stays environment s t place item is idle stored e = of_moves envir
 
     go : (f : Front) → makes_idle f ≡ true → (p : Place) → is_stored p ≡ true → found_at s p ≡ Some item → origin_at (moved_from f s (all_kept s)) p ≡ Carried p
     go Nothing idle p stored e = nothing p stored e
-    go Opening idle p stored e = absurd (cc)
-    go Layout idle p stored e = absurd (cc)
-    go Comma idle p stored e = absurd (cc)
-    go ActiveCall idle p stored e = absurd (cc)
-    go NeutralCall idle p stored e = absurd (cc)
-    go Sharp idle p stored e = absurd (cc)
-    go Closing idle p stored e = absurd (cc)
-    go Plain idle p stored e = absurd (cc)
+    go other idle p stored e = absurd (cc)

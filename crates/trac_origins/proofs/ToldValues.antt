@@ -8,7 +8,7 @@ use Rattle.std.proofs.lemmas.Option.{slice_get_within}
 use Rattle.trac_rules.specs.declared.item.Item.{Item}
 use Rattle.trac_rules.specs.declared.item.Item.TheVariants.{Byte, Gap}
 use Rattle.trac_rules.specs.declared.primitive.Computation.{Computation}
-use Rattle.trac_rules.specs.declared.primitive.Computation.TheVariants.{Equal, Greater, Calculate, Union, Meet, Complement, Shift, Rotate}
+use Rattle.trac_rules.specs.declared.primitive.Computation.TheVariants.{Equal, Greater, Calculate}
 use Rattle.trac_rules.specs.declared.primitive.FormAction.TheVariants as action
 use Rattle.trac_rules.specs.declared.primitive.FormReading.{FormReading}
 use Rattle.trac_rules.specs.declared.primitive.FormReading.TheVariants.{ReadSegment, ReadChar, ReadCount, ReadUntil}
@@ -195,11 +195,7 @@ module _ (environment : Environment) (s : State) (call : Call) (e : Effect) wher
   bits_told Equal bits is i l = absurd (cc)
   bits_told Greater bits is i l = absurd (cc)
   bits_told (Calculate operation) bits is i l = absurd (cc)
-  bits_told Union bits is i l = value_told environment s call (Compute Union) e is i l ∙ made_at e.value i
-  bits_told Meet bits is i l = value_told environment s call (Compute Meet) e is i l ∙ made_at e.value i
-  bits_told Complement bits is i l = value_told environment s call (Compute Complement) e is i l ∙ made_at e.value i
-  bits_told Shift bits is i l = value_told environment s call (Compute Shift) e is i l ∙ made_at e.value i
-  bits_told Rotate bits is i l = value_told environment s call (Compute Rotate) e is i l ∙ made_at e.value i
+  bits_told other bits is i l = value_told environment s call (Compute other) e is i l ∙ made_at e.value i
 
   -- ---- forms
 

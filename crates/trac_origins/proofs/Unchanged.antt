@@ -5,7 +5,7 @@ use Rattle.std.specs.FinMap as finite
 use Rattle.std.proofs.lemmas.Option.{same_Some, slice_get_within}
 use Rattle.trac_rules.specs.declared.item.Item.{Item}
 use Rattle.trac_rules.specs.declared.scan.Front.{Front}
-use Rattle.trac_rules.specs.declared.scan.Front.TheVariants.{Nothing, Opening, Layout, Comma, ActiveCall, NeutralCall, Sharp, Closing, Plain}
+use Rattle.trac_rules.specs.declared.scan.Front.TheVariants.{Opening, Comma, Sharp, Plain}
 use Rattle.trac_rules.specs.Blocks.{block_at}
 use Rattle.trac_rules.specs.Effect.{argument}
 use Rattle.trac_rules.specs.Form.{Form, all_items}
@@ -82,15 +82,11 @@ moved_forms f s q = go f
     opening (Some k) text = forms-gather_from (frames_kept s.frames) _ _ q
 
     go : (g : Front) → (moved_from g s (all_kept s)).forms q ≡ (all_kept s).forms q
-    go Nothing = refl
     go Opening = opening (match_of _) _
-    go Layout = refl
     go Comma = forms-comma (frames_kept s.frames) _ q
-    go ActiveCall = refl
-    go NeutralCall = refl
     go Sharp = forms-gather_from (frames_kept s.frames) _ _ q
-    go Closing = refl
     go Plain = forms-gather_from (frames_kept s.frames) _ _ q
+    go other = refl
 
 pub moves_stay : (environment : Environment) (s t : State) (name : List ℕ) → scan s ≡ Moves t →
     (origins environment s).forms name ≡ kept (InForm name) (items_of (finite.get s.forms name))
@@ -126,15 +122,11 @@ moved_blocks f s k q = go f
     opening (Some n) text = blocks-gather_from (frames_kept s.frames) _ _ k q
 
     go : (g : Front) → (moved_from g s (all_kept s)).blocks k q ≡ (all_kept s).blocks k q
-    go Nothing = refl
     go Opening = opening (match_of _) _
-    go Layout = refl
     go Comma = blocks-comma (frames_kept s.frames) _ k q
-    go ActiveCall = refl
-    go NeutralCall = refl
     go Sharp = blocks-gather_from (frames_kept s.frames) _ _ k q
-    go Closing = refl
     go Plain = blocks-gather_from (frames_kept s.frames) _ _ k q
+    go other = refl
 
 moves_hold : (environment : Environment) (s t : State) (number : ℕ) (name : List ℕ) → scan s ≡ Moves t →
     (origins environment s).blocks number name ≡ kept (InHeld number name) (items_of (held_form name (block_at number s.blocks)))

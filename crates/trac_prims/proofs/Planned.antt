@@ -14,7 +14,7 @@ use Rattle.trac_rules.specs.Outcomes.{MayAnswer, MayLackMemory, MayRefuse, limit
 use Rattle.trac_rules.specs.Performing.{effect_of, performed, primitive_of, printed_after, trace_line}
 use Rattle.trac_rules.specs.Scanning.{Call}
 use Rattle.trac_rules.specs.State.{Environment, storage_of}
-use Rattle.trac_rules.proofs.Outcomes.{limited_beyond, limited_Err, limited_within}
+use Rattle.trac_rules.proofs.Outcomes.{lacks_limited, limited_Err, limited_beyond, limited_within}
 use Rattle.trac_change.specs.declared.change.Change.{Change}
 use Rattle.trac_prims.specs.declared.effect.Deed.{Deed}
 use Rattle.trac_prims.specs.declared.effect.Made.{Made}
@@ -24,14 +24,6 @@ use Rattle.trac_prims.specs.Plans.{HasPlace, IsGiven, fits_after}
 use Rattle.trac_prims.proofs.Fitting.{FitsAfter, fits_by, fits_then}
 
 -- ---- what is refused
-
--- memory may be refused whether or not an effect fits
-lacks_limited : {T : Type 0} (fits : T → Bool) (x : T) → MayLackMemory (limited fits (Ok x))
-lacks_limited fits x =
-    ⊎_elim
-    (λ (w : fits x ≡ true). subst MayLackMemory (sym (limited_within fits x w)) tt)
-    (λ (w : fits x ≡ false). subst MayLackMemory (sym (limited_beyond fits x w)) tt)
-    (cases_Bool (fits x))
 
 -- an effect that is there is refused for a limit alone
 for_a_limit : (e : Effect) (refusal : Refusal) → limited pieces_fit (Ok e) ≡ Err refusal → refusal ≡ TooLong

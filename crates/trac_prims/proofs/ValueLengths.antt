@@ -5,16 +5,11 @@ use Rattle.std.proofs.lemmas.List.{length-append}
 use Rattle.trac_rules.specs.declared.item.Item.{Item}
 use Rattle.trac_rules.specs.declared.item.Item.TheVariants.{Byte, Gap}
 use Rattle.trac_rules.specs.Filling.{all_filled, filled, text_numbered}
-
--- a text is no longer than all texts together
-one_of : (texts : List (List ℕ)) (k : ℕ) → length (get_or texts k []) ≤ length (concat texts)
-one_of [] k = omega arith
-one_of (text ∷ texts) zero = omega (arith, length-append text (concat texts))
-one_of (text ∷ texts) (suc k) = omega (arith, length-append text (concat texts), one_of texts k)
+use Rattle.trac_text.proofs.Joined.{text_within}
 
 numbered : (texts : List (List ℕ)) (ordinal : ℕ) → length (text_numbered ordinal texts) ≤ length (concat texts)
 numbered texts zero = omega arith
-numbered texts (suc k) = one_of texts k
+numbered texts (suc k) = text_within texts k
 
 -- an item gives a byte or one of the texts
 of_item : (texts : List (List ℕ)) (item : Item) → length (filled texts item) ≤ suc (length (concat texts))

@@ -1,6 +1,7 @@
 -- Calls on blocks, computed where the forms stand in a list.
-use Rattle.std.proofs.Common.{◌≡◌, ℕ, true, cond, List, [], ◌∷◌, ◌++◌, length, drop, refl, ap, ◌∙◌}
-use Rattle.std.specs.Prelude.{Option, None, Some, Result, Ok, Err, decimal, nat_le, if◌then◌else◌, slice_set}
+use Rattle.std.proofs.Common.{◌≡◌, ℕ, Bool, true, false, cond, List, [], ◌∷◌, ◌++◌, length, drop, refl, ap, ◌∙◌}
+use Rattle.std.specs.Prelude.{Option, None, Some, Result, Ok, Err, decimal, nat_le, ◌&&◌, option_map, slice_set}
+use Rattle.std.specs.Bool.{then_some}
 use Rattle.std.specs.Cmp.Lexicographic.{slice_cmp, nat_list_cmp_total}
 use Rattle.std.specs.FinMap as finite
 use Rattle.std.specs.FinMap.Entries.{find}
@@ -9,17 +10,19 @@ use Rattle.std.specs.Ordering.{nat_cmp}
 use Rattle.trac_rules.specs.declared.limit.TheConstants.{FORM_COUNT_LIMIT}
 use Rattle.trac_rules.specs.declared.primitive.BlockAction.{BlockAction}
 use Rattle.trac_rules.specs.declared.primitive.BlockAction.TheVariants.{StoreBlock, FetchBlock, EraseBlock}
+use Rattle.trac_rules.specs.declared.primitive.Primitive.{Primitive}
 use Rattle.trac_rules.specs.declared.primitive.Primitive.TheVariants.{HandleBlock}
 use Rattle.trac_rules.specs.declared.refusal.Refusal.{Refusal}
 use Rattle.trac_rules.specs.declared.refusal.Refusal.TheVariants.{TooLong}
 use Rattle.trac_rules.specs.Blocks.{block_at, block_fits, block_handled, erased, fetching, forms_in, moved_out, number_addressed, on_block, with_all, with_name}
 use Rattle.trac_rules.specs.Effect.{Effect, argument, leaves}
 use Rattle.trac_rules.specs.Form.{Form, defined}
-use Rattle.trac_rules.specs.Handling.{putting, without}
+use Rattle.trac_rules.specs.Handling.{putting}
 use Rattle.trac_rules.specs.Performing.{effect_of, primitive_of}
+use Rattle.trac_rules.specs.RecordRows.{stored}
 use Rattle.trac_rules.specs.Rows.{Named, Turns, with_storage}
 use Rattle.trac_rules.specs.State.{Block, Forms, Held, Storage}
-use Rattle.trac_rules.proofs.FormCalls.{all_removed, entries-held, held, held-removed, in_order, judged, putting-held, removed, same_held, without-held}
+use Rattle.trac_rules.proofs.FormCalls.{all_removed, entries-held, held, held-removed, in_order, judged, may_be_put-held, removed, same_held, without-held}
 
 -- forms that are moved out of a list
 abbrev pub moved_from : List (List ℕ) → Named → Held
@@ -46,75 +49,120 @@ with_all-held (entry ∷ entries) es = with_all-held entries (entry ∷ es)
 len-held : (es : Named) → finite.len (held es) ≡ length (in_order es)
 len-held es = finite.len-entries (held es) ∙ ap length (entries-held es)
 
--- the storage of these forms and blocks
-abbrev both : Named → List Block → Storage
-both es blocks = record { forms = held es; blocks = blocks }
+-- ---- rows
 
--- a row holds where its call on blocks does what it says
-row : (action : BlockAction) (arguments : List (List ℕ)) (before after : Named) (blocks blocks_after : List Block) → primitive_of (argument 0 arguments) ≡ HandleBlock action →
-    block_handled action arguments (both before blocks) ≡ Ok (leaves (both after blocks_after)) → Turns arguments before blocks after blocks_after
-row action arguments before after blocks blocks_after named is environment s =
-    ap (λ primitive. effect_of primitive environment arguments (with_storage before blocks s)) named ∙ is
+-- the form of this name in a list, if there is one
+abbrev pub looked_up : List ℕ → Named → Option Form
+looked_up name es = find (slice_cmp nat_cmp) name es
+
+pub found_in : (name : List ℕ) (es : Named) → finite.get (held es) name ≡ looked_up name es
+found_in name es = finite.get-from_entries nat_list_cmp_total es name
+
+-- the number of the block whose address stands in a list under this name
+abbrev pub number_in : List ℕ → Named → List Block → Option ℕ
+number_in name es blocks = option_and_then (λ (form : Form). number_addressed form blocks) (looked_up name es)
 
 -- a form becomes the number of a block
 abbrev address_of : List Block → Form
 address_of blocks = defined (decimal (length blocks))
 
-pub stores : (arguments : List (List ℕ)) (before after : Named) (blocks : List Block) → primitive_of (argument 0 arguments) ≡ HandleBlock StoreBlock →
-    block_fits (moved_from (drop 2 arguments) before) blocks ≡ true → judged (argument 1 arguments) (address_of blocks) (all_removed (drop 2 arguments) before) ≡ true →
-    in_order ((argument 1 arguments, address_of blocks) ∷ all_removed (drop 2 arguments) before) ≡ in_order after →
-    Turns arguments before blocks after (blocks ++ Some (moved_from (drop 2 arguments) before) ∷ [])
-stores arguments before after blocks named fits may same =
-    let name = argument 1 arguments in
-    let names = drop 2 arguments in
-    let more = blocks ++ Some (moved_from names before) ∷ [] in
-    row StoreBlock arguments before after blocks more named (
-    ap (λ (moved : Held). let outcome : Result Effect Refusal =
-    if block_fits moved blocks then putting name (address_of blocks) (record { forms = without names (held before); blocks = blocks ++ Some moved ∷ [] }) else Err TooLong in outcome)
-    (moved_out-held names before)
-    ∙ ap (λ b. cond b (putting name (address_of blocks) (record { forms = without names (held before); blocks = more })) (Err TooLong)) fits
-    ∙ ap (λ (forms : Forms). putting name (address_of blocks) (record { forms = forms; blocks = more })) (without-held names before)
-    ∙ putting-held name (address_of blocks) (all_removed names before) after (both [] more) may same)
+-- forms of a list and blocks, where a block is acted upon
+abbrev pub on_number : Option ℕ → (ℕ → Option (Named × List Block)) → Named → List Block → Option (Named × List Block)
+on_number None act es blocks = Some (es, blocks)
+on_number (Some number) act es blocks = act number
 
--- the block that a call acts upon
-on_block-held : (name : List ℕ) (o : Option Form) (number : Option ℕ) (act : ℕ → Result Effect Refusal) (es : Named) (blocks : List Block) → find (slice_cmp nat_cmp) name es ≡ o →
-    option_and_then (λ form. number_addressed form blocks) o ≡ number →
-    on_block (option_and_then (λ form. number_addressed form blocks) (finite.get (held es) name)) act (both es blocks) ≡ on_block number act (both es blocks)
-on_block-held name o number act es blocks there is =
-    ap (λ found. on_block (option_and_then (λ form. number_addressed form blocks) found) act (both es blocks)) (finite.get-from_entries nat_list_cmp_total es name ∙ there)
-    ∙ ap (λ k. on_block k act (both es blocks)) is
+-- what a call on blocks makes of the forms of a list and of the blocks; none where it is refused
+abbrev pub handled_in : BlockAction → List (List ℕ) → Named → List Block → Option (Named × List Block)
+handled_in StoreBlock arguments es blocks =
+    let moved = moved_from (drop 2 arguments) es in
+    let left = all_removed (drop 2 arguments) es in
+    then_some (block_fits moved blocks && judged (argument 1 arguments) (address_of blocks) left) ((argument 1 arguments, address_of blocks) ∷ left, blocks ++ Some moved ∷ [])
+handled_in FetchBlock arguments es blocks =
+    on_number (number_in (argument 1 arguments) es blocks)
+    (λ number. let put = all_put (forms_in (block_at number blocks)) es in then_some (nat_le (length (in_order put)) FORM_COUNT_LIMIT) (put, blocks)) es blocks
+handled_in EraseBlock arguments es blocks =
+    on_number (number_in (argument 1 arguments) es blocks) (λ number. Some (removed (argument 1 arguments) es, slice_set blocks number None)) es blocks
 
-pub fetches : (arguments : List (List ℕ)) (before after : Named) (blocks : List Block) (form : Form) (number : ℕ) → primitive_of (argument 0 arguments) ≡ HandleBlock FetchBlock →
-    find (slice_cmp nat_cmp) (argument 1 arguments) before ≡ Some form → number_addressed form blocks ≡ Some number →
-    nat_le (length (in_order (all_put (forms_in (block_at number blocks)) before))) FORM_COUNT_LIMIT ≡ true →
-    in_order (all_put (forms_in (block_at number blocks)) before) ≡ in_order after → Turns arguments before blocks after blocks
-fetches arguments before after blocks form number named there is few same =
-    let entries = forms_in (block_at number blocks) in
-    row FetchBlock arguments before after blocks blocks named (
-    on_block-held (argument 1 arguments) (Some form) (Some number) (λ k. fetching k (both before blocks)) before blocks there is
-    ∙ ap (λ (forms : Forms). let outcome : Result Effect Refusal =
-    if nat_le (finite.len forms) FORM_COUNT_LIMIT then Ok (leaves (record { forms = forms; blocks = blocks })) else Err TooLong in outcome) (with_all-held entries before)
-    ∙ ap (λ n. cond (nat_le n FORM_COUNT_LIMIT) (Ok (leaves (both (all_put entries before) blocks))) (Err TooLong)) (len-held (all_put entries before))
-    ∙ ap (λ b. cond b (Ok (leaves (both (all_put entries before) blocks))) (Err TooLong)) few
-    ∙ ap (λ (forms : Forms). Ok (leaves (record { forms = forms; blocks = blocks }))) (same_held (all_put entries before) after same))
+-- the outcome of such a call
+abbrev outcome_of : Option (Named × List Block) → Result Effect Refusal
+outcome_of None = Err TooLong
+outcome_of (Some b) = Ok (leaves (stored b.0 b.1))
 
-pub erases : (arguments : List (List ℕ)) (before after : Named) (blocks : List Block) (form : Form) (number : ℕ) → primitive_of (argument 0 arguments) ≡ HandleBlock EraseBlock →
-    find (slice_cmp nat_cmp) (argument 1 arguments) before ≡ Some form → number_addressed form blocks ≡ Some number →
-    in_order (removed (argument 1 arguments) before) ≡ in_order after → Turns arguments before blocks after (slice_set blocks number None)
-erases arguments before after blocks form number named there is same =
-    row EraseBlock arguments before after blocks (slice_set blocks number None) named (
-    on_block-held (argument 1 arguments) (Some form) (Some number) (λ k. Ok (leaves (erased k (argument 1 arguments) (both before blocks)))) before blocks there is
-    ∙ ap (λ (forms : Forms). Ok (leaves (record { forms = forms; blocks = slice_set blocks number None })))
-    (held-removed (argument 1 arguments) before ∙ same_held (removed (argument 1 arguments) before) after same))
+tested : (b : Bool) (es : Named) (blocks : List Block) → cond b (Ok (leaves (stored es blocks))) (Err TooLong) ≡ outcome_of (then_some b (es, blocks))
+tested true es blocks = refl
+tested false es blocks = refl
 
--- `fb` and `eb`, where the form is the address of no block
-pub fetches_none : (arguments : List (List ℕ)) (es : Named) (blocks : List Block) (o : Option Form) → primitive_of (argument 0 arguments) ≡ HandleBlock FetchBlock →
-    find (slice_cmp nat_cmp) (argument 1 arguments) es ≡ o → option_and_then (λ form. number_addressed form blocks) o ≡ None → Turns arguments es blocks es blocks
-fetches_none arguments es blocks o named there none =
-    row FetchBlock arguments es es blocks blocks named (on_block-held (argument 1 arguments) o None (λ k. fetching k (both es blocks)) es blocks there none)
+handled-held : (action : BlockAction) (arguments : List (List ℕ)) (es : Named) (blocks : List Block) →
+    block_handled action arguments (stored es blocks) ≡ outcome_of (handled_in action arguments es blocks)
+handled-held StoreBlock arguments es blocks =
+    (λ i. cond (block_fits (moved_out-held names es i) blocks)
+    (putting name (address_of blocks) (record { forms = without-held names es i; blocks = blocks ++ Some (moved_out-held names es i) ∷ [] })) (Err TooLong))
+    ∙ by_test (block_fits (moved_from names es) blocks)
+  where
+    name : List ℕ
+    name = argument 1 arguments
 
-pub erases_none : (arguments : List (List ℕ)) (es : Named) (blocks : List Block) (o : Option Form) → primitive_of (argument 0 arguments) ≡ HandleBlock EraseBlock →
-    find (slice_cmp nat_cmp) (argument 1 arguments) es ≡ o → option_and_then (λ form. number_addressed form blocks) o ≡ None → Turns arguments es blocks es blocks
-erases_none arguments es blocks o named there none =
-    row EraseBlock arguments es es blocks blocks named
-    (on_block-held (argument 1 arguments) o None (λ k. Ok (leaves (erased k (argument 1 arguments) (both es blocks)))) es blocks there none)
+    names : List (List ℕ)
+    names = drop 2 arguments
+
+    more : List Block
+    more = blocks ++ Some (moved_from names es) ∷ []
+
+    by_test : (b : Bool) → cond b (putting name (address_of blocks) (stored (all_removed names es) more)) (Err TooLong)
+        ≡ outcome_of (then_some (b && judged name (address_of blocks) (all_removed names es)) ((name, address_of blocks) ∷ all_removed names es, more))
+    by_test true =
+        (λ i. cond (may_be_put-held name (address_of blocks) (all_removed names es) i) (Ok (leaves (stored ((name, address_of blocks) ∷ all_removed names es) more))) (Err TooLong))
+        ∙ tested (judged name (address_of blocks) (all_removed names es)) ((name, address_of blocks) ∷ all_removed names es) more
+    by_test false = refl
+handled-held FetchBlock arguments es blocks =
+    (λ i. on_block (option_and_then (λ form. number_addressed form blocks) (found_in (argument 1 arguments) es i)) (λ number. fetching number (stored es blocks)) (stored es blocks))
+    ∙ by_number (number_in (argument 1 arguments) es blocks)
+  where
+    by_number : (o : Option ℕ) → on_block o (λ number. fetching number (stored es blocks)) (stored es blocks)
+        ≡ outcome_of (on_number o (λ number. let put = all_put (forms_in (block_at number blocks)) es in then_some (nat_le (length (in_order put)) FORM_COUNT_LIMIT) (put, blocks)) es blocks)
+    by_number None = refl
+    by_number (Some number) =
+        let put = all_put (forms_in (block_at number blocks)) es in
+        (λ i. let forms : Forms = with_all-held (forms_in (block_at number blocks)) es i in
+        cond (nat_le (finite.len forms) FORM_COUNT_LIMIT) (Ok (leaves (record { forms = forms; blocks = blocks }))) (Err TooLong))
+        ∙ (λ i. cond (nat_le (len-held put i) FORM_COUNT_LIMIT) (Ok (leaves (stored put blocks))) (Err TooLong)) ∙ tested (nat_le (length (in_order put)) FORM_COUNT_LIMIT) put blocks
+handled-held EraseBlock arguments es blocks =
+    (λ i. on_block (option_and_then (λ form. number_addressed form blocks) (found_in name es i)) (λ number. Ok (leaves (erased number name (stored es blocks)))) (stored es blocks))
+    ∙ by_number (number_in name es blocks)
+  where
+    name : List ℕ
+    name = argument 1 arguments
+
+    by_number : (o : Option ℕ) → on_block o (λ number. Ok (leaves (erased number name (stored es blocks)))) (stored es blocks)
+        ≡ outcome_of (on_number o (λ number. Some (removed name es, slice_set blocks number None)) es blocks)
+    by_number None = refl
+    by_number (Some number) = λ i. Ok (leaves (record { forms = held-removed name es i; blocks = slice_set blocks number None }))
+
+-- the forms in order
+abbrev pub sorted : Option (Named × List Block) → Option (Named × List Block)
+sorted o = option_map (λ (b : Named × List Block). let in_its_order : Named × List Block = (in_order b.0, b.1) in in_its_order) o
+
+-- lists of the same order and blocks are the same storage
+pub same_stored : (b : Named × List Block) (after : Named) (blocks : List Block) → sorted (Some b) ≡ Some (in_order after, blocks) → stored b.0 b.1 ≡ stored after blocks
+same_stored b after blocks is =
+    let same : (let in_its_order : Named × List Block = (in_order b.0, b.1) in in_its_order) ≡ (in_order after, blocks) = cc in
+    λ i. record { forms = same_held b.0 after (ap (λ x. x.0) same) i; blocks = (same i).1 }
+
+-- what a primitive makes of forms and blocks, where it is one on blocks
+abbrev pub performed_in : Primitive → List (List ℕ) → Named → List Block → Option (Named × List Block)
+performed_in (HandleBlock action) arguments es blocks = handled_in action arguments es blocks
+performed_in primitive arguments es blocks = None
+
+-- what such a call does is computed with the forms in a list
+pub turns : (arguments : List (List ℕ)) (before : Named) (blocks : List Block) (after : Named) (blocks_after : List Block) →
+    sorted (performed_in (primitive_of (argument 0 arguments)) arguments before blocks) ≡ Some (in_order after, blocks_after) → Turns arguments before blocks after blocks_after
+turns arguments before blocks after blocks_after is environment s = by_primitive (primitive_of (argument 0 arguments)) is
+  where
+    by_outcome : (o : Option (Named × List Block)) → sorted o ≡ Some (in_order after, blocks_after) → outcome_of o ≡ Ok (leaves (stored after blocks_after))
+    by_outcome None is = absurd (cc)
+    by_outcome (Some b) is = ap (λ (storage : Storage). Ok (leaves storage)) (same_stored b after blocks_after is)
+
+    by_primitive : (primitive : Primitive) → sorted (performed_in primitive arguments before blocks) ≡ Some (in_order after, blocks_after) →
+        effect_of primitive environment arguments (with_storage before blocks s) ≡ Ok (leaves (stored after blocks_after))
+    by_primitive (HandleBlock action) is = handled-held action arguments before blocks ∙ by_outcome (handled_in action arguments before blocks) is
+    by_primitive primitive is = absurd (cc)

@@ -14,7 +14,7 @@ use Rattle.trac_rules.specs.declared.primitive.BlockAction.TheVariants.{StoreBlo
 use Rattle.trac_rules.specs.declared.primitive.FormAction.{FormAction}
 use Rattle.trac_rules.specs.declared.primitive.FormAction.TheVariants as action
 use Rattle.trac_rules.specs.declared.primitive.Primitive.{Primitive}
-use Rattle.trac_rules.specs.declared.primitive.Primitive.TheVariants.{PrintString, ReadString, ReadByte, Halt, SetMeta, SetTrace, Compute, Handle, HandleBlock, Unknown}
+use Rattle.trac_rules.specs.declared.primitive.Primitive.TheVariants.{SetMeta, Handle, HandleBlock}
 use Rattle.trac_rules.specs.declared.scan.Front.{Front}
 use Rattle.trac_rules.specs.declared.scan.Front.TheVariants as front
 use Rattle.trac_rules.specs.Blocks.{block_at, forms_in, named_block_number}
@@ -118,11 +118,7 @@ module _ (arguments : List (List ℕ)) (storage : Storage) (proper : IsProperSto
   handled_bounded action.Delete = taken_within (drop 1 arguments) storage.forms proper.forms
   handled_bounded action.DeleteAll = entries_within storage.forms proper.forms
   handled_bounded action.Segment = omega (arith, segmenting_within (named_form arguments storage) refl)
-  handled_bounded action.Restore = omega arith
-  handled_bounded action.Call = omega arith
-  handled_bounded (action.Read reading) = omega arith
-  handled_bounded action.ListNames = omega arith
-  handled_bounded action.PrintForm = omega arith
+  handled_bounded other = omega arith
 
   -- no block holds more forms than it may
   few_in : (block : Block) → IsProperBlock block → length (forms_in block) ≤ FORM_COUNT_LIMIT
@@ -151,16 +147,10 @@ module _ (arguments : List (List ℕ)) (storage : Storage) (proper : IsProperSto
   block_bounded EraseBlock = erasing_bounded (named_block_number arguments storage)
 
   primitive_bounded : (primitive : Primitive) → primitive_loss primitive arguments storage ≤ 1 + (forms_most + form_most)
-  primitive_bounded PrintString = omega arith
-  primitive_bounded ReadString = omega arith
-  primitive_bounded ReadByte = omega arith
-  primitive_bounded Halt = omega arith
   primitive_bounded SetMeta = omega (arith, one_at_most (argument 1 arguments))
-  primitive_bounded (SetTrace trace) = omega arith
-  primitive_bounded (Compute computation) = omega arith
   primitive_bounded (Handle action) = omega (arith, handled_bounded action)
   primitive_bounded (HandleBlock action) = omega (arith, block_bounded action)
-  primitive_bounded Unknown = omega arith
+  primitive_bounded other = omega arith
 
 -- ---- a step
 
@@ -196,16 +186,11 @@ closing_bounded s proper (f ∷ fs) bytes few =
 
 bounded_at : (at : Front) (s : State) → IsProper s → loss_at at s ≤ 2 ^ 42
 bounded_at front.Nothing s proper = omega (arith, fits_so s proper.texts)
-bounded_at front.Opening s proper = omega arith
-bounded_at front.Layout s proper = omega arith
 bounded_at front.Comma s proper = omega (arith, comma_bounded s.frames)
-bounded_at front.ActiveCall s proper = omega arith
-bounded_at front.NeutralCall s proper = omega arith
-bounded_at front.Sharp s proper = omega arith
 bounded_at front.Closing s proper =
     let fits = fits_so s proper.texts in
     closing_bounded s proper.storage s.frames (omega (arith, fits.0)) fits.1
-bounded_at front.Plain s proper = omega arith
+bounded_at other s proper = omega arith
 
 pub loss_bounded : (s : State) → IsProper s → loss s ≤ 2 ^ 42
 loss_bounded s proper = bounded_at (front_of s.active) s proper

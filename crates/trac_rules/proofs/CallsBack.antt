@@ -50,15 +50,8 @@ closing_asks (f ∷ fs) s e = record {
 }
 
 asks_at : (at : Front) (s : State) → BeginsSo at s.active → AsksAtFront s (scan_at at s)
-asks_at front.Nothing s e = tt
-asks_at front.Opening s e = tt
-asks_at front.Layout s e = tt
-asks_at front.Comma s e = tt
-asks_at front.ActiveCall s e = tt
-asks_at front.NeutralCall s e = tt
-asks_at front.Sharp s e = tt
 asks_at front.Closing s e = closing_asks s.frames s e
-asks_at front.Plain s e = tt
+asks_at other s e = tt
 
 asks : (s : State) → AsksAtFront s (scan s)
 unfolding scan

@@ -15,7 +15,7 @@ use Rattle.trac_rules.specs.declared.primitive.BlockAction.TheVariants.{StoreBlo
 use Rattle.trac_rules.specs.declared.primitive.FormAction.{FormAction}
 use Rattle.trac_rules.specs.declared.primitive.FormAction.TheVariants as action
 use Rattle.trac_rules.specs.declared.primitive.Primitive.{Primitive}
-use Rattle.trac_rules.specs.declared.primitive.Primitive.TheVariants.{PrintString, ReadString, ReadByte, Halt, SetMeta, SetTrace, Compute, Handle, HandleBlock, Unknown}
+use Rattle.trac_rules.specs.declared.primitive.Primitive.TheVariants.{Handle, HandleBlock}
 use Rattle.trac_rules.specs.declared.refusal.Refusal.{Refusal}
 use Rattle.trac_rules.specs.declared.scan.Front.{Front}
 use Rattle.trac_rules.specs.declared.scan.Front.TheVariants as front
@@ -143,16 +143,9 @@ module _ (arguments : List (List ℕ)) (storage : Storage) where
   -- with one for a meta character
   pub primitive_within : (primitive : Primitive) →
       meta_kept primitive arguments + undone_weight (undone_by primitive arguments storage) ≤ primitive_loss primitive arguments storage
-  primitive_within PrintString = omega arith
-  primitive_within ReadString = omega arith
-  primitive_within ReadByte = omega arith
-  primitive_within Halt = omega arith
-  primitive_within SetMeta = omega arith
-  primitive_within (SetTrace trace) = omega arith
-  primitive_within (Compute computation) = omega arith
   primitive_within (Handle action) = omega (arith, handled_within action)
   primitive_within (HandleBlock action) = omega (arith, block_within action)
-  primitive_within Unknown = omega arith
+  primitive_within other = omega arith
 
 -- ---- a call
 
@@ -183,15 +176,8 @@ closing_loses [] s = tt
 closing_loses (f ∷ fs) s = refl
 
 loses_at : (at : Front) (s : State) → LosesAsCall at s (scan_at at s)
-loses_at front.Nothing s = tt
-loses_at front.Opening s = tt
-loses_at front.Layout s = tt
-loses_at front.Comma s = tt
-loses_at front.ActiveCall s = tt
-loses_at front.NeutralCall s = tt
-loses_at front.Sharp s = tt
 loses_at front.Closing s = closing_loses s.frames s
-loses_at front.Plain s = tt
+loses_at other s = tt
 
 loses : (s : State) → LosesAsCall (front_of s.active) s (scan s)
 unfolding scan

@@ -7,10 +7,10 @@ use Rattle.trac_rules.specs.declared.limit.TheConstants.{TEXT_LIMIT, MARK_LIMIT,
 use Rattle.trac_rules.specs.declared.kind.Kind.{Kind}
 use Rattle.trac_rules.specs.declared.kind.Kind.TheVariants.{Active, Neutral}
 use Rattle.trac_rules.specs.declared.primitive.Primitive.{Primitive}
-use Rattle.trac_rules.specs.declared.primitive.Primitive.TheVariants.{PrintString, ReadString, ReadByte, Halt, SetMeta, SetTrace, Compute, Handle, HandleBlock, Unknown}
+use Rattle.trac_rules.specs.declared.primitive.Primitive.TheVariants.{ReadString, ReadByte, Compute, Handle}
 use Rattle.trac_rules.specs.declared.refusal.Refusal.{Refusal}
 use Rattle.trac_rules.specs.declared.scan.Front.{Front}
-use Rattle.trac_rules.specs.declared.scan.Front.TheVariants.{Nothing, Opening, Layout, Comma, ActiveCall, NeutralCall, Sharp, Closing, Plain}
+use Rattle.trac_rules.specs.declared.scan.Front.TheVariants.{Opening, Comma, Sharp, Closing, Plain}
 use Rattle.trac_rules.specs.declared.width.Width.{Width}
 use Rattle.trac_rules.specs.Computing.{computed}
 use Rattle.trac_rules.specs.Handling.{handled}
@@ -58,16 +58,13 @@ closing_in-changed f g (x ∷ xs) s = refl
 -- each front is scanned alike
 pub scan_at-changed : (places : ℕ → ℕ) (texts : List ℕ → List ℕ) (front : Front) (s : State) →
     scan_at front (changed places texts s) ≡ scanned_as (changed places texts) (scan_at front s)
-scan_at-changed f g Nothing s = refl
 scan_at-changed f g Opening s =
     ap Moves (gathered_in-changed f g s.frames (protected (drop 1 s.active)).inner (record s { active = (protected (drop 1 s.active)).rest }))
-scan_at-changed f g Layout s = refl
 scan_at-changed f g Comma s = ap Moves (comma_in-changed f g s.frames (deleted 1 s))
-scan_at-changed f g ActiveCall s = refl
-scan_at-changed f g NeutralCall s = refl
 scan_at-changed f g Sharp s = ap Moves (gathered_in-changed f g s.frames (take 1 s.active) (deleted 1 s))
 scan_at-changed f g Closing s = closing_in-changed f g s.frames (deleted 1 s)
 scan_at-changed f g Plain s = ap Moves (gathered_in-changed f g s.frames (take 1 s.active) (deleted 1 s))
+scan_at-changed f g other s = refl
 
 -- the position and the output play no part in scanning
 pub scan-changed : (places : ℕ → ℕ) (texts : List ℕ → List ℕ) (s : State) → scan (changed places texts s) ≡ scanned_as (changed places texts) (scan s)
@@ -87,20 +84,15 @@ pub record GoesUnnoticed (places : ℕ → ℕ) (texts : List ℕ → List ℕ) 
 -- each primitive acts alike
 pub effect_of-changed : (places : ℕ → ℕ) (texts : List ℕ → List ℕ) (old new : Environment) (s : State) → GoesUnnoticed places texts old new s →
     (primitive : Primitive) (arguments : List (List ℕ)) → effect_of primitive new arguments (changed places texts s) ≡ effect_of primitive old arguments s
-effect_of-changed f g old new s same PrintString arguments = refl
 effect_of-changed f g old new s same ReadString arguments =
     ap (λ (text : List ℕ). string_read text new.tape.ended s.meta (storage_of s)) same.unread
     ∙ ap (λ (ended : Bool). string_read (unread old.tape s) ended s.meta (storage_of s)) same.ended
 effect_of-changed f g old new s same ReadByte arguments =
     ap (λ (text : List ℕ). byte_read text new.tape.ended (storage_of s)) same.unread
     ∙ ap (λ (ended : Bool). byte_read (unread old.tape s) ended (storage_of s)) same.ended
-effect_of-changed f g old new s same Halt arguments = refl
-effect_of-changed f g old new s same SetMeta arguments = refl
-effect_of-changed f g old new s same (SetTrace trace) arguments = refl
 effect_of-changed f g old new s same (Compute computation) arguments = ap (λ (width : Width). Ok (computed computation width arguments (storage_of s))) same.width
 effect_of-changed f g old new s same (Handle action) arguments = ap (λ (width : Width). handled action width arguments (storage_of s)) same.width
-effect_of-changed f g old new s same (HandleBlock action) arguments = refl
-effect_of-changed f g old new s same Unknown arguments = refl
+effect_of-changed f g old new s same other arguments = refl
 
 -- a call does the same
 pub performed-changed : (places : ℕ → ℕ) (texts : List ℕ → List ℕ) (old new : Environment) (call : Call) → GoesUnnoticed places texts old new call.state →

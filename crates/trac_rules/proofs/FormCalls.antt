@@ -1,6 +1,6 @@
 -- Calls on forms, computed where the forms stand in a list.
 use Rattle.std.proofs.Common.{◌≡◌, ℕ, Bool, true, false, cond, not, ◌&&◌, List, [], ◌∷◌, ◌++◌, length, drop, map, refl, sym, ap, ◌∙◌}
-use Rattle.std.specs.Prelude.{Option, None, Some, Result, Ok, Err, nat_le}
+use Rattle.std.specs.Prelude.{Option, None, Some, Result, Ok, Err, nat_le, option_map}
 use Rattle.std.specs.Cmp.Lexicographic.{slice_cmp, nat_list_cmp_total}
 use Rattle.std.specs.FinMap as finite
 use Rattle.std.specs.FinMap.Entries.{put, find, where_key, find-where_key}
@@ -11,24 +11,24 @@ use Rattle.std.proofs.lemmas.List.{nil_from_length}
 use Rattle.trac_rules.specs.declared.limit.TheConstants.{FORM_COUNT_LIMIT}
 use Rattle.trac_rules.specs.declared.primitive.FormAction.{FormAction}
 use Rattle.trac_rules.specs.declared.primitive.FormAction.TheVariants.{Define, Delete, DeleteAll, Segment, Restore, Read, ListNames, PrintForm, Call as CallForm}
-use Rattle.trac_rules.specs.declared.primitive.FormReading.{FormReading}
+use Rattle.trac_rules.specs.declared.primitive.Primitive.{Primitive}
 use Rattle.trac_rules.specs.declared.primitive.Primitive.TheVariants.{Handle}
 use Rattle.trac_rules.specs.declared.refusal.Refusal.{Refusal}
 use Rattle.trac_rules.specs.declared.refusal.Refusal.TheVariants.{TooLong}
-use Rattle.trac_rules.specs.Effect.{Effect, argument, gives, leaves, prints}
+use Rattle.trac_rules.specs.Effect.{Effect, argument, gives, leaves}
 use Rattle.trac_rules.specs.Filling.{called}
 use Rattle.trac_rules.specs.Form.{Form, all_items, defined, pointed_at}
-use Rattle.trac_rules.specs.Handling.{default_argument, form_read, gives_piece, handled, keeping, on_form, piece_read, pointing, putting, without}
+use Rattle.trac_rules.specs.Handling.{default_argument, gives_piece, handled, keeping, on_form, piece_read, putting, without}
 use Rattle.trac_rules.specs.Limits.{form_fits, may_be_put}
 use Rattle.trac_rules.specs.Performing.{effect_of, primitive_of}
 use Rattle.trac_rules.specs.Pieces.{Piece}
-use Rattle.trac_rules.specs.Rows.{Named, Does, DoesIn, Forces, ForcesIn, Gives, Leaves, Prints, with_forms}
+use Rattle.trac_rules.specs.Rows.{Named, Does, DoesIn, Forces, ForcesIn, with_forms}
 use Rattle.trac_rules.specs.Segmenting.{segmented}
 use Rattle.trac_rules.specs.Showing.{shown}
 use Rattle.trac_rules.specs.declared.width.Width.{Width}
 use Rattle.trac_rules.specs.declared.width.Width.TheVariants.{W64, W128}
 use Rattle.trac_rules.specs.Session.{over}
-use Rattle.trac_rules.specs.State.{Forms, Storage, storage_of}
+use Rattle.trac_rules.specs.State.{Forms, State, Storage, Tape, storage_of}
 use Rattle.trac_rules.proofs.NamedForms.{only_equal_tie}
 
 -- ---- forms in a list
@@ -87,7 +87,7 @@ without-held (name ∷ names) es = ap (without names) (held-removed name es) ∙
 abbrev pub judged : List ℕ → Form → Named → Bool
 judged name form es = form_fits name form && nat_le (length (in_order ((name, form) ∷ es))) FORM_COUNT_LIMIT
 
-may_be_put-held : (name : List ℕ) (form : Form) (es : Named) → may_be_put name form (held es) ≡ judged name form es
+pub may_be_put-held : (name : List ℕ) (form : Form) (es : Named) → may_be_put name form (held es) ≡ judged name form es
 unfolding may_be_put
 may_be_put-held name form es =
     ap (λ n. form_fits name form && nat_le n FORM_COUNT_LIMIT)
@@ -99,139 +99,152 @@ may_be_put-held name form es =
 abbrev holding : Named → Storage → Storage
 holding es storage = keeping (held es) storage
 
--- a form put into a list
-pub putting-held : (name : List ℕ) (form : Form) (es after : Named) (storage : Storage) → judged name form es ≡ true → in_order ((name, form) ∷ es) ≡ in_order after →
-    putting name form (holding es storage) ≡ Ok (leaves (holding after storage))
-putting-held name form es after storage fits same =
-    ap (λ b. cond b (Ok (leaves (holding ((name, form) ∷ es) storage))) (Err TooLong)) (may_be_put-held name form es ∙ fits)
-    ∙ ap (λ forms. Ok (leaves (keeping forms storage))) (same_held ((name, form) ∷ es) after same)
+-- what a call does with forms in a list: its value, whether that is forced, what it prints, and the forms after it
+pub record Done : Type 0 where
+  pub value : List ℕ
+  pub forced : Bool
+  pub printed : List ℕ
+  pub after : Named
 
--- a call on a form that is found in a list, or not
-on_form-held : (name : List ℕ) (o : Option Form) (act : Form → Result Effect Refusal) (es : Named) (storage : Storage) → find (slice_cmp nat_cmp) name es ≡ o →
-    on_form (finite.get (held es) name) act storage ≡ on_form o act storage
-on_form-held name o act es storage there = ap (λ found. on_form found act storage) (finite.get-from_entries nat_list_cmp_total es name ∙ there)
+-- an empty value, and nothing else but these forms
+abbrev pub leaving : Named → Done
+leaving after = record { value = []; forced = false; printed = []; after = after }
 
--- a row of one width holds where its call on forms does what it says
-row_in : (width : Width) (action : FormAction) (arguments : List (List ℕ)) (before after : Named) (value printed : List ℕ) → primitive_of (argument 0 arguments) ≡ Handle action →
-    ((storage : Storage) → handled action width arguments (holding before storage) ≡ Ok (record (leaves (holding after storage)) { value = value; printed = printed })) →
+-- the same as an outcome, on a storage
+abbrev outcome_in : Done → Storage → Result Effect Refusal
+outcome_in d storage = Ok (record (leaves (holding d.after storage)) { value = d.value; forced = d.forced; printed = d.printed })
+
+-- a form is put into a list, unless a limit would be passed
+abbrev pub put_in : List ℕ → Form → Named → Option Done
+put_in name form es = cond (judged name form es) (Some (leaving ((name, form) ∷ es))) None
+
+-- a form of a list is acted upon, where it is there
+abbrev pub on_listed : Option Form → (Form → Option Done) → Named → Option Done
+on_listed None act es = Some (leaving es)
+on_listed (Some form) act es = act form
+
+-- a piece is read, or the default argument given
+abbrev pub read_in : Option Piece → List ℕ → List ℕ → Form → Named → Done
+read_in (Some piece) other name form es = record (leaving ((name, pointed_at piece.place (all_items form)) ∷ es)) { value = piece.value }
+read_in None other name form es = record (leaving es) { value = other; forced = true }
+
+-- what a call on forms does with those of a list
+abbrev pub on_list : FormAction → Width → List (List ℕ) → Named → Option Done
+on_list Define width arguments es = put_in (argument 1 arguments) (defined (argument 2 arguments)) es
+on_list Delete width arguments es = Some (leaving (all_removed (drop 1 arguments) es))
+on_list DeleteAll width arguments es = Some (leaving [])
+on_list ListNames width arguments es = Some (record (leaving es) { value = flat_map (λ name. argument 1 arguments ++ name) (map (λ e. e.0) (in_order es)) })
+on_list Segment width arguments es =
+    on_listed (find (slice_cmp nat_cmp) (argument 1 arguments) es) (λ form. put_in (argument 1 arguments) (segmented (drop 2 arguments) form) es) es
+on_list Restore width arguments es =
+    on_listed (find (slice_cmp nat_cmp) (argument 1 arguments) es) (λ form. Some (leaving ((argument 1 arguments, pointed_at 0 (all_items form)) ∷ es))) es
+on_list CallForm width arguments es =
+    on_listed (find (slice_cmp nat_cmp) (argument 1 arguments) es) (λ form. Some (record (leaving es) { value = called (drop 2 arguments) form })) es
+on_list (Read reading) width arguments es =
+    on_listed (find (slice_cmp nat_cmp) (argument 1 arguments) es)
+    (λ form. Some (read_in (piece_read reading width arguments form) (default_argument reading arguments) (argument 1 arguments) form es)) es
+on_list PrintForm width arguments es =
+    on_listed (find (slice_cmp nat_cmp) (argument 1 arguments) es) (λ form. Some (record (leaving es) { printed = shown form })) es
+
+module _ (d : Done) (storage : Storage) where
+  made : (x : Done) → Some x ≡ Some d → outcome_in x storage ≡ outcome_in d storage
+  made x is = let same : x ≡ d = cc in ap (λ (y : Done). outcome_in y storage) same
+
+  is_put : (name : List ℕ) (form : Form) (es : Named) → put_in name form es ≡ Some d → putting name form (holding es storage) ≡ outcome_in d storage
+  is_put name form es is =
+      ap (λ b. cond b (Ok (leaves (holding ((name, form) ∷ es) storage))) (Err TooLong)) (may_be_put-held name form es) ∙ by_test (judged name form es) is
+    where
+      by_test : (b : Bool) → cond b (Some (leaving ((name, form) ∷ es))) None ≡ Some d → cond b (Ok (leaves (holding ((name, form) ∷ es) storage))) (Err TooLong) ≡ outcome_in d storage
+      by_test true is = made (leaving ((name, form) ∷ es)) is
+      by_test false is = absurd (cc)
+
+  -- a form that is found in a list, or not
+  is_found : (name : List ℕ) (es : Named) (act : Form → Option Done) (acts : Form → Result Effect Refusal) →
+      ((form : Form) → act form ≡ Some d → acts form ≡ outcome_in d storage) → on_listed (find (slice_cmp nat_cmp) name es) act es ≡ Some d →
+      on_form (finite.get (held es) name) acts (holding es storage) ≡ outcome_in d storage
+  is_found name es act acts each is =
+      ap (λ found. on_form found acts (holding es storage)) (finite.get-from_entries nat_list_cmp_total es name) ∙ by_form (find (slice_cmp nat_cmp) name es) is
+    where
+      by_form : (o : Option Form) → on_listed o act es ≡ Some d → on_form o acts (holding es storage) ≡ outcome_in d storage
+      by_form None is = made (leaving es) is
+      by_form (Some form) is = each form is
+
+  is_read : (o : Option Piece) (other name : List ℕ) (form : Form) (es : Named) → Some (read_in o other name form es) ≡ Some d →
+      (let outcome : Result Effect Refusal = Ok (gives_piece o other name form (holding es storage)) in outcome) ≡ outcome_in d storage
+  is_read None other name form es is = made (read_in None other name form es) is
+  is_read (Some piece) other name form es is = made (read_in (Some piece) other name form es) is
+
+  is_handled : (action : FormAction) (width : Width) (arguments : List (List ℕ)) (es : Named) → on_list action width arguments es ≡ Some d →
+      handled action width arguments (holding es storage) ≡ outcome_in d storage
+  is_handled Define width arguments es is = is_put (argument 1 arguments) (defined (argument 2 arguments)) es is
+  is_handled Delete width arguments es is =
+      ap (λ forms. Ok (leaves (keeping forms storage))) (without-held (drop 1 arguments) es) ∙ made (leaving (all_removed (drop 1 arguments) es)) is
+  is_handled DeleteAll width arguments es is = made (leaving []) is
+  is_handled ListNames width arguments es is =
+      ap (λ (entries : Named). Ok (gives (flat_map (λ name. argument 1 arguments ++ name) (map (λ e. e.0) entries)) (holding es storage))) (entries-held es) ∙ made _ is
+  is_handled Segment width arguments es is =
+      is_found (argument 1 arguments) es _ _ (λ form put. is_put (argument 1 arguments) (segmented (drop 2 arguments) form) es put) is
+  is_handled Restore width arguments es is = is_found (argument 1 arguments) es _ _ (λ form pointed. made _ pointed) is
+  is_handled CallForm width arguments es is = is_found (argument 1 arguments) es _ _ (λ form given. made _ given) is
+  is_handled (Read reading) width arguments es is =
+      is_found (argument 1 arguments) es _ _
+      (λ form read. is_read (piece_read reading width arguments form) (default_argument reading arguments) (argument 1 arguments) form es read) is
+  is_handled PrintForm width arguments es is = is_found (argument 1 arguments) es _ _ (λ form printed. made _ printed) is
+
+-- a call on the forms of a list, these in order after it; none where it is no call on forms
+abbrev pub performed_on : Primitive → Width → List (List ℕ) → Named → Option Done
+performed_on (Handle action) width arguments es = option_map (λ (d : Done). let sorted : Done = record d { after = in_order d.after } in sorted) (on_list action width arguments es)
+performed_on primitive width arguments es = None
+
+-- such a call does the same in every state with these forms
+module _ (width : Width) (arguments : List (List ℕ)) (before : Named) (value : List ℕ) (forced : Bool) (printed : List ℕ) (after : Named) (tape : Tape) (s : State) where
+  abbrev wanted : Result Effect Refusal
+  wanted = Ok (record (leaves (storage_of (with_forms after s))) { value = value; forced = forced; printed = printed })
+
+  sorted_done : (d : Done) → (let sorted : Done = record d { after = in_order d.after } in sorted) ≡ record { value = value; forced = forced; printed = printed; after = in_order after } →
+      outcome_in d (storage_of s) ≡ wanted
+  sorted_done d is =
+      λ i. Ok (record (leaves (keeping (same_held d.after after (ap (λ (x : Done). x.after) is) i) (storage_of s))) { value = (is i).value; forced = (is i).forced; printed = (is i).printed })
+
+  pub row : performed_on (primitive_of (argument 0 arguments)) width arguments before ≡ Some (record { value = value; forced = forced; printed = printed; after = in_order after }) →
+      effect_of (primitive_of (argument 0 arguments)) (over width tape) arguments (with_forms before s) ≡ wanted
+  row is = by_primitive (primitive_of (argument 0 arguments)) is
+    where
+      by_outcome : (action : FormAction) (o : Option Done) → on_list action width arguments before ≡ o →
+          option_map (λ (d : Done). let sorted : Done = record d { after = in_order d.after } in sorted) o ≡ Some (record { value = value; forced = forced; printed = printed; after = in_order after }) →
+          handled action width arguments (holding before (storage_of s)) ≡ wanted
+      by_outcome action None done is = absurd (cc)
+      by_outcome action (Some d) done is =
+          is_handled d (storage_of s) action width arguments before done
+          ∙ sorted_done d (let same : (let sorted : Done = record d { after = in_order d.after } in sorted) ≡ record { value = value; forced = forced; printed = printed; after = in_order after } = cc in same)
+
+      by_primitive : (primitive : Primitive) → performed_on primitive width arguments before ≡ Some (record { value = value; forced = forced; printed = printed; after = in_order after }) →
+          effect_of primitive (over width tape) arguments (with_forms before s) ≡ wanted
+      by_primitive (Handle action) is = by_outcome action (on_list action width arguments before) refl is
+      by_primitive primitive is = absurd (cc)
+
+-- the rows: what a call does is computed with the forms in a list
+pub does_in : (width : Width) (arguments : List (List ℕ)) (before : Named) (value printed : List ℕ) (after : Named) →
+    performed_on (primitive_of (argument 0 arguments)) width arguments before ≡ Some (record { value = value; forced = false; printed = printed; after = in_order after }) →
     DoesIn width arguments before value printed after
-row_in width action arguments before after value printed named is tape s =
-    ap (λ primitive. effect_of primitive (over width tape) arguments (with_forms before s)) named ∙ is (storage_of s)
+does_in width arguments before value printed after is tape s = row width arguments before value false printed after tape s is
 
--- and of both
-row : (action : FormAction) (arguments : List (List ℕ)) (before after : Named) (value printed : List ℕ) → primitive_of (argument 0 arguments) ≡ Handle action →
-    ((width : Width) (storage : Storage) → handled action width arguments (holding before storage) ≡ Ok (record (leaves (holding after storage)) { value = value; printed = printed })) →
+pub forces_in : (width : Width) (arguments : List (List ℕ)) (forms : Named) (value : List ℕ) →
+    performed_on (primitive_of (argument 0 arguments)) width arguments forms ≡ Some (record { value = value; forced = true; printed = []; after = in_order forms }) →
+    ForcesIn width arguments forms value
+forces_in width arguments forms value is tape s = row width arguments forms value true [] forms tape s is
+
+-- and for each width
+pub does : (arguments : List (List ℕ)) (before : Named) (value printed : List ℕ) (after : Named) →
+    performed_on (primitive_of (argument 0 arguments)) W64 arguments before ≡ Some (record { value = value; forced = false; printed = printed; after = in_order after }) →
+    performed_on (primitive_of (argument 0 arguments)) W128 arguments before ≡ Some (record { value = value; forced = false; printed = printed; after = in_order after }) →
     Does arguments before value printed after
-row action arguments before after value printed named is width = row_in width action arguments before after value printed named (is width)
+does arguments before value printed after narrow wide W64 = does_in W64 arguments before value printed after narrow
+does arguments before value printed after narrow wide W128 = does_in W128 arguments before value printed after wide
 
-pub defines : (arguments : List (List ℕ)) (before after : Named) → primitive_of (argument 0 arguments) ≡ Handle Define →
-    judged (argument 1 arguments) (defined (argument 2 arguments)) before ≡ true →
-    in_order ((argument 1 arguments, defined (argument 2 arguments)) ∷ before) ≡ in_order after → Leaves arguments before after
-defines arguments before after named fits same =
-    row Define arguments before after [] [] named
-    (λ width storage. putting-held (argument 1 arguments) (defined (argument 2 arguments)) before after storage fits same)
-
-pub deletes : (arguments : List (List ℕ)) (before after : Named) → primitive_of (argument 0 arguments) ≡ Handle Delete →
-    in_order (all_removed (drop 1 arguments) before) ≡ in_order after → Leaves arguments before after
-deletes arguments before after named same =
-    row Delete arguments before after [] [] named
-    (λ width storage. ap (λ forms. Ok (leaves (keeping forms storage)))
-    (without-held (drop 1 arguments) before ∙ same_held (all_removed (drop 1 arguments) before) after same))
-
-pub deletes_all : (arguments : List (List ℕ)) (before : Named) → primitive_of (argument 0 arguments) ≡ Handle DeleteAll → Leaves arguments before []
-deletes_all arguments before named = row DeleteAll arguments before [] [] [] named (λ width storage. refl)
-
-pub segments : (arguments : List (List ℕ)) (before after : Named) (form : Form) → primitive_of (argument 0 arguments) ≡ Handle Segment →
-    find (slice_cmp nat_cmp) (argument 1 arguments) before ≡ Some form → judged (argument 1 arguments) (segmented (drop 2 arguments) form) before ≡ true →
-    in_order ((argument 1 arguments, segmented (drop 2 arguments) form) ∷ before) ≡ in_order after → Leaves arguments before after
-segments arguments before after form named there fits same =
-    row Segment arguments before after [] [] named
-    (λ width storage. on_form-held (argument 1 arguments) (Some form)
-    (λ f. putting (argument 1 arguments) (segmented (drop 2 arguments) f) (holding before storage)) before (holding before storage) there
-    ∙ putting-held (argument 1 arguments) (segmented (drop 2 arguments) form) before after storage fits same)
-
-pub restores : (arguments : List (List ℕ)) (before after : Named) (form : Form) → primitive_of (argument 0 arguments) ≡ Handle Restore →
-    find (slice_cmp nat_cmp) (argument 1 arguments) before ≡ Some form →
-    in_order ((argument 1 arguments, pointed_at 0 (all_items form)) ∷ before) ≡ in_order after → Leaves arguments before after
-restores arguments before after form named there same =
-    row Restore arguments before after [] [] named
-    (λ width storage. on_form-held (argument 1 arguments) (Some form)
-    (λ f. Ok (leaves (pointing (argument 1 arguments) 0 f (holding before storage)))) before (holding before storage) there
-    ∙ ap (λ forms. Ok (leaves (keeping forms storage))) (same_held ((argument 1 arguments, pointed_at 0 (all_items form)) ∷ before) after same))
-
-pub calls : (arguments : List (List ℕ)) (es : Named) (form : Form) → primitive_of (argument 0 arguments) ≡ Handle CallForm →
-    find (slice_cmp nat_cmp) (argument 1 arguments) es ≡ Some form → Gives arguments es (called (drop 2 arguments) form)
-calls arguments es form named there =
-    row CallForm arguments es es (called (drop 2 arguments) form) [] named
-    (λ width storage. on_form-held (argument 1 arguments) (Some form) (λ f. Ok (gives (called (drop 2 arguments) f) (holding es storage))) es (holding es storage) there)
-
-pub lists : (arguments : List (List ℕ)) (es : Named) → primitive_of (argument 0 arguments) ≡ Handle ListNames →
-    Gives arguments es (flat_map (λ name. argument 1 arguments ++ name) (map (λ e. e.0) (in_order es)))
-lists arguments es named =
-    row ListNames arguments es es (flat_map (λ name. argument 1 arguments ++ name) (map (λ e. e.0) (in_order es))) [] named
-    (λ width storage. ap (λ (entries : Named). Ok (gives (flat_map (λ name. argument 1 arguments ++ name) (map (λ e. e.0) entries)) (holding es storage))) (entries-held es))
-
-pub prints_form : (arguments : List (List ℕ)) (es : Named) (form : Form) → primitive_of (argument 0 arguments) ≡ Handle PrintForm →
-    find (slice_cmp nat_cmp) (argument 1 arguments) es ≡ Some form → Prints arguments es (shown form)
-prints_form arguments es form named there =
-    row PrintForm arguments es es [] (shown form) named
-    (λ width storage. on_form-held (argument 1 arguments) (Some form) (λ f. Ok (prints (shown f) (holding es storage))) es (holding es storage) there)
-
--- a piece is read, where numbers are of a width
-pub reads_form_in : (width : Width) (reading : FormReading) (arguments : List (List ℕ)) (before after : Named) (form : Form) (piece : Piece) →
-    primitive_of (argument 0 arguments) ≡ Handle (Read reading) → find (slice_cmp nat_cmp) (argument 1 arguments) before ≡ Some form →
-    piece_read reading width arguments form ≡ Some piece →
-    in_order ((argument 1 arguments, pointed_at piece.place (all_items form)) ∷ before) ≡ in_order after → DoesIn width arguments before piece.value [] after
-reads_form_in width reading arguments before after form piece named there read same =
-    row_in width (Read reading) arguments before after piece.value [] named
-    (λ storage. on_form-held (argument 1 arguments) (Some form) (λ f. Ok (form_read reading width arguments f (holding before storage))) before (holding before storage) there
-    ∙ ap (λ found. Ok (gives_piece found (default_argument reading arguments) (argument 1 arguments) form (holding before storage))) read
-    ∙ ap (λ forms. Ok (gives piece.value (keeping forms storage)))
-    (same_held ((argument 1 arguments, pointed_at piece.place (all_items form)) ∷ before) after same))
-
--- and of each: what is read is given for 64 bits, and then for 128
-pub reads_form : (reading : FormReading) (arguments : List (List ℕ)) (before after : Named) (form : Form) (piece : Piece) →
-    primitive_of (argument 0 arguments) ≡ Handle (Read reading) → find (slice_cmp nat_cmp) (argument 1 arguments) before ≡ Some form →
-    piece_read reading W64 arguments form ≡ Some piece → piece_read reading W128 arguments form ≡ Some piece →
-    in_order ((argument 1 arguments, pointed_at piece.place (all_items form)) ∷ before) ≡ in_order after → Does arguments before piece.value [] after
-reads_form reading arguments before after form piece named there narrow wide same W64 = reads_form_in W64 reading arguments before after form piece named there narrow same
-reads_form reading arguments before after form piece named there narrow wide same W128 = reads_form_in W128 reading arguments before after form piece named there wide same
-
--- no piece is read, where numbers are of a width
-pub reads_nothing_in : (width : Width) (reading : FormReading) (arguments : List (List ℕ)) (es : Named) (form : Form) →
-    primitive_of (argument 0 arguments) ≡ Handle (Read reading) → find (slice_cmp nat_cmp) (argument 1 arguments) es ≡ Some form →
-    piece_read reading width arguments form ≡ None → ForcesIn width arguments es (default_argument reading arguments)
-reads_nothing_in width reading arguments es form named there none tape s =
-    ap (λ primitive. effect_of primitive (over width tape) arguments (with_forms es s)) named
-    ∙ on_form-held (argument 1 arguments) (Some form) (λ f. Ok (form_read reading width arguments f (holding es (storage_of s)))) es (holding es (storage_of s)) there
-    ∙ ap (λ found. Ok (gives_piece found (default_argument reading arguments) (argument 1 arguments) form (holding es (storage_of s)))) none
-
--- and of each
-pub reads_nothing : (reading : FormReading) (arguments : List (List ℕ)) (es : Named) (form : Form) →
-    primitive_of (argument 0 arguments) ≡ Handle (Read reading) → find (slice_cmp nat_cmp) (argument 1 arguments) es ≡ Some form →
-    piece_read reading W64 arguments form ≡ None → piece_read reading W128 arguments form ≡ None → Forces arguments es (default_argument reading arguments)
-reads_nothing reading arguments es form named there narrow wide W64 = reads_nothing_in W64 reading arguments es form named there narrow
-reads_nothing reading arguments es form named there narrow wide W128 = reads_nothing_in W128 reading arguments es form named there wide
-
--- the calls that do nothing where there is no form of their name
-abbrev IsOnForm : FormAction → Type 0
-IsOnForm Segment = Unit {0}
-IsOnForm Restore = Unit {0}
-IsOnForm CallForm = Unit {0}
-IsOnForm (Read reading) = Unit {0}
-IsOnForm PrintForm = Unit {0}
-IsOnForm action = ⊥
-
-pub finds_none : (action : FormAction) (arguments : List (List ℕ)) (es : Named) → IsOnForm action → primitive_of (argument 0 arguments) ≡ Handle action →
-    find (slice_cmp nat_cmp) (argument 1 arguments) es ≡ None → Leaves arguments es es
-finds_none action arguments es on named none = row action arguments es es [] [] named (λ width storage. go action on width storage)
-  where
-    go : (a : FormAction) → IsOnForm a → (width : Width) (storage : Storage) → handled a width arguments (holding es storage) ≡ Ok (leaves (holding es storage))
-    go Segment i width storage =
-        on_form-held (argument 1 arguments) None (λ f. putting (argument 1 arguments) (segmented (drop 2 arguments) f) (holding es storage)) es (holding es storage) none
-    go Restore i width storage =
-        on_form-held (argument 1 arguments) None (λ f. Ok (leaves (pointing (argument 1 arguments) 0 f (holding es storage)))) es (holding es storage) none
-    go CallForm i width storage = on_form-held (argument 1 arguments) None (λ f. Ok (gives (called (drop 2 arguments) f) (holding es storage))) es (holding es storage) none
-    go (Read reading) i width storage = on_form-held (argument 1 arguments) None (λ f. Ok (form_read reading width arguments f (holding es storage))) es (holding es storage) none
-    go PrintForm i width storage = on_form-held (argument 1 arguments) None (λ f. Ok (prints (shown f) (holding es storage))) es (holding es storage) none
-    go a i width storage = absurd i
+pub forces_value : (arguments : List (List ℕ)) (forms : Named) (value : List ℕ) →
+    performed_on (primitive_of (argument 0 arguments)) W64 arguments forms ≡ Some (record { value = value; forced = true; printed = []; after = in_order forms }) →
+    performed_on (primitive_of (argument 0 arguments)) W128 arguments forms ≡ Some (record { value = value; forced = true; printed = []; after = in_order forms }) →
+    Forces arguments forms value
+forces_value arguments forms value narrow wide W64 = forces_in W64 arguments forms value narrow
+forces_value arguments forms value narrow wide W128 = forces_in W128 arguments forms value wide

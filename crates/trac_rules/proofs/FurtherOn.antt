@@ -6,7 +6,7 @@ use Rattle.std.specs.Option.{unwrap_or}
 use Rattle.std.proofs.Math.Seq.{take-append-add}
 use Rattle.std.proofs.lemmas.Bool.{and_from, and_parts, cases_Bool, le-leb, leb-true}
 use Rattle.std.proofs.lemmas.List.{length-append}
-use Rattle.trac_rules.specs.Records.{CallRecord, Record, Moved, Comma, Begun, Quoted, Deleted, Idle, Called, IsOfScanning, Rest, Texts, all_before_last, further_on, put_together, rest_before, rest_of, restored, state_of, texts_before, texts_in}
+use Rattle.trac_rules.specs.Records.{CallRecord, Record, Called, IsOfScanning, Rest, Texts, all_before_last, further_on, put_together, rest_before, rest_of, restored, state_of, texts_before, texts_in}
 use Rattle.trac_rules.specs.State.{State, Storage, storage_of}
 use Rattle.trac_rules.specs.Undone.{storage_before}
 use Rattle.trac_rules.proofs.Restored.{elsewhere, restored-elsewhere}
@@ -90,10 +90,5 @@ call_further_on k o call s t back =
 
 -- each record
 pub restored-further_on : (r : Record) (s t : State) (k : ℕ) (o : List ℕ) → restored r t ≡ Some s → restored r (further_on k o t) ≡ Some (further_on k o s)
-restored-further_on Moved s t k o back = scanning_further_on k o Moved s t tt back
-restored-further_on Comma s t k o back = scanning_further_on k o Comma s t tt back
-restored-further_on Begun s t k o back = scanning_further_on k o Begun s t tt back
-restored-further_on (Quoted inner closed) s t k o back = scanning_further_on k o (Quoted inner closed) s t tt back
-restored-further_on (Deleted b) s t k o back = scanning_further_on k o (Deleted b) s t tt back
-restored-further_on (Idle base frames) s t k o back = scanning_further_on k o (Idle base frames) s t tt back
 restored-further_on (Called call) s t k o back = call_further_on k o call s t back
+restored-further_on other s t k o back = scanning_further_on k o other s t tt back

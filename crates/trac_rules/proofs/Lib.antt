@@ -33,7 +33,6 @@ pub mod FurtherOn
 pub mod Weighed
 pub mod CallsWeighed
 pub mod Bounded
-pub mod Losses
 pub mod CallRows
 pub mod MovedOn
 pub mod Released

@@ -5,7 +5,7 @@ use Rattle.std.proofs.lemmas.List.{append-nil, length-drop, drop-append-le, take
 use Rattle.std.proofs.lemmas.Bool.{cases_Bool}
 use Rattle.std.proofs.lemmas.List.Quantifiers.{position-Some}
 use Rattle.trac_rules.specs.declared.primitive.Primitive.{Primitive}
-use Rattle.trac_rules.specs.declared.primitive.Primitive.TheVariants.{PrintString, ReadString, ReadByte, Halt, SetMeta, SetTrace, Compute, Handle, HandleBlock, Unknown}
+use Rattle.trac_rules.specs.declared.primitive.Primitive.TheVariants.{ReadString, ReadByte}
 use Rattle.trac_rules.specs.declared.refusal.Refusal.TheVariants.{NeedInput}
 use Rattle.trac_rules.specs.declared.width.Width.{Width}
 use Rattle.trac_rules.specs.State.{Environment, State, Storage, Tape, storage_of}
@@ -79,7 +79,6 @@ byte_some (b ∷ text) storage wanted = omega arith
 -- what a primitive does without more input it does with more
 effect_of-more : (primitive : Primitive) (e : Environment) (more : List ℕ) (ended : Bool) (arguments : List (List ℕ)) (s : State) → e.tape.ended ≡ false →
     (effect_of primitive e arguments s ≡ Err NeedInput → ⊥) → effect_of primitive (grown more ended e) arguments s ≡ effect_of primitive e arguments s
-effect_of-more PrintString e more ended arguments s unended wanted = refl
 effect_of-more ReadString e more ended arguments s unended wanted =
     let text : List ℕ = unread e.tape s in
     let open_tape : string_read text e.tape.ended s.meta (storage_of s) ≡ string_read text false s.meta (storage_of s) =
@@ -95,13 +94,7 @@ effect_of-more ReadByte e more ended arguments s unended wanted =
     ap (λ (all : List ℕ). byte_read all ended (storage_of s)) (unread_some e.tape more s (byte_some text (storage_of s) (λ none. wanted (open_tape ∙ none))))
     ∙ byte_read-more more text ended (storage_of s) (λ none. wanted (open_tape ∙ none))
     ∙ sym open_tape
-effect_of-more Halt e more ended arguments s unended wanted = refl
-effect_of-more SetMeta e more ended arguments s unended wanted = refl
-effect_of-more (SetTrace trace) e more ended arguments s unended wanted = refl
-effect_of-more (Compute computation) e more ended arguments s unended wanted = refl
-effect_of-more (Handle action) e more ended arguments s unended wanted = refl
-effect_of-more (HandleBlock action) e more ended arguments s unended wanted = refl
-effect_of-more Unknown e more ended arguments s unended wanted = refl
+effect_of-more other e more ended arguments s unended wanted = refl
 
 -- and so does a call
 performed-more : (e : Environment) (more : List ℕ) (ended : Bool) (call : Call) → e.tape.ended ≡ false → (performed e call ≡ Err NeedInput → ⊥) →

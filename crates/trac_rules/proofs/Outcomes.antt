@@ -1,10 +1,10 @@
 -- Outcomes that are limited, and seen in another way.
-use Rattle.std.proofs.Common.{◌≡◌, Bool, true, false, refl, sym, ap, ◌∙◌, inl, inr, ⊎_elim}
+use Rattle.std.proofs.Common.{◌≡◌, Bool, true, false, refl, sym, ap, ◌∙◌, subst, inl, inr, ⊎_elim}
 use Rattle.std.specs.Prelude.{Result, Ok, Err, ◌⊎◌}
 use Rattle.std.proofs.lemmas.Bool.{cases_Bool}
 use Rattle.trac_rules.specs.declared.refusal.Refusal.{Refusal}
 use Rattle.trac_rules.specs.declared.refusal.Refusal.TheVariants.{TooLong}
-use Rattle.trac_rules.specs.Outcomes.{limited, seen_as}
+use Rattle.trac_rules.specs.Outcomes.{MayLackMemory, limited, seen_as}
 
 -- what fits is the outcome
 pub limited_within : {T : Type 0} (fits : T → Bool) (t : T) → fits t ≡ true → limited fits (Ok t) ≡ Ok t
@@ -13,6 +13,14 @@ limited_within fits t h = rw h refl
 -- anything else is refused
 pub limited_beyond : {T : Type 0} (fits : T → Bool) (t : T) → fits t ≡ false → limited fits (Ok t) ≡ Err TooLong
 limited_beyond fits t h = rw h refl
+
+-- so where something is judged by a test alone, memory may be refused in either case
+pub lacks_limited : {T : Type 0} (fits : T → Bool) (t : T) → MayLackMemory (limited fits (Ok t))
+lacks_limited fits t =
+    ⊎_elim
+    (λ (w : fits t ≡ true). subst MayLackMemory (sym (limited_within fits t w)) tt)
+    (λ (w : fits t ≡ false). subst MayLackMemory (sym (limited_beyond fits t w)) tt)
+    (cases_Bool (fits t))
 
 -- an outcome is what came of it, and fits
 pub limited_Ok : {T : Type 0} (fits : T → Bool) (x : Result T Refusal) (t : T) → limited fits x ≡ Ok t → (x ≡ Ok t) × (fits t ≡ true)

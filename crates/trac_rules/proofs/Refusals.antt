@@ -7,7 +7,7 @@ use Rattle.trac_rules.specs.declared.limit.TheConstants.{TEXT_LIMIT, MARK_LIMIT,
 use Rattle.trac_rules.specs.declared.kind.Kind.{Kind}
 use Rattle.trac_rules.specs.declared.kind.Kind.TheVariants.{Active, Neutral}
 use Rattle.trac_rules.specs.declared.primitive.Primitive.{Primitive}
-use Rattle.trac_rules.specs.declared.primitive.Primitive.TheVariants.{PrintString, ReadString, ReadByte, Halt, SetMeta, SetTrace, Compute, Handle, HandleBlock, Unknown}
+use Rattle.trac_rules.specs.declared.primitive.Primitive.TheVariants.{ReadString, ReadByte, Halt, Handle, HandleBlock}
 use Rattle.trac_rules.specs.declared.refusal.Refusal.{Refusal}
 use Rattle.trac_rules.specs.declared.refusal.Refusal.TheVariants.{TooLong, NeedInput, Ended}
 use Rattle.trac_rules.specs.State.{Environment, Frame, State, Storage, Tape, storage_of}
@@ -63,19 +63,15 @@ MayStop tape refusal = (refusal ≡ TooLong) ⊎ MayWant tape refusal
 -- why a primitive is refused
 effect_refusals : (primitive : Primitive) (e : Environment) (arguments : List (List ℕ)) (s : State) (refusal : Refusal) →
     effect_of primitive e arguments s ≡ Err refusal → MayStop e.tape refusal
-effect_refusals PrintString e arguments s r h = absurd (cc)
 effect_refusals ReadString e arguments s r h =
     inr (up_to_refusals e.tape (position (λ b. b == s.meta) (unread e.tape s)) (unread e.tape s) (storage_of s) r h)
 effect_refusals ReadByte e arguments s r h = inr (byte_refusals e.tape (unread e.tape s) (storage_of s) r h)
 effect_refusals Halt e arguments s r h = inr (inr (let end : r ≡ Ended = cc in end))
-effect_refusals SetMeta e arguments s r h = absurd (cc)
-effect_refusals (SetTrace trace) e arguments s r h = absurd (cc)
-effect_refusals (Compute computation) e arguments s r h = absurd (cc)
 effect_refusals (Handle action) e arguments s r h =
     inl (looks_refusals (handled action e.width arguments (storage_of s)) r (handled_looks action e.width arguments (storage_of s)) h)
 effect_refusals (HandleBlock action) e arguments s r h =
     inl (looks_refusals (block_handled action arguments (storage_of s)) r (block_handled_looks action arguments (storage_of s)) h)
-effect_refusals Unknown e arguments s r h = absurd (cc)
+effect_refusals other e arguments s r h = absurd (cc)
 
 -- why a call is refused
 performed_refusals : (e : Environment) (call : Call) (refusal : Refusal) → performed e call ≡ Err refusal → MayStop e.tape refusal
@@ -152,24 +148,19 @@ byte_there (b ∷ rest) ended storage some h = cc
 effect_long : (primitive : Primitive) (e : Environment) (more : List ℕ) (arguments : List (List ℕ)) (s : State) → s.position ≤ length e.tape.bytes →
     0 < length (unread e.tape s) → effect_of primitive e arguments s ≡ Err NeedInput →
     IsLong (length (unread e.tape s)) (effect_of primitive (lengthened more e) arguments s)
-effect_long PrintString e more arguments s l some h = absurd (cc)
 effect_long ReadString e more arguments s l some h =
     let text = unread e.tape s in
     let none : position (λ b. b == s.meta) text ≡ None = wants_none text (position (λ b. b == s.meta) text) e.tape.ended (storage_of s) h in
     rw (unread-whole e.tape more s l) (up_to_long text more (position (λ b. b == s.meta) (text ++ more)) (storage_of s) some
     (λ k at. position-append_None (λ b. b == s.meta) text more k none at))
 effect_long ReadByte e more arguments s l some h = absurd (byte_there (unread e.tape s) e.tape.ended (storage_of s) some h)
-effect_long Halt e more arguments s l some h = absurd (cc)
-effect_long SetMeta e more arguments s l some h = absurd (cc)
-effect_long (SetTrace trace) e more arguments s l some h = absurd (cc)
-effect_long (Compute computation) e more arguments s l some h = absurd (cc)
 effect_long (Handle action) e more arguments s l some h =
     let long : NeedInput ≡ TooLong = looks_refusals (handled action e.width arguments (storage_of s)) NeedInput (handled_looks action e.width arguments (storage_of s)) h in
     absurd (cc)
 effect_long (HandleBlock action) e more arguments s l some h =
     let long : NeedInput ≡ TooLong = looks_refusals (block_handled action arguments (storage_of s)) NeedInput (block_handled_looks action arguments (storage_of s)) h in
     absurd (cc)
-effect_long Unknown e more arguments s l some h = absurd (cc)
+effect_long other e more arguments s l some h = absurd (cc)
 
 -- a line of the trace before it leaves the value
 traced_long : (n : ℕ) (line : List ℕ) (outcome : Result Effect Refusal) → IsLong n outcome → IsLong n (seen_as (printed_after line) outcome)

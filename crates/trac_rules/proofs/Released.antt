@@ -12,7 +12,7 @@ use Rattle.trac_rules.specs.declared.scan.Front.TheVariants as front
 use Rattle.trac_rules.specs.Limits.{texts_fit, text_bytes, marks}
 use Rattle.trac_rules.specs.Outcomes.{limited, seen_as}
 use Rattle.trac_rules.specs.Proper.{IsProper}
-use Rattle.trac_rules.specs.Records.{CallRecord, Record, Moved, Comma, Begun, Quoted, Deleted, Idle, Called, IsOfScanning, Rest, all_before_last, comma_recorded, put_together, recorded_at, rest_before, rest_of, restored, state_before, texts_before, texts_in}
+use Rattle.trac_rules.specs.Records.{CallRecord, Record, Called, IsOfScanning, Rest, all_before_last, comma_recorded, put_together, recorded_at, rest_before, rest_of, restored, state_before, texts_before, texts_in}
 use Rattle.trac_rules.specs.Running.{silent}
 use Rattle.trac_rules.specs.Scanning.{Scanned, Moves, Calls, front_of, scan}
 use Rattle.trac_rules.specs.Fronts.{IsFrontOf}
@@ -150,13 +150,8 @@ call-released o k call s t read printed back =
 
 restored-released : (o k : ℕ) (r : Record) (s t : State) → k ≤ s.position → o ≤ length s.output → restored r t ≡ Some s →
     restored r (released o k t) ≡ Some (released o k s)
-restored-released o k Moved s t read printed back = scanning-released o k Moved s t tt back
-restored-released o k Comma s t read printed back = scanning-released o k Comma s t tt back
-restored-released o k Begun s t read printed back = scanning-released o k Begun s t tt back
-restored-released o k (Quoted inner closed) s t read printed back = scanning-released o k (Quoted inner closed) s t tt back
-restored-released o k (Deleted b) s t read printed back = scanning-released o k (Deleted b) s t tt back
-restored-released o k (Idle base frames) s t read printed back = scanning-released o k (Idle base frames) s t tt back
 restored-released o k (Called call) s t read printed back = call-released o k call s t read printed back
+restored-released o k other s t read printed back = scanning-released o k other s t tt back
 
 -- the state before a released state is the released state before
 pub before-released : (o k : ℕ) (r : Record) (s t : State) → k ≤ s.position → o ≤ length s.output → state_before r t ≡ Some s →

@@ -160,15 +160,12 @@ closing_goes_back (f ∷ fs) s e = tt
 
 -- each rule
 goes_back_at : (at : Front) (s : State) → BeginsSo at s.active → GoesBack s (recorded_at at s) (scan_at at s)
-goes_back_at front.Nothing s e = ap (λ (text : List ℕ). Some (record s { active = text })) (sym e)
 goes_back_at front.Opening s e = protected_goes_back s e
-goes_back_at front.Layout s e = ap (λ (text : List ℕ). Some (record s { active = text })) (sym e)
 goes_back_at front.Comma s e = comma_goes_back s.frames s e
-goes_back_at front.ActiveCall s e = ap (λ (text : List ℕ). Some (record s { active = text })) (sym e)
-goes_back_at front.NeutralCall s e = ap (λ (text : List ℕ). Some (record s { active = text })) (sym e)
 goes_back_at front.Sharp s e = first_goes_back s e
 goes_back_at front.Closing s e = closing_goes_back s.frames s e
 goes_back_at front.Plain s e = first_goes_back s e
+goes_back_at other s e = ap (λ (text : List ℕ). Some (record s { active = text })) (sym e)
 
 scan_goes_back : (s : State) → GoesBack s (recorded s) (scan s)
 unfolding scan

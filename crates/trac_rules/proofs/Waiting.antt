@@ -3,7 +3,7 @@ use Rattle.std.proofs.Common.{◌≡◌, ℕ, ◌-◌, ◌<◌, ◌≤◌, Bool,
 use Rattle.std.specs.Prelude.{None, Err, position, ◌==◌}
 use Rattle.std.proofs.lemmas.List.{drop-append-le, drop_all, length-drop}
 use Rattle.trac_rules.specs.declared.primitive.Primitive.{Primitive}
-use Rattle.trac_rules.specs.declared.primitive.Primitive.TheVariants.{PrintString, ReadString, ReadByte, Halt, SetMeta, SetTrace, Compute, Handle, HandleBlock, Unknown}
+use Rattle.trac_rules.specs.declared.primitive.Primitive.TheVariants.{ReadString, ReadByte}
 use Rattle.trac_rules.specs.declared.refusal.Refusal.TheVariants.{TooLong, NeedInput, JournalFull}
 use Rattle.trac_rules.specs.State.{Environment, State, storage_of}
 use Rattle.trac_rules.specs.Scanning.{Call, Scanned, Moves, Calls, scan}
@@ -44,20 +44,13 @@ string_waits text more ended s unended none_yet none =
 -- a primitive that waits though a byte is unread waits for the meta character
 effect_waits : (primitive : Primitive) (e : Environment) (more : List ℕ) (arguments : List (List ℕ)) (s : State) → e.tape.ended ≡ false → s.position < length e.tape.bytes → IsWithoutMeta s more →
     effect_of primitive e arguments s ≡ Err NeedInput → effect_of primitive (fed_more more e) arguments s ≡ Err NeedInput
-effect_waits PrintString e more arguments s unended l none h = h
 effect_waits ReadString e more arguments s unended l none h =
     let text = unread e.tape s in
     ap (λ (t : List ℕ). string_read t e.tape.ended s.meta (storage_of s)) (drop-append-le s.position e.tape.bytes more (omega (arith, l)))
     ∙ string_waits text more e.tape.ended s unended (wants_none text (position (λ b. b == s.meta) text) e.tape.ended (storage_of s) h) none
 effect_waits ReadByte e more arguments s unended l none h =
     absurd (byte_there (unread e.tape s) e.tape.ended (storage_of s) (omega (arith, l, length-drop s.position e.tape.bytes)) h)
-effect_waits Halt e more arguments s unended l none h = h
-effect_waits SetMeta e more arguments s unended l none h = h
-effect_waits (SetTrace trace) e more arguments s unended l none h = h
-effect_waits (Compute computation) e more arguments s unended l none h = h
-effect_waits (Handle action) e more arguments s unended l none h = h
-effect_waits (HandleBlock action) e more arguments s unended l none h = h
-effect_waits Unknown e more arguments s unended l none h = h
+effect_waits other e more arguments s unended l none h = h
 
 -- and so does a call
 performed_waits : (e : Environment) (more : List ℕ) (call : Call) → e.tape.ended ≡ false → call.state.position < length e.tape.bytes → IsWithoutMeta call.state more →

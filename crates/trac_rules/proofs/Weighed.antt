@@ -25,14 +25,9 @@ closing_within (f ∷ fs) s moves = absurd (cc)
 
 weight_within_at : (at : Front) (s : State) → name_called (scan_at at s) ≡ None → weight (recorded_at at s) ≤ loss_at at s
 weight_within_at front.Nothing s moves = omega (arith, frames_weight_is s.frames)
-weight_within_at front.Opening s moves = omega arith
-weight_within_at front.Layout s moves = omega arith
 weight_within_at front.Comma s moves = comma_within s.frames s
-weight_within_at front.ActiveCall s moves = omega arith
-weight_within_at front.NeutralCall s moves = omega arith
-weight_within_at front.Sharp s moves = omega arith
 weight_within_at front.Closing s moves = closing_within s.frames s moves
-weight_within_at front.Plain s moves = omega arith
+weight_within_at other s moves = omega arith
 
 pub weight_within : (s : State) → call_at s ≡ None → weight (recorded s) ≤ loss s
 unfolding scan

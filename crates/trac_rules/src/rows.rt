@@ -60,7 +60,6 @@ pub fn worked_rows()
     ensures resumed_replies { replies_to (Feed (codes "AB") ∷ replicate 8 Step ++ Feed (codes "'") ∷ Step ∷ Back ∷ Feed (codes "C'") ∷ Step ∷ []) (new_session 64 W128) ≡ replicate 8 Done ++ Refused NeedInput ∷ replicate 5 Done }
     ensures resumed_active { (state_after (Feed (codes "AB") ∷ replicate 8 Step ++ Feed (codes "'") ∷ Step ∷ []) (new_session 64 W128)).active ≡ codes "AB)" }
     ensures resumed_position { (state_after (Feed (codes "AB") ∷ replicate 8 Step ++ Feed (codes "'") ∷ Step ∷ []) (new_session 64 W128)).position ≡ 3 }
-    ensures resumed_again { state_after (Feed (codes "AB") ∷ replicate 8 Step ++ Feed (codes "'") ∷ Step ∷ Back ∷ Feed (codes "C'") ∷ Step ∷ []) (new_session 64 W128) ≡ state_after (Feed (codes "AB") ∷ replicate 8 Step ++ Feed (codes "'") ∷ Step ∷ []) (new_session 64 W128) }
     // A full journal refuses a step, until it is emptied.
     ensures full_journal { replies_to (Feed (codes "AB'") ∷ replicate 5 Step ++ Commit 0 ∷ Step ∷ Back ∷ Back ∷ []) (new_session 4 W128) ≡ replicate 5 Done ++ Refused JournalFull ∷ Done ∷ Done ∷ Done ∷ Refused AtStart ∷ [] }
     // After the end of the input nothing is fed, and the rest is read without a meta character.
@@ -70,8 +69,15 @@ pub fn worked_rows()
     // Every kind of command, with refusals between them.
     ensures all_kinds_replies { replies_to (Feed (codes "AB'") ∷ replicate 5 Step ++ Back ∷ End ∷ Feed (codes "C") ∷ Commit 0 ∷ Back ∷ []) (new_session 4 W128) ≡ replicate 5 Done ++ Refused JournalFull ∷ Done ∷ Done ∷ Refused Closed ∷ Done ∷ Refused AtStart ∷ [] }
     ensures all_kinds_active { (state_after (Feed (codes "AB'") ∷ replicate 5 Step ++ Back ∷ End ∷ Feed (codes "C") ∷ Commit 0 ∷ Back ∷ []) (new_session 4 W128)).active ≡ codes ",#(rs))" }
+{}
+
+/// Sessions as runs and walks.
+pub fn worked_walks()
+    // A step that waited for input and is taken again after a step back and more input leads to the same state.
+    ensures resumed_again { state_after (Feed (codes "AB") ∷ replicate 8 Step ++ Feed (codes "'") ∷ Step ∷ Back ∷ Feed (codes "C'") ∷ Step ∷ []) (new_session 64 W128) ≡ state_after (Feed (codes "AB") ∷ replicate 8 Step ++ Feed (codes "'") ∷ Step ∷ []) (new_session 64 W128) }
+    // Every kind of command, with refusals between them.
     ensures all_kinds_run { Run (Feed (codes "AB'") ∷ replicate 5 Step ++ Back ∷ End ∷ Feed (codes "C") ∷ Commit 0 ∷ Back ∷ []) (replicate 5 Done ++ Refused JournalFull ∷ Done ∷ Done ∷ Refused Closed ∷ Done ∷ Refused AtStart ∷ []) (new_session 4 W128) (session_after (Feed (codes "AB'") ∷ replicate 5 Step ++ Back ∷ End ∷ Feed (codes "C") ∷ Commit 0 ∷ Back ∷ []) (new_session 4 W128)) }
-    // The same as walks, whose length and ending are told.
+    // Walks, whose length and ending are told.
     ensures walk_there { IsWalk Step no_goal 11 (session_after (Feed (codes "AB'") ∷ []) (new_session 64 W128)) 11 None (session_after (Feed (codes "AB'") ∷ replicate 11 Step) (new_session 64 W128)) }
     ensures walk_back { IsWalk Back no_goal 10 (session_after (Feed (codes "AB'") ∷ replicate 11 Step ++ Back ∷ []) (new_session 64 W128)) 10 None (session_after (Feed (codes "AB'") ∷ []) (new_session 64 W128)) }
     ensures walk_at_start { IsWalk Back no_goal 1 (session_after (Feed (codes "AB'") ∷ []) (new_session 64 W128)) 0 (Some AtStart) (session_after (Feed (codes "AB'") ∷ []) (new_session 64 W128)) }

@@ -19,6 +19,7 @@ use Rattle.trac_rules.proofs.Restored.{moved_back-gather, restored_of_before}
 use Rattle.trac_rules.proofs.Scans.{gathered_in_shows}
 use Rattle.trac_journal.specs.Told.{sum_by}
 use Rattle.trac_journal.proofs.Counted.{moved_sum, sum_by-append}
+use Rattle.trac_journal.proofs.Ends.{length-last}
 use Rattle.trac_step.proofs.Rooms.{HasRoom-kept, no_less_state}
 use Rattle.trac_step.specs.Layout.{Shown}
 use Rattle.trac_step.specs.Room.{HasRoom, IsNoLess}
@@ -119,9 +120,18 @@ moved_on-back n s within =
     ∙ moved_back-gather s.frames (take n s.active) [] (deleted n s)
     ∙ ap (λ (text : List ℕ). Some (record s { active = text })) (take-append-drop n s.active)
 
--- the last n bytes of a text are so many
-length-last_of : (n : ℕ) (text : List ℕ) → n ≤ length text → length (last_of n text) ≡ n
-length-last_of n text within = omega (arith, length-drop (length text - n) text)
+-- the last n bytes of a text, put before another one, can be taken from its beginning again
+module _ (n : ℕ) (text active : List ℕ) (within : n ≤ length text) where
+  enough : n ≤ length (last_of n text ++ active)
+  enough = omega (arith, length-last n text within, length-append (last_of n text) active)
+
+  left : drop n (last_of n text ++ active) ≡ active
+  left = drop_at (last_of n text) active n (length-last n text within)
+
+  whole : all_before_last n text ++ take n (last_of n text ++ active) ≡ text
+  whole =
+      ap (λ (xs : List ℕ). all_before_last n text ++ xs) (take_at (last_of n text) active n (length-last n text within))
+      ∙ take-append-drop (length text - n) text
 
 -- a state from which so many bytes went back is where they have moved on to
 abbrev IsThere : ℕ → State → State → Type 0
@@ -132,22 +142,12 @@ moved_there n s t back = by_frames t.frames back
   where
     base_there : n ≤ length t.base → IsThere n (put_before (last_of n t.base) (record t { base = all_before_last n t.base; frames = [] })) (record t { frames = [] })
     base_there within =
-        let count : length (last_of n t.base) ≡ n = length-last_of n t.base within in
-        let taken : take n (last_of n t.base ++ t.active) ≡ last_of n t.base = take_at (last_of n t.base) t.active n count in
-        let left : drop n (last_of n t.base ++ t.active) ≡ t.active = drop_at (last_of n t.base) t.active n count in
-        let whole : all_before_last n t.base ++ take n (last_of n t.base ++ t.active) ≡ t.base =
-        ap (λ (text : List ℕ). all_before_last n t.base ++ text) taken ∙ take-append-drop (length t.base - n) t.base in
-        (sym (λ i. record t { active = left i; base = whole i; frames = [] }), omega (arith, count, length-append (last_of n t.base) t.active))
+        (sym (λ i. record t { active = left n t.base t.active within i; base = whole n t.base t.active within i; frames = [] }), enough n t.base t.active within)
 
     gathered_there : (f : Frame) (fs : List Frame) → n ≤ length f.gathered →
         IsThere n (put_before (last_of n f.gathered) (record t { frames = record f { gathered = all_before_last n f.gathered } ∷ fs })) (record t { frames = f ∷ fs })
     gathered_there f fs within =
-        let count : length (last_of n f.gathered) ≡ n = length-last_of n f.gathered within in
-        let taken : take n (last_of n f.gathered ++ t.active) ≡ last_of n f.gathered = take_at (last_of n f.gathered) t.active n count in
-        let left : drop n (last_of n f.gathered ++ t.active) ≡ t.active = drop_at (last_of n f.gathered) t.active n count in
-        let whole : all_before_last n f.gathered ++ take n (last_of n f.gathered ++ t.active) ≡ f.gathered =
-        ap (λ (text : List ℕ). all_before_last n f.gathered ++ text) taken ∙ take-append-drop (length f.gathered - n) f.gathered in
-        (sym (λ i. record t { active = left i; frames = record f { gathered = whole i } ∷ fs }), omega (arith, count, length-append (last_of n f.gathered) t.active))
+        (sym (λ i. record t { active = left n f.gathered t.active within i; frames = record f { gathered = whole n f.gathered t.active within i } ∷ fs }), enough n f.gathered t.active within)
 
     by_test : (b : Bool) (u v : State) → then_some b u ≡ Some s → (b ≡ true → IsThere n u v) → IsThere n s v
     by_test true u v h there = let same : u ≡ s = cc in subst (λ (x : State). IsThere n x v) same (there refl)

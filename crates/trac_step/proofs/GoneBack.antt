@@ -1,9 +1,10 @@
 -- What the newest record of a journal tells, and that the machine can go back over it.
 use Rattle.std.proofs.Common.{◌≡◌, List, [], ◌∷◌, sym, ap, ◌∙◌, subst}
 use Rattle.std.specs.Prelude.{Option, None, Some, IsSomeAnd, MatchOption}
-use Rattle.trac_rules.specs.Records.{Called, CallRecord, Record, restored, state_before}
+use Rattle.trac_rules.specs.Proper.{IsProper}
+use Rattle.trac_rules.specs.Records.{Called, CallRecord, Record, restored, restored_call, state_before}
 use Rattle.trac_rules.specs.State.{State}
-use Rattle.trac_rules.specs.Undone.{Undone}
+use Rattle.trac_rules.specs.Undone.{Nothing, Undone}
 use Rattle.trac_journal.specs.declared.called.Called as code
 use Rattle.trac_journal.specs.declared.called.Short.{Short}
 use Rattle.trac_journal.specs.declared.told.Lost.{Lost}
@@ -13,8 +14,9 @@ use Rattle.trac_text.specs.Pieces.{Arguments, all_texts}
 use Rattle.trac_journal.specs.Told.{IsLost, IsTold, record_with, said_by}
 use Rattle.trac_step.specs.Kept.{CanGoBack, HasCallOut, HasGoneBack, IsCallFirst, IsIdleFirst}
 use Rattle.trac_step.specs.Layout.{Shown}
-use Rattle.trac_step.specs.Room.{HasRoom}
-use Rattle.trac_step.specs.Undoing.{CanShow}
+use Rattle.trac_step.specs.Room.{HasRoom, IsNoLess}
+use Rattle.trac_step.specs.Undoing.{CanRestore, CanShow, IsBegunAgain, IsRestored}
+use Rattle.trac_step.proofs.CallsUndone.{all_back, can_begin, can_restore, no_less_back}
 use Rattle.trac_step.proofs.ScanningBack.{before_is_restored, can_show_before}
 
 -- ---- the newest record
@@ -80,3 +82,33 @@ module _ (m : Shown) (records : List Record) (known : Record) (is : IsFirst reco
 
   pub gone_back : (s : State) (new : List Record) → restored known m.state ≡ Some s → records ≡ known ∷ new → HasGoneBack m.state s records new
   gone_back s new back taken = record { newest = known; leads_back = before_is_restored known m m.state s room_before back; taken = taken }
+
+-- ---- it is the record of a call
+
+module _ (m : Shown) (records : List Record) (n : Newest) (called : code.Called) (a : Arguments) (same : n ≡ newest.Call called a) (tells : Tells records n) (can : CanGoBack m records)
+    (proper : IsProper m.state) (room : HasRoom m m.state) where
+  told : (undone : Undone) × IsFirst records (Called (record_with called (all_texts a) undone))
+  told = call_told records n called a same tells
+
+  there : CanShow m (restored (Called (record_with called (all_texts a) told.0)) m.state)
+  there = can_show m records _ told.1 can
+
+  pub call_begins : CanShow m (restored_call (record_with called (all_texts a) Nothing) m.state)
+  call_begins = can_begin called (all_texts a) told.0 m proper room there
+
+  module _ (begun : Shown) (again : IsBegunAgain called (all_texts a) m begun) (undone : Undone) (new : List Record) (out : HasCallOut undone records new) where
+    destroyed : (undone ≡ told.0) × (records ≡ Called (record_with called (all_texts a) told.0) ∷ new)
+    destroyed = same_undone records new _ undone told.1 out
+
+    pub call_restores : CanRestore undone begun
+    call_restores = subst (λ x. CanRestore x begun) (sym destroyed.0) (can_restore called (all_texts a) told.0 m proper room there begun again)
+
+    module _ (k : Shown) (is : IsRestored undone begun k) where
+      is_restored : IsRestored told.0 begun k
+      is_restored = subst (λ x. IsRestored x begun k) destroyed.0 is
+
+      pub call_gone_back : HasGoneBack m.state k.state records new
+      call_gone_back = gone_back m records _ told.1 can k.state new (all_back called (all_texts a) told.0 m proper room there begun again k is_restored) destroyed.1
+
+      pub call_no_less : IsNoLess m k
+      call_no_less = no_less_back called (all_texts a) told.0 m proper room there begun again k is_restored

@@ -9,8 +9,7 @@ use Rattle.trac_rules.specs.Scanning.{Scanned, Moves, scan}
 use Rattle.trac_rules.specs.Limits.{texts_fit}
 use Rattle.trac_rules.specs.Outcomes.{limited, MayLackMemory, MayRefuse}
 use Rattle.trac_rules.specs.Stepping.{step, carried_out}
-use Rattle.trac_rules.proofs.Outcomes.{limited_beyond, limited_within}
-use Rattle.trac_storage.proofs.Outcomes.{lacks_limited}
+use Rattle.trac_rules.proofs.Outcomes.{lacks_limited, limited_beyond, limited_within}
 use Rattle.trac_step.specs.Calling.{IfMoves, IsMove}
 use Rattle.trac_step.proofs.Scans.{moves_of}
 

@@ -4,19 +4,11 @@ use Rattle.std.specs.Prelude.{Result, Ok, Err}
 use Rattle.trac_rules.specs.declared.refusal.Refusal.{Refusal}
 use Rattle.trac_rules.specs.declared.refusal.Refusal.TheVariants.{Memory, TooLong}
 use Rattle.trac_rules.specs.Outcomes.{limited, MayLackMemory, MayRefuse}
-use Rattle.trac_rules.proofs.Outcomes.{limited_Err, limited_beyond, limited_within}
+use Rattle.trac_rules.proofs.Outcomes.{lacks_limited, limited_Err, limited_beyond, limited_within}
 
 -- memory, where it may be refused
 pub refuses_memory : {T : Type 0} (outcome : Result T Refusal) (e : Refusal) → e ≡ Memory → MayLackMemory outcome → MayRefuse outcome e
 refuses_memory outcome e is lacks = subst (MayRefuse outcome) (sym is) lacks
-
--- where something is judged by a test alone, memory may be refused in either case
-pub lacks_limited : {T : Type 0} (fits : T → Bool) (t : T) → MayLackMemory (limited fits (Ok t))
-lacks_limited fits t = lacks_by (fits t) refl
-  where
-    lacks_by : (b : Bool) → b ≡ fits t → MayLackMemory (limited fits (Ok t))
-    lacks_by true e = subst MayLackMemory (sym (limited_within fits t (sym e))) tt
-    lacks_by false e = subst MayLackMemory (sym (limited_beyond fits t (sym e))) tt
 
 -- what is refused for a test is refused for another one that fails with it
 pub refuses_with : {T U : Type 0} (fits : T → Bool) (t : T) (fits_too : U → Bool) (u : U) (e : Refusal) → (fits t ≡ false → fits_too u ≡ false) →

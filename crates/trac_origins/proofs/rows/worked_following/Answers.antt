@@ -1,5 +1,5 @@
 -- Each clause is computed from the definitions.
-use Rattle.std.proofs.Common.{refl}
+use Rattle.std.proofs.Common.{rules}
 use Rattle.std.specs.Fmt.{digits}
 use Rattle.trac_origins.specs.Stepping.{origins}
 use Rattle.trac_rules.specs.Limits.{texts_fit}
@@ -11,26 +11,6 @@ use Rattle.trac_rules.specs.Session.{answer}
 use Rattle.trac_rules.specs.Stepping.{step}
 use Rattle.trac_origins.proofs.rows.worked_following.Goals as goal
 
-pub returns-clause-first_byte : goal.returns-clause-first_byte
+pub returns : goal.returns
 unfolding answer step texts_fit origins match_of scan performed calculated prefix_of numeral_of number_of whole_number is_greater sum_of difference_of product_of quotient_of digits
-returns-clause-first_byte c = refl
-
-pub returns-clause-second_byte : goal.returns-clause-second_byte
-unfolding answer step texts_fit origins match_of scan performed calculated prefix_of numeral_of number_of whole_number is_greater sum_of difference_of product_of quotient_of digits
-returns-clause-second_byte c = refl
-
-pub returns-clause-in_the_middle : goal.returns-clause-in_the_middle
-unfolding answer step texts_fit origins match_of scan performed calculated prefix_of numeral_of number_of whole_number is_greater sum_of difference_of product_of quotient_of digits
-returns-clause-in_the_middle c = refl
-
-pub returns-clause-name : goal.returns-clause-name
-unfolding answer step texts_fit origins match_of scan performed calculated prefix_of numeral_of number_of whole_number is_greater sum_of difference_of product_of quotient_of digits
-returns-clause-name c = refl
-
-pub returns-clause-idle_program : goal.returns-clause-idle_program
-unfolding answer step texts_fit origins match_of scan performed calculated prefix_of numeral_of number_of whole_number is_greater sum_of difference_of product_of quotient_of digits
-returns-clause-idle_program c = refl
-
-pub returns-clause-digit : goal.returns-clause-digit
-unfolding answer step texts_fit origins match_of scan performed calculated prefix_of numeral_of number_of whole_number is_greater sum_of difference_of product_of quotient_of digits
-returns-clause-digit c = refl
+returns c = search rules

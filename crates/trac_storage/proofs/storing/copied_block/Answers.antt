@@ -7,12 +7,12 @@ use Rattle.trac_rules.specs.declared.limit.TheConstants.{FORM_COUNT_LIMIT}
 use Rattle.trac_rules.specs.Form.{Form}
 use Rattle.trac_rules.specs.Outcomes.{limited}
 use Rattle.trac_rules.specs.State.{Held}
-use Rattle.trac_rules.proofs.Outcomes.{limited_beyond, limited_within}
+use Rattle.trac_rules.proofs.Outcomes.{lacks_limited, limited_beyond, limited_within}
 use Rattle.trac_forms.specs.Outcomes.{as_refusal}
 use Rattle.trac_change.specs.Changed.{named_forms}
 use Rattle.trac_storage.specs.Loading.{block_few, block_of, held_of}
 use Rattle.trac_storage.proofs.Entries.{over}
-use Rattle.trac_storage.proofs.Outcomes.{lacks_limited, refuses_memory}
+use Rattle.trac_storage.proofs.Outcomes.{refuses_memory}
 use Rattle.trac_storage.proofs.storing.copied_block.Goals as goal
 
 module _ {A : Type 0} (listed : Option (Vec (Vec ℕ A × Form) A)) (forms : Vec (Vec ℕ A × Form) A) (items : List (Vec ℕ A × Form)) (held : Held) (is : listed ≡ Some forms)

@@ -6,7 +6,7 @@ use Rattle.std.specs.List.{list_all}
 use Rattle.std.proofs.lemmas.Result.{err_from_is_err_and}
 use Rattle.trac_rules.specs.Outcomes.{MayRefuse, limited}
 use Rattle.trac_rules.specs.State.{Block, Forms, Storage, storage_of}
-use Rattle.trac_rules.proofs.Outcomes.{limited_beyond, limited_within}
+use Rattle.trac_rules.proofs.Outcomes.{lacks_limited, limited_beyond, limited_within}
 use Rattle.trac_forms.specs.Outcomes.{as_refusal}
 use Rattle.trac_forms.specs.Stored.{KnowsAll}
 use Rattle.trac_change.specs.Changed.{named_forms}
@@ -16,7 +16,7 @@ use Rattle.trac_storage.specs.Changing.{KnowsNamed}
 use Rattle.trac_storage.specs.Loading.{block_few, block_of, counts_fit, state_in}
 use Rattle.trac_storage.proofs.Loaded.{knows_forms}
 use Rattle.trac_storage.proofs.MovedForms.{knows_still}
-use Rattle.trac_storage.proofs.Outcomes.{lacks_limited, refuses_memory, refuses_with}
+use Rattle.trac_storage.proofs.Outcomes.{refuses_memory, refuses_with}
 use Rattle.trac_storage.proofs.Filling.{blocks_many, counts_kept, forms_many, whole_storage}
 use Rattle.trac_storage.proofs.storing.stored.Goals as goal
 

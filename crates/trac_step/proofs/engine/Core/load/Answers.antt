@@ -5,14 +5,14 @@ use Rattle.std.proofs.lemmas.Result.{err_from_is_err_and}
 use Rattle.trac_rules.specs.declared.kind.Kind.{Kind}
 use Rattle.trac_rules.specs.Outcomes.{MayRefuse, limited}
 use Rattle.trac_rules.specs.State.{storage_of}
-use Rattle.trac_rules.proofs.Outcomes.{limited_beyond, limited_within}
+use Rattle.trac_rules.proofs.Outcomes.{lacks_limited, limited_beyond, limited_within}
 use Rattle.trac_text.specs.Framing.{EachGathers, argument_count, function_bytes, functions_of}
 use Rattle.trac_step.specs.Layout.{IsSound, parts_of, shown_by}
 use Rattle.trac_storage.specs.Loading.{counts_fit, lengths_fit, parts_fit, state_in}
 use Rattle.trac_storage.proofs.Loaded.{all_fits, counts_fail, judged_apart, lengths_fail, proper_storage}
 use Rattle.trac_storage.proofs.Judged.{marks_within, text_within}
 use Rattle.trac_step.proofs.LoadedMachines.{shows_loaded, sound_loaded, store_made}
-use Rattle.trac_storage.proofs.Outcomes.{lacks_limited, refuses_memory, refuses_with}
+use Rattle.trac_storage.proofs.Outcomes.{refuses_memory, refuses_with}
 use Rattle.trac_step.proofs.Rooms.{HasRoom-parts}
 use Rattle.trac_step.proofs.engine.Core.load.Goals as goal
 
