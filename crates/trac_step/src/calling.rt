@@ -390,7 +390,8 @@ impl<E: TwoEnds<u8, A>, M: TwoEnds<Mark, A>, A: Allocator + Copy> Core<E, M, A> 
         Ok(())
     }
 
-    // The next step, where it performs a function, and its record is kept. Its texts are made in these buffers.
+    // The next step, where it performs a function, and its record is kept. Its texts are made in these buffers. The loop of a walk
+    // calls it, and has the steps of scanning in itself.
     #[inline(never)]
     pub(crate) fn call_step_into(
         &mut self,
