@@ -7,6 +7,7 @@ pub mod Counted
 pub mod Scanned
 pub mod CallsTold
 pub mod ValuesTold
+pub mod Unpassed
 pub mod StepsBack
 pub mod Spans
 pub mod Giving

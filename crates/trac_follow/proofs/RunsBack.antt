@@ -18,7 +18,9 @@ use Rattle.trac_session.specs.Runs.{HasMovedBack}
 use Rattle.trac_session.proofs.Walked.{repeated-from}
 use Rattle.trac_follow.specs.Offsets.{IsPlaced}
 use Rattle.trac_follow.proofs.Staying.{placed_before}
+use Rattle.trac_follow.specs.Passing.{IsUnpassed}
 use Rattle.trac_follow.proofs.StepsBack.{GoesBack, IsKnown, followed_on}
+use Rattle.trac_follow.proofs.Unpassed.{run_unpassed, unpassed_on}
 
 length-way : (n : ℕ) (s : State) → length (on_the_way n s) ≡ n
 length-way zero s = refl
@@ -106,6 +108,9 @@ module _ (width : Width) (old cur next : PlainSession) (place here there : Place
           carried = ap (λ (states : List State). (followed environment states place).origin) longer
               ∙ ap (λ (f : Followed). f.origin) (followed_on environment pre way place here stood.carried) ∙ over_way;
           stands = (item, ap (found_at next.last) is ∙ told.stood);
+          unpassed = subst (λ (states : List State). IsUnpassed environment states place) (sym longer)
+              (unpassed_on environment pre way place here stood.carried stood.unpassed
+              (run_unpassed environment next.last n here item (last_steps environment way next.earlier (moved_on n next.last) all) moved.within stands));
         };
   }
 

@@ -30,13 +30,14 @@ use Rattle.trac_origins.proofs.Unchanged.{Unchanged, calls_held, calls_unchanged
 use Rattle.trac_text.proofs.NeutralAgain.{function_bytes}
 use Rattle.trac_follow.specs.Items.{IsMeasured}
 use Rattle.trac_follow.specs.Offsets.{IsPlaced, bytes_left, left_by, neutral_bytes, offset}
-use Rattle.trac_follow.specs.Places.{is_in_text}
+use Rattle.trac_follow.specs.Places.{IsPassed, is_in_text}
 use Rattle.trac_follow.specs.Running.{StaysAt}
 use Rattle.trac_follow.proofs.CallsTold.{given_call, has_done, moves_done, output_carried, text_carried}
 use Rattle.trac_follow.proofs.Found.{byte_there}
 use Rattle.trac_follow.proofs.Offsets.{around_offset, called_offset, moved_offset, new_past, offset_before, stands_within}
 use Rattle.trac_follow.proofs.Renewed.{IsNew, around_it, called_new, moved_new}
 use Rattle.trac_follow.proofs.Scanned.{stays_carried}
+use Rattle.trac_follow.proofs.Unpassed.{stays_calling, stays_moving}
 
 -- ---- what stays
 
@@ -65,6 +66,7 @@ output_stays s bytes gap i l environment t item h stands placed = (
       (λ (calls : (call : Call) × (scan s ≡ Calls call)). output_carried environment s t calls.0 item h calls.1 environment.width refl i l)
       (step_scans environment s t h),
   aside bytes gap s (InOutput i) refl tt,
+  λ passed. passed,
 )
 
 measured_alike : (bytes : ℕ) (gap : Bool) (s t : State) (name : List ℕ) (i : ℕ) → items_of (finite.get t.forms name) ≡ items_of (finite.get s.forms name) →
@@ -75,7 +77,7 @@ measured_alike bytes gap s t name i same measured =
 pub form_stays_moving : (s : State) (name : List ℕ) → next_call s ≡ None → (bytes i : ℕ) (gap : Bool) → StaysAt s bytes gap (InForm name i)
 form_stays_moving s name none bytes i gap environment t item h stands placed =
     let same = moves_unchanged environment s t name i item h (moves_done environment s t none h) stands in
-    (same.carried, aside bytes gap s (InForm name i) refl (measured_alike bytes gap s t name i same.items placed.measured))
+    (same.carried, aside bytes gap s (InForm name i) refl (measured_alike bytes gap s t name i same.items placed.measured), λ passed. absurd (cc))
 
 pub form_unchanged : (s : State) (name : List ℕ) (kind : Kind) (arguments : List (List ℕ)) → IsCall (next_call s) kind arguments →
     may_put (primitive_of (argument 0 arguments)) (argument 1 arguments) name ≡ false →
@@ -89,7 +91,7 @@ pub form_stays_calling : (s : State) (name : List ℕ) (kind : Kind) (arguments 
     may_put (primitive_of (argument 0 arguments)) (argument 1 arguments) name ≡ false → (bytes i : ℕ) (gap : Bool) → StaysAt s bytes gap (InForm name i)
 form_stays_calling s name kind arguments is other bytes i gap environment t item h stands placed =
     let same = form_unchanged s name kind arguments is other i environment t item h stands in
-    (same.carried, aside bytes gap s (InForm name i) refl (measured_alike bytes gap s t name i same.items placed.measured))
+    (same.carried, aside bytes gap s (InForm name i) refl (measured_alike bytes gap s t name i same.items placed.measured), λ passed. absurd (cc))
 
 pub held_carried : (s : State) (number : ℕ) (name : List ℕ) (i : ℕ) → number < length s.blocks →
     (environment : Environment) (t : State) (item : Item) → step environment s ≡ Ok t → found_at t (InHeld number name i) ≡ Some item →
@@ -102,7 +104,7 @@ held_carried s number name i within environment t item h stands =
 
 pub held_stays : (s : State) (bytes : ℕ) (gap : Bool) (number : ℕ) (name : List ℕ) (i : ℕ) → number < length s.blocks → StaysAt s bytes gap (InHeld number name i)
 held_stays s bytes gap number name i within environment t item h stands placed =
-    (held_carried s number name i within environment t item h stands, aside bytes gap s (InHeld number name i) refl tt)
+    (held_carried s number name i within environment t item h stands, aside bytes gap s (InHeld number name i) refl tt, λ passed. absurd (cc))
 
 -- ---- in the neutral text
 
@@ -125,7 +127,7 @@ measured_aside bytes gap s (InOutput i) text = tt
 module _ (environment : Environment) (s t : State) (bytes : ℕ) (p : Place) (item : Item) (h : step environment s ≡ Ok t) (text : is_in_text p ≡ true) (less : bytes < bytes_left s) (stands : found_at t p ≡ Some item)
     (at : bytes ≡ offset t p) where
   -- by a rule that moves on
-  moving : scan s ≡ Moves t → (origin environment s p ≡ Carried p) × (bytes ≡ offset s p)
+  moving : scan s ≡ Moves t → (origin environment s p ≡ Carried p) × (bytes ≡ offset s p) × (IsPassed s p p → ⊥)
   moving moves =
       let there : bytes ≡ offset s p = at ∙ moved_offset s t p item moves text stands in
       let within : bytes < neutral_bytes s = subst (λ x. bytes < left_by x s) moves less in
@@ -135,10 +137,10 @@ module _ (environment : Environment) (s t : State) (bytes : ℕ) (p : Place) (it
       (λ (new : (moves_bytes (front_of s.active) ≡ true) × IsNew s.frames s p).
       absurd (omega (arith, within, there, ap (offset s) new.1.at, new_past s.frames s new.1.number refl)))
       (moved_new s t p item moves text stands) in
-      (stays_carried environment s t p item item moves (of_text p text).0 old stands, there)
+      (stays_carried environment s t p item item moves (of_text p text).0 old stands, there, stays_moving s t p moves)
 
   -- by a call
-  calling : (call : Call) → scan s ≡ Calls call → (origin environment s p ≡ Carried p) × (bytes ≡ offset s p)
+  calling : (call : Call) → scan s ≡ Calls call → (origin environment s p ≡ Carried p) × (bytes ≡ offset s p) × (IsPassed s p p → ⊥)
   calling call calls =
       let done = has_done environment s t call h calls in
       let after : found_at (after_call call done.effect) p ≡ Some item = subst (λ (u : State). found_at u p ≡ Some item) done.after stands in
@@ -146,8 +148,11 @@ module _ (environment : Environment) (s t : State) (bytes : ℕ) (p : Place) (it
       let within : bytes < neutral_bytes call.state = subst (λ x. bytes < left_by x s) calls less in
       ⊎_elim
       (λ (old : found_at call.state p ≡ Some item).
-      let around = around_it s call p item calls text old in
-      (text_carried environment s t call item h calls environment.width refl p item (of_text p text).1 around.0 around.1, there ∙ sym (around_offset s call p calls text around.1)))
+      let around = around_it s call p item calls text old in (
+        text_carried environment s t call item h calls environment.width refl p item (of_text p text).1 around.0 around.1,
+        there ∙ sym (around_offset s call p calls text around.1),
+        stays_calling s call p calls around.1,
+      ))
       (λ (new : IsNew call.state.frames call.state p).
       absurd (omega (arith, within, there, ap (offset call.state) new.at, new_past call.state.frames call.state new.number refl)))
       (called_new call done.effect p item text after)
@@ -155,12 +160,12 @@ module _ (environment : Environment) (s t : State) (bytes : ℕ) (p : Place) (it
 pub text_stays : (s : State) (bytes : ℕ) (gap : Bool) (p : Place) → is_in_text p ≡ true → bytes < bytes_left s → StaysAt s bytes gap p
 text_stays s bytes gap p text less environment t item h stands placed =
     let at : bytes ≡ offset t p = placed.before text in
-    let both : (origin environment s p ≡ Carried p) × (bytes ≡ offset s p) =
+    let all : (origin environment s p ≡ Carried p) × (bytes ≡ offset s p) × (IsPassed s p p → ⊥) =
     ⊎_elim
     (λ (moves : scan s ≡ Moves t). moving environment s t bytes p item h text less stands at moves)
     (λ (calls : (call : Call) × (scan s ≡ Calls call)). calling environment s t bytes p item h text less stands at calls.0 calls.1)
     (step_scans environment s t h) in
-    (both.0, record { measured = measured_aside bytes gap s p text; before = λ text. both.1 })
+    (all.0, record { measured = measured_aside bytes gap s p text; before = λ text. all.1 }, all.2)
 
 -- so much a step leaves
 pub all_left : (s : State) → next_call s ≡ None → bytes_left s ≡ neutral_bytes s

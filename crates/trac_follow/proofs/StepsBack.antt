@@ -1,5 +1,5 @@
 -- A byte that is followed back, step by step.
-use Rattle.std.proofs.Common.{◌≡◌, ℕ, suc, ◌+◌, ◌^◌, ◌<◌, Bool, true, false, List, [], ◌∷◌, ◌++◌, length, take, refl, sym, ap, ap₂, subst, ◌∙◌, ⊎_elim, arith}
+use Rattle.std.proofs.Common.{◌≡◌, ℕ, suc, ◌+◌, ◌-◌, ◌^◌, ◌<◌, Bool, true, false, List, [], ◌∷◌, ◌++◌, length, take, refl, sym, ap, ap₂, subst, ◌∙◌, ⊎_elim, arith}
 use Rattle.std.specs.Prelude.{◌⊎◌, Option, None, Some, is_some, option_and_then}
 use Rattle.std.proofs.lemmas.List.{append-nil, append_assoc, length-append}
 use Rattle.std.proofs.Math.Seq.{take-append-add}
@@ -16,7 +16,7 @@ use Rattle.trac_rules.proofs.Replies.{Back_refused, accepted_done, answer_Back_f
 use Rattle.trac_rules.proofs.TakenAgain.{Back_done}
 use Rattle.trac_origins.specs.Accounts.{Accounts}
 use Rattle.trac_origins.specs.Following.{Followed, followed, going_back, one_more}
-use Rattle.trac_origins.specs.Places.{Place, InActive, InBase, InArgument, InForm, InHeld, InOutput, Origin, Carried, Read, Made, found_at}
+use Rattle.trac_origins.specs.Places.{Place, InForm, Origin, Carried, Read, Made, found_at}
 use Rattle.trac_origins.specs.Stepping.{origin}
 use Rattle.trac_origins.proofs.Accounted.{accounted}
 use Rattle.trac_follow.specs.declared.history.Followed.{Followed as Found}
@@ -25,11 +25,13 @@ use Rattle.trac_follow.specs.declared.history.Turn as turning
 use Rattle.trac_follow.specs.declared.place.After.{After}
 use Rattle.trac_follow.specs.declared.place.Origin as code_origin
 use Rattle.trac_follow.specs.declared.place.Place as code_place
-use Rattle.trac_follow.specs.Following.{IsFollowed, IsOrigin, IsSource}
+use Rattle.trac_follow.specs.Following.{IsFollowed, IsOrigin, IsSource, quiet_steps}
 use Rattle.trac_follow.specs.Items.{IsMeasured}
 use Rattle.trac_follow.specs.Offsets.{IsPlaced}
+use Rattle.trac_follow.specs.Passing.{IsUnpassed}
 use Rattle.trac_follow.specs.Running.{IsTurn, StaysAt}
-use Rattle.trac_follow.specs.Places.{AreLengths, IsCalled, IsPassed, Stands, Tells, TellsOf, place_of}
+use Rattle.trac_follow.specs.Places.{AreLengths, IsPassed, Stands, Tells, TellsOf, is_in_block, is_in_form, place_of}
+use Rattle.trac_follow.proofs.Unpassed.{unpassed_on, unpassed_once}
 
 -- ---- over some states, and then over more
 
@@ -104,6 +106,7 @@ pub record Stood (old cur : PlainSession) (place here : Place) (steps : ℕ) : T
   pub taken : AreSteps (over old.width old.tape) cur.earlier cur.last
   pub carried : (followed (over old.width old.tape) (take steps old.earlier) place).origin ≡ Carried here
   pub stands : Stands cur.last here
+  pub unpassed : IsUnpassed (over old.width old.tape) (take steps old.earlier) place
 
 pub record GoesBack (width : Width) (old cur : PlainSession) (place here : Place) (steps : ℕ) : Type 0 where
   pub walked : repeated Back steps old ≡ Some cur
@@ -118,7 +121,7 @@ begins width old place stands = record {
   same_width = refl;
   whole = refl;
   count = refl;
-  stood = λ trail. record { taken = trail.1.steps; carried = refl; stands = stands };
+  stood = λ trail. record { taken = trail.1.steps; carried = refl; stands = stands; unpassed = tt };
 }
 
 -- what is known when it goes no further
@@ -171,8 +174,9 @@ module _ (width : Width) (old cur next : PlainSession) (place here : Place) (ste
       ∙ followed_on environment pre (went.before ∷ []) place here (goes.stood trail).carried
       ∙ ap₂ (λ n f. after_some n f) goes.count (ap (λ r. going_back r (λ q. followed environment [] q)) is)
 
-  pub goes_on : (there : Place) → (IsKnown width old → origin environment went.before here ≡ Carried there) → GoesBack width old next place there (steps + 1)
-  goes_on there is = record {
+  pub goes_on : (there : Place) → (IsKnown width old → origin environment went.before here ≡ Carried there) → (IsKnown width old → IsPassed went.before here there → ⊥) →
+      GoesBack width old next place there (steps + 1)
+  goes_on there is not = record {
     walked = walked_on;
     same_width = ap (λ (p : PlainSession). p.width) went.next_is ∙ goes.same_width;
     whole = goes.whole ∙ ap (λ (states : List State). pre ++ states) went.earlier ∙ sym (append_assoc pre (went.before ∷ []) went.rest)
@@ -188,6 +192,8 @@ module _ (width : Width) (old cur next : PlainSession) (place here : Place) (ste
           taken = subst (λ (p : PlainSession). AreSteps environment p.earlier p.last) (sym went.next_is) taken.1;
           carried = ap (λ f. f.origin) (followed_one trail (Carried there) (is trail));
           stands = subst (λ (p : PlainSession). Stands p.last there) (sym went.next_is) (stood.stands.0, stands);
+          unpassed = subst (λ (states : List State). IsUnpassed environment states place) (sym one_longer)
+              (unpassed_on environment pre (went.before ∷ []) place here stood.carried stood.unpassed (unpassed_once environment went.before here there (is trail) (not trail)));
         };
   }
 
@@ -200,11 +206,22 @@ module _ (width : Width) (old cur next : PlainSession) (place here : Place) (ste
   ends_read most n trail is =
       (omega arith, followed_one trail (Read n) is ∙ ap (λ m. record { carried = m; origin = Read n }) (omega arith))
 
-  pub ends_form : (most i : ℕ) (trail : IsKnown width old) → Tells went.before (code_origin.TheVariants.OfForm i) (origin environment went.before here) →
+  pub ends_form : (most i : ℕ) (trail : IsKnown width old) → Tells went.before (code_origin.TheVariants.OfForm i) (origin environment went.before here) → (is_in_form here ≡ false) × (is_in_block here ≡ false) →
       IsSource old place most next (steps + 1) (code.TheVariants.OfForm i)
-  ends_form most i trail tells =
-      let q = InForm (argument 1 tells.0.arguments) i in
-      (omega arith, (tells.0, ap (λ (p : PlainSession). scan p.last) went.next_is ∙ tells.1, followed_one trail (Carried q) tells.2))
+  ends_form most i trail tells taken =
+      let q = InForm (argument 1 tells.0.arguments) i in (
+        (tells.0, ap (λ (p : PlainSession). scan p.last) went.next_is ∙ tells.1, followed_one trail (Carried q) tells.2),
+        (
+          steps,
+          (
+            here,
+            refl,
+            all_carried environment pre place here (goes.stood trail).carried ∙ ap (λ n. record { carried = n; origin = Carried here }) goes.count,
+            taken.0,
+            taken.1,
+          ),
+        ),
+      )
 
 -- ---- as the code finds it
 
@@ -235,15 +252,6 @@ has_told old cur next place here steps done why some width after u v told goes w
           (subst (λ s. TellsOf s width after here told) before tells);
     }
 
--- whatever an argument of the call that is performed becomes, it is passed
-pub passed_argument : (s : State) (here : Place) (function argument byte : ℕ) → IsCalled s function → IsPassed s here (InArgument function argument byte)
-passed_argument s (InActive i) function argument byte called = called
-passed_argument s (InBase i) function argument byte called = called
-passed_argument s (InArgument f a i) function argument byte called = called
-passed_argument s (InForm name i) function argument byte called = called
-passed_argument s (InHeld number name i) function argument byte called = called
-passed_argument s (InOutput i) function argument byte called = called
-
 -- so many steps carried it
 carried_so : (width : Width) (old cur : PlainSession) (place here : Place) (steps : ℕ) → GoesBack width old cur place here steps → IsKnown width old → IsOrigin old place steps steps (Carried here)
 carried_so width old cur place here steps goes trail =
@@ -251,60 +259,66 @@ carried_so width old cur place here steps goes trail =
     ∙ ap (λ n. record { carried = n; origin = Carried here }) goes.count
 
 module _ (old cur next : PlainSession) (place here : Place) (steps : ℕ) (told : code_origin.Origin) (width : Width) (has : HasTold width old cur next place here steps told) where
-  pub told_carried : (there : code_place.Place) → told ≡ code_origin.TheVariants.Carried there → GoesBack width old next place (place_of there) (steps + 1)
-  told_carried there is =
-      goes_on width old cur next place here steps has.goes has.went (place_of there)
-      (λ trail. subst (λ o. Tells has.went.before o (origin (over old.width old.tape) has.went.before here)) is (has.tells trail))
+  abbrev before : State
+  before = has.went.before
 
-  -- what was found, in a record
-  found_is : (most : ℕ) (found : Found) (source : code.Source) → found.steps ≡ steps + 1 → found.source ≡ source → IsSource old place most next (steps + 1) source → IsFollowed old place most next found
-  found_is most found source count is h =
-      subst (λ n. IsSource old place most next n found.source) (sym count) (subst (λ s. IsSource old place most next (steps + 1) s) (sym is) h)
+  told_as : (o : code_origin.Origin) → told ≡ o → IsKnown width old → Tells before o (origin (over old.width old.tape) before here)
+  told_as o is trail = subst (λ o. Tells before o (origin (over old.width old.tape) before here)) is (has.tells trail)
 
-  pub told_made : (most : ℕ) (found : Found) → told ≡ code_origin.TheVariants.Made → found.steps ≡ steps + 1 → found.source ≡ code.TheVariants.Made → IsKnown width old → IsFollowed old place most next found
-  told_made most found is count source trail =
-      found_is most found code.TheVariants.Made count source
-      (ends_made width old cur next place here steps has.goes has.went most trail
-      (subst (λ o. Tells has.went.before o (origin (over old.width old.tape) has.went.before here)) is (has.tells trail)))
-
-  pub told_read : (most n : ℕ) (found : Found) → told ≡ code_origin.TheVariants.Read n → found.steps ≡ steps + 1 → found.source ≡ code.TheVariants.Read n → IsKnown width old → IsFollowed old place most next found
-  told_read most n found is count source trail =
-      found_is most found (code.TheVariants.Read n) count source
-      (ends_read width old cur next place here steps has.goes has.went most n trail
-      (subst (λ o. Tells has.went.before o (origin (over old.width old.tape) has.went.before here)) is (has.tells trail)))
-
-  pub told_form : (most i : ℕ) (found : Found) → told ≡ code_origin.TheVariants.OfForm i → found.steps ≡ steps + 1 → found.source ≡ code.TheVariants.OfForm i → IsKnown width old → IsFollowed old place most next found
-  told_form most i found is count source trail =
-      found_is most found (code.TheVariants.OfForm i) count source
-      (ends_form width old cur next place here steps has.goes has.went most i trail
-      (subst (λ o. Tells has.went.before o (origin (over old.width old.tape) has.went.before here)) is (has.tells trail)))
+  -- the state before the step
+  before_is : (v : State) → v ≡ next.last → v ≡ before
+  before_is v last = last ∙ ap (λ (p : PlainSession). p.last) has.went.next_is
 
   -- how it turned
-  pub turned_on : (v : State) (now : code_place.Place) (turn : turning.Turn) (there : code_place.Place) → IsTurn v now told turn → turn ≡ turning.TheVariants.On there → GoesBack width old next place (place_of there) (steps + 1)
-  turned_on v now turn there turned on = told_carried there (go told turned)
+  pub turned_on : (v : State) (now : code_place.Place) (turn : turning.Turn) (there : code_place.Place) → v ≡ next.last → here ≡ place_of now → IsTurn v now told turn →
+      turn ≡ turning.TheVariants.On there → GoesBack width old next place (place_of there) (steps + 1)
+  turned_on v now turn there last same turned on =
+      let at = go told refl turned in
+      goes_on width old cur next place here steps has.goes has.went (place_of there) (told_as (code_origin.TheVariants.Carried there) at.0) (λ trail. at.1)
     where
-      go : (o : code_origin.Origin) → IsTurn v now o turn → o ≡ code_origin.TheVariants.Carried there
-      go (code_origin.TheVariants.Carried q) is =
-          ⊎_elim (λ (e : turn ≡ turning.TheVariants.On q). cc)
+      go : (o : code_origin.Origin) → told ≡ o → IsTurn v now o turn → (told ≡ code_origin.TheVariants.Carried there) × (IsPassed before here (place_of there) → ⊥)
+      go (code_origin.TheVariants.Carried q) from is =
+          ⊎_elim
+          (λ (e : (turn ≡ turning.TheVariants.On q) × (IsPassed v (place_of now) (place_of q) → ⊥)).
+          let turns = e.0 in
+          let one : q ≡ there = cc in (
+            from ∙ ap code_origin.TheVariants.Carried one,
+            λ passed. e.1
+                (subst (λ u. IsPassed u (place_of now) (place_of q)) (sym (before_is v last))
+                (subst (λ p. IsPassed before p (place_of q)) same (subst (λ p. IsPassed before here (place_of p)) (sym one) passed))),
+          ))
           (λ (e : (turn ≡ turning.TheVariants.End (code.TheVariants.Passed q)) × IsPassed v (place_of now) (place_of q)). let ends = e.0 in absurd (cc)) is
-      go (code_origin.TheVariants.OfForm i) is = absurd (cc)
-      go (code_origin.TheVariants.Read n) is = absurd (cc)
-      go code_origin.TheVariants.Made is = absurd (cc)
-      go code_origin.TheVariants.Nothing is = absurd (cc)
+      go (code_origin.TheVariants.OfForm i) from is = absurd (let ends = is.0 in cc)
+      go (code_origin.TheVariants.Read n) from is = absurd (cc)
+      go code_origin.TheVariants.Made from is = absurd (cc)
+      go code_origin.TheVariants.Nothing from is = absurd (cc)
 
-  pub turned_end : (v : State) (most : ℕ) (now : code_place.Place) (turn : turning.Turn) (source : code.Source) (found : Found) → v ≡ next.last → here ≡ place_of now → IsTurn v now told turn → turn ≡ turning.TheVariants.End source →
-      found.steps ≡ steps + 1 → found.source ≡ source → IsKnown width old → IsFollowed old place most next found
-  turned_end v most now turn source found last same turned end count is trail = go told refl turned
+  -- what was found, in a record
+  found_is : (most : ℕ) (found : Found) (source : code.Source) → found.steps ≡ steps + 1 → found.source ≡ source → quiet_steps (steps + 1) source ≡ steps → Stands old.last place → IsKnown width old →
+      IsSource old place most next (steps + 1) source → IsFollowed old place most next found
+  found_is most found source count is quiet stands trail h = record {
+    source = subst (λ n. IsSource old place most next n found.source) (sym count) (subst (λ s. IsSource old place most next (steps + 1) s) (sym is) h);
+    unpassed = subst (λ n. IsUnpassed (over old.width old.tape) (take n old.earlier) place)
+        (sym (ap₂ quiet_steps count is ∙ quiet)) (has.goes.stood trail).unpassed;
+    nothing = λ bare. absurd (bare stands.0 stands.1);
+  }
+
+  pub turned_end : (v : State) (most : ℕ) (now : code_place.Place) (turn : turning.Turn) (source : code.Source) (found : Found) → v ≡ next.last → here ≡ place_of now → IsTurn v now told turn →
+      turn ≡ turning.TheVariants.End source → found.steps ≡ steps + 1 → found.source ≡ source → Stands old.last place → IsKnown width old → IsFollowed old place most next found
+  turned_end v most now turn source found last same turned end count is stands trail = go told refl turned
     where
+      quiet : steps + 1 - 1 ≡ steps
+      quiet = omega arith
+
       go : (o : code_origin.Origin) → told ≡ o → IsTurn v now o turn → IsFollowed old place most next found
       go (code_origin.TheVariants.Carried q) from at =
           ⊎_elim
-          (λ (e : turn ≡ turning.TheVariants.On q). absurd (cc))
+          (λ (e : (turn ≡ turning.TheVariants.On q) × (IsPassed v (place_of now) (place_of q) → ⊥)). let on = e.0 in absurd (cc))
           (λ (e : (turn ≡ turning.TheVariants.End (code.TheVariants.Passed q)) × IsPassed v (place_of now) (place_of q)).
           let is_end = e.0 in
           let ends : source ≡ code.TheVariants.Passed q = cc in
-          found_is most found (code.TheVariants.Passed q) count (is ∙ ends) (
-            carried_so width old next place (place_of q) (steps + 1) (told_carried q from) trail,
+          found_is most found (code.TheVariants.Passed q) count (is ∙ ends) quiet stands trail (
+            followed_one width old cur next place here steps has.goes has.went trail (Carried (place_of q)) (told_as (code_origin.TheVariants.Carried q) from trail),
             (
               steps,
               (
@@ -316,11 +330,21 @@ module _ (old cur next : PlainSession) (place here : Place) (steps : ℕ) (told 
             ),
           ))
           at
-      go (code_origin.TheVariants.OfForm i) from at = let ends : source ≡ code.TheVariants.OfForm i = cc in told_form most i found from count (is ∙ ends) trail
-      go (code_origin.TheVariants.Read n) from at = let ends : source ≡ code.TheVariants.Read n = cc in told_read most n found from count (is ∙ ends) trail
-      go code_origin.TheVariants.Made from at = let ends : source ≡ code.TheVariants.Made = cc in told_made most found from count (is ∙ ends) trail
-      go code_origin.TheVariants.Nothing from at =
-          absurd (subst (λ o. Tells has.went.before o (origin (over old.width old.tape) has.went.before here)) from (has.tells trail))
+      go (code_origin.TheVariants.OfForm i) from at =
+          let is_end = at.0 in
+          let ends : source ≡ code.TheVariants.OfForm i = cc in
+          found_is most found (code.TheVariants.OfForm i) count (is ∙ ends) quiet stands trail
+          (ends_form width old cur next place here steps has.goes has.went most i trail (told_as (code_origin.TheVariants.OfForm i) from trail)
+          (ap is_in_form same ∙ at.1, ap is_in_block same ∙ at.2))
+      go (code_origin.TheVariants.Read n) from at =
+          let ends : source ≡ code.TheVariants.Read n = cc in
+          found_is most found (code.TheVariants.Read n) count (is ∙ ends) quiet stands trail
+          (ends_read width old cur next place here steps has.goes has.went most n trail (told_as (code_origin.TheVariants.Read n) from trail))
+      go code_origin.TheVariants.Made from at =
+          let ends : source ≡ code.TheVariants.Made = cc in
+          found_is most found code.TheVariants.Made count (is ∙ ends) quiet stands trail
+          (ends_made width old cur next place here steps has.goes has.went most trail (told_as code_origin.TheVariants.Made from trail))
+      go code_origin.TheVariants.Nothing from at = absurd (told_as code_origin.TheVariants.Nothing from trail)
 
 -- what is told of a session
 pub seen_lengths : (after : After) (u : State) (m : PlainSession) (here : Place) (bytes : ℕ) (gap : Bool) → after.active ≡ length u.active → after.output ≡ length u.output →
@@ -341,19 +365,23 @@ step_on width old cur next place here steps done why some v bytes gap goes place
     let went = went_back cur next done why walk (none_by_test why some test none) in
     let before : v ≡ went.before = is_next ∙ ap (λ (p : PlainSession). p.last) went.next_is in
     let stays_there : StaysAt went.before bytes gap here = subst (λ (u : State). StaysAt u bytes gap here) before stays in
-    let at : (trail : IsKnown width old) → (origin (over old.width old.tape) went.before here ≡ Carried here) × IsPlaced bytes gap went.before here =
+    let at : (trail : IsKnown width old) →
+    (origin (over old.width old.tape) went.before here ≡ Carried here) × IsPlaced bytes gap went.before here × (IsPassed went.before here here → ⊥) =
     λ trail.
     let stood = goes.stood trail in
     let taken = subst (λ (states : List State). AreSteps (over old.width old.tape) states cur.last) went.earlier stood.taken in
     stays_there (over old.width old.tape) cur.last stood.stands.0 taken.0 stood.stands.1 (placed trail) in (
-      goes_on width old cur next place here steps goes went here (λ trail. (at trail).0),
+      goes_on width old cur next place here steps goes went here (λ trail. (at trail).0) (λ trail. (at trail).2),
       λ trail. subst (λ (p : PlainSession). IsPlaced bytes gap p.last here) (sym went.next_is) (at trail).1,
     )
 
 -- where it goes no further
 pub stops : (width : Width) (old cur next : PlainSession) (place here : Place) (most steps : ℕ) (there : code_place.Place) (found : Found) → here ≡ place_of there → GoesBack width old cur place here steps →
-    (steps ≡ most) ⊎ (cur.earlier ≡ []) → next ≡ cur → found.steps ≡ steps → found.source ≡ code.TheVariants.Here there → IsKnown width old → IsFollowed old place most next found
-stops width old cur next place here most steps there found same goes ends is count source trail =
-    subst (λ p. IsFollowed old place most p found) (sym is)
-    (subst (λ n. IsSource old place most cur n found.source) (sym count)
-    (subst (λ s. IsSource old place most cur steps s) (sym source) (is_here width old cur place here most steps there same goes ends trail)))
+    (steps ≡ most) ⊎ (cur.earlier ≡ []) → next ≡ cur → found.steps ≡ steps → found.source ≡ code.TheVariants.Here there → Stands old.last place → IsKnown width old → IsFollowed old place most next found
+stops width old cur next place here most steps there found same goes ends is count source stands trail = record {
+  source = subst (λ p. IsSource old place most p found.steps found.source) (sym is)
+      (subst (λ n. IsSource old place most cur n found.source) (sym count)
+      (subst (λ s. IsSource old place most cur steps s) (sym source) (is_here width old cur place here most steps there same goes ends trail)));
+  unpassed = subst (λ n. IsUnpassed (over old.width old.tape) (take n old.earlier) place) (sym (ap₂ quiet_steps count source)) (goes.stood trail).unpassed;
+  nothing = λ bare. absurd (bare stands.0 stands.1);
+}

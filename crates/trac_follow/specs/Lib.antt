@@ -4,6 +4,7 @@ pub mod Items
 pub mod Offsets
 pub mod Formed
 pub mod Fetched
+pub mod Passing
 pub mod Following
 pub mod Running
 pub mod Putting

@@ -1,5 +1,5 @@
 //! Where bytes come from by a call.
-ghost use Rattle.std.specs.Prelude.{◌≡◌, ◌+◌, length, true, MatchBool};
+ghost use Rattle.std.specs.Prelude.{◌≡◌, ◌+◌, false, length, true, MatchBool};
 ghost use Rattle.trac_origins.specs.Lengths.{is_silent, may_put};
 ghost use Rattle.trac_origins.specs.Places.{InActive, InForm, InHeld, InOutput};
 ghost use Rattle.trac_rules.specs.declared.primitive.BlockAction.TheVariants.{StoreBlock};
@@ -10,7 +10,7 @@ ghost use Rattle.trac_rules.specs.Scanning.{Call, Calls, scan};
 ghost use Rattle.trac_follow.specs.declared.place.After.{After as Lengths};
 ghost use Rattle.trac_follow.specs.Formed.{ToldAsFormCut, ToldAsFormShown};
 ghost use Rattle.trac_follow.specs.Putting.{put_by};
-ghost use Rattle.trac_follow.specs.Places.{TellsOf, ToldAsPrinted, ToldAsPut, is_in_text, place_of};
+ghost use Rattle.trac_follow.specs.Places.{IsTakenOut, TellsOf, ToldAsPrinted, ToldAsPut, is_in_text, is_of_form, place_of};
 
 use crate::fetched::before_fetch;
 use crate::formed::{cut_item, shown_byte};
@@ -34,7 +34,8 @@ pub(crate) fn called<'a, E: TwoEnds<u8, A>, M: TwoEnds<Mark, A>, A: Allocator + 
     place: Place<'a>,
 ) -> Origin<'a>
     requires call { IsCall (next_call before.now.state) kind arguments.now }
-    ensures { TellsOf before.now.state width after (place_of place.entry) result }
+    ensures tells { TellsOf before.now.state width after (place_of place.entry) result }
+    ensures taken { IsTakenOut (place_of place.entry) result }
 {
     match place {
         Place::Active(i) => of_active(before, width, kind, arguments, after, i),
@@ -187,7 +188,8 @@ fn of_form<'a, E: TwoEnds<u8, A>, M: TwoEnds<Mark, A>, A: Allocator + Copy>(
     i: usize,
 ) -> Origin<'a>
     requires call { IsCall (next_call before.now.state) kind arguments.now }
-    ensures { (width : Width) → TellsOf before.now.state width after (InForm name.now i) result }
+    ensures tells { (width : Width) → TellsOf before.now.state width after (InForm name.now i) result }
+    ensures kept { is_of_form result ≡ false }
 {
     let primitive = primitive_named(arguments.get(0));
     if may_put(primitive, arguments.get(1), name) {
@@ -276,7 +278,8 @@ fn of_block<'a, E: TwoEnds<u8, A>, M: TwoEnds<Mark, A>, A: Allocator + Copy>(
     i: usize,
 ) -> Origin<'a>
     requires call { IsCall (next_call before.now.state) kind arguments.now }
-    ensures { (width : Width) (after : Lengths) → TellsOf before.now.state width after (InHeld number name.now i) result }
+    ensures tells { (width : Width) (after : Lengths) → TellsOf before.now.state width after (InHeld number name.now i) result }
+    ensures kept { is_of_form result ≡ false }
 {
     let count = before.store().block_count();
     if number < count {

@@ -1,9 +1,9 @@
 //! Following a byte back over many steps.
-ghost use Rattle.std.specs.Prelude.{◌≡◌, ◌+◌, ◌^◌, ◌<◌, ◌≤◌, length, IsTrue, Some};
+ghost use Rattle.std.specs.Prelude.{◌≡◌, ◌+◌, ◌^◌, ◌<◌, ◌≤◌, length, MatchBool, Some};
 ghost use Rattle.trac_follow.specs.Following.{IsFollowed};
 ghost use Rattle.trac_follow.specs.Items.{IsMeasured};
 ghost use Rattle.trac_follow.specs.Offsets.{IsPlaced};
-ghost use Rattle.trac_follow.specs.Places.{IsCalled, IsPassed, Stands, place_of};
+ghost use Rattle.trac_follow.specs.Places.{IsCalled, IsPassed, Stands, is_in_block, is_in_form, place_of};
 ghost use Rattle.trac_follow.specs.Running.{HasTurned};
 ghost use Rattle.trac_origins.specs.Places.{InForm};
 ghost use Rattle.trac_rules.specs.Session.{Back, repeated};
@@ -194,14 +194,28 @@ fn is_passed<E: TwoEnds<u8, A>, M: TwoEnds<Mark, A>, A: Allocator + Copy>(
     here: Place<'_>,
     there: Place<'_>,
 ) -> bool
-    ensures { IsTrue result → IsPassed machine.now.state (place_of here.entry) (place_of there.entry) }
+    ensures { MatchBool result (IsPassed machine.now.state (place_of here.entry) (place_of there.entry)) (IsPassed machine.now.state (place_of here.entry) (place_of there.entry) → ⊥) }
 {
     match there {
         Place::Argument { function, .. } => is_called(machine, function),
-        Place::Held(_, _, _) => matches!(here, Place::Form(_, _)),
-        Place::Form(_, _) => matches!(here, Place::Held(_, _, _)),
+        Place::Held(_, _, _) => is_form(here),
+        Place::Form(_, _) => is_held(here),
         _ => false,
     }
+}
+
+// Whether a place is in a form.
+fn is_form(place: Place<'_>) -> bool
+    ensures { result ≡ is_in_form (place_of place.entry) }
+{
+    matches!(place, Place::Form(_, _))
+}
+
+// Whether a place is in a form that a block holds.
+fn is_held(place: Place<'_>) -> bool
+    ensures { result ≡ is_in_block (place_of place.entry) }
+{
+    matches!(place, Place::Held(_, _, _))
 }
 
 // Whether the step that comes next performs the function of this number.
@@ -209,7 +223,7 @@ fn is_called<E: TwoEnds<u8, A>, M: TwoEnds<Mark, A>, A: Allocator + Copy>(
     machine: &Core<E, M, A>,
     function: usize,
 ) -> bool
-    ensures { IsTrue result → IsCalled machine.now.state function }
+    ensures { MatchBool result (IsCalled machine.now.state function) (IsCalled machine.now.state function → ⊥) }
 {
     match machine.next_call() {
         Some(_call) => is_innermost(function, machine.depth()),
@@ -219,7 +233,7 @@ fn is_called<E: TwoEnds<u8, A>, M: TwoEnds<Mark, A>, A: Allocator + Copy>(
 
 // Whether the begun function of this number is the last of so many.
 fn is_innermost(function: usize, depth: usize) -> bool
-    ensures { IsTrue result → function + 1 ≡ depth }
+    ensures { MatchBool result (function + 1 ≡ depth) (function + 1 ≡ depth → ⊥) }
 {
     function < depth && depth - function == 1
 }

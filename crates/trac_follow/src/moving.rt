@@ -1,5 +1,5 @@
 //! Where bytes come from by the rules of scanning that move on.
-ghost use Rattle.std.specs.Prelude.{◌≡◌, length, true, Ok, Some};
+ghost use Rattle.std.specs.Prelude.{◌≡◌, false, length, true, Ok, Some};
 ghost use Rattle.trac_origins.specs.Lengths.{is_outside};
 ghost use Rattle.trac_origins.specs.Places.{InActive, found_at};
 ghost use Rattle.trac_origins.specs.Stepping.{origin};
@@ -7,7 +7,7 @@ ghost use Rattle.trac_rules.specs.declared.item.Item.{Item};
 ghost use Rattle.trac_rules.specs.Scanning.{Moves, scan};
 ghost use Rattle.trac_rules.specs.State.{Environment, State};
 ghost use Rattle.trac_rules.specs.Stepping.{step};
-ghost use Rattle.trac_follow.specs.Places.{IsBare, Tells, place_of};
+ghost use Rattle.trac_follow.specs.Places.{IsBare, Tells, is_of_form, place_of};
 
 use crate::front::first_moved_at;
 use crate::place::{Origin, Place};
@@ -23,8 +23,9 @@ pub(crate) fn moved<'a, E: TwoEnds<u8, A>, M: TwoEnds<Mark, A>, A: Allocator + C
     left: usize,
     place: Place<'a>,
 ) -> Origin<'a>
-    ensures { (environment : Environment) (t : State) (item : Item) → step environment before.now.state ≡ Ok t → scan before.now.state ≡ Moves t → left ≡ length t.active →
+    ensures tells { (environment : Environment) (t : State) (item : Item) → step environment before.now.state ≡ Ok t → scan before.now.state ≡ Moves t → left ≡ length t.active →
         found_at t (place_of place.entry) ≡ Some item → Tells before.now.state result (origin environment before.now.state (place_of place.entry)) }
+    ensures kept { is_of_form result ≡ false }
 {
     if let Place::Active(i) = place {
         return left_over(before.active(), left, i);
@@ -37,9 +38,10 @@ pub(crate) fn moved<'a, E: TwoEnds<u8, A>, M: TwoEnds<Mark, A>, A: Allocator + C
 
 // Of the active text that is left.
 fn left_over<'a>(active: &[u8], left: usize, i: usize) -> Origin<'a>
-    ensures { (environment : Environment) (s t : State) (item : Item) → step environment s ≡ Ok t → scan s ≡ Moves t → s.active ≡ active.now → left ≡ length t.active →
+    ensures tells { (environment : Environment) (s t : State) (item : Item) → step environment s ≡ Ok t → scan s ≡ Moves t → s.active ≡ active.now → left ≡ length t.active →
         found_at t (InActive i) ≡ Some item →
         Tells s result (origin environment s (InActive i)) }
+    ensures kept { is_of_form result ≡ false }
 {
     if active.is_empty() {
         return Origin::Made;
@@ -60,8 +62,9 @@ fn gathered<'a, E: TwoEnds<u8, A>, M: TwoEnds<Mark, A>, A: Allocator + Copy>(
 ) -> Origin<'a>
     requires new { is_outside (place_of place) ≡ true }
     requires bare { IsBare before.now.state (place_of place) }
-    ensures { (environment : Environment) (t : State) (item : Item) → step environment before.now.state ≡ Ok t → scan before.now.state ≡ Moves t →
+    ensures tells { (environment : Environment) (t : State) (item : Item) → step environment before.now.state ≡ Ok t → scan before.now.state ≡ Moves t →
         found_at t (place_of place.entry) ≡ Some item → Tells before.now.state result (origin environment before.now.state (place_of place.entry)) }
+    ensures kept { is_of_form result ≡ false }
 {
     let Some(first) = first_moved_at(before.active()) else {
         return Origin::Nothing;

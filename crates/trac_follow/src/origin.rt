@@ -1,5 +1,5 @@
 //! Where what stands at a place after a step comes from, told by the machine before the step.
-ghost use Rattle.trac_follow.specs.Places.{TellsOf, place_of};
+ghost use Rattle.trac_follow.specs.Places.{IsTakenOut, TellsOf, place_of};
 
 use crate::called::called;
 use crate::moving::moved;
@@ -33,7 +33,8 @@ pub(crate) fn told_of<'a, E: TwoEnds<u8, A>, M: TwoEnds<Mark, A>, A: Allocator +
     after: After,
     place: Place<'a>,
 ) -> Origin<'a>
-    ensures { TellsOf before.now.state width after (place_of place.entry) result }
+    ensures tells { TellsOf before.now.state width after (place_of place.entry) result }
+    ensures taken { IsTakenOut (place_of place.entry) result }
 {
     match before.next_call() {
         Some((kind, arguments)) => called(before, width, kind, &arguments, after, place),

@@ -250,7 +250,7 @@ stood (f ∷ fs) s text left (InArgument n k i) item is out none e =
 -- ---- one byte
 
 module _ (environment : Environment) (u t : State) (h : step environment u ≡ Ok t) (first : t ≡ gather_first u) (some : 0 < length u.active) where
-  plain : (scan u ≡ Moves t) × IsPlainRule (front_of u.active)
+  pub plain : (scan u ≡ Moves t) × IsPlainRule (front_of u.active)
   plain = plain_rule environment u t h (subst (HasMovedOne u) (sym first) (first_moves_one u some))
 
   not_idle : (f : Front) → moves_bytes f ≡ true → makes_idle f ≡ false
@@ -277,7 +277,7 @@ module _ (environment : Environment) (u t : State) (h : step environment u ≡ O
           ∙ scanning_moved environment u t j plain.0 plain.1.0 (omega (arith, within, ap (λ (v : State). current_len v) first))
           ∙ ap (λ n. Carried (InActive (n + j))) plain.1.1 ∙ ap (λ n. Carried (InActive n)) (omega arith)
 
-  one_before : (place : Place) (item : Item) → found_at t place ≡ Some item → origin environment u place ≡ Carried (before_moved 1 u place)
+  pub one_before : (place : Place) (item : Item) → found_at t place ≡ Some item → origin environment u place ≡ Carried (before_moved 1 u place)
   one_before (InActive i) item e = active_before i item e
   one_before other item e = outside_before other item refl e
 

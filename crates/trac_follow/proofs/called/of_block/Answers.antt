@@ -9,21 +9,21 @@ use Rattle.trac_follow.proofs.Staying.{held_carried}
 use Rattle.trac_follow.proofs.ValuesTold.{named_by, stored_tells, unstored}
 use Rattle.trac_follow.proofs.called.of_block.Goals as goal
 
-pub returns-then-number-count : goal.returns-then-number-count
-returns-then-number-count g c = λ width after environment t item wide h lengths stands.
+pub returns-then-number-count-clause-tells : goal.returns-then-number-count-clause-tells
+returns-then-number-count-clause-tells g c = λ width after environment t item wide h lengths stands.
     held_carried c.args.before.now.state c.args.number c.args.name.now c.args.i
     (omega (arith, c.if-number-count.true, c.block_count-count.ensures.count, ap (λ stored. length stored.blocks) c.store.ensures)) environment t item h stands
 
-pub returns-then-number-count-2 : goal.returns-then-number-count-2
-returns-then-number-count-2 g c = λ width after environment t item wide h lengths stands.
+pub returns-then-number-count-2-clause-tells : goal.returns-then-number-count-2-clause-tells
+returns-then-number-count-2-clause-tells g c = λ width after environment t item wide h lengths stands.
     let s = c.args.before.now.state in
     let call = given_call s c.args.kind c.args.arguments.now c.requires.call in
     absurd (unstored environment s t call.0 h call.1 (primitive_of (argument 0 call.0.arguments)) refl c.args.number c.args.name.now c.args.i item
     (omega (arith, c.if-number-count-2.true, c.block_count-count.ensures.count, ap (λ stored. length stored.blocks) c.store.ensures))
     (λ stores last. absurd (omega (arith, last, c.if-number-count-2.true, c.block_count-count.ensures.count, ap (λ stored. length stored.blocks) c.store.ensures))) stands)
 
-pub returns-then-stores_block : goal.returns-then-stores_block
-returns-then-stores_block g c = λ width after environment t item wide h lengths stands.
+pub returns-then-stores_block-clause-tells : goal.returns-then-stores_block-clause-tells
+returns-then-stores_block-clause-tells g c = λ width after environment t item wide h lengths stands.
     let s = c.args.before.now.state in
     let call = given_call s c.args.kind c.args.arguments.now c.requires.call in
     stored_tells environment s t call.0 h call.1 c.args.number c.args.name.now c.args.i item
@@ -31,8 +31,8 @@ returns-then-stores_block g c = λ width after environment t item wide h lengths
     ∙ subst (λ b. MatchBool b (c.primitive_named.result ≡ HandleBlock StoreBlock) (c.primitive_named.result ≡ HandleBlock StoreBlock → ⊥)) c.if-stores_block.true c.stores_block.ensures)
     (omega (arith, c.if-number-count.false, c.if-number-count-2.false, c.block_count-count.ensures.count, ap (λ stored. length stored.blocks) c.store.ensures)) stands
 
-pub returns : goal.returns
-returns g c = λ width after environment t item wide h lengths stands.
+pub returns-clause-tells : goal.returns-clause-tells
+returns-clause-tells g c = λ width after environment t item wide h lengths stands.
     let s = c.args.before.now.state in
     let call = given_call s c.args.kind c.args.arguments.now c.requires.call in
     absurd (unstored environment s t call.0 h call.1 c.primitive_named.result

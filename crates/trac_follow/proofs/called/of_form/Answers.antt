@@ -13,15 +13,15 @@ use Rattle.trac_follow.proofs.Staying.{form_unchanged}
 use Rattle.trac_follow.proofs.ValuesTold.{address_is, is_put_by, named_by, put_tells}
 use Rattle.trac_follow.proofs.called.of_form.Goals as goal
 
-pub returns : goal.returns
-returns g c = λ width environment t item wide h lengths stands.
+pub returns-clause-tells : goal.returns-clause-tells
+returns-clause-tells g c = λ width environment t item wide h lengths stands.
     (form_unchanged c.args.before.now.state c.args.name.now c.args.kind c.args.arguments.now c.requires.call
     (ap (λ p. may_put p (argument 1 c.args.arguments.now) c.args.name.now) (ap primitive_of (sym c.get.ensures) ∙ sym c.primitive_named-primitive.ensures)
     ∙ ap (λ text. may_put c.primitive_named-primitive.result text c.args.name.now) (sym c.get-2.ensures)
     ∙ sym c.may_put.ensures ∙ c.if-may_put.false) c.args.i environment t item h stands).carried
 
-pub returns-in-Text : goal.returns-in-Text
-returns-in-Text g c = λ width environment t item wide h lengths stands.
+pub returns-in-Text-clause-tells : goal.returns-in-Text-clause-tells
+returns-in-Text-clause-tells g c = λ width environment t item wide h lengths stands.
     let s = c.args.before.now.state in
     let call = given_call s c.args.kind c.args.arguments.now c.requires.call in
     let p = c.primitive_named-primitive.result in
@@ -33,8 +33,8 @@ returns-in-Text g c = λ width environment t item wide h lengths stands.
     (number_is s call.0 call.1 c.innermost.result (c.innermost.ensures call.0 call.1))
     (ap (λ text. length text) c.get-in-Text.ensures ∙ ap (λ texts. length (argument 2 texts)) (sym call.3)) item stands c.put_byte.ensures
 
-pub returns-in-Cut : goal.returns-in-Cut
-returns-in-Cut g c = λ width environment t item wide h lengths stands.
+pub returns-in-Cut-clause-tells : goal.returns-in-Cut-clause-tells
+returns-in-Cut-clause-tells g c = λ width environment t item wide h lengths stands.
     let s = c.args.before.now.state in
     let call = given_call s c.args.kind c.args.arguments.now c.requires.call in
     let p = c.primitive_named-primitive.result in
@@ -44,8 +44,8 @@ returns-in-Cut g c = λ width environment t item wide h lengths stands.
     ∙ ap (λ q. may_put q c.get-2.result.now c.args.name.now) (sym is) ∙ sym c.may_put.ensures ∙ c.if-may_put.true in
     cut_tells environment s t call.0 h call.1 named c.args.name.now c.args.after c.args.i item c.form_cut.result same lengths.measured stands c.form_cut.ensures
 
-pub returns-in-Fetched : goal.returns-in-Fetched
-returns-in-Fetched g c = λ width environment t item wide h lengths stands.
+pub returns-in-Fetched-clause-tells : goal.returns-in-Fetched-clause-tells
+returns-in-Fetched-clause-tells g c = λ width environment t item wide h lengths stands.
     let s = c.args.before.now.state in
     let call = given_call s c.args.kind c.args.arguments.now c.requires.call in
     let p = c.primitive_named-primitive.result in
@@ -57,8 +57,8 @@ returns-in-Fetched g c = λ width environment t item wide h lengths stands.
     (c.before_fetch.ensures
     ∙ ap (λ (stored : Stored). place_fetched (block_named c.get-in-Fetched.result.now (storage_in stored)) c.args.name.now c.args.i (storage_in stored)) c.store.ensures) stands
 
-pub returns-in-Address : goal.returns-in-Address
-returns-in-Address g c = λ width environment t item wide h lengths stands.
+pub returns-in-Address-clause-tells : goal.returns-in-Address-clause-tells
+returns-in-Address-clause-tells g c = λ width environment t item wide h lengths stands.
     let s = c.args.before.now.state in
     let call = given_call s c.args.kind c.args.arguments.now c.requires.call in
     let p = c.primitive_named-primitive.result in
@@ -68,8 +68,8 @@ returns-in-Address g c = λ width environment t item wide h lengths stands.
     ∙ ap (λ q. may_put q c.get-2.result.now c.args.name.now) (sym is) ∙ sym c.may_put.ensures ∙ c.if-may_put.true in
     address_is environment s t call.0 h call.1 c.args.name.now c.args.i named same
 
-pub returns-in-Nothing : goal.returns-in-Nothing
-returns-in-Nothing g c = λ width environment t item wide h lengths stands.
+pub returns-in-Nothing-clause-tells : goal.returns-in-Nothing-clause-tells
+returns-in-Nothing-clause-tells g c = λ width environment t item wide h lengths stands.
     let p = c.primitive_named-primitive.result in
     let may : may_put p c.get-2.result.now c.args.name.now ≡ true = sym c.may_put.ensures ∙ c.if-may_put.true in
     let not : may_put p c.get-2.result.now c.args.name.now ≡ false = (is_put_by p).nothing (sym c.put_by.ensures ∙ c.in-Nothing.is) c.get-2.result.now c.args.name.now in

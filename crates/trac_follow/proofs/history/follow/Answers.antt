@@ -60,7 +60,7 @@ loop-steps-preserved g c =
     c.seen_after-after.ensures.active c.seen_after-after.ensures.output c.seen_after-after.ensures.extent c.seen_after-after.ensures.gap c.seen_after-after.ensures.read c.machine-in-loop-steps.ensures.last (placed trail))
     c.machine-in-loop-steps-3.ensures.last c.turned.ensures.1) in
     let on = turned_on c.args.session.now c.pass_back-count.new.self c.back.new.self (place_of c.args.place) (place_of c.loop-steps.here) c.loop-steps.steps c.turned.ensures.0 c.args.width has
-    c.machine-in-loop-steps-3.result.now.state c.loop-steps.here c.turned.result c.in-On.there c.turned.ensures.2 c.in-On.is in (
+    c.machine-in-loop-steps-3.result.now.state c.loop-steps.here c.turned.result c.in-On.there c.machine-in-loop-steps-3.ensures.last refl c.turned.ensures.2 c.in-On.is in (
       omega (arith, c.loop-steps-test.true),
       on,
       λ trail.
@@ -81,20 +81,20 @@ returns-in-End-clause-followed g c = λ wide trail.
     c.seen_after-after.ensures.active c.seen_after-after.ensures.output c.seen_after-after.ensures.extent c.seen_after-after.ensures.gap c.seen_after-after.ensures.read c.machine-in-loop-steps.ensures.last (placed trail))
     c.machine-in-loop-steps-3.ensures.last c.turned.ensures.1) in
     turned_end c.args.session.now c.pass_back-count.new.self c.back.new.self (place_of c.args.place) (place_of c.loop-steps.here) c.loop-steps.steps c.turned.ensures.0 c.args.width has
-    c.machine-in-loop-steps-3.result.now.state c.args.most c.loop-steps.here c.turned.result c.in-End.source c.found.result c.machine-in-loop-steps-3.ensures.last refl c.turned.ensures.2 c.in-End.is c.found.ensures.steps c.found.ensures.source (wide, trail)
+    c.machine-in-loop-steps-3.result.now.state c.args.most c.loop-steps.here c.turned.result c.in-End.source c.found.result c.machine-in-loop-steps-3.ensures.last refl c.turned.ensures.2 c.in-End.is c.found.ensures.steps c.found.ensures.source (subst (λ (s : State). Stands s (place_of c.args.place)) c.machine.ensures.last (c.stands.ensures.there c.if-not-stands.false)) (wide, trail)
 
 pub returns-clause-followed : goal.returns-clause-followed
 returns-clause-followed g c = λ wide trail. elim c.loop-steps-test.branch [
   | else-loop-steps-test w ↦
       stops c.args.width c.args.session.now c.loop-steps.session c.loop-steps-test.session (place_of c.args.place) (place_of c.loop-steps.here) c.args.most c.loop-steps.steps c.loop-steps.here c.found-2.result refl
-      c.loop-steps.invariant.1 (inl (omega (arith, w.loop-steps-test.false, c.loop-steps.invariant.0))) w.session-is c.found-2.ensures.steps c.found-2.ensures.source (wide, trail)
+      c.loop-steps.invariant.1 (inl (omega (arith, w.loop-steps-test.false, c.loop-steps.invariant.0))) w.session-is c.found-2.ensures.steps c.found-2.ensures.source (subst (λ (s : State). Stands s (place_of c.args.place)) c.machine.ensures.last (c.stands.ensures.there c.if-not-stands.false)) (wide, trail)
   | then-loop-steps-test+else-count-gt0+then-is_some w ↦
       let same = same_session w.pass_back-count.result c.loop-steps.session w.pass_back-count.new.self w.pass_back-count.ensures.passed w.if-count-gt0.false in
       let refusal = some_by_test w.back.result.why w.is_some.result w.is_some.ensures w.if-is_some.true in
       let nowhere = no_way_back w.pass_back-count.new.self w.back.new.self w.back.result.done w.back.result.why refusal.0 w.back.ensures refusal.1 in
       stops c.args.width c.args.session.now c.loop-steps.session c.loop-steps-test.session (place_of c.args.place) (place_of c.loop-steps.here) c.args.most c.loop-steps.steps c.loop-steps.here c.found-2.result refl
       c.loop-steps.invariant.1 (inr (ap (λ (p : PlainSession). p.earlier) (same ∙ sym nowhere.0) ∙ nowhere.1)) (w.session-is ∙ nowhere.0 ∙ sym same)
-      c.found-2.ensures.steps c.found-2.ensures.source (wide, trail)
+      c.found-2.ensures.steps c.found-2.ensures.source (subst (λ (s : State). Stands s (place_of c.args.place)) c.machine.ensures.last (c.stands.ensures.there c.if-not-stands.false)) (wide, trail)
 ]
 
 pub returns-in-End-clause-back : goal.returns-in-End-clause-back
@@ -107,4 +107,8 @@ returns-in-End-clause-back g c =
 
 pub returns-then-not-stands-clause-followed : goal.returns-then-not-stands-clause-followed
 returns-then-not-stands-clause-followed g c = λ wide trail.
-    (refl, subst (λ (s : State). IsBare s (place_of c.args.place)) c.machine.ensures.last (c.stands.ensures.bare c.if-not-stands.true))
+    record {
+      source = (refl, subst (λ (s : State). IsBare s (place_of c.args.place)) c.machine.ensures.last (c.stands.ensures.bare c.if-not-stands.true));
+      unpassed = tt;
+      nothing = λ bare. refl;
+    }

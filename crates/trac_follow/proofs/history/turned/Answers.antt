@@ -1,29 +1,31 @@
-use Rattle.std.proofs.Common.{inl, inr, refl, sym, subst}
+use Rattle.std.proofs.Common.{inl, inr, refl, sym, ap, subst}
+use Rattle.std.specs.Prelude.{MatchBool}
 use Rattle.trac_follow.specs.declared.history.Source as code
 use Rattle.trac_follow.specs.declared.history.Turn as turning
+use Rattle.trac_follow.specs.Places.{IsPassed, is_of_form, place_of}
 use Rattle.trac_follow.specs.Running.{IsTurn}
 use Rattle.trac_follow.proofs.history.turned.Goals as goal
 
 pub returns-then-is_passed : goal.returns-then-is_passed
 returns-then-is_passed g c =
-    (c.told_of.result, c.told_of.ensures, subst (λ o. IsTurn c.args.before.now.state c.args.here o (turning.TheVariants.End (code.TheVariants.Passed c.in-Carried.there))) (sym c.in-Carried.is) (inr (refl, c.is_passed.ensures c.if-is_passed.true)))
+    (c.told_of.result, c.told_of.ensures.tells, subst (λ o. IsTurn c.args.before.now.state c.args.here o (turning.TheVariants.End (code.TheVariants.Passed c.in-Carried.there))) (sym c.in-Carried.is) (inr (refl, subst (λ b. MatchBool b (IsPassed c.args.before.now.state (place_of c.args.here) (place_of c.in-Carried.there)) (IsPassed c.args.before.now.state (place_of c.args.here) (place_of c.in-Carried.there) → ⊥)) c.if-is_passed.true c.is_passed.ensures)))
 
 pub returns-else-is_passed : goal.returns-else-is_passed
 returns-else-is_passed g c =
-    (c.told_of.result, c.told_of.ensures, subst (λ o. IsTurn c.args.before.now.state c.args.here o (turning.TheVariants.On c.in-Carried.there)) (sym c.in-Carried.is) (inl refl))
+    (c.told_of.result, c.told_of.ensures.tells, subst (λ o. IsTurn c.args.before.now.state c.args.here o (turning.TheVariants.On c.in-Carried.there)) (sym c.in-Carried.is) (inl (refl, subst (λ b. MatchBool b (IsPassed c.args.before.now.state (place_of c.args.here) (place_of c.in-Carried.there)) (IsPassed c.args.before.now.state (place_of c.args.here) (place_of c.in-Carried.there) → ⊥)) c.if-is_passed.false c.is_passed.ensures)))
 
 pub returns-in-OfForm : goal.returns-in-OfForm
 returns-in-OfForm g c =
-    (c.told_of.result, c.told_of.ensures, subst (λ o. IsTurn c.args.before.now.state c.args.here o (turning.TheVariants.End (code.TheVariants.OfForm c.in-OfForm.i))) (sym c.in-OfForm.is) (refl))
+    (c.told_of.result, c.told_of.ensures.tells, subst (λ o. IsTurn c.args.before.now.state c.args.here o (turning.TheVariants.End (code.TheVariants.OfForm c.in-OfForm.i))) (sym c.in-OfForm.is) (refl, (c.told_of.ensures.taken (ap is_of_form c.in-OfForm.is)).0, (c.told_of.ensures.taken (ap is_of_form c.in-OfForm.is)).1))
 
 pub returns-in-Read : goal.returns-in-Read
 returns-in-Read g c =
-    (c.told_of.result, c.told_of.ensures, subst (λ o. IsTurn c.args.before.now.state c.args.here o (turning.TheVariants.End (code.TheVariants.Read c.in-Read.n))) (sym c.in-Read.is) (refl))
+    (c.told_of.result, c.told_of.ensures.tells, subst (λ o. IsTurn c.args.before.now.state c.args.here o (turning.TheVariants.End (code.TheVariants.Read c.in-Read.n))) (sym c.in-Read.is) (refl))
 
 pub returns-in-Made : goal.returns-in-Made
 returns-in-Made g c =
-    (c.told_of.result, c.told_of.ensures, subst (λ o. IsTurn c.args.before.now.state c.args.here o (turning.TheVariants.End code.TheVariants.Made)) (sym c.in-Made.is) (refl))
+    (c.told_of.result, c.told_of.ensures.tells, subst (λ o. IsTurn c.args.before.now.state c.args.here o (turning.TheVariants.End code.TheVariants.Made)) (sym c.in-Made.is) (refl))
 
 pub returns-in-Nothing : goal.returns-in-Nothing
 returns-in-Nothing g c =
-    (c.told_of.result, c.told_of.ensures, subst (λ o. IsTurn c.args.before.now.state c.args.here o (turning.TheVariants.End code.TheVariants.Nothing)) (sym c.in-Nothing.is) (refl))
+    (c.told_of.result, c.told_of.ensures.tells, subst (λ o. IsTurn c.args.before.now.state c.args.here o (turning.TheVariants.End code.TheVariants.Nothing)) (sym c.in-Nothing.is) (refl))
