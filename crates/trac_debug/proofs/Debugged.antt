@@ -79,13 +79,10 @@ pub record IsStopped (turn : Turn) (p : PlainSession) (a b : Option (List ℕ)) 
 
 -- without a fault the whole is said; after one nothing is
 unless_always : (ending : Ending) (Fact : Type 0) → Fact → UnlessFault ending Fact
-unless_always Ended Fact fact = fact
-unless_always Budget Fact fact = fact
-unless_always Limit Fact fact = fact
 unless_always Memory Fact fact = tt
 unless_always Read Fact fact = tt
 unless_always Write Fact fact = tt
-unless_always (NotUnderstood line) Fact fact = fact
+unless_always ending Fact fact = fact
 
 unless_Memory : (ending : Ending) (Fact : Type 0) → ending ≡ Memory → UnlessFault ending Fact
 unless_Memory ending Fact is = subst (λ e. UnlessFault e Fact) (sym is) tt
@@ -98,22 +95,12 @@ unless_Read ending Fact is = subst (λ e. UnlessFault e Fact) (sym is) tt
 
 -- the same of an ending but a fault of the writer
 always_unless : (ending : Ending) (Fact : Type 0) → Fact → UnlessWrite ending Fact
-always_unless Ended Fact fact = fact
-always_unless Budget Fact fact = fact
-always_unless Limit Fact fact = fact
-always_unless Memory Fact fact = fact
-always_unless Read Fact fact = fact
 always_unless Write Fact fact = tt
-always_unless (NotUnderstood line) Fact fact = fact
+always_unless ending Fact fact = fact
 
 also_unless : (ending : Ending) (Fact Other : Type 0) → (Fact → Other) → UnlessWrite ending Fact → UnlessWrite ending Other
-also_unless Ended Fact Other go fact = go fact
-also_unless Budget Fact Other go fact = go fact
-also_unless Limit Fact Other go fact = go fact
-also_unless Memory Fact Other go fact = go fact
-also_unless Read Fact Other go fact = go fact
 also_unless Write Fact Other go fact = tt
-also_unless (NotUnderstood line) Fact Other go fact = go fact
+also_unless ending Fact Other go fact = go fact
 
 write_unless : (ending : Ending) (Fact : Type 0) → ending ≡ Write → UnlessWrite ending Fact
 write_unless ending Fact is = subst (λ e. UnlessWrite e Fact) (sym is) tt
@@ -376,13 +363,10 @@ so_far_more in_old in_now in_new out_old out_now out_new start number lines afte
 
 -- what is said of an ending without a fault, after what was written
 unless_also : (ending : Ending) (Fact Other : Type 0) → (Fact → Other) → UnlessFault ending Fact → UnlessFault ending Other
-unless_also Ended Fact Other go fact = go fact
-unless_also Budget Fact Other go fact = go fact
-unless_also Limit Fact Other go fact = go fact
 unless_also Memory Fact Other go fact = tt
 unless_also Read Fact Other go fact = tt
 unless_also Write Fact Other go fact = tt
-unless_also (NotUnderstood line) Fact Other go fact = go fact
+unless_also ending Fact Other go fact = go fact
 
 -- the first lines of all, and nothing after the replies to them
 first_replied : (start : PlainSession) (before later lines : List (List ℕ)) (written nothing : List ℕ) → lines ≡ before ++ later → nothing ≡ [] →

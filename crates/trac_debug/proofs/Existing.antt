@@ -36,13 +36,7 @@ step_not_Memory p q h = ⊎_elim
 pub answered_as_said : (command : session.Command) (p q : PlainSession) (refusal : Refusal) → (refusal ≡ Memory → ⊥) →
     (Answers command p (Refused refusal) q → answer command p ≡ refused refusal q) × (answer command p ≡ refused refusal q → Answers command p (Refused refusal) q)
 answered_as_said command p q Memory other = absurd (other refl)
-answered_as_said command p q TooLong other = (λ h. h, λ h. h)
-answered_as_said command p q NeedInput other = (λ h. h, λ h. h)
-answered_as_said command p q Ended other = (λ h. h, λ h. h)
-answered_as_said command p q JournalFull other = (λ h. h, λ h. h)
-answered_as_said command p q AtStart other = (λ h. h, λ h. h)
-answered_as_said command p q Closed other = (λ h. h, λ h. h)
-answered_as_said command p q NotMet other = (λ h. h, λ h. h)
+answered_as_said command p q refusal other = (λ h. h, λ h. h)
 
 step_refused_as : (p q : PlainSession) (refusal : Refusal) → answer session.Step p ≡ refused refusal q → Answers session.Step p (Refused refusal) q
 step_refused_as p q refusal h =
@@ -148,12 +142,8 @@ some_reply_with Quit old = ([], old, (refl, refl))
 -- it is one of those that there may be
 pub reply_allowed : (command : LineCommand) (old new : PlainSession) (reply : List ℕ) → RepliesWithMemory command old reply new → Replies command old reply new
 reply_allowed (Forward n) old new reply is = (is.0, is.1, is.2.0, is.3)
-reply_allowed (Back n) old new reply is = is
 reply_allowed (Until name n) old new reply is = (is.0, is.1, is.2.0, is.3)
-reply_allowed (Return name) old new reply is = is
-reply_allowed Print old new reply is = is
-reply_allowed (Commit keep) old new reply is = is
-reply_allowed Quit old new reply is = is
+reply_allowed other old new reply is = is
 
 -- so there is a reply to each command
 pub some_reply : (command : LineCommand) (old : PlainSession) → (reply : List ℕ) × (new : PlainSession) × Replies command old reply new

@@ -185,15 +185,8 @@ one_reply Quit old new last reply other a b = record { reply_same = a.0 ∙ sym 
 
 -- a walk was ended for want of memory, or not
 for_memory : (why : Option Refusal) → (why ≡ Some Memory) ⊎ (why ≡ Some Memory → ⊥)
-for_memory None = inr (λ e. cc)
 for_memory (Some Memory) = inl refl
-for_memory (Some TooLong) = inr (λ e. cc)
-for_memory (Some NeedInput) = inr (λ e. cc)
-for_memory (Some Ended) = inr (λ e. cc)
-for_memory (Some JournalFull) = inr (λ e. cc)
-for_memory (Some AtStart) = inr (λ e. cc)
-for_memory (Some Closed) = inr (λ e. cc)
-for_memory (Some NotMet) = inr (λ e. cc)
+for_memory other = inr (λ e. cc)
 
 -- a reply that there may be does not say that memory was refused, or says so
 pub with_or_said : (command : LineCommand) (old new : PlainSession) (reply : List ℕ) → Replies command old reply new → RepliesWithMemory command old reply new ⊎ SaysMemory reply
@@ -201,15 +194,11 @@ with_or_said (Forward n) old new reply is = ⊎_elim
     (λ (so : is.1 ≡ Some Memory). inr (codes "forward", is.0, is.3 ∙ ap (walk_line (codes "forward") is.0) so))
     (λ (other : is.1 ≡ Some Memory → ⊥). inl (is.0, is.1, (is.2, other), is.3))
     (for_memory is.1)
-with_or_said (Back n) old new reply is = inl is
 with_or_said (Until name n) old new reply is = ⊎_elim
     (λ (so : is.1 ≡ Some Memory). inr (codes "until", is.0, is.3 ∙ ap (walk_line (codes "until") is.0) so))
     (λ (other : is.1 ≡ Some Memory → ⊥). inl (is.0, is.1, (is.2, other), is.3))
     (for_memory is.1)
-with_or_said (Return name) old new reply is = inl is
-with_or_said Print old new reply is = inl is
-with_or_said (Commit keep) old new reply is = inl is
-with_or_said Quit old new reply is = inl is
+with_or_said other old new reply is = inl is
 
 -- ---- texts
 

@@ -205,14 +205,8 @@ pub record AreTried (text i : ℕ) (names left : List (List ℕ)) : Type 0 where
   pub among : (name : List ℕ) → list_any (bytes_eq name) left ≡ true → list_any (bytes_eq name) names ≡ true
   pub tried : (byte : ℕ) (hit : IsHit text i names byte) → list_any (bytes_eq hit.name) left ≡ true
 
-pub none_tried : (text i : ℕ) (names : List (List ℕ)) → AreTried text i names names
-none_tried text i names = record { among = λ name e. e; tried = λ byte hit. hit.there }
-
 pub all_tried : (text i : ℕ) (names : List (List ℕ)) → AreTried text i names [] → AreMissed text i names
 all_tried text i names tried byte hit = let none = tried.tried byte hit in absurd (cc)
-
-pub tried_among : (text i : ℕ) (names left : List (List ℕ)) (name : List ℕ) → AreTried text i names (name ∷ left) → list_any (bytes_eq name) names ≡ true
-tried_among text i names left name tried = tried.among name (ap (λ b. b || list_any (bytes_eq name) left) (nat_list_eq_equiv.refl name))
 
 pub tried_one : (text i : ℕ) (names left : List (List ℕ)) (name : List ℕ) → AreTried text i names (name ∷ left) →
     ((byte : ℕ) → lesser_len text name names + byte ≡ i → byte < text + length name → ⊥) → AreTried text i names left

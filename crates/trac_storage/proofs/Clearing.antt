@@ -15,33 +15,19 @@ use Rattle.trac_rules.specs.Listing.{names_of}
 use Rattle.trac_rules.specs.State.{Forms, Held}
 use Rattle.trac_rules.specs.Undone.{names_in}
 use Rattle.trac_rules.proofs.NamedForms.{one_name, only_equal_tie, ties_itself}
-
--- a name below all names of a list is not found in it
-not_below : (name : List ℕ) (es : Held) → T (below_all (slice_cmp nat_cmp) name es) → find (slice_cmp nat_cmp) name es ≡ None
-not_below name [] below = refl
-not_below name (e ∷ es) below = by_order (slice_cmp nat_cmp name e.0) below (not_below name es)
-  where
-    by_order : (r : Ordering) → T (is_lt r && below_all (slice_cmp nat_cmp) name es) → (T (below_all (slice_cmp nat_cmp) name es) → find (slice_cmp nat_cmp) name es ≡ None) →
-        cond (is_eq r) (Some e.1) (find (slice_cmp nat_cmp) name es) ≡ None
-    by_order Less h rest = rest h
-    by_order Equal h rest = absurd h
-    by_order Greater h rest = absurd h
+use Rattle.trac_rules.proofs.ProperDecided.{both_true, not_below}
 
 -- these entries rise, and are what is found among the forms
 record AreAll (es : Held) (forms : Forms) : Type 0 where
   sorted : T (is_sorted (slice_cmp nat_cmp) es)
   found : (q : List ℕ) → find (slice_cmp nat_cmp) q es ≡ finite.get forms q
 
-both : (a b : Bool) → T (a && b) → T a × T b
-both true b h = (tt, h)
-both false b h = absurd h
-
 -- so the entries after the first are what is found when its form is taken
 all_after : (e : List ℕ × Form) (es : Held) (forms : Forms) → AreAll (e ∷ es) forms → AreAll es (finite.remove forms e.0)
 all_after e es forms all = record { sorted = parts.1; found = λ q. ⊎_elim (at q) (aside q) (cases_Bool (eq_by_cmp (slice_cmp nat_cmp) q e.0)) }
   where
     parts : T (below_all (slice_cmp nat_cmp) e.0 es) × T (is_sorted (slice_cmp nat_cmp) es)
-    parts = both (below_all (slice_cmp nat_cmp) e.0 es) (is_sorted (slice_cmp nat_cmp) es) all.sorted
+    parts = both_true (below_all (slice_cmp nat_cmp) e.0 es) (is_sorted (slice_cmp nat_cmp) es) all.sorted
 
     at : (q : List ℕ) → eq_by_cmp (slice_cmp nat_cmp) q e.0 ≡ true → find (slice_cmp nat_cmp) q es ≡ finite.get (finite.remove forms e.0) q
     at q t =
