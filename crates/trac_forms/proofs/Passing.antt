@@ -1,18 +1,16 @@
 -- Items that are passed, and the bytes among them.
 use Rattle.std.proofs.Common.{◌≡◌, ℕ, zero, suc, ◌+◌, ◌-◌, ◌<◌, ◌≤◌, true, false, Bool, cond, List, [], ◌∷◌, ◌++◌, length, take, drop, get_or, min, refl, sym, ap, subst, ◌∙◌, arith, ⊎_elim}
-use Rattle.std.specs.Prelude.{Option, None, Some, option_map, nat_lt, pos, negsuc, ℤ, ◌<ℤ◌, unsigned_abs}
+use Rattle.std.specs.Prelude.{Option, None, Some, option_map, nat_lt}
 use Rattle.std.specs.List.{position, position_or_len}
 use Rattle.std.proofs.lemmas.Bool.{cases_lt, eq-eqb, false_from_ne_true, cond-true, cond-false, eqb-true, lt-ltb, ltb-true}
-use Rattle.std.proofs.lemmas.Grind.{flat_map-append}
 use Rattle.std.proofs.lemmas.List.{append_assoc, append-nil, drop_more, take_more, take_all, nil_from_length, take-append-drop, take-append-le, drop-append-le, length-append}
 use Rattle.std.proofs.lemmas.List.Sums.{position_or_len_is}
-use Rattle.std.proofs.lemmas.Int.{ints}
 use Rattle.std.proofs.Math.Seq.{take-append_seam, drop-append_seam, take-append-add}
 use Rattle.trac_rules.specs.declared.item.Item.{Item}
 use Rattle.trac_rules.specs.declared.item.Item.TheVariants.{Byte, Gap}
 use Rattle.trac_rules.specs.Bytes.{last_place}
 use Rattle.trac_rules.specs.Form.{Form}
-use Rattle.trac_rules.specs.Pieces.{Piece, at_most_all, byte_of, bytes_in, count_read, is_gap, last_bytes, next_bytes, place_before, place_after, place_of_text, read_back, read_on, segment_items, segment_read, until_read, where_any}
+use Rattle.trac_rules.specs.Pieces.{Piece, at_most_all, bytes_in, is_gap, last_bytes, next_bytes, place_before, place_after, place_of_text, read_back, read_on, segment_items, segment_read, until_read, where_any}
 use Rattle.trac_rules.proofs.Balanced.{first_place_some}
 use Rattle.trac_rules.proofs.Items.{bytes_in-append}
 use Rattle.trac_forms.specs.declared.piece.Piece.{Piece as Measured}

@@ -2,7 +2,7 @@
 use Rattle.std.proofs.Common.{◌≡◌, ℕ, suc, ◌+◌, ◌-◌, ◌<◌, ◌≤◌, true, false, List, [], ◌∷◌, ◌++◌, length, take, drop, get_or, refl, sym, ap, subst, ◌∙◌, arith, ⊎_elim}
 use Rattle.std.specs.Prelude.{IfSome, None, Option, Some, option_map, ◌==◌}
 use Rattle.std.proofs.lemmas.Bool.{and_from, and_parts, cases_lt, eq-eqb, eqb-true, false≢true, false_from_ne_true}
-use Rattle.std.proofs.lemmas.List.{append_assoc, drop-append-le, drop-drop, drop-map, drop_more, length-append, length-drop, length-map, length-take-le, map-append, take-append-drop, take-append-le, take-map}
+use Rattle.std.proofs.lemmas.List.{drop-append-le, drop-drop, drop-map, drop_more, length-append, length-drop, length-map, length-take-le, take-append-drop, take-append-le, take-map}
 use Rattle.std.proofs.lemmas.List.Prefix.{at_from_reads}
 use Rattle.std.proofs.Math.Seq.{take-add}
 use Rattle.memchr.specs.Find.{FindsNeedle, OccursAt}
@@ -119,8 +119,8 @@ nowhere text items none = sym (first_place_none (λ k. begin_with text (drop k i
 -- ---- what a search of the run says
 
 -- it is one for this text in these bytes
-pub searched : (run text hay needle : List ℕ) (place : Option ℕ) → hay ≡ run → needle ≡ text → FindsNeedle hay needle 0 place → FindsNeedle run text 0 place
-searched run text hay needle place h n finds = subst (λ (r : List ℕ). FindsNeedle r text 0 place) h (subst (λ (t : List ℕ). FindsNeedle hay t 0 place) n finds)
+pub searched : (run text hay : List ℕ) (place : Option ℕ) → hay ≡ run → FindsNeedle hay text 0 place → FindsNeedle run text 0 place
+searched run text hay place h finds = subst (λ (r : List ℕ). FindsNeedle r text 0 place) h finds
 
 module _ (text : List ℕ) (items : List Item) (start : ℕ) (run : List ℕ) (tail : List Item) (within : start ≤ length items) (rest : drop start items ≡ as_items run ++ tail)
     (before : (k : ℕ) → k < start → begin_with text (drop k items) ≡ false) where

@@ -62,20 +62,38 @@ fn without<A: Allocator + Copy>(
     ensures cut { IfOk result (λ out. out.items ≡ cut_out number text.now items.now) }
     ensures err { IsOkUnless result FormError.Memory }
 {
-    let finder = Finder::new(text);
     let mut out = Vec::with_capacity(alloc, items.len())?;
     let mut run = Vec::new(alloc);
+    cut_into(number, text, items, &mut run, &mut out)?;
+    Ok(out)
+}
+
+// Puts the items at the end of `out`, the text of this number cut out of each run between gaps. `run` is an empty text, for the
+// run of bytes that is read; both are lent, so that no end drops them.
+fn cut_into<A: Allocator>(
+    number: u32,
+    text: &[u8],
+    items: &[PackedItem],
+    run: &mut Vec<u8, A>,
+    out: &mut Vec<PackedItem, A>,
+) -> Result<(), FormError>
+    requires some { 0 < length text.now }
+    requires fits { extent items.now ≤ FORM_LIMIT }
+    requires empty { run.old.items ≡ [] }
+    ensures cut { OnOk result (out.new.items ≡ out.old.items ++ cut_out number text.now items.now) }
+    ensures err { IsOkUnless result FormError.Memory }
+{
+    let finder = Finder::new(text);
     for item in items {
         if let Item::Byte(b) = item.item() {
-            push_item(b, &mut run)?;
+            push_item(b, run)?;
             continue;
         }
-        part_into(number, text, &finder, run.as_slice(), &mut out)?;
-        end_run(&mut run);
-        push_item(*item, &mut out)?;
+        part_into(number, text, &finder, run.as_slice(), out)?;
+        end_run(run);
+        push_item(*item, out)?;
     }
-    part_into(number, text, &finder, run.as_slice(), &mut out)?;
-    Ok(out)
+    part_into(number, text, &finder, run.as_slice(), out)
 }
 
 // Ends a run of bytes at a gap: what comes after it is searched by itself.

@@ -280,16 +280,32 @@ fn first_place_of<A: Allocator>(
     ensures within { IfOk result (λ r. IfSome r (λ at. at.items + length text.now ≤ length items.now)) }
     ensures err { IsOkUnless result FormError.Memory }
 {
-    let finder = Finder::new(text);
-    // the run that is read so far, where it begins, and how many bytes stand before it
     let mut run = Vec::new(alloc);
+    search(&Finder::new(text), items, &mut run)
+}
+
+// The first place of the finder's text, which is not empty, among these items, if it occurs. `run` is an empty text, for the
+// run of bytes that is read; it is lent, so that no end of the search has to drop it.
+fn search<A: Allocator>(
+    finder: &Finder<'_>,
+    items: &[PackedItem],
+    run: &mut Vec<u8, A>,
+) -> Result<Option<Reached>, FormError>
+    requires some { 0 < length finder.now }
+    requires empty { run.old.items ≡ [] }
+    ensures place { IfOk result (λ r. option_map (λ at. at.items) r ≡ place_of_text finder.now items.now) }
+    ensures bytes { IfOk result (λ r. IfSome r (λ at. at.bytes ≡ length (bytes_in (take at.items items.now)))) }
+    ensures within { IfOk result (λ r. IfSome r (λ at. at.items + length finder.now ≤ length items.now)) }
+    ensures err { IsOkUnless result FormError.Memory }
+{
+    // where the run begins, and how many bytes stand before it
     let mut start = Reached { items: 0, bytes: 0 };
     for item in items {
         if let Item::Byte(b) = item.item() {
             // Searched each time before its room doubles: so it is read at most about twice as far as the text stands, and
             // searched about twice in all, however much is left of it.
             if run.len() == run.capacity() {
-                if let Some(at) = place_in_run(&finder, run.as_slice(), start) {
+                if let Some(at) = place_in_run(finder, run.as_slice(), start) {
                     return Ok(Some(at));
                 }
                 run.reserve(run.len().max(FIRST_ROOM))?;
@@ -297,16 +313,16 @@ fn first_place_of<A: Allocator>(
             run.push_reserved(b);
             continue;
         }
-        if let Some(at) = place_in_run(&finder, run.as_slice(), start) {
+        if let Some(at) = place_in_run(finder, run.as_slice(), start) {
             return Ok(Some(at));
         }
         start = Reached {
             items: start.items + run.len() + 1,
             bytes: start.bytes + run.len(),
         };
-        end_run(&mut run);
+        end_run(run);
     }
-    Ok(place_in_run(&finder, run.as_slice(), start))
+    Ok(place_in_run(finder, run.as_slice(), start))
 }
 
 // The first place of a text in a run of bytes that begins at `start`, if it occurs there.

@@ -1,5 +1,5 @@
 -- The items that are passed go to the left, the gap after them is gone, and the bytes come in its place.
-use Rattle.std.proofs.Common.{◌+◌, ◌++◌, List, append_assoc, ap, arith, drop, drop-drop, length, length-append, length-drop, take, ◌∙◌}
+use Rattle.std.proofs.Common.{◌++◌, append_assoc, ap, arith, drop, drop-drop, length, length-append, length-drop, take, ◌∙◌}
 use Rattle.std.proofs.lemmas.List.{length-take-le}
 use Rattle.trac_gap.specs.Ends.{Ends}
 use Rattle.trac_rules.specs.declared.item.Item.{Item}

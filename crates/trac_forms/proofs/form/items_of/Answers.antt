@@ -1,10 +1,10 @@
 -- Wide items are no more than the bytes that they stand for, so there are places for all.
-use Rattle.std.proofs.Common.{◌++◌, length, ap, ◌∙◌, arith, length-append}
+use Rattle.std.proofs.Common.{length, ap, ◌∙◌, arith, length-append}
 use Rattle.trac_gap.specs.Ends.{Ends}
 use Rattle.trac_rules.specs.declared.item.Item.{Item}
 use Rattle.trac_rules.specs.Form.{IsWide}
 use Rattle.trac_rules.proofs.ProperBlocks.{All-append_right}
-use Rattle.trac_forms.proofs.Divided.{both_put, count_within, divided_put, kept_put}
+use Rattle.trac_forms.proofs.Divided.{count_within, divided_put, kept_put}
 use Rattle.trac_forms.proofs.form.items_of.Goals as goal
 
 pub put_items-requires-clause-room : goal.put_items-requires-clause-room

@@ -2,7 +2,7 @@
 use Rattle.std.proofs.Common.{◌≡◌, ℕ, ◌+◌, ◌++◌, ◌<◌, ◌≤◌, false, length, take, drop}
 use Rattle.trac_rules.specs.Form.{as_items}
 use Rattle.trac_rules.specs.Pieces.{begin_with, bytes_in}
-use Rattle.trac_forms.proofs.piece.first_place_of.Given as goal
+use Rattle.trac_forms.proofs.piece.search.Given as goal
 
 abbrev pub invariant-loop-item : goal.invariant-loop-item
 invariant-loop-item g l = record {
@@ -10,5 +10,5 @@ invariant-loop-item g l = record {
   rest : drop l.start.items l.items ≡ as_items l.run.items ++ drop l.item-index l.items;
   counted : l.start.bytes ≡ length (bytes_in (take l.start.items l.items));
   fewer : l.start.bytes ≤ l.start.items;
-  none : (k : ℕ) → k < l.start.items → begin_with l.text (drop k l.items) ≡ false;
+  none : (k : ℕ) → k < l.start.items → begin_with l.finder (drop k l.items) ≡ false;
 }
