@@ -1,5 +1,6 @@
 -- The last form of the block is put, in front of all others.
-use Rattle.std.proofs.Common.{List, [], ◌∷◌, ℕ, ap, sym, subst, ◌∙◌}
+use Rattle.std.proofs.Common.{List, [], ◌∷◌, ℕ, length, ap, refl, sym, subst, ◌∙◌, arith}
+use Rattle.std.proofs.lemmas.List.{length-append}
 use Rattle.std.specs.Prelude.{IsTrue}
 use Rattle.std.specs.FinMap as finite
 use Rattle.std.specs.FinSet as set
@@ -38,3 +39,11 @@ pub returns : goal.returns
 returns g c =
     ap (λ (es : Held). let s : Stored = record c.loop-name.store { forms = with_all es c.loop-name.store.forms } in s) (sym c.in_default.ensures.last.0)
     ∙ c.loop-name.invariant.put
+
+pub loop-name-init : goal.loop-name-init
+loop-name-init g c = record { put = refl; apart = c.len-len.ensures.distinct; known = c.requires }
+
+pub loop-name-smaller : goal.loop-name-smaller
+loop-name-smaller g c =
+    let entry : List ℕ × Form = (c.in-Some.name.items, c.in-Some.form) in
+    omega (arith, ap length c.in-Some.ensures.last, length-append c.pop.new.self.held (entry ∷ []))
