@@ -21,31 +21,31 @@ const ELEVEN_STEPS_AND_BACK: &[Act] = &[
     Initial,
 ];
 
-// A stray `)` ends the idle program's `ps`: what is read after it goes to the base text.
-const A_STRAY_CLOSING: &[Act] = &[Feed(b"a)b,c'"), Forward(14), Shows(b"bc^"), Pending(b"a")];
-
-// The idle step empties the base text, which comes back from its record.
+// A stray `)` ends the idle program's `ps`, which weighs 4: what is read after it goes to the base text. Each deleted byte weighs
+// 1, and the base text 2, which the idle step empties, and which comes back from its record.
 const THE_BASE_TEXT_COMES_BACK: &[Act] = &[
     Feed(b"a)b,c'"),
     ForwardRefused(99, 22, NeedInput),
     Shows(b"#(ps,#(rs^))"),
     Pending(b"a"),
     Records(22),
+    Weighs(10),
     Back(8),
     Shows(b"bc^"),
     Pending(b"a"),
+    Weighs(8),
     Back(14),
     Initial,
+    Weighs(0),
     Forward(22),
-    Back(22),
+    End,
+    ForwardRefused(1, 0, Ended),
+    BackToStart(99, 22),
     Initial,
 ];
 
 // A `(` without a match protects all the rest.
 const AN_UNMATCHED_OPENING: &[Act] = &[Feed(b"((a'"), Forward(9), Shows(b"#(ps,(a)^")];
-
-// After seven steps `ps` has one finished argument, and `rs` inside it is about to be performed.
-const TWO_FUNCTIONS_ARE_BEGUN: &[Act] = &[Feed(b"AB'"), Forward(7), Shows(b"#(ps,#(rs^))")];
 
 // `rs` has read `AB`: it goes before the active text, and `ps` gathers its second argument. The same is read again after
 // one step back, though the tape has grown.
@@ -83,20 +83,6 @@ const A_TRACED_CALL_WAITS_FOR_A_BYTE: &[Act] = &[
     Pending(b""),
 ];
 
-// With the trace on, `rs` waits for a text, and then finds the end of the input: what the idle program has printed stays.
-const A_TRACED_CALL_WAITS_FOR_A_TEXT: &[Act] = &[
-    Feed(b"#(tn)'"),
-    ForwardRefused(22, 21, NeedInput),
-    Pending(b"#(ps*)\n"),
-    End,
-    ForwardRefused(1, 0, Ended),
-    Shows(b"#(ps,#(rs^))"),
-    Pending(b"#(ps*)\n"),
-    Records(21),
-    BackToStart(22, 21),
-    Initial,
-];
-
 const NOTHING_AFTER_THE_END: &[Act] = &[
     Feed(b"A"),
     End,
@@ -105,19 +91,6 @@ const NOTHING_AFTER_THE_END: &[Act] = &[
     Forward(8),
     Shows(b"#(ps,^A)"),
     Position(1),
-];
-
-const A_COMMIT_KEEPS_WHAT_IS_UNREAD: &[Act] = &[
-    Feed(b"AB'C'"),
-    Forward(11),
-    Position(3),
-    Commit(0),
-    Pending(b""),
-    Position(0),
-    BackToStart(1, 0),
-    Forward(11),
-    Pending(b"C"),
-    Position(2),
 ];
 
 // Until the called text is printed, the rules take 17, 15, 17 and 16 steps for the four texts, and one between any two,
@@ -149,13 +122,6 @@ const AN_UNMATCHED_OPENING_TO_THE_END: &[Act] = &[
     Pending(b""),
 ];
 
-const A_STRAY_CLOSING_TO_THE_END: &[Act] = &[
-    Feed(b"a)b,c'"),
-    End,
-    ForwardRefused(100, 22, Ended),
-    Pending(b"a"),
-];
-
 // `rs` weighs 2, and `ps` with its argument `AB` 5. What is gone back over is not weighed any more.
 const A_TEXT_WEIGHS: &[Act] = &[
     Weighs(0),
@@ -171,17 +137,6 @@ const A_TEXT_WEIGHS: &[Act] = &[
     Back(9),
     Weighs(2),
     Commit(0),
-    Weighs(0),
-];
-
-// A stray `)` ends the idle program's `ps`, which weighs 4. Each deleted byte weighs 1, and the base text that is emptied 2.
-const A_STRAY_CLOSING_WEIGHS: &[Act] = &[
-    Feed(b"a)b,c'"),
-    ForwardRefused(99, 22, NeedInput),
-    Weighs(10),
-    Back(8),
-    Weighs(8),
-    BackToStart(99, 14),
     Weighs(0),
 ];
 
@@ -299,31 +254,6 @@ const A_WINDOW_AFTER_A_WINDOW: &[Act] = &[
     Shows(b"#(ps,#(rs^))"),
 ];
 
-// Ten steps before the end the form is not deleted yet. Its name stays known in the window, so the way back takes no memory;
-// a commit that keeps the last state alone forgets it. Of the records that stay `dd` weighs 7, and `ps` 3.
-const A_DELETED_FORM_IN_A_WINDOW: &[Act] = &[
-    Feed(b"#(ds,a,1)'#(dd,a)'"),
-    ForwardRefused(99, 41, NeedInput),
-    Commit(10),
-    Records(10),
-    Weighs(10),
-    Forms(0),
-    BackToStart(11, 10),
-    Forms(1),
-    Position(0),
-    Weighs(0),
-    Forward(10),
-    Weighs(10),
-    Forms(0),
-    Commit(0),
-    Weighs(0),
-    BackToStart(1, 0),
-    Feed(b"#(ds,a,2)'#(cl,a)'"),
-    ForwardRefused(99, 35, NeedInput),
-    Pending(b"2"),
-    Forms(1),
-];
-
 // With a commit after each step the journal never holds more than one record beside those that it keeps, and is never full.
 // `AB` is printed by the eleventh step: five steps later the window has passed it.
 const A_COMMIT_AFTER_EACH_STEP: &[Act] = &[
@@ -339,22 +269,6 @@ const A_COMMIT_AFTER_EACH_STEP: &[Act] = &[
     BackToStart(99, 5),
     Shows(b"#(p^s,#(rs))"),
     Pending(b""),
-];
-
-// The same without any window.
-const NOTHING_IS_KEPT: &[Act] = &[
-    Feed(b"AB'"),
-    ForwardInWindow(10, 0),
-    Shows(b"#(ps,AB^)"),
-    Forward(1),
-    PendingBefore(1, b""),
-    Pending(b"AB"),
-    Commit(0),
-    Pending(b""),
-    ForwardInWindow(8, 0),
-    Shows(b"#(ps,#(rs^))"),
-    Position(0),
-    BackToStart(1, 0),
 ];
 
 // Ten plain bytes after eight steps, over which walks of each length go: to the end of the run, to within it, and past it.
@@ -378,24 +292,6 @@ const A_RUN_OF_PLAIN_BYTES: &[Act] = &[
     Forward(19),
     BackToStart(20, 19),
     Initial,
-];
-
-// The journal is full within the run.
-const A_RUN_FILLS_THE_JOURNAL: &[Act] = &[
-    Feed(b"ABCDEFGHIJ'"),
-    ForwardRefused(19, 12, JournalFull),
-    Shows(b"#(ps,ABCD^EFGHIJ)"),
-    Back(3),
-    Shows(b"#(ps,A^BCDEFGHIJ)"),
-    ForwardRefused(19, 3, JournalFull),
-    Commit(0),
-    Records(0),
-    Forward(7),
-    Pending(b"ABCDEFGHIJ"),
-    Back(5),
-    Shows(b"#(ps,ABCDEF^GHIJ)"),
-    BackToStart(3, 2),
-    Shows(b"#(ps,ABCD^EFGHIJ)"),
 ];
 
 const A_FULL_JOURNAL: &[Act] = &[
@@ -442,33 +338,24 @@ const A_VALUE_THAT_IS_TOO_LONG: &[Act] = &[
 // How many records a journal may hold, and the acts on a session with that journal.
 const WALKS: &[(usize, &[Act])] = &[
     (JOURNAL_LIMIT, ELEVEN_STEPS_AND_BACK),
-    (JOURNAL_LIMIT, A_STRAY_CLOSING),
     (JOURNAL_LIMIT, THE_BASE_TEXT_COMES_BACK),
     (JOURNAL_LIMIT, AN_UNMATCHED_OPENING),
-    (JOURNAL_LIMIT, TWO_FUNCTIONS_ARE_BEGUN),
     (JOURNAL_LIMIT, MORE_INPUT_IS_WAITED_FOR),
     (JOURNAL_LIMIT, A_TRACED_CALL_WAITS_FOR_A_BYTE),
-    (JOURNAL_LIMIT, A_TRACED_CALL_WAITS_FOR_A_TEXT),
     (JOURNAL_LIMIT, NOTHING_AFTER_THE_END),
-    (JOURNAL_LIMIT, A_COMMIT_KEEPS_WHAT_IS_UNREAD),
     (JOURNAL_LIMIT, FORMS_COME_AND_GO),
     (JOURNAL_LIMIT, NO_INPUT),
     (JOURNAL_LIMIT, ONE_TEXT),
     (JOURNAL_LIMIT, AN_UNMATCHED_OPENING_TO_THE_END),
-    (JOURNAL_LIMIT, A_STRAY_CLOSING_TO_THE_END),
     (JOURNAL_LIMIT, A_TEXT_WEIGHS),
-    (JOURNAL_LIMIT, A_STRAY_CLOSING_WEIGHS),
     (JOURNAL_LIMIT, A_DELETED_FORM_WEIGHS),
     (JOURNAL_LIMIT, A_WINDOW_OF_TEN),
     (JOURNAL_LIMIT, A_WINDOW_OF_EIGHT),
     (JOURNAL_LIMIT, A_WINDOW_OF_TWELVE),
     (JOURNAL_LIMIT, A_WINDOW_OF_ALL),
     (JOURNAL_LIMIT, A_WINDOW_AFTER_A_WINDOW),
-    (JOURNAL_LIMIT, A_DELETED_FORM_IN_A_WINDOW),
     (6, A_COMMIT_AFTER_EACH_STEP),
-    (1, NOTHING_IS_KEPT),
     (JOURNAL_LIMIT, A_RUN_OF_PLAIN_BYTES),
-    (12, A_RUN_FILLS_THE_JOURNAL),
     (4, A_FULL_JOURNAL),
 ];
 

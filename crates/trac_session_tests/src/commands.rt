@@ -27,20 +27,8 @@ const COMMANDS: &[Command<'static>] = &[
     Command::Back,
 ];
 
-// The replies to these that there may be, and what is fed and unread in the end. In each row but the first one command that
-// takes memory is refused it and changes nothing, and the others are replied to as they are then.
-const ANSWERS: &[(&[u8], &[u8])] = &[
-    (b"dddddJddCdAdddA", b"AB'"),
-    // The text is not fed, which no step reads.
-    (b"MddddJddCdAdddA", b""),
-    // One of the first four steps is not taken, so the journal has room for the fifth.
-    (b"dMddddddCdAdddA", b"AB'"),
-    (b"ddMdddddCdAdddA", b"AB'"),
-    (b"dddMddddCdAdddA", b"AB'"),
-    (b"ddddMdddCdAdddA", b"AB'"),
-    // The step after the commit is not taken, so there is none to go back over.
-    (b"dddddJddCdAMdAA", b"AB'"),
-];
+// The replies to these. A command that is refused memory changes nothing, so what is replied to the others may differ then.
+const REPLIES: &[u8] = b"dddddJddCdAdddA";
 
 // A reply as these rows write it.
 fn letter_of(reply: Reply) -> u8 {
@@ -69,60 +57,60 @@ fn perform(
     Ok(())
 }
 
-// There is nothing to go back over, and this is not scanned yet.
-fn shows(session: &Session<Memory<'_>>, active: &[u8]) -> bool {
-    session.is_empty() && session.machine().active() == active
+fn perform_list(session: &mut Session<Memory<'_>>, replies: &mut Vec<u8>) -> Result<(), Refusal> {
+    perform(session, COMMANDS, replies)
 }
 
-// Performs the list, and says whether a request of one of its commands was refused. Where there is no memory for the replies
-// nothing is done, and the next try is accepted.
-fn perform_list(
+// There is nothing to go back over, and so much is not read yet.
+fn is_at_start(session: &Session<Memory<'_>>, unread: &[u8]) -> bool {
+    session.is_empty() && session.unread() == unread
+}
+
+// Performs the list. Where there is no memory for the replies nothing is done, and the next try is accepted: whether that was so.
+fn is_performed_again(
+    rt: &impl Abort,
+    session: &mut Session<Memory<'_>>,
+    replies: &mut Vec<u8>,
+) -> bool {
+    let Err(refusal) = perform_list(session, replies) else {
+        return false;
+    };
+    assert!(rt; refusal == Refusal::Memory && is_at_start(session, b""));
+    perform_list(session, replies).expect(rt, "it was refused again");
+    true
+}
+
+// Where no command is refused memory, the replies are these, and the text is not read again after the commit and the last step.
+fn is_replied(session: &Session<Memory<'_>>, replies: &[u8]) -> bool {
+    replies == REPLIES && is_at_start(session, b"AB'")
+}
+
+// A refused request is the reply of one command, or of the list.
+fn expect_replies(
     rt: &impl Abort,
     memory: Memory<'_>,
     session: &mut Session<Memory<'_>>,
     replies: &mut Vec<u8>,
-) -> bool {
-    let refusals = memory.refusals();
-    let Err(refusal) = perform(session, COMMANDS, replies) else {
-        return memory.refusals() > refusals;
-    };
-    let is_unfed = session.unread().is_empty();
-    assert!(rt; refusal == Refusal::Memory && is_unfed && shows(session, b"#(ps,#(rs))"));
-    perform(session, COMMANDS, replies).expect(rt, "it was refused again");
-    false
-}
-
-fn is_text(text: &[u8], wanted: &[u8]) -> bool {
-    text == wanted
-}
-
-// Whether these are the replies where no request is refused, or others where one is.
-fn may_reply(replies: &[u8], unread: &[u8], is_refused: bool) -> bool {
-    for (at, (wanted, left)) in ANSWERS.iter().enumerate() {
-        if is_text(replies, wanted) && is_text(unread, left) {
-            return is_refused == (at > 0);
-        }
-    }
-    false
-}
-
-// A refused request is the reply of its own command. A list of none has no replies.
-fn expect_replies(
-    rt: &impl Abort,
-    plain: Global,
-    memory: Memory<'_>,
-    session: &mut Session<Memory<'_>>,
 ) {
-    let mut replies = Vec::new(plain);
-    let is_refused = perform_list(rt, memory, session, &mut replies);
-    perform(session, &[], &mut replies).expect(rt, "it was refused");
-    let is_met = may_reply(replies.as_slice(), session.unread(), is_refused);
-    assert!(rt; is_met && shows(session, b",#(rs))"));
+    let refusals = memory.refusals();
+    let is_again = is_performed_again(rt, session, replies);
+    let is_refused = memory.refusals() > refusals;
+    let is_said = replies.contains(&b'M');
+    assert!(rt; (is_again || is_said) == is_refused);
+    assert!(rt; is_said || is_replied(session, replies.as_slice()));
 }
 
+fn has_active(session: &Session<Memory<'_>>, text: &[u8]) -> bool {
+    session.machine().active() == text
+}
+
+// A list of none has no replies.
 fn commands_and_replies(rt: &impl Abort, plain: Global, memory: Memory<'_>) {
     let mut session = made(rt, memory, 4, Width::W128);
-    expect_replies(rt, plain, memory, &mut session);
+    let mut replies = Vec::new(plain);
+    perform(&mut session, &[], &mut replies).expect(rt, "it was refused");
+    expect_replies(rt, memory, &mut session, &mut replies);
+    assert!(rt; has_active(&session, b",#(rs))"));
     let_go(session);
 }
 

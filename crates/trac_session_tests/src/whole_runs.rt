@@ -1,8 +1,8 @@
 //! Whole runs of a session, step by step: to the end, and all the way back, where each state is the one on the way out. Each
 //! request for memory is refused in turn on the way out, and all of them on the way back. With a commit after each step that
 //! keeps so many, the states are the same but for what was released, and the way back goes so far.
-use crate::machines::{Memory, expect_text};
-use crate::programs::{EACH_PRIMITIVE, PROGRAMS};
+use crate::machines::{Memory, expect_text, programs};
+use crate::programs::EACH_PRIMITIVE;
 use crate::sessions::{let_go, made};
 use crate::shown::shown_after;
 use std::alloc::Global;
@@ -141,8 +141,20 @@ fn commit_at(rt: &impl Abort, memory: Memory<'_>, session: &mut Session<Memory<'
     assert!(rt; memory.requests() == requests);
 }
 
-// Makes the commit of this run, where there is one, and returns what is released by then. What the commit says to release is
-// what the program prints next.
+// How many bytes of output a commit that keeps so many steps says to release: what the program prints next.
+fn released_by(
+    rt: &impl Abort,
+    run: &Run<'_>,
+    session: &Session<Memory<'_>>,
+    printed: usize,
+    keep: usize,
+) -> usize {
+    let text = session.pending_before(keep);
+    expect_text(rt, text, front(rest(run.output, printed), text.len()));
+    text.len()
+}
+
+// Makes the commit of this run, where there is one, and returns what is released by then.
 fn commit(
     rt: &impl Abort,
     run: &Run<'_>,
@@ -152,9 +164,7 @@ fn commit(
     let Some(keep) = run.window else {
         return released;
     };
-    let more = session.pending_before(keep).len();
-    let wanted = front(rest(run.output, released.printed), more);
-    expect_text(rt, session.pending_before(keep), wanted);
+    let more = released_by(rt, run, session, released.printed, keep);
     let before = position(session);
     commit_at(rt, run.memory, session, keep);
     let dropped = before.saturating_sub(position(session));
@@ -321,7 +331,7 @@ fn expect_runs(
 
 #[test]
 fn each_state_on_the_way_back(rt: HostRuntime) {
-    for program in PROGRAMS.iter() {
+    for program in programs().iter() {
         expect_runs(&rt, Width::W128, *program, WINDOWS, false);
     }
 }
