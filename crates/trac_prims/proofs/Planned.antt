@@ -1,5 +1,5 @@
 -- The outcome of a call, from what its primitive made and from the lengths of the pieces.
-use Rattle.std.proofs.Common.{◌≡◌, ℕ, ◌++◌, List, [], length, refl, sym, ap, ◌∙◌, subst, arith, Bool, true, false, ⊎_elim}
+use Rattle.std.proofs.Common.{◌≡◌, ℕ, ◌++◌, List, [], length, refl, sym, ap, ◌∙◌, subst, arith, true, false, ⊎_elim}
 use Rattle.std.specs.Prelude.{Result, Ok, Err, nat_le}
 use Rattle.std.proofs.lemmas.Bool.{and_from, cases_Bool, false_from_ne_true, le-leb, true≢false}
 use Rattle.std.proofs.lemmas.List.{length-append}
