@@ -1,14 +1,14 @@
 -- Items in two lists, and how some go from one to the other.
-use Rattle.std.proofs.Common.{◌≡◌, ℕ, ◌+◌, ◌-◌, ◌≤◌, List, [], ◌++◌, length, take, drop, sym, ap, subst, ◌∙◌, append_assoc, arith}
+use Rattle.std.proofs.Common.{◌≡◌, ℕ, ◌+◌, ◌-◌, ◌≤◌, List, [], ◌++◌, length, take, drop, refl, sym, ap, subst, ◌∙◌, ◌⊎◌, ⊎_elim, inl, inr, append_assoc, arith}
 use Rattle.std.specs.List.{All}
 use Rattle.std.proofs.lemmas.List.{append-nil, take-append-drop, take-append-le, drop-append-le, length-append, length-map}
 use Rattle.std.proofs.Math.Seq.{take-append-add, take-append_seam, drop-append-add, drop-append_seam}
-use Rattle.trac_gap.specs.Ends.{Ends}
+use Rattle.trac_gap.specs.Ends.{Ends, item_count}
 use Rattle.trac_rules.specs.declared.item.Item.{Item}
 use Rattle.trac_rules.specs.declared.item.Item.TheVariants.{Byte}
 use Rattle.trac_rules.specs.declared.limit.TheConstants.{FORM_LIMIT}
-use Rattle.trac_rules.specs.Form.{IsWide, all_items, as_items, defined, extent, pointed_at}
-use Rattle.trac_forms.specs.Layout.{IsKept, divided}
+use Rattle.trac_rules.specs.Form.{Form, IsWide, all_items, as_items, defined, extent, pointed_at}
+use Rattle.trac_forms.specs.Layout.{IsHeld, IsKept, divided, with_text}
 use Rattle.trac_rules.proofs.Cutting.{count_within_extent, extent-as_items, wide-as_items}
 
 -- the same items in as many places are kept as well
@@ -78,6 +78,33 @@ kept_text items text e short roomy =
       room = omega (arith, ap extent all, extent-as_items text);
     }
 
+-- a text that is kept as one, or as items
+module _ (text kept packed : List ℕ) (items : Ends Item) (parted : ((kept ≡ text) × (packed ≡ [])) ⊎ ((kept ≡ []) × (packed ≡ text))) (bytes : divided items ≡ defined packed) where
+  back : items.right ≡ as_items packed
+  back = ap (λ (form : Form). form.after) bytes
+
+  after : as_items kept ++ items.right ≡ as_items text
+  after =
+      ⊎_elim
+      (λ (one : (kept ≡ text) × (packed ≡ [])).
+      ap (λ (xs : List Item). as_items kept ++ xs) (back ∙ ap as_items one.1) ∙ append-nil (as_items kept) ∙ ap as_items one.0)
+      (λ (each : (kept ≡ []) × (packed ≡ text)). ap (λ (bytes : List ℕ). as_items bytes ++ items.right) each.0 ∙ back ∙ ap as_items each.1)
+      parted
+
+  pub defined_held : divided (with_text kept items) ≡ defined text
+  defined_held =
+      let front : items.left ≡ [] = ap (λ (form : Form). form.before) bytes in
+      λ i. record { before = front i; after = after i }
+
+  pub held_new : length text ≤ FORM_LIMIT → length text ≤ items.capacity → IsHeld kept items
+  held_new short roomy = record {
+    kept = kept_text (with_text kept items) text defined_held short roomy;
+    either = ⊎_elim
+        (λ (one : (kept ≡ text) × (packed ≡ [])). inr (back ∙ ap as_items one.1))
+        (λ (each : (kept ≡ []) × (packed ≡ text)). inl each.0)
+        parted;
+  }
+
 -- all bytes of a text go after the pointer
 module _ (old new : Ends Item) (text : List ℕ) (whole : old.left ≡ as_items text) (right : old.right ≡ [])
     (moved : new ≡ record old { left = take (length old.left - length text) old.left; right = drop (length old.left - length text) old.left ++ old.right }) where
@@ -89,9 +116,6 @@ module _ (old new : Ends Item) (text : List ℕ) (whole : old.left ≡ as_items 
       let front : new.left ≡ [] = ap (λ (e : Ends Item). e.left) moved ∙ ap (λ k. take k old.left) none in
       let back : new.right ≡ as_items text = ap (λ (e : Ends Item). e.right) moved ∙ (λ j. drop (none j) (whole j) ++ right j) ∙ append-nil (as_items text) in
       λ j. record { before = front j; after = back j }
-
-  pub kept_after : length text ≤ FORM_LIMIT → length text ≤ old.capacity → IsKept new
-  kept_after short roomy = kept_text new text defined_after short (omega (arith, ap (λ (e : Ends Item). e.capacity) moved))
 
 -- wide items are no more than the bytes that they stand for
 pub count_within : (before after : List Item) (bytes : ℕ) → bytes ≡ extent (before ++ after) → All IsWide (before ++ after) → length before + length after ≤ bytes
@@ -126,3 +150,26 @@ module _ (start first second out : Ends Item) (before after : List Item) (no_lef
         wide = subst (λ (xs : List Item). All IsWide xs) (sym same) wide;
         room = omega (arith, ap extent same, is, room, ap (λ (e : Ends Item). e.capacity) moved, ap (λ (e : Ends Item). e.capacity) more, ap (λ (e : Ends Item). e.capacity) put);
       }
+
+-- ---- the bytes of a text go among the items
+
+pub room_held : (text : List ℕ) (items : Ends Item) → IsHeld text items → item_count items + length text ≤ items.capacity
+room_held text items held =
+    let right = as_items text ++ items.right in
+    omega (
+      arith,
+      held.kept.room,
+      count_within_extent (items.left ++ right) held.kept.wide,
+      length-append items.left right,
+      length-append (as_items text) items.right,
+      length-map text Byte,
+    )
+
+pub kept_packed : (text : List ℕ) (items packed : Ends Item) → IsHeld text items → packed ≡ with_text text items → IsKept packed
+kept_packed text items packed held is = subst IsKept (sym is) held.kept
+
+pub held_packed : (text : List ℕ) (items : Ends Item) → text ≡ [] → IsKept items → IsHeld text items
+held_packed text items none kept = subst (λ (bytes : List ℕ). IsHeld bytes items) (sym none) (record { kept = kept; either = inl refl })
+
+pub divided_packed : (text : List ℕ) (items : Ends Item) → text ≡ [] → divided (with_text text items) ≡ divided items
+divided_packed text items none = ap (λ (bytes : List ℕ). divided (with_text bytes items)) none

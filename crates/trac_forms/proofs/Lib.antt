@@ -12,3 +12,4 @@ pub mod Passing
 pub mod ByteRuns
 pub mod Searching
 pub mod InOrder
+pub mod TextsAlone

@@ -42,7 +42,7 @@ fits (b ∷ text) [] (Byte c ∷ rest) bound e = absurd (bound c rest refl)
 fits (b ∷ text) [] (Gap ordinal width ∷ rest) bound e = absurd (false≢true e)
 fits (b ∷ text) (c ∷ run) tail bound e = omega (arith, fits text run tail bound (and_parts (b == c) (begin_with text (as_items run ++ tail)) e).1)
 
-count_run : (run : List ℕ) → count (as_items run) ≡ length run
+pub count_run : (run : List ℕ) → count (as_items run) ≡ length run
 count_run [] = refl
 count_run (b ∷ run) = ap suc (count_run run)
 

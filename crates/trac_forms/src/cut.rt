@@ -13,7 +13,7 @@ use crate::byte_runs::put_text;
 use crate::cutting::push_item;
 use crate::error::FormError;
 use crate::filling::text;
-use crate::form::{Form, Items};
+use crate::form::{Form, Items, pack};
 use crate::packed::PackedItem;
 use crate::text_lists::Texts;
 use std::alloc::{Allocator, Global};
@@ -70,6 +70,7 @@ impl<A: Allocator + Copy> Form<A> {
         requires { cut.now ≡ cut_of (T.texts texts.now) self.old }
         ensures { self.new ≡ segmented (T.texts texts.now) self.old }
     {
+        pack(&mut self.text, &mut self.items);
         cut_gaps(&mut self.items, cut.gaps(), texts);
     }
 
@@ -80,6 +81,7 @@ impl<A: Allocator + Copy> Form<A> {
         requires { IsTrue (is_some (joined (T.texts texts.now) cut (all_items self.old))) }
         ensures { option_map at_start (joined (T.texts texts.now) cut (all_items self.old)) ≡ Some self.new }
     {
+        pack(&mut self.text, &mut self.items);
         fill_gaps(&mut self.items, cut.gaps(), texts);
     }
 
@@ -92,7 +94,7 @@ impl<A: Allocator + Copy> Form<A> {
     {
         let count = gaps_among(items)
             .saturating_sub(gaps_among(self.before()))
-            .saturating_sub(gaps_among(self.after()));
+            .saturating_sub(gaps_among(self.after().items));
         let mut gaps = Vec::with_capacity(self.alloc, count)?;
         // how many items of the form the items so far stand for
         let mut old = 0;

@@ -22,13 +22,24 @@ impl<A: Allocator + Copy> Form<A> {
         ensures wide { IfOk result (λ items. All IsWide items.items) }
         ensures err { IsOkUnless result FormError.Memory }
     {
-        let mut items = Vec::from_slice(self.alloc, self.before())?;
-        items.extend_from_slice(self.after())?;
+        let mut items = self.copied_items()?;
         let mut number = 0;
         for i in 0..texts.count() {
             number += 1;
             items = without_text(self.alloc, number, texts.get(i), items)?;
         }
+        Ok(items)
+    }
+
+    // All items.
+    fn copied_items(&self) -> Result<Vec<PackedItem, A>, FormError>
+        ensures items { IfOk result (λ items. items.items ≡ all_items self.now) }
+        ensures err { IsOkUnless result FormError.Memory }
+    {
+        let after = self.after();
+        let mut items = Vec::from_slice(self.alloc, self.before())?;
+        bytes_into(after.text, &mut items)?;
+        items.extend_from_slice(after.items)?;
         Ok(items)
     }
 }

@@ -1,8 +1,9 @@
 //! Calling a form: its gaps are filled with the call's texts.
 ghost use Rattle.std.specs.Prelude.{◌≡◌, ◌++◌, ◌≤◌, length, OnOk, OnErr, IsOkUnless, SomeIff};
 ghost use Rattle.trac_rules.specs.Fronts.{IsFrontOf};
-ghost use Rattle.trac_rules.specs.Filling.{called, filled, text_numbered};
+ghost use Rattle.trac_rules.specs.Filling.{all_filled, called, filled, text_numbered};
 
+use crate::after::text_within;
 use crate::byte_runs::{run_into, run_len};
 use crate::error::FormError;
 use crate::form::Form;
@@ -18,24 +19,11 @@ impl<A: Allocator + Copy> Form<A> {
     pub fn call_len<T: Texts>(&self, args: &T) -> Option<usize>
         ensures { SomeIff result (length (called (T.texts args.now) self.now) ≤ TEXT_LIMIT) (length (called (T.texts args.now) self.now)) }
     {
-        let mut total = 0;
-        let mut rest = self.after();
-        'runs: loop {
-            let (run, after) = rest.split_at(run_len(rest));
-            if run.len() > TEXT_LIMIT - total {
-                return None;
-            }
-            total += run.len();
-            let Some((item, after)) = after.split_first() else {
-                return Some(total);
-            };
-            let len = filled_len(*item, args);
-            if len > TEXT_LIMIT - total {
-                return None;
-            }
-            total += len;
-            rest = after;
+        let after = self.after();
+        if after.text.is_empty() {
+            return all_filled_len(after.items, args, TEXT_LIMIT);
         }
+        text_within(after.text, TEXT_LIMIT)
     }
 
     /// Puts the value of a call with these texts at the end of `out`: the bytes after the pointer, with each gap replaced
@@ -52,17 +40,58 @@ impl<A: Allocator + Copy> Form<A> {
         ensures left { OnErr result (IsFrontOf out.old.items out.new.items) }
         ensures err { IsOkUnless result FormError.Memory }
     {
-        let mut rest = self.after();
-        'runs: loop {
-            let (run, after) = rest.split_at(run_len(rest));
-            out.reserve(run.len())?;
-            run_into(run, out);
-            let Some((item, after)) = after.split_first() else {
-                return Ok(());
-            };
-            fill_into(*item, args, out)?;
-            rest = after;
+        let after = self.after();
+        if after.text.is_empty() {
+            return fill_all_into(after.items, args, out);
         }
+        Ok(out.extend_from_slice(after.text)?)
+    }
+}
+
+// How many bytes these items give in a call, where that is no more than `most`.
+fn all_filled_len<T: Texts>(items: &[PackedItem], args: &T, most: usize) -> Option<usize>
+    ensures { SomeIff result (length (all_filled (T.texts args.now) items.now) ≤ most) (length (all_filled (T.texts args.now) items.now)) }
+{
+    let mut total = 0;
+    let mut rest = items;
+    'runs: loop {
+        let (run, after) = rest.split_at(run_len(rest));
+        if run.len() > most - total {
+            return None;
+        }
+        total += run.len();
+        let Some((item, after)) = after.split_first() else {
+            return Some(total);
+        };
+        let len = filled_len(*item, args);
+        if len > most - total {
+            return None;
+        }
+        total += len;
+        rest = after;
+    }
+}
+
+// Puts what these items give in a call at the end of `out`.
+fn fill_all_into<T: Texts, B: Allocator>(
+    items: &[PackedItem],
+    args: &T,
+    out: &mut Vec<u8, B>,
+) -> Result<(), FormError>
+    ensures ok { OnOk result (out.new.items ≡ out.old.items ++ all_filled (T.texts args.now) items.now) }
+    ensures left { OnErr result (IsFrontOf out.old.items out.new.items) }
+    ensures err { IsOkUnless result FormError.Memory }
+{
+    let mut rest = items;
+    'runs: loop {
+        let (run, after) = rest.split_at(run_len(rest));
+        out.reserve(run.len())?;
+        run_into(run, out);
+        let Some((item, after)) = after.split_first() else {
+            return Ok(());
+        };
+        fill_into(*item, args, out)?;
+        rest = after;
     }
 }
 

@@ -1,11 +1,12 @@
 //! A form: a text with gaps and a pointer.
-ghost use Rattle.std.specs.Prelude.{◌≡◌, ◌+◌, ◌++◌, ◌≤◌, length, slice_get, IfOk, IfErr, OnOk, IsOkUnless, SomeIff};
+ghost use Rattle.std.specs.Prelude.{◌≡◌, ◌⊎◌, ◌+◌, ◌++◌, ◌≤◌, [], length, slice_get, IfOk, IfErr, OnOk, IsOkUnless, SomeIff};
 ghost use Rattle.std.specs.List.{All};
 ghost use Rattle.trac_gap.specs.Ends.{item_count};
 ghost use Rattle.trac_rules.specs.Form.{IsWide, all_items, as_items, at_start, defined, extent, pointed_at, width_of};
-ghost use Rattle.trac_forms.specs.Layout.{IsKept, IsSound, divided};
+ghost use Rattle.trac_forms.specs.Layout.{IsKept, IsSound, divided, with_text};
 ghost use Rattle.trac_forms.specs.Outcomes.{MayRefuseForm};
 
+use crate::after::After;
 use crate::byte_runs::put_text;
 use crate::error::FormError;
 use crate::packed::PackedItem;
@@ -15,32 +16,39 @@ use trac_gap::{GapBuf, TwoEnds};
 use trac_rules::item::Item;
 use trac_rules::limit::FORM_LIMIT;
 
-/// What holds the items of a form: those before its pointer on the left, those after it on the right.
+/// What holds items of a form: those before its pointer on the left, those after it on the right.
 pub(crate) type Items<A> = GapBuf<PackedItem, A>;
+
+// From how many bytes on a form keeps its text as one, until it is pointed or cut: for a shorter one a second block of memory
+// would cost more than it takes to pack all bytes as items.
+const LONG: usize = 16;
 
 /// A text in which gaps may stand, with a pointer before one of its items or at its end.
 /// It is seen as the items before and after its pointer. Lengths and places count items.
 ///
 /// From the moment that it is made it has room for as many items as it stands for bytes, so that what is cut out of it can
-/// come back without more memory.
+/// come back without more memory. A long text is kept as one as long as it is neither pointed nor cut; then that room is
+/// untouched.
 #[derive(Drop)]
 pub struct Form<A: Allocator + Copy = Global> {
     pub(crate) alloc: A,
+    // the bytes after the pointer, where there is no other item; else empty
+    pub(crate) text: Vec<u8, A>,
     pub(crate) items: Items<A>,
 }
 
 impl<A: Allocator + Copy> Model for Form<A> {
     ghost use Rattle.trac_rules.specs.Codes.{form_code};
     ghost use Rattle.trac_rules.specs.Form.{Form as Divided};
-    ghost use Rattle.trac_forms.specs.Layout.{IsKept, divided};
+    ghost use Rattle.trac_forms.specs.Layout.{IsHeld, divided, with_text};
 
     ghost Value = { Divided };
 
     ghost coded = { form_code };
 
-    ghost view = { λ f. divided f.items };
+    ghost view = { λ f. divided (with_text f.text.items f.items) };
 
-    ghost invariant = { λ f. IsKept f.items };
+    ghost invariant = { λ f. IsHeld f.text.items f.items };
 }
 
 impl<A: Allocator + Copy> Form<A> {
@@ -57,8 +65,10 @@ impl<A: Allocator + Copy> Form<A> {
         if text.len() > FORM_LIMIT {
             return Err(FormError::TooLong);
         }
-        let items = bytes_of(alloc, text)?;
-        Ok(Form { alloc, items })
+        let (kept, packed) = kept_and_packed(text);
+        let items = bytes_of(alloc, packed, text.len())?;
+        let text = Vec::from_slice(alloc, kept)?;
+        Ok(Form { alloc, text, items })
     }
 
     /// A form of these items, with its pointer between the two lists. Each gap has to be at least one byte wide.
@@ -79,7 +89,8 @@ impl<A: Allocator + Copy> Form<A> {
             return Err(FormError::TooLong);
         };
         let items = items_of(alloc, before, after, front + back)?;
-        Ok(Form { alloc, items })
+        let text = Vec::new(alloc);
+        Ok(Form { alloc, text, items })
     }
 
     /// How many items the form has, gaps counted like bytes. It takes no memory (this project's profile).
@@ -88,7 +99,7 @@ impl<A: Allocator + Copy> Form<A> {
         ensures within { extent (all_items self.now) ≤ FORM_LIMIT }
         ensures wide { All IsWide (all_items self.now) }
     {
-        self.items.left().len() + self.items.right().len()
+        self.items.left().len() + self.text.len() + self.items.right().len()
     }
 
     /// How many items are before the pointer. It takes no memory (this project's profile).
@@ -113,8 +124,10 @@ impl<A: Allocator + Copy> Form<A> {
         ensures err { IsOkUnless result FormError.Memory }
     {
         let items = self.items.copy()?;
+        let text = Vec::from_slice(self.alloc, self.text.as_slice())?;
         Ok(Form {
             alloc: self.alloc,
+            text,
             items,
         })
     }
@@ -127,6 +140,7 @@ impl<A: Allocator + Copy> Form<A> {
         ensures moved { self.new ≡ pointed_at place (all_items self.old) }
     {
         let old = self.pointer();
+        pack(&mut self.text, &mut self.items);
         if place < old {
             self.items.shift_right(old - place);
         } else {
@@ -143,7 +157,7 @@ impl<A: Allocator + Copy> Form<A> {
         if i < before.len() {
             return Some(before[i]);
         }
-        self.after().get(i - before.len()).copied()
+        self.after().get(i - before.len())
     }
 
     // The items before the pointer.
@@ -154,22 +168,50 @@ impl<A: Allocator + Copy> Form<A> {
     }
 
     // The items after the pointer.
-    pub(crate) fn after(&self) -> &[PackedItem]
-        ensures { result.now ≡ self.now.after }
+    pub(crate) fn after(&self) -> After<'_>
+        ensures { result ≡ self.now.after }
     {
-        self.items.right()
+        After {
+            text: self.text.as_slice(),
+            items: self.items.right(),
+        }
     }
 }
 
-// The bytes of a text as items, none of them before the pointer.
-fn bytes_of<A: Allocator + Copy>(alloc: A, text: &[u8]) -> Result<Items<A>, FormError>
-    requires { length text.now ≤ FORM_LIMIT }
+// What of a text a form keeps as a text, and what as items: all of it goes to one side.
+fn kept_and_packed(text: &[u8]) -> (&[u8], &[u8])
+    ensures { ((result.0.now ≡ text.now) × (result.1.now ≡ [])) ⊎ ((result.0.now ≡ []) × (result.1.now ≡ text.now)) }
+{
+    if text.len() < LONG {
+        return (&[], text);
+    }
+    (text, &[])
+}
+
+// Keeps the bytes of a text as items, before those on the right, where there is room for them.
+pub(crate) fn pack<A: Allocator + Copy>(text: &mut Vec<u8, A>, items: &mut Items<A>)
+    requires { item_count items.old + length text.old.items ≤ items.old.capacity }
+    ensures none { text.new.items ≡ [] }
+    ensures packed { items.new ≡ with_text text.old.items items.old }
+{
+    if text.is_empty() {
+        return;
+    }
+    put_text(text.as_slice(), items);
+    items.shift_right(text.len());
+    text.clear();
+}
+
+// The bytes of a text as items, none of them before the pointer, with room for so many.
+fn bytes_of<A: Allocator + Copy>(alloc: A, text: &[u8], room: usize) -> Result<Items<A>, FormError>
+    requires fits { length text.now ≤ room }
+    requires within { room ≤ FORM_LIMIT }
     ensures bytes { IfOk result (λ items. divided items ≡ defined text.now) }
-    ensures kept { IfOk result IsKept }
+    ensures room { IfOk result (λ items. room ≤ items.capacity) }
     ensures err { IsOkUnless result FormError.Memory }
 {
     let mut items = Items::new(alloc);
-    items.reserve(text.len())?;
+    items.reserve(room)?;
     put_text(text, &mut items);
     items.shift_right(text.len());
     Ok(items)

@@ -2,6 +2,7 @@
 //! by their names, beside blocks of them.
 #![tactic(auto)]
 
+mod after;
 pub mod block;
 mod byte_runs;
 pub mod cut;

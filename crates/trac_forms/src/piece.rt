@@ -2,15 +2,17 @@
 //! two places. Each call is measured before anything is built or moved.
 ghost use Rattle.std.specs.Prelude.{◌≡◌, ◌+◌, ◌-◌, ◌^◌, ◌++◌, ◌∷◌, [], ◌≤◌, ◌<◌, length, take, drop, position, option_map, IfOk, IfSome, OnOk, OnErr, IsOkUnless};
 ghost use Rattle.memchr.specs.Find.{FindsNeedle};
+ghost use Rattle.trac_rules.specs.Form.{as_items};
 ghost use Rattle.trac_rules.specs.Fronts.{IsFrontOf};
 ghost use Rattle.trac_rules.specs.Pieces.{at_most_all, bytes_in, char_read, count_read, is_gap, last_bytes, next_bytes, place_before, place_after, place_of_text, segment_items, segment_read, until_read};
 ghost use Rattle.trac_forms.specs.Taken.{IsThere, taken};
 
+use crate::after::After;
 use crate::cutting::end_run;
 use crate::error::FormError;
 use crate::form::Form;
 use crate::packed::PackedItem;
-use memchr::memmem::Finder;
+use memchr::memmem::{Finder, find};
 use std::alloc::Allocator;
 use trac_gap::TwoEnds;
 use trac_rules::item::Item;
@@ -36,7 +38,7 @@ impl<A: Allocator + Copy> Form<A> {
         if after.is_empty() {
             return None;
         }
-        let reached = segment(after);
+        let reached = segment(&after);
         Some(Piece {
             len: reached.bytes,
             pointer: self.ahead(reached.items),
@@ -85,7 +87,7 @@ impl<A: Allocator + Copy> Form<A> {
         ensures there { IfOk result (λ r. IfSome r (IsThere self.now)) }
         ensures err { IsOkUnless result FormError.Memory }
     {
-        let Some(at) = place_of(self.alloc, text, self.after())? else {
+        let Some(at) = place_of(self.alloc, text, &self.after())? else {
             return Ok(None);
         };
         Ok(Some(Piece {
@@ -111,8 +113,7 @@ impl<A: Allocator + Copy> Form<A> {
         let before = self.before();
         let rest = before.split_at(piece.pointer.min(before.len())).1;
         let put = first_bytes_into(rest, piece.len, out)?;
-        first_bytes_into(self.after(), piece.len - put, out)?;
-        Ok(())
+        next_bytes_into(&self.after(), piece.len - put, out)
     }
 
     // The place that is so many items after the pointer.
@@ -140,7 +141,7 @@ impl<A: Allocator + Copy> Form<A> {
         ensures read { option_map (λ p. taken p self.now) result ≡ next_bytes n self.now }
         ensures there { IfSome result (IsThere self.now) }
     {
-        let reached = reach(self.after(), n);
+        let reached = reach(&self.after(), n);
         if reached.bytes == 0 {
             return None;
         }
@@ -174,8 +175,31 @@ struct Reached {
     bytes: usize,
 }
 
+// The place after so many bytes of a text.
+fn after_bytes(count: usize) -> Reached
+    ensures items { result.items ≡ count }
+    ensures bytes { result.bytes ≡ count }
+{
+    Reached {
+        items: count,
+        bytes: count,
+    }
+}
+
 // The items of the first segment: those up to the first gap and that gap, or all where there is none.
-fn segment(items: &[PackedItem]) -> Reached
+fn segment(after: &After<'_>) -> Reached
+    ensures items { result.items ≡ segment_items (position is_gap after.now) after.now }
+    ensures bytes { result.bytes ≡ length (bytes_in (take result.items after.now)) }
+    ensures within { result.items ≤ length after.now }
+{
+    if after.text.is_empty() {
+        return segment_among(after.items);
+    }
+    after_bytes(after.text.len())
+}
+
+// The same among items.
+fn segment_among(items: &[PackedItem]) -> Reached
     ensures items { result.items ≡ segment_items (position is_gap items.now) items.now }
     ensures bytes { result.bytes ≡ length (bytes_in (take result.items items.now)) }
     ensures within { result.items ≤ length items.now }
@@ -197,7 +221,20 @@ fn segment(items: &[PackedItem]) -> Reached
 }
 
 // The place right after the first `n` bytes of these items, or after all bytes where there are fewer.
-fn reach(items: &[PackedItem], n: usize) -> Reached
+fn reach(after: &After<'_>, n: usize) -> Reached
+    ensures place { Some result.items ≡ place_after (at_most_all n after.now) after.now }
+    ensures bytes { result.bytes ≡ at_most_all n after.now }
+    ensures passed { result.bytes ≡ length (bytes_in (take result.items after.now)) }
+    ensures within { result.items ≤ length after.now }
+{
+    if after.text.is_empty() {
+        return reach_among(after.items, n);
+    }
+    after_bytes(n.min(after.text.len()))
+}
+
+// The same among items.
+fn reach_among(items: &[PackedItem], n: usize) -> Reached
     ensures place { Some result.items ≡ place_after (at_most_all n items.now) items.now }
     ensures bytes { result.bytes ≡ at_most_all n items.now }
     ensures passed { result.bytes ≡ length (bytes_in (take result.items items.now)) }
@@ -252,17 +289,33 @@ fn reach_back(items: &[PackedItem], n: usize) -> Reached
 fn place_of<A: Allocator>(
     alloc: A,
     text: &[u8],
-    items: &[PackedItem],
+    after: &After<'_>,
 ) -> Result<Option<Reached>, FormError>
-    ensures place { IfOk result (λ r. option_map (λ at. at.items) r ≡ place_of_text text.now items.now) }
-    ensures bytes { IfOk result (λ r. IfSome r (λ at. at.bytes ≡ length (bytes_in (take at.items items.now)))) }
-    ensures within { IfOk result (λ r. IfSome r (λ at. at.items + length text.now ≤ length items.now)) }
+    ensures place { IfOk result (λ r. option_map (λ at. at.items) r ≡ place_of_text text.now after.now) }
+    ensures bytes { IfOk result (λ r. IfSome r (λ at. at.bytes ≡ length (bytes_in (take at.items after.now)))) }
+    ensures within { IfOk result (λ r. IfSome r (λ at. at.items + length text.now ≤ length after.now)) }
     ensures err { IsOkUnless result FormError.Memory }
 {
     if text.is_empty() {
-        return Ok(Some(Reached { items: 0, bytes: 0 }));
+        return Ok(Some(after_bytes(0)));
     }
-    first_place_of(alloc, text, items)
+    if after.text.is_empty() {
+        return first_place_of(alloc, text, after.items);
+    }
+    Ok(place_in_text(text, after.text))
+}
+
+// The first place of a text that is not empty in a text, if it occurs.
+fn place_in_text(text: &[u8], bytes: &[u8]) -> Option<Reached>
+    requires { 0 < length text.now }
+    ensures place { option_map (λ at. at.items) result ≡ place_of_text text.now (as_items bytes.now) }
+    ensures bytes { IfSome result (λ at. at.bytes ≡ length (bytes_in (take at.items (as_items bytes.now)))) }
+    ensures within { IfSome result (λ at. at.items + length text.now ≤ length (as_items bytes.now)) }
+{
+    let Some(place) = find(bytes, text) else {
+        return None;
+    };
+    Some(after_bytes(place))
 }
 
 // How many bytes are read at least before they are searched for the first time.
@@ -338,6 +391,24 @@ fn place_in_run(finder: &Finder<'_>, run: &[u8], start: Reached) -> Option<Reach
         items: start.items + place,
         bytes: start.bytes + place,
     })
+}
+
+// Puts the first `most` bytes after the pointer, or as many as there are, at the end of `out`.
+fn next_bytes_into<B: Allocator>(
+    after: &After<'_>,
+    most: usize,
+    out: &mut Vec<u8, B>,
+) -> Result<(), FormError>
+    ensures ok { OnOk result (out.new.items ≡ out.old.items ++ take most (bytes_in after.now)) }
+    ensures left { OnErr result (IsFrontOf out.old.items out.new.items) }
+    ensures err { IsOkUnless result FormError.Memory }
+{
+    if after.text.is_empty() {
+        first_bytes_into(after.items, most, out)?;
+        return Ok(());
+    }
+    let len = most.min(after.text.len());
+    Ok(out.extend_from_slice(after.text.split_at(len).0)?)
 }
 
 // Puts the first `most` bytes of these items, or as many as there are, at the end of `out`, and returns how many.

@@ -3,6 +3,7 @@ ghost use Rattle.std.specs.Prelude.{◌≡◌, ◌++◌, ◌≤◌, length, OnOk
 ghost use Rattle.trac_rules.specs.Fronts.{IsFrontOf};
 ghost use Rattle.trac_rules.specs.Showing.{shown, shown_item, shown_items};
 
+use crate::after::{After, text_within};
 use crate::error::FormError;
 use crate::form::Form;
 use crate::packed::PackedItem;
@@ -20,7 +21,7 @@ impl<A: Allocator + Copy> Form<A> {
     {
         let mark = b"<^>".len();
         let before = items_len(self.before(), OUTPUT_LIMIT - mark)?;
-        let after = items_len(self.after(), OUTPUT_LIMIT - mark - before)?;
+        let after = after_len(&self.after(), OUTPUT_LIMIT - mark - before)?;
         Some(before + mark + after)
     }
 
@@ -35,8 +36,30 @@ impl<A: Allocator + Copy> Form<A> {
     {
         items_into(self.before(), out)?;
         out.extend_from_slice(b"<^>")?;
-        items_into(self.after(), out)
+        after_into(&self.after(), out)
     }
+}
+
+// How many bytes the items after the pointer are printed as, where that is no more than `most`.
+fn after_len(after: &After<'_>, most: usize) -> Option<usize>
+    ensures { SomeIff result (length (shown_items after.now) ≤ most) (length (shown_items after.now)) }
+{
+    if after.text.is_empty() {
+        return items_len(after.items, most);
+    }
+    text_within(after.text, most)
+}
+
+// Puts the items after the pointer as they are printed at the end of `out`.
+fn after_into<B: Allocator>(after: &After<'_>, out: &mut Vec<u8, B>) -> Result<(), FormError>
+    ensures ok { OnOk result (out.new.items ≡ out.old.items ++ shown_items after.now) }
+    ensures left { OnErr result (IsFrontOf out.old.items out.new.items) }
+    ensures err { IsOkUnless result FormError.Memory }
+{
+    if after.text.is_empty() {
+        return items_into(after.items, out);
+    }
+    Ok(out.extend_from_slice(after.text)?)
 }
 
 // How many bytes these items are printed as, where that is no more than `most`.

@@ -1,34 +1,13 @@
--- Runs are put, and what the items after them give.
-use Rattle.std.proofs.Common.{◌++◌, List, ℕ, ap, sym, ◌∙◌}
-use Rattle.std.proofs.lemmas.List.{append-nil, nil_from_length}
-use Rattle.trac_rules.specs.Filling.{all_filled, filled}
-use Rattle.trac_rules.specs.Pieces.{bytes_in}
-use Rattle.trac_rules.specs.Weights.{gap_count}
-use Rattle.trac_forms.proofs.ByteRuns.{goes_on_twice, item_put, run_put}
+-- A text alone is given as it is, whatever the call's texts are.
+use Rattle.std.proofs.Common.{◌≡◌, ◌++◌, ℕ, List, ap, ◌∙◌, refl}
+use Rattle.trac_rules.specs.Filling.{all_filled, called, filled}
+use Rattle.trac_forms.proofs.TextsAlone.{given_alone}
 use Rattle.trac_forms.proofs.form.Form.call_into.Goals as goal
 
-pub returns-in_default-clause-ok : goal.returns-in_default-clause-ok
-returns-in_default-clause-ok g c =
+pub returns-clause-ok : goal.returns-clause-ok
+returns-clause-ok g c =
     let texts = g.T.Texts.texts c.args.args.now in
-    let bytes = ap gap_count c.split_at.ensures.front ∙ c.run_len.ensures.bytes in
-    let put = c.run_into.ensures ∙ ap (λ (xs : List ℕ). xs ++ bytes_in c.split_at.result.0.now) c.in_ok-reserve.ensures.items in
-    let none = ap (λ xs. all_filled texts xs) (nil_from_length c.split_at.result.1.now c.in_default.ensures.cases) in
-    sym (append-nil c.run_into.new.out.items) ∙ ap (λ (xs : List ℕ). c.run_into.new.out.items ++ xs) (sym none)
-    ∙ sym (run_put texts c.runs.rest.now c.split_at.result.0.now c.split_at.result.1.now c.split_at.ensures.by_index.0 bytes c.runs.out.items c.run_into.new.out.items put)
-    ∙ c.runs.invariant.filled
-
-pub runs-preserved : goal.runs-preserved
-runs-preserved g c =
-    let texts = g.T.Texts.texts c.args.args.now in
-    let run = c.split_at.result.0.now in
-    let middle = c.run_into.new.out.items in
-    let bytes = ap gap_count c.split_at.ensures.front ∙ c.run_len.ensures.bytes in
-    let put = c.run_into.ensures ∙ ap (λ (xs : List ℕ). xs ++ bytes_in run) c.in_ok-reserve.ensures.items in
-    record {
-      filled =
-          item_put texts c.runs.rest.now run c.split_at.result.1.now c.split_at.ensures.by_index.0 bytes c.in-Some.item.now c.in-Some.after.now c.in-Some.ensures.cases.0 c.runs.out.items middle
-          c.fill_into.new.out.items put c.in_ok-fill_into.ensures.ok
-          ∙ c.runs.invariant.filled;
-      front =
-          goes_on_twice c.args.out.now.items c.runs.out.items (bytes_in run) middle (filled texts c.in-Some.item.now) c.fill_into.new.out.items c.runs.invariant.front put c.in_ok-fill_into.ensures.ok;
-    }
+    let value : c.after.inside.text.now ≡ called texts c.args.self.now =
+    given_alone c.after.inside.text.now c.after.inside.items.now c.after-after.result c.after.view_is c.after.invariant c.if-is_empty.ensures (filled texts) (λ b. refl)
+    ∙ ap (all_filled texts) c.after-after.ensures in
+    c.in_ok-extend_from_slice.ensures.items ∙ ap (λ (bytes : List ℕ). c.args.out.now.items ++ bytes) value

@@ -1,37 +1,15 @@
--- Runs are counted, and the items after them.
-use Rattle.std.proofs.Common.{length, ap, ◌∙◌, arith}
-use Rattle.std.proofs.lemmas.List.{nil_from_length}
-use Rattle.trac_rules.specs.Filling.{all_filled}
-use Rattle.trac_rules.specs.Weights.{gap_count}
-use Rattle.trac_forms.proofs.ByteRuns.{item_counted, run_counted}
+-- A text alone is given as it is, whatever the call's texts are.
+use Rattle.std.proofs.Common.{◌≡◌, ◌≤◌, ℕ, List, length, ap, subst, ◌∙◌, refl}
+use Rattle.std.specs.Prelude.{SomeIff}
+use Rattle.trac_rules.specs.declared.limit.TheConstants.{TEXT_LIMIT}
+use Rattle.trac_rules.specs.Filling.{all_filled, called, filled}
+use Rattle.trac_forms.proofs.TextsAlone.{given_alone}
 use Rattle.trac_forms.proofs.form.Form.call_len.Goals as goal
 
-pub returns-then-run-total : goal.returns-then-run-total
-returns-then-run-total g c = λ fits.
-    let bytes = ap gap_count c.split_at.ensures.front ∙ c.run_len.ensures.bytes in
-    omega (arith, fits, c.if-run-total.true, c.runs.invariant.counted, run_counted (g.T.Texts.texts c.args.args.now) c.runs.rest.now c.split_at.result.0.now c.split_at.result.1.now c.split_at.ensures.by_index.0 bytes)
-
-pub returns-in_default : goal.returns-in_default
-returns-in_default g c =
+pub returns : goal.returns
+returns g c =
     let texts = g.T.Texts.texts c.args.args.now in
-    let bytes = ap gap_count c.split_at.ensures.front ∙ c.run_len.ensures.bytes in
-    let none = ap (λ xs. length (all_filled texts xs)) (nil_from_length c.split_at.result.1.now c.in_default.ensures.cases) in
-    let all = run_counted texts c.runs.rest.now c.split_at.result.0.now c.split_at.result.1.now c.split_at.ensures.by_index.0 bytes in
-    (omega (arith, c.if-run-total.false, c.runs.invariant.counted, all, none), omega (arith, c.runs.invariant.counted, all, none))
-
-pub returns-then-len-total : goal.returns-then-len-total
-returns-then-len-total g c = λ fits.
-    let bytes = ap gap_count c.split_at.ensures.front ∙ c.run_len.ensures.bytes in
-    let all =
-    item_counted (g.T.Texts.texts c.args.args.now) c.runs.rest.now c.split_at.result.0.now c.split_at.result.1.now c.split_at.ensures.by_index.0 bytes c.in-Some.item.now c.in-Some.after.now c.in-Some.ensures.cases.0 in
-    omega (arith, fits, c.if-run-total.false, c.if-len-total.true, c.runs.invariant.counted, all, c.filled_len-len.ensures)
-
-pub runs-preserved : goal.runs-preserved
-runs-preserved g c =
-    let bytes = ap gap_count c.split_at.ensures.front ∙ c.run_len.ensures.bytes in
-    let all =
-    item_counted (g.T.Texts.texts c.args.args.now) c.runs.rest.now c.split_at.result.0.now c.split_at.result.1.now c.split_at.ensures.by_index.0 bytes c.in-Some.item.now c.in-Some.after.now c.in-Some.ensures.cases.0 in
-    record {
-      counted = omega (arith, c.runs.invariant.counted, all, c.filled_len-len.ensures);
-      within = omega (arith, c.if-run-total.false, c.if-len-total.false);
-    }
+    let value : c.after.inside.text.now ≡ called texts c.args.self.now =
+    given_alone c.after.inside.text.now c.after.inside.items.now c.after-after.result c.after.view_is c.after.invariant c.if-is_empty.ensures (filled texts) (λ b. refl)
+    ∙ ap (all_filled texts) c.after-after.ensures in
+    subst (λ (bytes : List ℕ). SomeIff c.text_within.result (length bytes ≤ TEXT_LIMIT) (length bytes)) value c.text_within.ensures

@@ -12,9 +12,9 @@ returns-clause-ok g c =
     let front : c.extend_from_slice.new.self.items ≡ (old ++ shown_items form.before) ++ mark =
     c.in_ok-extend_from_slice.ensures.items
     ∙ ap (λ (text : List ℕ). text ++ mark) (c.in_ok-items_into.ensures.ok ∙ ap (λ (items : List Item). old ++ shown_items items) c.before-2.ensures) in
-    let all : c.extend_from_slice.new.self.items ++ shown_items c.after.result.now ≡ old ++ shown form =
-    ap (λ (text : List ℕ). text ++ shown_items c.after.result.now) front
+    let all : c.extend_from_slice.new.self.items ++ shown_items c.after.result ≡ old ++ shown form =
+    ap (λ (text : List ℕ). text ++ shown_items c.after.result) front
     ∙ ap (λ (items : List Item). ((old ++ shown_items form.before) ++ mark) ++ shown_items items) c.after.ensures
     ∙ append_assoc (old ++ shown_items form.before) mark (shown_items form.after)
     ∙ append_assoc old (shown_items form.before) (mark ++ shown_items form.after) in
-    subst (λ (text : List ℕ). OnOk c.items_into-2.result (c.items_into-2.new.out.items ≡ text)) all c.items_into-2.ensures.ok
+    subst (λ (text : List ℕ). OnOk c.after_into.result (c.after_into.new.out.items ≡ text)) all c.after_into.ensures.ok

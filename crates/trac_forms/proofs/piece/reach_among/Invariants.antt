@@ -1,7 +1,7 @@
 -- The bytes so far, and the place after the last of them: fewer stand before each earlier place.
 use Rattle.std.proofs.Common.{◌≡◌, ℕ, ◌<◌, ◌≤◌, length, take}
 use Rattle.trac_rules.specs.Pieces.{bytes_in}
-use Rattle.trac_forms.proofs.piece.reach.Given as goal
+use Rattle.trac_forms.proofs.piece.reach_among.Given as goal
 
 abbrev pub invariant-loop-item : goal.invariant-loop-item
 invariant-loop-item l = record {

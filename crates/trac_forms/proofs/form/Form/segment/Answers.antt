@@ -1,0 +1,6 @@
+-- There is room for all bytes as items.
+use Rattle.trac_forms.proofs.Divided.{room_held}
+use Rattle.trac_forms.proofs.form.Form.segment.Goals as goal
+
+pub pack-requires : goal.pack-requires
+pack-requires g c = room_held c.self.inside.text.items c.self.inside.items c.self.invariant

@@ -1,0 +1,56 @@
+//! What stands after the pointer of a form.
+ghost use Rattle.std.specs.Prelude.{◌≡◌, ◌≤◌, ◌==◌, length, slice_get, SomeIff};
+
+use crate::packed::PackedItem;
+use std::marker::Model;
+
+/// The items after the pointer of a form: the bytes of a text that is kept as one, or items that are kept as such. It is seen
+/// as the list of these items.
+#[derive(Drop)]
+pub(crate) struct After<'a> {
+    /// The bytes, where these are all that there is; else empty.
+    pub(crate) text: &'a [u8],
+    /// The items, where there are others.
+    pub(crate) items: &'a [PackedItem],
+}
+
+impl<'a> Model for After<'a> {
+    ghost use Rattle.std.specs.Prelude.{List, ◌++◌};
+    ghost use Rattle.trac_rules.specs.Form.{as_items};
+    ghost use Rattle.trac_rules.specs.declared.item.Item.{Item};
+    ghost use Rattle.trac_forms.specs.Layout.{IsEither};
+
+    ghost Value = { List Item };
+
+    ghost view = { λ a. as_items a.text.now ++ a.items.now };
+
+    ghost invariant = { λ a. IsEither a.text.now a.items.now };
+}
+
+impl<'a> After<'a> {
+    pub(crate) fn is_empty(&self) -> bool
+        ensures { result ≡ (length self.now == 0) }
+    {
+        self.text.is_empty() && self.items.is_empty()
+    }
+
+    /// The item of this number, from 0 on.
+    pub(crate) fn get(&self, i: usize) -> Option<PackedItem>
+        ensures { result ≡ slice_get self.now i }
+    {
+        if i < self.text.len() {
+            return Some(PackedItem::from_byte(self.text[i]));
+        }
+        self.items.get(i - self.text.len()).copied()
+    }
+}
+
+/// How many bytes a text has, where that is no more than `most`.
+pub(crate) fn text_within(text: &[u8], most: usize) -> Option<usize>
+    ensures { SomeIff result (length text.now ≤ most) (length text.now) }
+{
+    if text.len() > most {
+        return None;
+    }
+    Some(text.len())
+}
