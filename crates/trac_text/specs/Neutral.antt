@@ -57,6 +57,10 @@ neutral_of m = neutral m.text (reverse m.marks)
 abbrev pub IsOrdered : MarkedText → Type 0
 IsOrdered m = AreMarks (length m.text) (reverse m.marks)
 
+-- so many functions are begun
+abbrev pub IsDepth : ℕ → MarkedText → Type 0
+IsDepth n m = n ≡ length (neutral_of m).frames
+
 -- the text up to a place, and so many of its marks
 abbrev pub cut_back : ℕ → ℕ → MarkedText → MarkedText
 cut_back number place m = record { text = take place m.text; marks = take number m.marks }

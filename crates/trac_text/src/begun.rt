@@ -5,7 +5,7 @@ ghost use Rattle.trac_text.specs.Cuts.{function_count};
 ghost use Rattle.trac_text.specs.Neutral.{AreMarks, IsOrdered, neutral_of};
 
 use crate::args::{Args, end_at};
-use crate::frames::NeutralText;
+use crate::frames::innermost_in;
 use crate::mark::Mark;
 use std::marker::Model;
 use trac_rules::kind::Kind;
@@ -39,7 +39,7 @@ impl<'a> Model for BegunFunctions<'a> {
 }
 
 impl<'a> BegunFunctions<'a> {
-    /// Those of this text with these marks, as `NeutralText::new` asks for them. Nothing is copied (this project's profile).
+    /// Those of this text with these marks, in order, as `NeutralText::new` asks for them. Nothing is copied (this project's profile).
     pub fn new(text: &'a [u8], marks: &'a [Mark]) -> BegunFunctions<'a>
         requires { AreMarks (length text.now) (reverse marks.now) }
         ensures { result ≡ reverse (neutral_of (record { text = text.now; marks = marks.now })).frames }
@@ -67,8 +67,8 @@ impl<'a> Iterator for BegunFunctions<'a> {
             return None;
         }
         self.next = next_function(self.marks, self.next);
-        let front = front_of(self.text, self.marks, self.next);
-        let innermost = front.innermost()?;
+        let (text, marks) = front_of(self.text, self.marks, self.next);
+        let innermost = innermost_in(text, marks)?;
         Some((innermost.kind, innermost.arguments))
     }
 }
@@ -90,12 +90,13 @@ fn next_function(marks: &[Mark], from: usize) -> usize
     place
 }
 
-// The text before the mark of this number, which begins a function, with its marks; all of it where there is no such mark.
-fn front_of<'a>(text: &'a [u8], marks: &'a [Mark], number: usize) -> NeutralText<'a>
+// The text before the mark of this number, which begins a function, and its marks; all of it where there is no such mark.
+fn front_of<'a>(text: &'a [u8], marks: &'a [Mark], number: usize) -> (&'a [u8], &'a [Mark])
     requires ordered { IsOrdered (record { text = text.now; marks = marks.now }) }
     requires next { IsNextFunction marks.now number }
-    ensures { IsFront (record { text = text.now; marks = marks.now }) number result }
+    ensures ordered { IsOrdered (record { text = result.0.now; marks = result.1.now }) }
+    ensures front { IsFront (record { text = text.now; marks = marks.now }) number (record { text = result.0.now; marks = result.1.now }) }
 {
     let place = end_at(text.len(), marks, number);
-    NeutralText::new(text.split_at(place).0, marks.split_at(number).0)
+    (text.split_at(place).0, marks.split_at(number).0)
 }

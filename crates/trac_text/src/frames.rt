@@ -1,8 +1,8 @@
 //! The neutral text with its marks, read as the text outside all functions and the begun functions.
 ghost use Rattle.std.specs.Prelude.{◌≡◌, ◌==◌, ◌≤◌, [], length, reverse, slice_get, MatchOption};
-ghost use Rattle.trac_text.specs.Cuts.{AreArguments, BeginsFunction, function_count};
+ghost use Rattle.trac_text.specs.Cuts.{AreArguments, BeginsFunction};
 ghost use Rattle.trac_text.specs.Frames.{IsFrame, IsInnermost};
-ghost use Rattle.trac_text.specs.Neutral.{AreMarks, cut_back, neutral_of};
+ghost use Rattle.trac_text.specs.Neutral.{AreMarks, IsDepth, IsOrdered, cut_back, neutral_of};
 
 use crate::args::Args;
 use crate::begun::BegunFunctions;
@@ -10,16 +10,18 @@ use crate::mark::Mark;
 use std::marker::Model;
 use trac_rules::kind::Kind;
 
-/// A neutral text with its marks, borrowed: the marks are in order, and the first of them begins a function.
-/// Base text and begun functions are read from it.
+/// A neutral text with its marks, borrowed: the marks are in order, and the first of them begins a function. It knows how many
+/// functions are begun. Base text and begun functions are read from it.
 #[derive(Drop)]
 pub struct NeutralText<'a> {
     text: &'a [u8],
     marks: &'a [Mark],
+    // how many of the marks begin functions
+    functions: usize,
 }
 
 impl<'a> Model for NeutralText<'a> {
-    ghost use Rattle.trac_text.specs.Neutral.{IsOrdered, MarkedText, marked_text_code};
+    ghost use Rattle.trac_text.specs.Neutral.{IsDepth, IsOrdered, MarkedText, marked_text_code};
 
     ghost Value = { MarkedText };
 
@@ -27,7 +29,7 @@ impl<'a> Model for NeutralText<'a> {
 
     ghost view = { λ n. record { text = n.text.now; marks = n.marks.now } };
 
-    ghost invariant = { λ n. IsOrdered (record { text = n.text.now; marks = n.marks.now }) };
+    ghost invariant = { λ n. IsOrdered (record { text = n.text.now; marks = n.marks.now }) × IsDepth n.functions (record { text = n.text.now; marks = n.marks.now }) };
 }
 
 /// The innermost begun function.
@@ -44,13 +46,19 @@ pub struct Innermost<'a> {
 }
 
 impl<'a> NeutralText<'a> {
-    /// This text with these marks. No place of a mark may be less than that of a mark before it, or pass the end of the
-    /// text, and the first of the marks has to begin a function. Nothing is copied (this project's profile).
-    pub fn new(text: &'a [u8], marks: &'a [Mark]) -> NeutralText<'a>
-        requires { AreMarks (length text.now) (reverse marks.now) }
+    /// This text with these marks, so many of which have to begin functions. No place of a mark may be less than that of a
+    /// mark before it, or pass the end of the text, and the first of the marks has to begin a function. Nothing is copied
+    /// (this project's profile).
+    pub fn new(text: &'a [u8], marks: &'a [Mark], functions: usize) -> NeutralText<'a>
+        requires marks { AreMarks (length text.now) (reverse marks.now) }
+        requires functions { IsDepth functions (record { text = text.now; marks = marks.now }) }
         ensures { result ≡ record { text = text.now; marks = marks.now } }
     {
-        NeutralText { text, marks }
+        NeutralText {
+            text,
+            marks,
+            functions,
+        }
     }
 
     /// Whether no function is begun, by T-64's rules of scanning. It takes the same time however long the text is.
@@ -70,25 +78,19 @@ impl<'a> NeutralText<'a> {
         self.text.split_at(self.marks[0].place).0
     }
 
-    /// How many functions are begun, by T-64's rules of scanning, and not ended.
+    /// How many functions are begun, by T-64's rules of scanning, and not ended. It is known, so this takes the same time
+    /// however many these are (this project's profile).
     pub fn depth(&self) -> usize
         ensures { result ≡ length (neutral_of self.now).frames }
     {
-        frame_count(self.marks)
+        self.functions
     }
 
     /// The innermost begun function, which the next `)` ends by T-64's rule; none where no function is begun.
     pub fn innermost(&self) -> Option<Innermost<'a>>
         ensures { MatchOption result ((neutral_of self.now).frames ≡ []) (λ f. IsInnermost self.now f.number f.place f.kind f.arguments) }
     {
-        let (number, kind) = last_function(self.marks)?;
-        let place = self.marks[number].place;
-        Some(Innermost {
-            number,
-            place,
-            kind,
-            arguments: Args::new(self.text, self.marks.split_at(number + 1).1, place),
-        })
+        innermost_in(self.text, self.marks)
     }
 
     /// The text before its innermost function, which this one has to be. Nothing is copied (this project's profile).
@@ -99,28 +101,29 @@ impl<'a> NeutralText<'a> {
         NeutralText {
             text: self.text.split_at(innermost.place).0,
             marks: self.marks.split_at(innermost.number).0,
+            functions: self.functions - 1,
         }
     }
 
     /// The begun function of this number, the outermost being number 0: its kind, and all its arguments, of which the
-    /// last is being gathered. None past the innermost. That they are counted from outside is this project's profile.
+    /// last is being gathered. None past the innermost. It takes time for the marks of this function and of those inside it
+    /// alone. That they are counted from outside is this project's profile.
     pub fn frame(&self, i: usize) -> Option<(Kind, Args<'a>)>
         ensures { MatchOption result (length (neutral_of self.now).frames ≤ i) (λ r. IsFrame (slice_get (reverse (neutral_of self.now).frames) i) r.0 r.1) }
     {
-        let mut inside = self.depth();
-        if i >= inside {
+        if i >= self.functions {
             return None;
         }
         let mut rest = NeutralText {
             text: self.text,
             marks: self.marks,
+            functions: self.functions,
         };
         while let Some(innermost) = rest.innermost() {
-            inside -= 1;
-            if inside == i {
+            rest = rest.before(&innermost);
+            if rest.depth() == i {
                 return Some((innermost.kind, innermost.arguments));
             }
-            rest = rest.before(&innermost);
         }
         None
     }
@@ -131,6 +134,21 @@ impl<'a> NeutralText<'a> {
     {
         BegunFunctions::new(self.text, self.marks)
     }
+}
+
+// The innermost function of a text with these marks; none where no function is begun.
+pub(crate) fn innermost_in<'a>(text: &'a [u8], marks: &'a [Mark]) -> Option<Innermost<'a>>
+    requires { IsOrdered (record { text = text.now; marks = marks.now }) }
+    ensures { MatchOption result ((neutral_of (record { text = text.now; marks = marks.now })).frames ≡ []) (λ f. IsInnermost (record { text = text.now; marks = marks.now }) f.number f.place f.kind f.arguments) }
+{
+    let (number, kind) = last_function(marks)?;
+    let place = marks[number].place;
+    Some(Innermost {
+        number,
+        place,
+        kind,
+        arguments: Args::new(text, marks.split_at(number + 1).1, place),
+    })
 }
 
 // The last of the marks that begins a function, and its kind: after it only arguments begin.
@@ -145,11 +163,4 @@ fn last_function(marks: &[Mark]) -> Option<(usize, Kind)>
         }
     }
     None
-}
-
-// How many of the marks begin functions.
-fn frame_count(marks: &[Mark]) -> usize
-    ensures { result ≡ function_count marks.now }
-{
-    marks.iter().filter(|mark| mark.frame.is_some()).count()
 }

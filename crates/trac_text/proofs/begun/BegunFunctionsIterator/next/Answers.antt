@@ -17,30 +17,33 @@ returns-then-self-clause-steps c =
 pub returns-in_err-innermost-clause-steps : goal.returns-in_err-innermost-clause-steps
 returns-in_err-innermost-clause-steps c =
     let m : MarkedText = record { text = c.self.inside.text.now; marks = c.self.inside.marks.now } in
+    let front : MarkedText = record { text = c.front_of.result.0.now; marks = c.front_of.result.1.now } in
     let inside : c.self.inside.next < length m.marks = omega (arith, c.self.invariant.1.within, c.if-self.false) in
     let one_more : function_count (take c.next_function-self-inside.result m.marks) ≡ function_count (take c.self.inside.next m.marks) + 1 =
     c.next_function-self-inside.ensures.count ∙ function_counts m.marks c.self.inside.next c.self.invariant.1 inside in
-    absurd (front_has_frames m c.front_of-front.result c.self.inside.next c.next_function-self-inside.result c.front_of-front.ensures one_more c.in_err-innermost.ensures)
+    absurd (front_has_frames m front c.self.inside.next c.next_function-self-inside.result c.front_of.ensures.front one_more c.in_err-innermost.ensures)
 
 pub returns-clause-steps : goal.returns-clause-steps
 returns-clause-steps c =
     let m : MarkedText = record { text = c.self.inside.text.now; marks = c.self.inside.marks.now } in
+    let front : MarkedText = record { text = c.front_of.result.0.now; marks = c.front_of.result.1.now } in
     let inside : c.self.inside.next < length m.marks = omega (arith, c.self.invariant.1.within, c.if-self.false) in
     let one_more : function_count (take c.next_function-self-inside.result m.marks) ≡ function_count (take c.self.inside.next m.marks) + 1 =
     c.next_function-self-inside.ensures.count ∙ function_counts m.marks c.self.inside.next c.self.invariant.1 inside in
     let inner = c.in_ok-innermost.innermost in (
       subst (λ (fs : List Frame). IsFrame (slice_get fs 0) inner.kind inner.arguments) c.self.view_is
-          (gives_frame m c.front_of-front.result c.self.inside.next c.next_function-self-inside.result c.front_of-front.ensures one_more
+          (gives_frame m front c.self.inside.next c.next_function-self-inside.result c.front_of.ensures.front one_more
           inner.number inner.place inner.kind inner.arguments c.in_ok-innermost.ensures),
-      others_left m c.front_of-front.result c.self.inside.next c.next_function-self-inside.result c.front_of-front.ensures one_more
+      others_left m front c.self.inside.next c.next_function-self-inside.result c.front_of.ensures.front one_more
           ∙ ap (λ (fs : List Frame). drop 1 fs) c.self.view_is,
     )
 
 pub returns-clause-goes : goal.returns-clause-goes
 returns-clause-goes c =
     let m : MarkedText = record { text = c.self.inside.text.now; marks = c.self.inside.marks.now } in
+    let front : MarkedText = record { text = c.front_of.result.0.now; marks = c.front_of.result.1.now } in
     let inside : c.self.inside.next < length m.marks = omega (arith, c.self.invariant.1.within, c.if-self.false) in
     let one_more : function_count (take c.next_function-self-inside.result m.marks) ≡ function_count (take c.self.inside.next m.marks) + 1 =
     c.next_function-self-inside.ensures.count ∙ function_counts m.marks c.self.inside.next c.self.invariant.1 inside in
-    let shorter = one_less m c.front_of-front.result c.self.inside.next c.next_function-self-inside.result c.front_of-front.ensures one_more ∙ ap length c.self.view_is in
+    let shorter = one_less m front c.self.inside.next c.next_function-self-inside.result c.front_of.ensures.front one_more ∙ ap length c.self.view_is in
     search rules

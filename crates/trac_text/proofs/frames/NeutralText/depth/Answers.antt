@@ -1,10 +1,6 @@
 use Rattle.std.proofs.Common.{ap, ◌∙◌, length}
 use Rattle.trac_text.specs.Neutral.{MarkedText, neutral_of}
-use Rattle.trac_text.proofs.Neutral.{frames_counted}
 use Rattle.trac_text.proofs.frames.NeutralText.depth.Goals as goal
 
 pub returns : goal.returns
-returns c =
-    c.frame_count.ensures
-    ∙ frames_counted (record { text = c.self.inside.text.now; marks = c.self.inside.marks.now })
-    ∙ ap (λ (m : MarkedText). length (neutral_of m).frames) c.self.view_is
+returns c = c.self.invariant.1 ∙ ap (λ (m : MarkedText). length (neutral_of m).frames) c.self.view_is
