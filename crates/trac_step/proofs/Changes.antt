@@ -1,7 +1,7 @@
 -- What each rule does to the parts of a machine: they stay sound, and show the state that the rule names.
-use Rattle.std.proofs.Common.{◌≡◌, ℕ, zero, suc, ◌+◌, ◌-◌, ◌<◌, ◌≤◌, List, [], ◌∷◌, ◌++◌, length, take, drop, reverse, refl, sym, ap, ◌∙◌, subst, arith, true, false, Bool}
-use Rattle.std.specs.Prelude.{Option, Some, None, ◌==◌}
-use Rattle.std.proofs.lemmas.List.{append-nil, length-append, length-drop, length-take, drop-drop, take_all, drop_all}
+use Rattle.std.proofs.Common.{◌≡◌, ℕ, zero, suc, ◌+◌, ◌<◌, ◌≤◌, List, [], ◌∷◌, ◌++◌, length, drop, reverse, refl, sym, ap, ◌∙◌, subst, arith, true, false, Bool}
+use Rattle.std.specs.Prelude.{Option, None, ◌==◌}
+use Rattle.std.proofs.lemmas.List.{length-append, length-drop}
 use Rattle.std.specs.FinSet as set
 use Rattle.trac_gap.specs.Ends.{Ends, item_count}
 use Rattle.trac_gap.specs.Window.{Window}
@@ -11,15 +11,14 @@ use Rattle.trac_rules.specs.declared.byte.TheConstants.{APOSTROPHE}
 use Rattle.trac_rules.specs.Bytes.{idle_program}
 use Rattle.trac_rules.specs.State.{Frame, State, initial, storage_of}
 use Rattle.trac_rules.proofs.ProperStates.{initial_proper}
-use Rattle.trac_rules.specs.Matching.{match_of, protected, protected_up_to}
+use Rattle.trac_rules.specs.Matching.{protected}
 use Rattle.trac_rules.specs.Scanning.{gather}
 use Rattle.trac_rules.specs.Limits.{marks}
 use Rattle.trac_text.specs.declared.mark.Mark.{Mark}
-use Rattle.trac_forms.specs.Stored.{Names, Stored, nothing_stored, storage_in}
+use Rattle.trac_forms.specs.Stored.{Stored, nothing_stored, storage_in}
 use Rattle.trac_step.specs.Layout.{Parts, parts_of, state_of, IsSound}
 use Rattle.trac_text.proofs.Neutral.{AreMarks-longer}
 use Rattle.trac_text.specs.Marks.{mark_at}
-use Rattle.trac_text.specs.Moving.{with_protected}
 use Rattle.trac_text.proofs.Protected.{protected_length}
 use Rattle.trac_step.proofs.Rules.{gathers, ordered_push, marks-parts}
 

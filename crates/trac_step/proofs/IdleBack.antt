@@ -1,7 +1,7 @@
 -- Going back over the idle step: a machine may hold the base text and the functions that come back, and shows them.
-use Rattle.std.proofs.Common.{◌≡◌, ℕ, ◌+◌, ◌<◌, ◌≤◌, List, [], ◌∷◌, ◌++◌, length, map, reverse, refl, sym, ap, ◌∙◌, subst, arith}
+use Rattle.std.proofs.Common.{◌≡◌, ℕ, List, [], length, reverse, refl, sym, ap, ◌∙◌, subst, arith}
 use Rattle.std.specs.Bool.{then_some}
-use Rattle.std.specs.Prelude.{Bool, true, false, IsSomeAnd, Option, Some, None}
+use Rattle.std.specs.Prelude.{Bool, true, false, IsSomeAnd, Some}
 use Rattle.trac_rules.specs.declared.width.Width.{Width}
 use Rattle.trac_gap.specs.Window.{Window}
 use Rattle.trac_gap.specs.Ends.{Ends}

@@ -18,6 +18,7 @@ pub mod Recorded
 pub mod Fitting
 pub mod ScanningBack
 pub mod CallsUndone
+pub mod Counted
 pub mod GoneBack
 pub mod Weighed
 pub mod IdleBack

@@ -17,27 +17,28 @@ use Rattle.trac_storage.proofs.Judged.{limits_kept}
 
 module _ (s : State) (m : MarkedText) (number place : ℕ) (kind : Kind) (texts : List (List ℕ)) (proper : IsProper s) (same : neutral_of m ≡ record { base = s.base; frames = s.frames })
     (inner : IsInnermost m number place kind texts) where
-  abbrev pub behind : List Frame
-  behind = (neutral_of (cut_back number place m)).frames
+  -- the functions around it
+  abbrev pub outer : List Frame
+  outer = (neutral_of (cut_back number place m)).frames
 
-  pub frames_of : s.frames ≡ inner.frame ∷ behind
+  pub frames_of : s.frames ≡ inner.frame ∷ outer
   frames_of = ap (λ (n : Neutral). n.frames) (sym same) ∙ inner.frames_are
 
   -- the texts without the call
-  pub text_without : text_bytes (call_of s inner.frame behind).state ≡ length s.active - 1 + place
+  pub text_without : text_bytes (call_of s inner.frame outer).state ≡ length s.active - 1 + place
   text_without = omega (arith, bytes_before m number place kind texts inner, ap (λ (n : Neutral). length n.base) same, length-drop 1 s.active)
 
-  all_bytes : argument_bytes behind ≤ argument_bytes s.frames
-  all_bytes = subst (λ (fs : List Frame). argument_bytes behind ≤ argument_bytes fs) (sym frames_of) (omega arith)
+  all_bytes : argument_bytes outer ≤ argument_bytes s.frames
+  all_bytes = subst (λ (fs : List Frame). argument_bytes outer ≤ argument_bytes fs) (sym frames_of) (omega arith)
 
-  all_marks : marks behind + length (all_arguments inner.frame) ≤ marks s.frames
-  all_marks = subst (λ (fs : List Frame). marks behind + length (all_arguments inner.frame) ≤ marks fs) (sym frames_of)
+  all_marks : marks outer + length (all_arguments inner.frame) ≤ marks s.frames
+  all_marks = subst (λ (fs : List Frame). marks outer + length (all_arguments inner.frame) ≤ marks fs) (sym frames_of)
       (omega (arith, length-append inner.frame.arguments (inner.frame.gathered ∷ [])))
 
   pub text_within : length s.active - 1 + place ≤ TEXT_LIMIT
   text_within = let kept = limits_kept s proper.texts in omega (arith, kept.text, all_bytes, text_without, length-drop 1 s.active)
 
-  pub marks_within : marks behind ≤ MARK_LIMIT
+  pub marks_within : marks outer ≤ MARK_LIMIT
   marks_within = let kept = limits_kept s proper.texts in omega (arith, kept.marked, all_marks)
 
   pub count_within : length texts ≤ MARK_LIMIT
@@ -45,7 +46,7 @@ module _ (s : State) (m : MarkedText) (number place : ℕ) (kind : Kind) (texts 
 
   -- the call that scanning asks for is the one that is planned
   pub given_call : (store : Stored) (now : Now) → storage_of s ≡ storage_in store → s.meta ≡ now.meta → s.trace ≡ now.trace → s.position ≡ now.position → length s.output ≡ now.output →
-      length s.active - 1 + place ≡ now.text → IsGiven (call_of s inner.frame behind) kind texts store now
+      length s.active - 1 + place ≡ now.text → IsGiven (call_of s inner.frame outer) kind texts store now
   given_call store now storage_is meta_is trace_is position_is output_is text_is = record {
     kind_is = inner.kind_is;
     arguments_are = inner.arguments_are;

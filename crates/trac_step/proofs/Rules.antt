@@ -6,7 +6,6 @@ use Rattle.trac_rules.specs.declared.kind.Kind.{Kind}
 use Rattle.trac_rules.specs.State.{Frame, State}
 use Rattle.trac_rules.specs.Scanning.{gather, begun, comma_in}
 use Rattle.trac_rules.specs.Limits.{text_bytes, marks}
-use Rattle.trac_text.specs.declared.mark.Mark.{Mark}
 use Rattle.trac_text.specs.Neutral.{Neutral, marked, neutral, AreMarks}
 use Rattle.trac_text.proofs.Neutral.{bytes-neutral, marks-neutral, longer, neutral-append, has_frames}
 use Rattle.trac_text.proofs.Marking.{neutral-push, reverse_push}

@@ -1,15 +1,13 @@
 -- Machines of which forms and blocks alone are changed, and the call at which they stand.
-use Rattle.std.proofs.Common.{◌≡◌, ℕ, List, [], ◌∷◌, refl, sym, ap, ◌∙◌, subst, arith, true, false, Bool}
+use Rattle.std.proofs.Common.{◌≡◌, ℕ, List, [], ◌∷◌, refl, sym, ap, ◌∙◌, subst, arith, Bool}
 use Rattle.std.specs.Prelude.{Option, None, Some, IsSomeAnd}
 use Rattle.trac_gap.specs.Ends.{Ends}
 use Rattle.trac_gap.specs.Window.{Window}
-use Rattle.trac_rules.specs.declared.kind.Kind.{Kind}
-use Rattle.trac_rules.specs.declared.kind.Kind.TheVariants.{Active, Neutral}
 use Rattle.trac_rules.specs.declared.scan.Front.TheVariants.{Closing}
 use Rattle.trac_rules.specs.declared.width.Width.{Width}
-use Rattle.trac_rules.specs.Performing.{changed_by, placed}
+use Rattle.trac_rules.specs.Performing.{changed_by}
 use Rattle.trac_rules.specs.Proper.{IsProper, IsProperStorage}
-use Rattle.trac_rules.specs.Scanning.{Scanned, closing_in, deleted, front_of, gathered_in, scan}
+use Rattle.trac_rules.specs.Scanning.{Scanned, closing_in, deleted, front_of, scan}
 use Rattle.trac_rules.specs.State.{Frame, State, Storage, storage_of}
 use Rattle.trac_rules.specs.Undone.{Nothing}
 use Rattle.trac_rules.proofs.ProperStates.{storage-placed}

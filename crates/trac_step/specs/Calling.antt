@@ -1,11 +1,6 @@
 -- The parts of a step: where scanning moves on, and what a call whose effect is known leads to.
-use Rattle.std.specs.Prelude.{◌≡◌, ℕ, ◌+◌, ◌≤◌, List, [], ◌∷◌, ◌++◌, drop, length, Bool, true, false, nat_lt, Option, Some, None}
-use Rattle.trac_gap.specs.Ends.{Ends}
+use Rattle.std.specs.Prelude.{◌≡◌, ℕ, ◌+◌, ◌≤◌, List, [], ◌∷◌, drop, length, Option, Some, None}
 use Rattle.trac_rules.specs.declared.kind.Kind.{Kind}
-use Rattle.trac_rules.specs.declared.kind.Kind.TheVariants.{Active, Neutral}
-use Rattle.trac_rules.specs.declared.scan.Front.{Front}
-use Rattle.trac_rules.specs.declared.scan.Front.TheVariants.{Comma, ActiveCall, NeutralCall}
-use Rattle.trac_rules.specs.Matching.{Protected}
 use Rattle.trac_rules.specs.State.{Frame, State, Storage, storage_of}
 use Rattle.trac_rules.specs.Effect.{Effect}
 use Rattle.trac_rules.specs.Limits.{argument_bytes, marks, text_bytes}
@@ -13,7 +8,6 @@ use Rattle.trac_rules.specs.Performing.{after_call}
 use Rattle.trac_rules.specs.Scanning.{Scanned, Moves, Calls, begun, comma_in}
 use Rattle.trac_change.specs.declared.change.Change.{Change}
 use Rattle.trac_prims.specs.declared.effect.Made.{Made}
-use Rattle.trac_text.specs.declared.mark.Mark.{Mark}
 use Rattle.trac_text.specs.Cuts.{AreCuts, cut}
 use Rattle.trac_change.specs.Changed.{changed}
 use Rattle.trac_text.specs.Frames.{IsInnermost}

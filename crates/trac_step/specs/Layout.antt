@@ -1,5 +1,5 @@
 -- How the parts of a machine are read as a state.
-use Rattle.std.specs.Prelude.{ℕ, ◌≤◌, ◌+◌, List, length, Bool, refl}
+use Rattle.std.specs.Prelude.{◌≡◌, ℕ, ◌≤◌, ◌+◌, List, length, Bool, refl}
 use Rattle.std.specs.Coded.{Coded, code_by, coded×, coded_ℕ}
 use Rattle.std.specs.FinSet as set
 use Rattle.trac_rules.specs.declared.width.Width.{Width}
@@ -11,6 +11,7 @@ use Rattle.trac_rules.specs.Proper.{IsProperStorage}
 use Rattle.trac_rules.specs.Codes.{state_code, text_code, width_code}
 use Rattle.trac_forms.specs.Stored.{Names, Stored, storage_in}
 use Rattle.trac_text.specs.declared.mark.Mark.{Mark}
+use Rattle.trac_text.specs.Cuts.{function_count}
 use Rattle.trac_text.specs.Neutral.{MarkedText, IsOrdered, neutral_of}
 
 -- ---- the state
@@ -76,6 +77,11 @@ pub record IsSound (p : Parts) : Type 0 where
   pub text_room : length p.active + length p.text ≤ p.text_room
   pub mark_room : length p.marks ≤ p.mark_room
   pub storage : IsProperStorage p.storage
+
+-- what is true of every machine: its parts are sound, and it keeps how many of its marks begin functions
+pub record IsMachine (functions : ℕ) (p : Parts) : Type 0 where
+  pub sound : IsSound p
+  pub counted : functions ≡ function_count p.marks
 
 -- ---- what a contract sees of a machine
 

@@ -1,11 +1,8 @@
 -- Going back over a step of scanning.
-use Rattle.std.specs.Prelude.{◌≡◌, ℕ, ◌-◌, ◌<◌, ◌++◌, List, [], ◌∷◌, length, take, drop, Bool, Option, None, Some, IsSomeAnd, codes}
-use Rattle.trac_gap.specs.Ends.{Ends}
-use Rattle.trac_rules.specs.declared.kind.Kind.{Kind}
-use Rattle.trac_rules.specs.Performing.{beginning_of}
+use Rattle.std.specs.Prelude.{◌≡◌, ℕ, ◌<◌, List, length, Option, Some, IsSomeAnd}
 use Rattle.trac_rules.specs.Proper.{IsProper, IsProperStorage}
 use Rattle.trac_rules.specs.declared.scan.Front.TheVariants.{Closing}
-use Rattle.trac_rules.specs.Records.{ending_of, restored}
+use Rattle.trac_rules.specs.Records.{restored}
 use Rattle.trac_rules.specs.Records.{Called as CallOf}
 use Rattle.trac_rules.specs.Scanning.{front_of, scan}
 use Rattle.trac_rules.specs.State.{State, storage_of}
@@ -13,7 +10,6 @@ use Rattle.trac_rules.specs.Undone.{Nothing, Undone, storage_before}
 use Rattle.trac_journal.specs.declared.called.Called.{Called}
 use Rattle.trac_journal.specs.Told.{record_with}
 use Rattle.trac_forms.specs.Stored.{KnowsAll}
-use Rattle.trac_text.specs.declared.mark.Mark.{Mark}
 use Rattle.trac_step.specs.Calling.{arguments_in, with_storage}
 use Rattle.trac_step.specs.Layout.{Shown}
 use Rattle.trac_step.specs.Room.{HasRoom}

@@ -238,6 +238,7 @@ impl<E: TwoEnds<u8, A>, M: TwoEnds<Mark, A>, A: Allocator + Copy> Core<E, M, A> 
         ensures room { IsNoLess self.old self.new }
     {
         cut_function(&mut self.text, &mut self.marks, plan.beginning);
+        self.functions -= 1;
         put_value(
             &mut self.text,
             plan.beginning.kind,

@@ -29,6 +29,8 @@ pub struct Core<E: TwoEnds<u8, A>, M: TwoEnds<Mark, A>, A: Allocator + Copy> {
     pub(crate) meta: u8,
     pub(crate) trace: bool,
     pub(crate) position: usize,
+    // how many of the marks begin functions
+    pub(crate) functions: usize,
     pub(crate) output: SlidingBuf<u8, A>,
     pub(crate) width: Width,
 }
@@ -37,7 +39,7 @@ pub struct Core<E: TwoEnds<u8, A>, M: TwoEnds<Mark, A>, A: Allocator + Copy> {
 pub type Machine<A = Global> = Core<GapBuf<u8, A>, GapBuf<Mark, A>, A>;
 
 impl<E: TwoEnds<u8, A>, M: TwoEnds<Mark, A>, A: Allocator + Copy> Model for Core<E, M, A> {
-    ghost use Rattle.trac_step.specs.Layout.{Shown, shown_by, shown_code, IsSound, parts_of};
+    ghost use Rattle.trac_step.specs.Layout.{Shown, shown_by, shown_code, IsMachine, parts_of};
 
     ghost Value = { Shown };
 
@@ -45,7 +47,7 @@ impl<E: TwoEnds<u8, A>, M: TwoEnds<Mark, A>, A: Allocator + Copy> Model for Core
 
     ghost view = { λ m. shown_by m.width (parts_of (E.ends m.text) (M.ends m.marks) m.store m.meta m.trace m.position m.output) };
 
-    ghost invariant = { λ m. IsSound (parts_of (E.ends m.text) (M.ends m.marks) m.store m.meta m.trace m.position m.output) };
+    ghost invariant = { λ m. IsMachine m.functions (parts_of (E.ends m.text) (M.ends m.marks) m.store m.meta m.trace m.position m.output) };
 }
 
 impl<E: TwoEnds<u8, A>, M: TwoEnds<Mark, A>, A: Allocator + Copy> Core<E, M, A> {
@@ -67,6 +69,7 @@ impl<E: TwoEnds<u8, A>, M: TwoEnds<Mark, A>, A: Allocator + Copy> Core<E, M, A> 
             meta: byte::APOSTROPHE,
             trace: false,
             position: 0,
+            functions: 0,
             output: SlidingBuf::new(alloc),
             width,
         })

@@ -26,6 +26,7 @@ impl<E: TwoEnds<u8, A>, M: TwoEnds<Mark, A>, A: Allocator + Copy> Core<E, M, A> 
     {
         let kept = kept_of(*self.output.allocator(), self.neutral())?;
         restart(&mut self.text, &mut self.marks)?;
+        self.functions = 0;
         Ok(kept)
     }
 
@@ -35,6 +36,7 @@ impl<E: TwoEnds<u8, A>, M: TwoEnds<Mark, A>, A: Allocator + Copy> Core<E, M, A> 
         ensures state { restored (Idle base.now (frames_in functions.items)) self.old.state ≡ Some self.new.state }
         ensures others { self.new ≡ record self.old { state = self.new.state } }
     {
+        self.functions = functions.len();
         put_functions(&mut self.text, &mut self.marks, base, functions);
     }
 }

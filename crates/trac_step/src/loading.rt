@@ -66,6 +66,7 @@ impl<E: TwoEnds<u8, A>, M: TwoEnds<Mark, A>, A: Allocator + Copy> Core<E, M, A> 
             meta: parts.meta,
             trace: parts.trace,
             position: parts.position,
+            functions: parts.frames.len(),
             output,
             width,
         })

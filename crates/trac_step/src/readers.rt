@@ -25,7 +25,7 @@ impl<E: TwoEnds<u8, A>, M: TwoEnds<Mark, A>, A: Allocator + Copy> Core<E, M, A> 
     pub(crate) fn neutral(&self) -> NeutralText<'_>
         ensures { neutral_of result ≡ record { base = self.now.state.base; frames = self.now.state.frames } }
     {
-        NeutralText::new(self.text.left(), self.marks.left())
+        NeutralText::new(self.text.left(), self.marks.left(), self.functions)
     }
 
     /// How many bytes base text and the arguments of all begun functions hold together. It takes the same time however many
@@ -43,7 +43,8 @@ impl<E: TwoEnds<u8, A>, M: TwoEnds<Mark, A>, A: Allocator + Copy> Core<E, M, A> 
         self.neutral().base()
     }
 
-    /// How many functions are begun, by T-64's rules of scanning, and not ended.
+    /// How many functions are begun, by T-64's rules of scanning, and not ended. A machine keeps the number, so this takes
+    /// the same time however many these are (this project's profile).
     pub fn depth(&self) -> usize
         ensures { result ≡ length self.now.state.frames }
     {
@@ -51,7 +52,8 @@ impl<E: TwoEnds<u8, A>, M: TwoEnds<Mark, A>, A: Allocator + Copy> Core<E, M, A> 
     }
 
     /// The begun function of this number, the outermost being number 0: its kind, and all its arguments, of which the
-    /// last is being gathered. None past the innermost. That they are counted from outside is this project's profile.
+    /// last is being gathered. None past the innermost. It takes time for the marks of this function and of those inside it
+    /// alone. That they are counted from outside is this project's profile.
     pub fn frame(&self, i: usize) -> Option<(Kind, Args<'_>)>
         ensures { MatchOption result (length self.now.state.frames ≤ i) (λ r. IsFrame (slice_get (reverse self.now.state.frames) i) r.0 r.1) }
     {

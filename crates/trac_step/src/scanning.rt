@@ -84,6 +84,7 @@ impl<E: TwoEnds<u8, A>, M: TwoEnds<Mark, A>, A: Allocator + Copy> Core<E, M, A> 
         ensures err { IsOkUnless result Refusal.Memory }
     {
         push_mark(&mut self.text, &mut self.marks, n, frame)?;
+        self.functions += usize::from(frame.is_some());
         Ok(())
     }
 

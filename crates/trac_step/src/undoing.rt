@@ -62,6 +62,7 @@ impl<E: TwoEnds<u8, A>, M: TwoEnds<Mark, A>, A: Allocator + Copy> Core<E, M, A> 
         ensures others { self.new ≡ record self.old { state = self.new.state } }
     {
         pop_beginning(&mut self.text, &mut self.marks);
+        self.functions -= 1;
     }
 
     // The function of a call is begun again, its value and what it printed are gone, and its `)` is back before the active text:
@@ -78,6 +79,7 @@ impl<E: TwoEnds<u8, A>, M: TwoEnds<Mark, A>, A: Allocator + Copy> Core<E, M, A> 
             called.scanned,
             called.value,
         );
+        self.functions += 1;
         let meta = called.meta.unwrap_or(self.meta);
         self.output.truncate(self.output.len() - called.printed);
         self.position -= called.read;
@@ -90,7 +92,7 @@ impl<E: TwoEnds<u8, A>, M: TwoEnds<Mark, A>, A: Allocator + Copy> Core<E, M, A> 
         requires { CanRestore (undone_in change) self.old }
         ensures { IsRestored (undone_in change) self.old self.new }
     {
-        let text = NeutralText::new(self.text.left(), self.marks.left());
+        let text = NeutralText::new(self.text.left(), self.marks.left(), self.functions);
         let Some(function) = text.innermost() else {
             unreachable!()
         };

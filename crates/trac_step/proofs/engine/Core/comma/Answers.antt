@@ -11,7 +11,7 @@ pub mark-requires-clause-inside : goal.mark-requires-clause-inside
 mark-requires-clause-inside g c =
     let p = parts_of (g.E.TwoEnds.ends c.self.inside.text) (g.M.TwoEnds.ends c.self.inside.marks) c.self.inside.store c.self.inside.meta c.self.inside.trace c.self.inside.position c.self.inside.output in
     let some = some_marks c.left.result.now p.marks c.is_empty.result c.is_empty.ensures c.if-is_empty.false c.left.ensures.left in
-    λ _. subst (λ (m : Shown). 0 < length m.state.frames) c.self.view_is (has_frames-parts p c.self.invariant.ordered some)
+    λ _. subst (λ (m : Shown). 0 < length m.state.frames) c.self.view_is (has_frames-parts p c.self.invariant.sound.ordered some)
 
 -- inside a function an argument is finished
 recorded_inside : (fs : List Frame) (s : State) → 0 < length fs → Comma ≡ comma_recorded fs s
@@ -22,11 +22,11 @@ pub returns-clause-recorded : goal.returns-clause-recorded
 returns-clause-recorded g c =
     let p = parts_of (g.E.TwoEnds.ends c.self.inside.text) (g.M.TwoEnds.ends c.self.inside.marks) c.self.inside.store c.self.inside.meta c.self.inside.trace c.self.inside.position c.self.inside.output in
     let some = some_marks c.left.result.now p.marks c.is_empty.result c.is_empty.ensures c.if-is_empty.false c.left.ensures.left in
-    recorded_inside c.args.self.now.state.frames c.args.self.now.state (subst (λ (m : Shown). 0 < length m.state.frames) c.self.view_is (has_frames-parts p c.self.invariant.ordered some))
+    recorded_inside c.args.self.now.state.frames c.args.self.now.state (subst (λ (m : Shown). 0 < length m.state.frames) c.self.view_is (has_frames-parts p c.self.invariant.sound.ordered some))
 
 pub returns-in_err-mark-clause-full : goal.returns-in_err-mark-clause-full
 returns-in_err-mark-clause-full g c =
     let p = parts_of (g.E.TwoEnds.ends c.self.inside.text) (g.M.TwoEnds.ends c.self.inside.marks) c.self.inside.store c.self.inside.meta c.self.inside.trace c.self.inside.position c.self.inside.output in
     let some = some_marks c.left.result.now p.marks c.is_empty.result c.is_empty.ensures c.if-is_empty.false c.left.ensures.left in
     rw (err_from_is_err_and c.from_residual.result c.from_residual.ensures.1).1
-    (subst (λ (m : Shown). 0 < length m.state.frames) c.self.view_is (has_frames-parts p c.self.invariant.ordered some), c.in_err-mark.ensures.full)
+    (subst (λ (m : Shown). 0 < length m.state.frames) c.self.view_is (has_frames-parts p c.self.invariant.sound.ordered some), c.in_err-mark.ensures.full)

@@ -15,7 +15,7 @@ pub of-requires : goal.of-requires
 of-requires g c =
     let s = c.args.self.now.state in
     let p = parts_of (g.E.TwoEnds.ends c.self.inside.text) (g.M.TwoEnds.ends c.self.inside.marks) c.self.inside.store c.self.inside.meta c.self.inside.trace c.self.inside.position c.self.inside.output in
-    let proper = subst IsProper (ap (λ (m : Shown). m.state) c.self.view_is) (proper_of_sound p c.self.invariant) in
+    let proper = subst IsProper (ap (λ (m : Shown). m.state) c.self.view_is) (proper_of_sound p c.self.invariant.sound) in
     let within = arguments_within s c.requires.front (some_frame s.frames s.base c.args.beginning c.requires.begins) proper in
     omega (arith, within.bytes, ap (λ (texts : List (List ℕ)). length (concat texts)) c.arguments-arguments.ensures)
 

@@ -12,8 +12,12 @@ invariant_of-self g c =
     let old = g.E.TwoEnds.ends c.self.inside.text in
     let p = parts_of old (g.M.TwoEnds.ends c.self.inside.marks) c.self.inside.store c.self.inside.meta c.self.inside.trace c.self.inside.position c.self.inside.output in
     let moved = λ (e : Ends ℕ). parts_of e (g.M.TwoEnds.ends c.self.inside.marks) c.self.inside.store c.self.inside.meta c.self.inside.trace c.self.inside.position c.self.inside.output in
-    subst (λ (e : Ends ℕ). IsSound (moved e)) (sym c.shift_left.ensures)
-    (sound_gather p (drop 1 old.right) (take 1 old.right) c.self.invariant (omega (arith, length-take 1 old.right, length-drop 1 old.right)))
+    record {
+      sound =
+          subst (λ (e : Ends ℕ). IsSound (moved e)) (sym c.shift_left.ensures)
+          (sound_gather p (drop 1 old.right) (take 1 old.right) c.self.invariant.sound (omega (arith, length-take 1 old.right, length-drop 1 old.right)));
+      counted = c.self.invariant.counted;
+    }
 
 pub returns-clause-shown : goal.returns-clause-shown
 returns-clause-shown g c =
@@ -21,7 +25,7 @@ returns-clause-shown g c =
     let p = parts_of old (g.M.TwoEnds.ends c.self.inside.marks) c.self.inside.store c.self.inside.meta c.self.inside.trace c.self.inside.position c.self.inside.output in
     let moved = λ (e : Ends ℕ). parts_of e (g.M.TwoEnds.ends c.self.inside.marks) c.self.inside.store c.self.inside.meta c.self.inside.trace c.self.inside.position c.self.inside.output in
     ap (λ (e : Ends ℕ). shown_by c.self.inside.width (moved e)) c.shift_left.ensures
-    ∙ ap (λ (s : State). record (shown_by c.self.inside.width p) { state = s }) (gather_parts p (drop 1 old.right) (take 1 old.right) c.self.invariant)
+    ∙ ap (λ (s : State). record (shown_by c.self.inside.width p) { state = s }) (gather_parts p (drop 1 old.right) (take 1 old.right) c.self.invariant.sound)
     ∙ ap (λ (m : Shown). record m { state = gather_first m.state }) c.self.view_is
 
 pub returns-clause-recorded : goal.returns-clause-recorded

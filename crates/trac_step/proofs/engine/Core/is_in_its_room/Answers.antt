@@ -8,9 +8,9 @@ use Rattle.trac_step.proofs.engine.Core.is_in_its_room.Goals as goal
 pub returns-clause-proper : goal.returns-clause-proper
 returns-clause-proper g c =
     let p = parts_of (g.E.TwoEnds.ends c.self.inside.text) (g.M.TwoEnds.ends c.self.inside.marks) c.self.inside.store c.self.inside.meta c.self.inside.trace c.self.inside.position c.self.inside.output in
-    subst IsProper (ap (λ (m : Shown). m.state) c.self.view_is) (proper_of_sound p c.self.invariant)
+    subst IsProper (ap (λ (m : Shown). m.state) c.self.view_is) (proper_of_sound p c.self.invariant.sound)
 
 pub returns-clause-room : goal.returns-clause-room
 returns-clause-room g c =
     let p = parts_of (g.E.TwoEnds.ends c.self.inside.text) (g.M.TwoEnds.ends c.self.inside.marks) c.self.inside.store c.self.inside.meta c.self.inside.trace c.self.inside.position c.self.inside.output in
-    HasRoom-parts p c.args.self.now c.self.invariant c.self.view_is c.capacity-room.ensures.within c.knows_its_forms.ensures
+    HasRoom-parts p c.args.self.now c.self.invariant.sound c.self.view_is c.capacity-room.ensures.within c.knows_its_forms.ensures

@@ -6,11 +6,12 @@ use Rattle.trac_rules.specs.declared.kind.Kind.{Kind}
 use Rattle.trac_rules.specs.Outcomes.{MayRefuse, limited}
 use Rattle.trac_rules.specs.State.{storage_of}
 use Rattle.trac_rules.proofs.Outcomes.{lacks_limited, limited_beyond, limited_within}
-use Rattle.trac_text.specs.Framing.{EachGathers, argument_count, function_bytes, functions_of}
+use Rattle.trac_text.specs.Framing.{EachGathers, argument_count, function_bytes, functions_of, marked_in}
 use Rattle.trac_step.specs.Layout.{IsSound, parts_of, shown_by}
 use Rattle.trac_storage.specs.Loading.{counts_fit, lengths_fit, parts_fit, state_in}
 use Rattle.trac_storage.proofs.Loaded.{all_fits, counts_fail, judged_apart, lengths_fail, proper_storage}
 use Rattle.trac_storage.proofs.Judged.{marks_within, text_within}
+use Rattle.trac_step.proofs.Counted.{counted_given, counted_read}
 use Rattle.trac_step.proofs.LoadedMachines.{shows_loaded, sound_loaded, store_made}
 use Rattle.trac_storage.proofs.Outcomes.{refuses_memory, refuses_with}
 use Rattle.trac_step.proofs.Rooms.{HasRoom-parts}
@@ -69,9 +70,15 @@ invariant_of-result g c =
     let within : lengths_fit parts ≡ true = sym c.if-not-lengths_within.ensures.fits in
     let kept = c.if-not-lengths_within.ensures in
     let texts = c.in_ok-text.ensures in
-    sound_loaded parts _ _ _ c.as_slice.ensures.value c.as_slice-2.ensures.value c.as_slice-3.ensures.value (g.E.TwoEnds.ends c.in_ok-text.text) (g.M.TwoEnds.ends c.in_ok-text.marks) c.in_ok-store.store c.in_ok-output.output
-    texts.neutral texts.active made.0 c.in_ok-output.ensures.items texts.ordered texts.holds texts.mark_holds (judged_apart parts within).texts
-    (proper_storage parts within (kept.forms refl) (kept.blocks refl) made.1)
+    record {
+      sound =
+          sound_loaded parts _ _ _ c.as_slice.ensures.value c.as_slice-2.ensures.value c.as_slice-3.ensures.value (g.E.TwoEnds.ends c.in_ok-text.text) (g.M.TwoEnds.ends c.in_ok-text.marks) c.in_ok-store.store c.in_ok-output.output
+          texts.neutral texts.active made.0 c.in_ok-output.ensures.items texts.ordered texts.holds texts.mark_holds (judged_apart parts within).texts
+          (proper_storage parts within (kept.forms refl) (kept.blocks refl) made.1);
+      counted =
+          c.len.ensures ∙ c.args.parts.now.frames.ok.0 ∙ ap (λ (fs : List (Kind × Vec (Vec ℕ g.row.A.Denot) g.row.A.Denot)). length fs) (sym c.as_slice-3.ensures.value) ∙ sym (counted_given c.as_slice-3.result.now)
+          ∙ sym (counted_read (marked_in (g.E.TwoEnds.ends c.in_ok-text.text) (g.M.TwoEnds.ends c.in_ok-text.marks)) _ texts.neutral);
+    }
 
 pub returns-clause-answer : goal.returns-clause-answer
 returns-clause-answer g c =

@@ -12,7 +12,7 @@ returns-clause-ok g c =
     c.self.inside.meta c.self.inside.trace c.self.inside.position c.self.inside.output c.reserve-2.new.self
     c.reserve.ensures.left c.reserve.ensures.right refl refl c.reserve-2.ensures.items in
     let bytes = ap (λ (q : Parts). text_bytes (state_of q)) same in
-    let counted = text_bytes-parts p c.self.invariant.ordered in
+    let counted = text_bytes-parts p c.self.invariant.sound.ordered in
     record {
       text = omega (
         arith,

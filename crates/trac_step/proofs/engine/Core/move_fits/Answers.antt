@@ -15,7 +15,7 @@ returns-then-not-makes_mark g c =
     let adds : adds_mark c.args.front (length p.marks) ≡ false =
     ap (λ (ms : List Mark). adds_mark c.args.front (length ms)) (sym c.left-marks.ensures.left) ∙ sym c.makes_mark.ensures ∙ c.if-not-makes_mark.true in
     subst (λ (b : Bool). IfMoves (scan c.args.self.now.state) (λ t. not b ≡ texts_fit t)) (sym c.if-not-makes_mark.true)
-    (move_without_mark p c.self.invariant c.args.self.now.state c.args.front (ap (λ (m : Shown). m.state) c.self.view_is) c.requires.front adds)
+    (move_without_mark p c.self.invariant.sound c.args.self.now.state c.args.front (ap (λ (m : Shown). m.state) c.self.view_is) c.requires.front adds)
 
 pub returns-else-not-makes_mark : goal.returns-else-not-makes_mark
 returns-else-not-makes_mark g c =
@@ -23,4 +23,4 @@ returns-else-not-makes_mark g c =
     let adds : adds_mark c.args.front (length p.marks) ≡ true =
     ap (λ (ms : List Mark). adds_mark c.args.front (length ms)) (sym c.left-marks.ensures.left) ∙ sym c.makes_mark.ensures ∙ c.if-not-makes_mark.false in
     subst (λ (ms : List Mark). IfMoves (scan c.args.self.now.state) (λ t. nat_lt (length ms) 1048576 ≡ texts_fit t)) (sym c.left-marks.ensures.left)
-    (move_with_mark p c.self.invariant c.args.self.now.state c.args.front (ap (λ (m : Shown). m.state) c.self.view_is) c.requires.front adds)
+    (move_with_mark p c.self.invariant.sound c.args.self.now.state c.args.front (ap (λ (m : Shown). m.state) c.self.view_is) c.requires.front adds)

@@ -14,8 +14,12 @@ invariant_of-self g c =
     let old = g.E.TwoEnds.ends c.self.inside.text in
     let p = parts_of old (g.M.TwoEnds.ends c.self.inside.marks) c.self.inside.store c.self.inside.meta c.self.inside.trace c.self.inside.position c.self.inside.output in
     let moved = λ (e : Ends ℕ). parts_of e (g.M.TwoEnds.ends c.self.inside.marks) c.self.inside.store c.self.inside.meta c.self.inside.trace c.self.inside.position c.self.inside.output in
-    subst (λ (e : Ends ℕ). IsSound (moved e)) (sym c.gather_plain.ensures)
-    (sound_gather p (drop n old.right) (take n old.right) c.self.invariant (omega (arith, length-take n old.right, length-drop n old.right)))
+    record {
+      sound =
+          subst (λ (e : Ends ℕ). IsSound (moved e)) (sym c.gather_plain.ensures)
+          (sound_gather p (drop n old.right) (take n old.right) c.self.invariant.sound (omega (arith, length-take n old.right, length-drop n old.right)));
+      counted = c.self.invariant.counted;
+    }
 
 pub returns-clause-moved : goal.returns-clause-moved
 returns-clause-moved g c =
@@ -24,7 +28,7 @@ returns-clause-moved g c =
     let p = parts_of old (g.M.TwoEnds.ends c.self.inside.marks) c.self.inside.store c.self.inside.meta c.self.inside.trace c.self.inside.position c.self.inside.output in
     let moved = λ (e : Ends ℕ). parts_of e (g.M.TwoEnds.ends c.self.inside.marks) c.self.inside.store c.self.inside.meta c.self.inside.trace c.self.inside.position c.self.inside.output in
     ap (λ (e : Ends ℕ). shown_by c.self.inside.width (moved e)) c.gather_plain.ensures
-    ∙ ap (λ (s : State). record (shown_by c.self.inside.width p) { state = s }) (gather_parts p (drop n old.right) (take n old.right) c.self.invariant)
+    ∙ ap (λ (s : State). record (shown_by c.self.inside.width p) { state = s }) (gather_parts p (drop n old.right) (take n old.right) c.self.invariant.sound)
     ∙ ap (λ (m : Shown). record m { state = moved_on n m.state }) c.self.view_is
 
 pub returns-clause-held : goal.returns-clause-held

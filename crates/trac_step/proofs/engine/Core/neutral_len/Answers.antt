@@ -10,6 +10,6 @@ returns g c =
     omega (
       arith,
       ap (λ (text : List ℕ). length text) c.left.ensures.left,
-      text_bytes-parts p c.self.invariant.ordered,
+      text_bytes-parts p c.self.invariant.sound.ordered,
       ap (λ (m : Shown). length m.state.base + argument_bytes m.state.frames) c.self.view_is,
     )

@@ -14,14 +14,14 @@ use Rattle.trac_step.proofs.Beginnings.{begins_innermost}
 use Rattle.trac_step.proofs.Calls.{call_of, step_unplanned}
 use Rattle.trac_step.proofs.CallsPlanned.{arguments_found, names_given, planned_recorded, planned_taken}
 use Rattle.trac_step.proofs.Limited.{proper_of_sound}
-use Rattle.trac_step.proofs.Planned.{behind, count_within, frames_of, given_call, text_within}
+use Rattle.trac_step.proofs.Planned.{outer, count_within, frames_of, given_call, text_within}
 use Rattle.trac_step.proofs.engine.Core.planned.Goals as goal
 
 pub plan_into-requires-clause-count : goal.plan_into-requires-clause-count
 plan_into-requires-clause-count g c =
     let s = c.args.self.now.state in
     let p = parts_of (g.E.TwoEnds.ends c.self.inside.text) (g.M.TwoEnds.ends c.self.inside.marks) c.self.inside.store c.self.inside.meta c.self.inside.trace c.self.inside.position c.self.inside.output in
-    let proper = subst IsProper (ap (λ (m : Shown). m.state) c.self.view_is) (proper_of_sound p c.self.invariant) in
+    let proper = subst IsProper (ap (λ (m : Shown). m.state) c.self.view_is) (proper_of_sound p c.self.invariant.sound) in
     let f = c.in-Some.function in
     count_within s c.neutral.result f.number f.place f.kind f.arguments proper c.neutral.ensures c.in-Some.ensures
 
@@ -30,7 +30,7 @@ plan_into-requires-clause-text g c =
     let s = c.args.self.now.state in
     let p = parts_of (g.E.TwoEnds.ends c.self.inside.text) (g.M.TwoEnds.ends c.self.inside.marks) c.self.inside.store c.self.inside.meta c.self.inside.trace c.self.inside.position c.self.inside.output in
     let state_is = ap (λ (m : Shown). m.state) c.self.view_is in
-    let proper = subst IsProper state_is (proper_of_sound p c.self.invariant) in
+    let proper = subst IsProper state_is (proper_of_sound p c.self.invariant.sound) in
     let f = c.in-Some.function in
     omega (
       arith,
@@ -45,11 +45,11 @@ returns-in_err-deed-clause-refused g c =
     let p = parts_of (g.E.TwoEnds.ends c.self.inside.text) (g.M.TwoEnds.ends c.self.inside.marks) c.self.inside.store c.self.inside.meta c.self.inside.trace c.self.inside.position c.self.inside.output in
     let state_is = ap (λ (m : Shown). m.state) c.self.view_is in
     let width_is = ap (λ (m : Shown). m.width) (sym c.self.view_is) in
-    let proper = subst IsProper state_is (proper_of_sound p c.self.invariant) in
+    let proper = subst IsProper state_is (proper_of_sound p c.self.invariant.sound) in
     let f = c.in-Some.function in
     let inner = c.in-Some.ensures in
     let frames = frames_of s c.neutral.result f.number f.place f.kind f.arguments proper c.neutral.ensures inner in
-    let rest = behind s c.neutral.result f.number f.place f.kind f.arguments proper c.neutral.ensures inner in
+    let rest = outer s c.neutral.result f.number f.place f.kind f.arguments proper c.neutral.ensures inner in
     let given = given_call s c.neutral.result f.number f.place f.kind f.arguments proper c.neutral.ensures inner c.self.inside.store
     (record {
       meta = c.self.inside.meta;
@@ -72,11 +72,11 @@ returns-clause-planned g c =
     let p = parts_of (g.E.TwoEnds.ends c.self.inside.text) (g.M.TwoEnds.ends c.self.inside.marks) c.self.inside.store c.self.inside.meta c.self.inside.trace c.self.inside.position c.self.inside.output in
     let state_is = ap (λ (m : Shown). m.state) c.self.view_is in
     let width_is = ap (λ (m : Shown). m.width) (sym c.self.view_is) in
-    let proper = subst IsProper state_is (proper_of_sound p c.self.invariant) in
+    let proper = subst IsProper state_is (proper_of_sound p c.self.invariant.sound) in
     let f = c.in-Some.function in
     let inner = c.in-Some.ensures in
     let frames = frames_of s c.neutral.result f.number f.place f.kind f.arguments proper c.neutral.ensures inner in
-    let rest = behind s c.neutral.result f.number f.place f.kind f.arguments proper c.neutral.ensures inner in
+    let rest = outer s c.neutral.result f.number f.place f.kind f.arguments proper c.neutral.ensures inner in
     let now : Now = record {
       meta = c.self.inside.meta;
       trace = c.self.inside.trace;

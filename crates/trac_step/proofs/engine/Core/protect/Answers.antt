@@ -12,8 +12,12 @@ pub invariant_of-self : goal.invariant_of-self
 invariant_of-self g c =
     let old = g.E.TwoEnds.ends c.self.inside.text in
     let moved = λ (e : Ends ℕ). parts_of e (g.M.TwoEnds.ends c.self.inside.marks) c.self.inside.store c.self.inside.meta c.self.inside.trace c.self.inside.position c.self.inside.output in
-    subst (λ (e : Ends ℕ). IsSound (moved e)) (sym c.take_protected.ensures.taken)
-    (protect_parts (moved old) c.self.invariant (subst (λ (m : Shown). 0 < length m.state.active) (sym c.self.view_is) c.requires))
+    record {
+      sound =
+          subst (λ (e : Ends ℕ). IsSound (moved e)) (sym c.take_protected.ensures.taken)
+          (protect_parts (moved old) c.self.invariant.sound (subst (λ (m : Shown). 0 < length m.state.active) (sym c.self.view_is) c.requires));
+      counted = c.self.invariant.counted;
+    }
 
 pub returns-clause-shown : goal.returns-clause-shown
 returns-clause-shown g c =
@@ -21,7 +25,7 @@ returns-clause-shown g c =
     let moved = λ (e : Ends ℕ). parts_of e (g.M.TwoEnds.ends c.self.inside.marks) c.self.inside.store c.self.inside.meta c.self.inside.trace c.self.inside.position c.self.inside.output in
     let kept = protected (drop 1 old.right) in
     ap (λ (e : Ends ℕ). shown_by c.self.inside.width (moved e)) c.take_protected.ensures.taken
-    ∙ ap (λ (s : State). record (shown_by c.self.inside.width (moved old)) { state = s }) (gather_parts (moved old) kept.rest kept.inner c.self.invariant)
+    ∙ ap (λ (s : State). record (shown_by c.self.inside.width (moved old)) { state = s }) (gather_parts (moved old) kept.rest kept.inner c.self.invariant.sound)
     ∙ ap (λ (m : Shown). record m { state = protect (protected (drop 1 m.state.active)) m.state }) c.self.view_is
 
 pub returns-clause-inner : goal.returns-clause-inner

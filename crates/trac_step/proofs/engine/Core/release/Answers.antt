@@ -6,15 +6,20 @@ use Rattle.trac_step.specs.Layout.{parts_of, shown_by, Shown}
 use Rattle.trac_step.proofs.engine.Core.release.Goals as goal
 
 pub invariant_of-self : goal.invariant_of-self
-invariant_of-self g c = record {
-  ordered = c.self.invariant.ordered;
-  text_limit = c.self.invariant.text_limit;
-  mark_limit = c.self.invariant.mark_limit;
-  output_limit = omega (arith, c.self.invariant.output_limit, ap (λ (w : Window ℕ). length w.items) c.drop_front.ensures, length-drop c.args.output c.self.inside.output.items);
-  text_room = c.self.invariant.text_room;
-  mark_room = c.self.invariant.mark_room;
-  storage = c.self.invariant.storage;
-}
+invariant_of-self g c =
+    let sound = c.self.invariant.sound in
+    record {
+      sound = record {
+        ordered = sound.ordered;
+        text_limit = sound.text_limit;
+        mark_limit = sound.mark_limit;
+        output_limit = omega (arith, sound.output_limit, ap (λ (w : Window ℕ). length w.items) c.drop_front.ensures, length-drop c.args.output c.self.inside.output.items);
+        text_room = sound.text_room;
+        mark_room = sound.mark_room;
+        storage = sound.storage;
+      };
+      counted = c.self.invariant.counted;
+    }
 
 pub returns : goal.returns
 returns g c =

@@ -5,18 +5,24 @@ use Rattle.trac_rules.specs.Scanning.{scan}
 use Rattle.trac_rules.specs.State.{State, Frame, storage_of}
 use Rattle.trac_rules.specs.Undone.{storage_before}
 use Rattle.trac_forms.specs.Stored.{KnowsAll, storage_in}
+use Rattle.trac_text.specs.Framing.{marked_in}
 use Rattle.trac_text.specs.Neutral.{AreMarks, MarkedText, Neutral, neutral_of}
 use Rattle.trac_change.specs.Undone.{undone_in}
 use Rattle.trac_step.specs.Calling.{arguments_in}
 use Rattle.trac_step.specs.Layout.{parts_of, Shown}
 use Rattle.trac_step.proofs.CallsPlanned.{arguments_found}
 use Rattle.trac_step.proofs.CallsUndone.{marked_same}
+use Rattle.trac_step.proofs.Counted.{counted_read}
 use Rattle.trac_step.proofs.Storages.{known_before, proper_before, stored_shows, stored_sound}
 use Rattle.trac_step.proofs.engine.Core.restore_storage.Goals as goal
 
-pub new-text-requires : goal.new-text-requires
-new-text-requires g c =
-    subst (λ (m : MarkedText). AreMarks (length m.text) (reverse m.marks)) (sym (marked_same _ _ _ _ c.left.ensures.left c.left-2.ensures.left)) c.self.invariant.ordered
+pub new-text-requires-clause-marks : goal.new-text-requires-clause-marks
+new-text-requires-clause-marks g c =
+    subst (λ (m : MarkedText). AreMarks (length m.text) (reverse m.marks)) (sym (marked_same _ _ _ _ c.left.ensures.left c.left-2.ensures.left)) c.self.invariant.sound.ordered
+
+pub new-text-requires-clause-functions : goal.new-text-requires-clause-functions
+new-text-requires-clause-functions g c =
+    c.self.invariant.counted ∙ counted_read (marked_in (g.E.TwoEnds.ends c.self.inside.text) (g.M.TwoEnds.ends c.self.inside.marks)) _ (ap neutral_of (sym (marked_same _ _ _ _ c.left.ensures.left c.left-2.ensures.left)))
 
 pub unreachable-requires : goal.unreachable-requires
 unreachable-requires g c =
@@ -50,8 +56,12 @@ invariant_of-self g c =
     let same : storage_before f.arguments (undone_in c.args.change) (storage_in i.store) ≡ storage_before (arguments_in (scan s)) (undone_in c.args.change) (storage_of s) =
     λ j. storage_before (given j) (undone_in c.args.change) (storage_of (state_is j)) in
     let after = c.put_storage.new.store in
-    stored_sound (parts_of (g.E.TwoEnds.ends c.self.inside.text) (g.M.TwoEnds.ends c.self.inside.marks) c.self.inside.store c.self.inside.meta c.self.inside.trace c.self.inside.position c.self.inside.output) (storage_in after) after.known after.spare c.self.invariant
-    (proper_before c.args.self.now.known _ (storage_in after) (sym same ∙ c.put_storage.ensures.storage) c.requires.there)
+    record {
+      sound =
+          stored_sound (parts_of (g.E.TwoEnds.ends c.self.inside.text) (g.M.TwoEnds.ends c.self.inside.marks) c.self.inside.store c.self.inside.meta c.self.inside.trace c.self.inside.position c.self.inside.output) (storage_in after) after.known after.spare c.self.invariant.sound
+          (proper_before c.args.self.now.known _ (storage_in after) (sym same ∙ c.put_storage.ensures.storage) c.requires.there);
+      counted = c.self.invariant.counted;
+    }
 
 pub returns : goal.returns
 returns g c =
