@@ -63,6 +63,13 @@ next_bytes [] kind arguments is = absurd is
 next_bytes (f ∷ fs) kind arguments is =
     omega (arith, function_bytes f.arguments f.gathered, ap (λ (texts : List (List ℕ)). length (concat texts)) (sym is.1))
 
+-- the last one
+pub last_bytes : (frames : List Frame) (n : ℕ) (kind : Kind) (arguments : List (List ℕ)) → n + 1 ≡ length frames → IsFrame (slice_get frames n) kind arguments →
+    argument_bytes (drop n frames) ≡ length (concat arguments)
+last_bytes (f ∷ []) zero kind arguments last is = omega (arith, next_bytes (f ∷ []) kind arguments is)
+last_bytes (f ∷ fs) (suc n) kind arguments last is = last_bytes fs n kind arguments (omega (arith, last)) is
+last_bytes fs n kind arguments last is = absurd (omega (arith, last))
+
 -- none is left
 pub none_left : (frames : List Frame) (i n : ℕ) → i ≤ n → drop i frames ≡ [] → argument_bytes (drop n frames) ≡ 0
 none_left frames i n l none =

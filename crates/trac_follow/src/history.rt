@@ -10,7 +10,7 @@ ghost use Rattle.trac_rules.specs.Session.{Back, repeated};
 ghost use Rattle.trac_rules.specs.Trails.{IsTrail};
 
 use crate::items::item_measured;
-use crate::offset::argument_offset;
+use crate::offset::{argument_offset, is_innermost};
 use crate::origin::told_of;
 use crate::place::{After, Origin, Place};
 use crate::running::{before_run, stays};
@@ -229,13 +229,6 @@ fn is_called<E: TwoEnds<u8, A>, M: TwoEnds<Mark, A>, A: Allocator + Copy>(
         Some(_call) => is_innermost(function, machine.depth()),
         None => false,
     }
-}
-
-// Whether the begun function of this number is the last of so many.
-fn is_innermost(function: usize, depth: usize) -> bool
-    ensures { MatchBool result (function + 1 ≡ depth) (function + 1 ≡ depth → ⊥) }
-{
-    function < depth && depth - function == 1
 }
 
 fn found<'a>(steps: u64, source: Source<'a>) -> Followed<'a>

@@ -1,9 +1,11 @@
 //! How far into the neutral text a byte of an argument stands.
-ghost use Rattle.std.specs.Prelude.{◌≡◌, ◌-◌, drop, reverse, take};
+ghost use Rattle.std.specs.Prelude.{◌≡◌, ◌+◌, ◌-◌, drop, reverse, slice_get, take, MatchBool};
 ghost use Rattle.trac_follow.specs.Offsets.{offset};
 ghost use Rattle.trac_follow.specs.Places.{Stands};
 ghost use Rattle.trac_origins.specs.Places.{InArgument};
+ghost use Rattle.trac_rules.specs.declared.kind.Kind.{Kind};
 ghost use Rattle.trac_rules.specs.Limits.{argument_bytes, total_length};
+ghost use Rattle.trac_text.specs.Frames.{IsFrame};
 
 use std::alloc::Allocator;
 use trac_gap::TwoEnds;
@@ -21,7 +23,7 @@ pub(crate) fn argument_offset<E: TwoEnds<u8, A>, M: TwoEnds<Mark, A>, A: Allocat
 {
     match machine.frame(function) {
         Some((_, arguments)) => {
-            let from_function = bytes_from(machine, function);
+            let from_function = bytes_from(machine, function, &arguments);
             let from_argument = bytes_after(from_function, &arguments, argument);
             let from_byte = from_argument.saturating_sub(byte);
             machine.neutral_len().saturating_sub(from_byte)
@@ -30,8 +32,31 @@ pub(crate) fn argument_offset<E: TwoEnds<u8, A>, M: TwoEnds<Mark, A>, A: Allocat
     }
 }
 
-// How many bytes the arguments of the functions from this number on hold, counted from the outermost.
+// How many bytes the arguments of the functions from this number on hold, counted from the outermost; the one of this number has
+// these. Where it is the innermost no other one is looked at.
 fn bytes_from<E: TwoEnds<u8, A>, M: TwoEnds<Mark, A>, A: Allocator + Copy>(
+    machine: &Core<E, M, A>,
+    function: usize,
+    arguments: &Args<'_>,
+) -> usize
+    requires { (kind : Kind) × IsFrame (slice_get (reverse machine.now.state.frames) function) kind arguments.now }
+    ensures { result ≡ argument_bytes (drop function (reverse machine.now.state.frames)) }
+{
+    if is_innermost(function, machine.depth()) {
+        return arguments.joined().len();
+    }
+    bytes_counted(machine, function)
+}
+
+// Whether the begun function of this number is the last of so many.
+pub(crate) fn is_innermost(function: usize, depth: usize) -> bool
+    ensures { MatchBool result (function + 1 ≡ depth) (function + 1 ≡ depth → ⊥) }
+{
+    function < depth && depth - function == 1
+}
+
+// The same as `bytes_from`, of any function.
+fn bytes_counted<E: TwoEnds<u8, A>, M: TwoEnds<Mark, A>, A: Allocator + Copy>(
     machine: &Core<E, M, A>,
     function: usize,
 ) -> usize
