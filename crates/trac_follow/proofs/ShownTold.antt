@@ -47,9 +47,9 @@ module _ (form : Form) (pointer i : ℕ) (begins : pointer ≡ length form.befor
       omega (arith, sum, ap (λ (xs : List Item). length (shown_items xs)) span)
 
   -- after it
-  pub shown_behind : (given : Given) (o : told.Origin) → IsGiven shown_item (drop pointer (all_items form)) i given → o ≡ of_shown given.item (pointer + given.at) →
+  pub shown_after : (given : Given) (o : told.Origin) → IsGiven shown_item (drop pointer (all_items form)) i given → o ≡ of_shown given.item (pointer + given.at) →
       IsShown form.after (length form.before) i o
-  shown_behind given o is shows =
+  shown_after given o is shows =
       let items : drop pointer (all_items form) ≡ form.after = ap (λ k. drop k (all_items form)) begins ∙ after_those form.before form.after in
       record {
         item = given.item;

@@ -30,7 +30,7 @@ use Rattle.trac_follow.specs.Items.{IsMeasured}
 use Rattle.trac_follow.specs.Offsets.{IsPlaced}
 use Rattle.trac_follow.specs.Passing.{IsUnpassed}
 use Rattle.trac_follow.specs.Running.{IsTurn, StaysAt}
-use Rattle.trac_follow.specs.Places.{AreLengths, IsPassed, Stands, Tells, TellsOf, is_in_block, is_in_form, place_of}
+use Rattle.trac_follow.specs.Places.{AreLengths, IsPassed, Stands, Tells, TellsOf, is_in_form, is_in_storage, place_of}
 use Rattle.trac_follow.proofs.Unpassed.{unpassed_on, unpassed_once}
 
 -- ---- over some states, and then over more
@@ -50,8 +50,7 @@ followed_on environment (s ∷ pre) post place q e = go (origin environment s pl
         going_back o (λ r. followed environment (pre ++ post) r) ≡ after_some (length (s ∷ pre)) (followed environment post q)
     go (Carried r) h further =
         ap one_more (further r h) ∙ ap (λ n. record { carried = n; origin = (followed environment post q).origin }) (omega arith)
-    go (Read n) h further = absurd (cc)
-    go Made h further = absurd (cc)
+    go other h further = absurd (cc)
 
 -- all of them carried it
 pub all_carried : (environment : Environment) (pre : List State) (place q : Place) → (followed environment pre place).origin ≡ Carried q →
@@ -206,7 +205,7 @@ module _ (width : Width) (old cur next : PlainSession) (place here : Place) (ste
   ends_read most n trail is =
       (omega arith, followed_one trail (Read n) is ∙ ap (λ m. record { carried = m; origin = Read n }) (omega arith))
 
-  pub ends_form : (most i : ℕ) (trail : IsKnown width old) → Tells went.before (code_origin.TheVariants.OfForm i) (origin environment went.before here) → (is_in_form here ≡ false) × (is_in_block here ≡ false) →
+  pub ends_form : (most i : ℕ) (trail : IsKnown width old) → Tells went.before (code_origin.TheVariants.OfForm i) (origin environment went.before here) → is_in_storage here ≡ false →
       IsSource old place most next (steps + 1) (code.TheVariants.OfForm i)
   ends_form most i trail tells taken =
       let q = InForm (argument 1 tells.0.arguments) i in (
@@ -217,8 +216,7 @@ module _ (width : Width) (old cur next : PlainSession) (place here : Place) (ste
             here,
             refl,
             all_carried environment pre place here (goes.stood trail).carried ∙ ap (λ n. record { carried = n; origin = Carried here }) goes.count,
-            taken.0,
-            taken.1,
+            taken,
           ),
         ),
       )
@@ -287,11 +285,10 @@ module _ (old cur next : PlainSession) (place here : Place) (steps : ℕ) (told 
                 (subst (λ u. IsPassed u (place_of now) (place_of q)) (sym (before_is v last))
                 (subst (λ p. IsPassed before p (place_of q)) same (subst (λ p. IsPassed before here (place_of p)) (sym one) passed))),
           ))
-          (λ (e : (turn ≡ turning.TheVariants.End (code.TheVariants.Passed q)) × IsPassed v (place_of now) (place_of q)). let ends = e.0 in absurd (cc)) is
+          (λ (e : (turn ≡ turning.TheVariants.End (code.TheVariants.Passed q)) × IsPassed v (place_of now) (place_of q) × (is_in_form (place_of q) ≡ true → is_in_storage (place_of now) ≡ true)).
+          let ends = e.0 in absurd (cc)) is
       go (code_origin.TheVariants.OfForm i) from is = absurd (let ends = is.0 in cc)
-      go (code_origin.TheVariants.Read n) from is = absurd (cc)
-      go code_origin.TheVariants.Made from is = absurd (cc)
-      go code_origin.TheVariants.Nothing from is = absurd (cc)
+      go other from is = absurd (cc)
 
   -- what was found, in a record
   found_is : (most : ℕ) (found : Found) (source : code.Source) → found.steps ≡ steps + 1 → found.source ≡ source → quiet_steps (steps + 1) source ≡ steps → Stands old.last place → IsKnown width old →
@@ -314,7 +311,7 @@ module _ (old cur next : PlainSession) (place here : Place) (steps : ℕ) (told 
       go (code_origin.TheVariants.Carried q) from at =
           ⊎_elim
           (λ (e : (turn ≡ turning.TheVariants.On q) × (IsPassed v (place_of now) (place_of q) → ⊥)). let on = e.0 in absurd (cc))
-          (λ (e : (turn ≡ turning.TheVariants.End (code.TheVariants.Passed q)) × IsPassed v (place_of now) (place_of q)).
+          (λ (e : (turn ≡ turning.TheVariants.End (code.TheVariants.Passed q)) × IsPassed v (place_of now) (place_of q) × (is_in_form (place_of q) ≡ true → is_in_storage (place_of now) ≡ true)).
           let is_end = e.0 in
           let ends : source ≡ code.TheVariants.Passed q = cc in
           found_is most found (code.TheVariants.Passed q) count (is ∙ ends) quiet stands trail (
@@ -326,6 +323,7 @@ module _ (old cur next : PlainSession) (place here : Place) (steps : ℕ) (told 
                 refl,
                 carried_so width old cur place here steps has.goes trail,
                 subst (λ x. IsPassed x here (place_of q)) last (subst (λ h. IsPassed v h (place_of q)) (sym same) e.1),
+                λ form. ap is_in_storage same ∙ e.2 form,
               ),
             ),
           ))
@@ -335,7 +333,7 @@ module _ (old cur next : PlainSession) (place here : Place) (steps : ℕ) (told 
           let ends : source ≡ code.TheVariants.OfForm i = cc in
           found_is most found (code.TheVariants.OfForm i) count (is ∙ ends) quiet stands trail
           (ends_form width old cur next place here steps has.goes has.went most i trail (told_as (code_origin.TheVariants.OfForm i) from trail)
-          (ap is_in_form same ∙ at.1, ap is_in_block same ∙ at.2))
+          (ap is_in_storage same ∙ at.1))
       go (code_origin.TheVariants.Read n) from at =
           let ends : source ≡ code.TheVariants.Read n = cc in
           found_is most found (code.TheVariants.Read n) count (is ∙ ends) quiet stands trail

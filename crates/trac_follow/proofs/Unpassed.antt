@@ -1,6 +1,6 @@
 -- A byte that no step passes on.
 use Rattle.std.proofs.Common.{◌≡◌, ℕ, zero, suc, ◌+◌, ◌-◌, ◌<◌, ◌≤◌, Bool, true, false, List, [], ◌∷◌, ◌++◌, length, take, refl, sym, ap, subst, ◌∙◌, arith}
-use Rattle.std.specs.Prelude.{Option, None, Some, MatchBool}
+use Rattle.std.specs.Prelude.{Option, None, Some, MatchBool, not}
 use Rattle.std.proofs.lemmas.List.{length-drop}
 use Rattle.trac_rules.specs.declared.item.Item.{Item}
 use Rattle.trac_rules.specs.Goals.{call_asked, next_call}
@@ -34,8 +34,7 @@ unpassed_on environment (s ∷ pre) post place q e before after = go (origin env
         ((r : Place) → (followed environment pre r).origin ≡ Carried q → IsUnpassed environment pre r → IsUnpassed environment (pre ++ post) r) →
         UnpassedBy s place o (λ r. IsUnpassed environment (pre ++ post) r)
     go (Carried r) h less further = (less.0, further r h less.1)
-    go (Read n) h less further = absurd (cc)
-    go Made h less further = absurd (cc)
+    go other h less further = absurd (cc)
 
 -- one step
 pub unpassed_once : (environment : Environment) (s : State) (place q : Place) → origin environment s place ≡ Carried q → (IsPassed s place q → ⊥) → IsUnpassed environment (s ∷ []) place
@@ -44,20 +43,16 @@ unpassed_once environment s place q is not = subst (λ o. UnpassedBy s place o (
 -- ---- what stays is passed on by no step
 
 pub stays_moving : (s t : State) (p : Place) → scan s ≡ Moves t → IsPassed s p p → ⊥
-stays_moving s t (InActive i) is passed = passed
-stays_moving s t (InBase i) is passed = passed
 stays_moving s t (InArgument n k i) is passed = absurd (let call : Calls passed.0 ≡ Moves t = sym passed.1 ∙ is in cc)
 stays_moving s t (InForm name i) is passed = absurd (cc)
 stays_moving s t (InHeld number name i) is passed = absurd (cc)
-stays_moving s t (InOutput i) is passed = passed
+stays_moving s t p is passed = passed
 
 pub stays_calling : (s : State) (call : Call) (p : Place) → scan s ≡ Calls call → IsOutside (length call.state.frames) p → IsPassed s p p → ⊥
-stays_calling s call (InActive i) is outside passed = passed
-stays_calling s call (InBase i) is outside passed = passed
 stays_calling s call (InArgument n k i) is outside passed = omega (arith, functions_left s call is, outside, passed.2)
 stays_calling s call (InForm name i) is outside passed = absurd (cc)
 stays_calling s call (InHeld number name i) is outside passed = absurd (cc)
-stays_calling s call (InOutput i) is outside passed = passed
+stays_calling s call p is outside passed = passed
 
 -- ---- runs of bytes
 
@@ -70,11 +65,7 @@ moves_quietly s t p is passed = at p passed
 
     at : (q : Place) → IsPassed s q (before_moved 1 s q) → ⊥
     at (InActive i) passed = passed
-    at (InBase i) passed = of (InBase i) (past_in s.frames s (InBase i)) (λ same. same) passed
-    at (InArgument n k i) passed = of (InArgument n k i) (past_in s.frames s (InArgument n k i)) (stays_moving s t (InArgument n k i) is) passed
-    at (InForm name i) passed = of (InForm name i) (past_in s.frames s (InForm name i)) (stays_moving s t (InForm name i) is) passed
-    at (InHeld number name i) passed = of (InHeld number name i) (past_in s.frames s (InHeld number name i)) (stays_moving s t (InHeld number name i) is) passed
-    at (InOutput i) passed = of (InOutput i) (past_in s.frames s (InOutput i)) (λ same. same) passed
+    at p passed = of p (past_in s.frames s p) (stays_moving s t p is) passed
 
 pub run_unpassed : (environment : Environment) (s : State) (n : ℕ) (place : Place) (item : Item) → AreSteps environment (on_the_way n s) (moved_on n s) → n ≤ length s.active →
     found_at (moved_on n s) place ≡ Some item → IsUnpassed environment (on_the_way n s) place
@@ -107,12 +98,14 @@ pub by_test : (b c : Bool) → b ≡ c → MatchBool b (c ≡ true) (c ≡ true 
 by_test true c is = sym is
 by_test false c is = λ e. absurd (let unset : false ≡ true = is ∙ e in cc)
 
+pub by_other : (b c : Bool) → b ≡ c → MatchBool (not b) (c ≡ false) (c ≡ false → ⊥)
+by_other true c is = λ e. absurd (let set : true ≡ false = is ∙ e in cc)
+by_other false c is = sym is
+
 pub elsewhere : (s : State) (here : Place) (there : code_place.Place) → ((f k i : ℕ) → there ≡ code_place.TheVariants.Argument f k i → ⊥) →
     ((number : ℕ) (name : _) (i : ℕ) → there ≡ code_place.TheVariants.Held number name i → ⊥) → ((name : _) (i : ℕ) → there ≡ code_place.TheVariants.Form name i → ⊥) →
     IsPassed s here (place_of there) → ⊥
-elsewhere s here (code_place.TheVariants.Active i) argument held form passed = passed
-elsewhere s here (code_place.TheVariants.Base i) argument held form passed = passed
 elsewhere s here (code_place.TheVariants.Argument f k i) argument held form passed = argument f k i refl
 elsewhere s here (code_place.TheVariants.Form name i) argument held form passed = form name i refl
 elsewhere s here (code_place.TheVariants.Held number name i) argument held form passed = held number name i refl
-elsewhere s here (code_place.TheVariants.Output i) argument held form passed = passed
+elsewhere s here p argument held form passed = passed

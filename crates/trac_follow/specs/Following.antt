@@ -1,5 +1,5 @@
 -- A byte that was followed back, in the words of `trac_origins`.
-use Rattle.std.specs.Prelude.{◌≡◌, ◌⊎◌, ℕ, ◌+◌, ◌-◌, false, ◌<◌, take, []}
+use Rattle.std.specs.Prelude.{◌≡◌, ◌⊎◌, ℕ, ◌+◌, ◌-◌, true, false, ◌<◌, take, []}
 use Rattle.trac_rules.specs.Effect.{argument}
 use Rattle.trac_rules.specs.Scanning.{Call, Calls, scan}
 use Rattle.trac_rules.specs.Session.{PlainSession, over}
@@ -8,7 +8,7 @@ use Rattle.trac_origins.specs.Places.{Place, InForm, Origin, Carried, Read, Made
 use Rattle.trac_follow.specs.declared.history.Followed.{Followed as Found}
 use Rattle.trac_follow.specs.declared.history.Source as code
 use Rattle.trac_follow.specs.Passing.{IsUnpassed}
-use Rattle.trac_follow.specs.Places.{IsBare, IsPassed, is_in_block, is_in_form, place_of}
+use Rattle.trac_follow.specs.Places.{IsBare, IsPassed, is_in_form, is_in_storage, place_of}
 
 -- over the last so many steps of a session a byte was carried by so many, and has this origin
 abbrev pub IsOrigin : PlainSession → Place → ℕ → ℕ → Origin → Type 0
@@ -21,10 +21,11 @@ IsSource old place most new steps code.TheVariants.Nothing = (steps ≡ 0) × Is
 IsSource old place most new steps (code.TheVariants.Here there) = IsOrigin old place steps steps (Carried (place_of there)) × ((steps ≡ most) ⊎ (new.earlier ≡ []))
 IsSource old place most new steps (code.TheVariants.Passed there) =
     IsOrigin old place steps steps (Carried (place_of there))
-    × ((before : ℕ) × ((here : Place) × (steps ≡ before + 1) × IsOrigin old place before before (Carried here) × IsPassed new.last here (place_of there)))
+    × ((before : ℕ) × ((here : Place) × (steps ≡ before + 1) × IsOrigin old place before before (Carried here) × IsPassed new.last here (place_of there)
+    × (is_in_form (place_of there) ≡ true → is_in_storage here ≡ true)))
 IsSource old place most new steps (code.TheVariants.OfForm i) =
     ((call : Call) × (scan new.last ≡ Calls call) × IsOrigin old place steps steps (Carried (InForm (argument 1 call.arguments) i)))
-    × ((before : ℕ) × ((here : Place) × (steps ≡ before + 1) × IsOrigin old place before before (Carried here) × (is_in_form here ≡ false) × (is_in_block here ≡ false)))
+    × ((before : ℕ) × ((here : Place) × (steps ≡ before + 1) × IsOrigin old place before before (Carried here) × (is_in_storage here ≡ false)))
 IsSource old place most new steps (code.TheVariants.Read n) = (0 < steps) × IsOrigin old place steps (steps - 1) (Read n)
 IsSource old place most new steps code.TheVariants.Made = (0 < steps) × IsOrigin old place steps (steps - 1) Made
 

@@ -30,21 +30,21 @@ place_of (code_place.TheVariants.Output i) = InOutput i
 abbrev pub IsCalled : State → ℕ → Type 0
 IsCalled s function = (call : Call) × (scan s ≡ Calls call) × (function + 1 ≡ length s.frames)
 
--- whether a place is in a form, and in one that a block holds
+-- whether a place is in a form, and in one or in a block
 abbrev pub is_in_form : Place → Bool
 is_in_form (InForm name i) = true
 is_in_form place = false
 
-abbrev pub is_in_block : Place → Bool
-is_in_block (InHeld number name i) = true
-is_in_block place = false
+abbrev pub is_in_storage : Place → Bool
+is_in_storage (InHeld number name i) = true
+is_in_storage place = is_in_form place
 
--- the step from a state carried a byte to one place from another that a reader of the call wants to see: an argument of its own, or a form
--- that went into a block or came out of it
+-- the step from a state carried a byte to one place from another that a reader of the call wants to see: from an argument of its own, into
+-- a form from a block, or out of a form
 abbrev pub IsPassed : State → Place → Place → Type 0
 IsPassed s here (InArgument function argument byte) = IsCalled s function
 IsPassed s here (InHeld number name i) = is_in_form here ≡ true
-IsPassed s here (InForm name i) = is_in_block here ≡ true
+IsPassed s here (InForm name i) = is_in_form here ≡ false
 IsPassed s here there = ⊥
 
 -- what is told in a state is this origin of what stands somewhere after the step from it
@@ -55,14 +55,18 @@ Tells s (code_origin.TheVariants.Read n) o = o ≡ Read n
 Tells s code_origin.TheVariants.Made o = o ≡ Made
 Tells s code_origin.TheVariants.Nothing o = ⊥
 
--- whether an item of a form is said to be one that a call took out of it
+-- whether an item of a form is said to be one that a call took out of it, and whether it is said to be carried from there
 abbrev pub is_of_form : code_origin.Origin → Bool
 is_of_form (code_origin.TheVariants.OfForm i) = true
 is_of_form o = false
 
--- that is said of no place in a form or in a block
+abbrev pub is_from_form : code_origin.Origin → Bool
+is_from_form (code_origin.TheVariants.Carried place) = is_in_form (place_of place)
+is_from_form o = false
+
+-- the one is said of no place in a form or in a block, and the other of no other place
 abbrev pub IsTakenOut : Place → code_origin.Origin → Type 0
-IsTakenOut place o = is_of_form o ≡ true → (is_in_form place ≡ false) × (is_in_block place ≡ false)
+IsTakenOut place o = (is_of_form o ≡ true → is_in_storage place ≡ false) × (is_from_form o ≡ true → is_in_storage place ≡ true)
 
 -- this is told of a state and of a place in it: lengths, how much stands before an item of a form, and whether a gap stands there
 pub record AreLengths (after : After) (t : State) (place : Place) : Type 0 where

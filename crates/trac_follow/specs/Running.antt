@@ -1,5 +1,5 @@
 -- Steps back over which a byte is followed without a look at where it comes from.
-use Rattle.std.specs.Prelude.{◌≡◌, ◌⊎◌, ℕ, Bool, false, Ok, Some}
+use Rattle.std.specs.Prelude.{◌≡◌, ◌⊎◌, ℕ, Bool, true, false, Ok, Some}
 use Rattle.trac_rules.specs.declared.item.Item.{Item}
 use Rattle.trac_rules.specs.declared.width.Width.{Width}
 use Rattle.trac_rules.specs.State.{Environment, State}
@@ -12,7 +12,7 @@ use Rattle.trac_follow.specs.declared.place.After.{After}
 use Rattle.trac_follow.specs.declared.place.Origin as told
 use Rattle.trac_follow.specs.declared.place.Place as code_place
 use Rattle.trac_follow.specs.Offsets.{IsPlaced}
-use Rattle.trac_follow.specs.Places.{IsPassed, TellsOf, is_in_block, is_in_form, place_of}
+use Rattle.trac_follow.specs.Places.{IsPassed, TellsOf, is_in_form, is_in_storage, place_of}
 
 -- what stands at a place after the step from a state stood there before it, what is known of the place stays known, and the step does not
 -- pass it on
@@ -25,9 +25,9 @@ StaysAt s bytes gap place =
 abbrev pub IsTurn : State → code_place.Place → told.Origin → turning.Turn → Type 0
 IsTurn s here (told.TheVariants.Carried there) turn =
     ((turn ≡ turning.TheVariants.On there) × (IsPassed s (place_of here) (place_of there) → ⊥))
-    ⊎ ((turn ≡ turning.TheVariants.End (code.TheVariants.Passed there)) × IsPassed s (place_of here) (place_of there))
-IsTurn s here (told.TheVariants.OfForm i) turn =
-    (turn ≡ turning.TheVariants.End (code.TheVariants.OfForm i)) × (is_in_form (place_of here) ≡ false) × (is_in_block (place_of here) ≡ false)
+    ⊎ ((turn ≡ turning.TheVariants.End (code.TheVariants.Passed there)) × IsPassed s (place_of here) (place_of there)
+    × (is_in_form (place_of there) ≡ true → is_in_storage (place_of here) ≡ true))
+IsTurn s here (told.TheVariants.OfForm i) turn = (turn ≡ turning.TheVariants.End (code.TheVariants.OfForm i)) × (is_in_storage (place_of here) ≡ false)
 IsTurn s here (told.TheVariants.Read n) turn = turn ≡ turning.TheVariants.End (code.TheVariants.Read n)
 IsTurn s here told.TheVariants.Made turn = turn ≡ turning.TheVariants.End code.TheVariants.Made
 IsTurn s here told.TheVariants.Nothing turn = turn ≡ turning.TheVariants.End code.TheVariants.Nothing

@@ -10,7 +10,7 @@ ghost use Rattle.trac_rules.specs.Scanning.{Call, Calls, scan};
 ghost use Rattle.trac_follow.specs.declared.place.After.{After as Lengths};
 ghost use Rattle.trac_follow.specs.Formed.{ToldAsFormCut, ToldAsFormShown};
 ghost use Rattle.trac_follow.specs.Putting.{put_by};
-ghost use Rattle.trac_follow.specs.Places.{IsTakenOut, TellsOf, ToldAsPrinted, ToldAsPut, is_in_text, is_of_form, place_of};
+ghost use Rattle.trac_follow.specs.Places.{IsTakenOut, TellsOf, ToldAsPrinted, ToldAsPut, is_from_form, is_in_text, place_of};
 
 use crate::fetched::before_fetch;
 use crate::formed::{cut_item, shown_byte};
@@ -65,7 +65,8 @@ fn of_active<'a, E: TwoEnds<u8, A>, M: TwoEnds<Mark, A>, A: Allocator + Copy>(
     i: usize,
 ) -> Origin<'a>
     requires call { IsCall (next_call before.now.state) kind arguments.now }
-    ensures { TellsOf before.now.state width after (InActive i) result }
+    ensures tells { TellsOf before.now.state width after (InActive i) result }
+    ensures taken { IsTakenOut (InActive i) result }
 {
     let rest = before.active().len().saturating_sub(1);
     if after.active < rest {
@@ -99,7 +100,8 @@ fn of_text<'a, E: TwoEnds<u8, A>, M: TwoEnds<Mark, A>, A: Allocator + Copy>(
 ) -> Origin<'a>
     requires call { IsCall (next_call before.now.state) kind arguments.now }
     requires text { is_in_text (place_of place) ≡ true }
-    ensures { (after : Lengths) → TellsOf before.now.state width after (place_of place.entry) result }
+    ensures tells { (after : Lengths) → TellsOf before.now.state width after (place_of place.entry) result }
+    ensures taken { IsTakenOut (place_of place.entry) result }
 {
     let function = innermost(before);
     if stands_around(before, function, place) {
@@ -118,7 +120,8 @@ fn of_output<'a, E: TwoEnds<u8, A>, M: TwoEnds<Mark, A>, A: Allocator + Copy>(
     i: usize,
 ) -> Origin<'a>
     requires call { IsCall (next_call before.now.state) kind arguments.now }
-    ensures { (width : Width) → TellsOf before.now.state width after (InOutput i) result }
+    ensures tells { (width : Width) → TellsOf before.now.state width after (InOutput i) result }
+    ensures taken { IsTakenOut (InOutput i) result }
 {
     if i < before.output().len() {
         return Origin::Carried(Place::Output(i));
@@ -144,7 +147,8 @@ fn form_shown<'a, E: TwoEnds<u8, A>, M: TwoEnds<Mark, A>, A: Allocator + Copy>(
     end: usize,
     i: usize,
 ) -> Origin<'a>
-    ensures { ToldAsFormShown before.now.state name.now end i result }
+    ensures tells { ToldAsFormShown before.now.state name.now end i result }
+    ensures taken { is_from_form result ≡ false }
 {
     match before.store().get(name) {
         Some(form) => shown_byte(form, end, i),
@@ -164,7 +168,8 @@ fn is_silent(primitive: Primitive) -> bool
 
 // Of what `ps` prints, a text that is so long, after which the output ends.
 fn printed<'a>(text: usize, function: usize, end: usize, i: usize) -> Origin<'a>
-    ensures { ToldAsPrinted text function end i result }
+    ensures tells { ToldAsPrinted text function end i result }
+    ensures taken { is_from_form result ≡ false }
 {
     if text > end {
         return Origin::Nothing;
@@ -189,7 +194,7 @@ fn of_form<'a, E: TwoEnds<u8, A>, M: TwoEnds<Mark, A>, A: Allocator + Copy>(
 ) -> Origin<'a>
     requires call { IsCall (next_call before.now.state) kind arguments.now }
     ensures tells { (width : Width) → TellsOf before.now.state width after (InForm name.now i) result }
-    ensures kept { is_of_form result ≡ false }
+    ensures taken { IsTakenOut (InForm name.now i) result }
 {
     let primitive = primitive_named(arguments.get(0));
     if may_put(primitive, arguments.get(1), name) {
@@ -279,7 +284,7 @@ fn of_block<'a, E: TwoEnds<u8, A>, M: TwoEnds<Mark, A>, A: Allocator + Copy>(
 ) -> Origin<'a>
     requires call { IsCall (next_call before.now.state) kind arguments.now }
     ensures tells { (width : Width) (after : Lengths) → TellsOf before.now.state width after (InHeld number name.now i) result }
-    ensures kept { is_of_form result ≡ false }
+    ensures taken { IsTakenOut (InHeld number name.now i) result }
 {
     let count = before.store().block_count();
     if number < count {

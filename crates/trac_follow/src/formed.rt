@@ -1,5 +1,5 @@
 //! Where bytes come from that a call takes out of a form, prints of it, or cuts in it.
-ghost use Rattle.std.specs.Prelude.{◌≡◌, ◌≤◌, drop, length, option_map, IfSome, List, Option, Some, ℕ};
+ghost use Rattle.std.specs.Prelude.{◌≡◌, ◌≤◌, drop, false, length, option_map, IfSome, List, Option, Some, ℕ};
 ghost use Rattle.trac_forms.specs.Taken.{IsThere, taken};
 ghost use Rattle.trac_rules.specs.Effect.{argument};
 ghost use Rattle.trac_rules.specs.Form.{all_items};
@@ -10,6 +10,7 @@ ghost use Rattle.trac_rules.specs.declared.primitive.Primitive.TheVariants.{Hand
 ghost use Rattle.trac_rules.specs.declared.primitive.FormReading.TheVariants.{ReadCount, ReadUntil};
 ghost use Rattle.trac_rules.specs.declared.width.Width.{Width};
 ghost use Rattle.trac_follow.specs.Formed.{IsFound, TellsOfForm, ToldAsCut, ToldAsPiece, ToldAsShown, ToldAsShownAfter, ToldAsShownAt, ToldFrom, is_byte, is_cut, of_shown};
+ghost use Rattle.trac_follow.specs.Places.{is_from_form};
 
 use crate::items::{Among, Giving, byte_among, item_after};
 use crate::place::{After, Origin, Place};
@@ -28,7 +29,8 @@ pub(crate) fn called_byte<'a, A: Allocator + Copy>(
     function: usize,
     i: usize,
 ) -> Origin<'a>
-    ensures { (width : Width) (seen : Option ℕ) → TellsOfForm (Handle Call) form.now arguments.now function width seen i result }
+    ensures tells { (width : Width) (seen : Option ℕ) → TellsOfForm (Handle Call) form.now arguments.now function width seen i result }
+    ensures taken { is_from_form result ≡ false }
 {
     let start = form.pointer();
     let Among::Here(given) = byte_among(form, start, form.len(), Giving::Filled(arguments), i)
@@ -53,7 +55,8 @@ pub(crate) fn read_byte_of<'a, A: Allocator + Copy>(
     seen: Option<usize>,
     i: usize,
 ) -> Origin<'a>
-    ensures { TellsOfForm (Handle (Reads reading)) form.now arguments.now function width seen i result }
+    ensures tells { TellsOfForm (Handle (Reads reading)) form.now arguments.now function width seen i result }
+    ensures taken { is_from_form result ≡ false }
 {
     match reading {
         FormReading::ReadSegment => piece_byte(form, form.read_segment(), function, 2, i),
@@ -82,7 +85,8 @@ fn piece_byte<'a, A: Allocator + Copy>(
     i: usize,
 ) -> Origin<'a>
     requires { IfSome found (IsThere form.now) }
-    ensures { ToldAsPiece form.now found function other i result }
+    ensures tells { ToldAsPiece form.now found function other i result }
+    ensures taken { is_from_form result ≡ false }
 {
     match found {
         Some(piece) => byte_from(form, piece.pointer.min(form.pointer()), i),
@@ -99,8 +103,9 @@ fn until_byte<'a, A: Allocator + Copy>(
     seen: Option<usize>,
     i: usize,
 ) -> Origin<'a>
-    ensures { (arguments : List (List ℕ)) (width : Width) → argument 2 arguments ≡ text.now →
+    ensures tells { (arguments : List (List ℕ)) (width : Width) → argument 2 arguments ≡ text.now →
         TellsOfForm (Handle (Reads ReadUntil)) form.now arguments function width seen i result }
+    ensures taken { is_from_form result ≡ false }
 {
     if is_found(form, text, seen) {
         return byte_from(form, form.pointer(), i);
@@ -160,7 +165,8 @@ fn is_byte(item: Option<Item>, b: u8) -> bool
 // Of the bytes of a form from a place on.
 fn byte_from<'a, A: Allocator + Copy>(form: &Form<A>, first: usize, i: usize) -> Origin<'a>
     requires { first ≤ length (all_items form.now) }
-    ensures { ToldFrom form.now first i result }
+    ensures tells { ToldFrom form.now first i result }
+    ensures taken { is_from_form result ≡ false }
 {
     let Among::Here(given) = byte_among(form, first, form.len(), Giving::Read, i) else {
         return Origin::Nothing;
@@ -174,7 +180,8 @@ pub(crate) fn shown_byte<'a, A: Allocator + Copy>(
     end: usize,
     i: usize,
 ) -> Origin<'a>
-    ensures { ToldAsShown form.now end i result }
+    ensures tells { ToldAsShown form.now end i result }
+    ensures taken { is_from_form result ≡ false }
 {
     let Some(len) = form.show_len() else {
         return Origin::Nothing;
@@ -193,7 +200,8 @@ pub(crate) fn shown_byte<'a, A: Allocator + Copy>(
 
 // Of the byte of this number that a form is printed as.
 fn shown_item<'a, A: Allocator + Copy>(form: &Form<A>, i: usize) -> Origin<'a>
-    ensures { ToldAsShownAt form.now i result }
+    ensures tells { ToldAsShownAt form.now i result }
+    ensures taken { is_from_form result ≡ false }
 {
     let pointer = form.pointer();
     match byte_among(form, 0, pointer, Giving::Shown, i) {
@@ -205,7 +213,8 @@ fn shown_item<'a, A: Allocator + Copy>(form: &Form<A>, i: usize) -> Origin<'a>
 
 // The same, of what stands after the mark of the pointer.
 fn shown_after<'a, A: Allocator + Copy>(form: &Form<A>, i: usize) -> Origin<'a>
-    ensures { ToldAsShownAfter form.now i result }
+    ensures tells { ToldAsShownAfter form.now i result }
+    ensures taken { is_from_form result ≡ false }
 {
     let pointer = form.pointer();
     match byte_among(form, pointer, form.len(), Giving::Shown, i) {
@@ -216,7 +225,8 @@ fn shown_after<'a, A: Allocator + Copy>(form: &Form<A>, i: usize) -> Origin<'a>
 
 // Of an item that is printed, which has this place.
 fn of_shown<'a>(item: Item, place: usize) -> Origin<'a>
-    ensures { result ≡ of_shown item place }
+    ensures tells { result ≡ of_shown item place }
+    ensures taken { is_from_form result ≡ false }
 {
     match item {
         Item::Byte(_) => Origin::OfForm(place),

@@ -3,7 +3,7 @@ ghost use Rattle.std.specs.Prelude.{◌≡◌, ◌+◌, ◌^◌, ◌<◌, ◌≤
 ghost use Rattle.trac_follow.specs.Following.{IsFollowed};
 ghost use Rattle.trac_follow.specs.Items.{IsMeasured};
 ghost use Rattle.trac_follow.specs.Offsets.{IsPlaced};
-ghost use Rattle.trac_follow.specs.Places.{IsCalled, IsPassed, Stands, is_in_block, is_in_form, place_of};
+ghost use Rattle.trac_follow.specs.Places.{IsCalled, IsPassed, Stands, is_in_form, place_of};
 ghost use Rattle.trac_follow.specs.Running.{HasTurned};
 ghost use Rattle.trac_origins.specs.Places.{InForm};
 ghost use Rattle.trac_rules.specs.Session.{Back, repeated};
@@ -51,9 +51,9 @@ pub struct Followed<'a> {
 }
 
 /// Goes back over up to `most` steps, as long as these carried the byte at a place, or the item of a form: until one made or
-/// read it, has it from a form, or performs a call that passed it on. The width of the session's numbers has to be given. Bytes that moved one by one are
-/// passed at once, as `Session::back` passes them. It takes no memory, and says that nothing is there only where nothing stands
-/// at the place (this project's profile).
+/// read it, has it from a form, or performs a call that passed it on. The width of the session's numbers has to be given. Bytes
+/// that moved one by one are passed at once, as `Session::back` passes them. It takes no memory, and says that nothing is there
+/// only where nothing stands at the place (this project's profile).
 pub fn follow<'a, A: Allocator + Copy>(
     session: &mut Session<A>,
     width: Width,
@@ -187,8 +187,8 @@ fn measured_in<E: TwoEnds<u8, A>, M: TwoEnds<Mark, A>, A: Allocator + Copy>(
     }
 }
 
-// Whether the call that comes next carried a byte that is here after it from there: from an argument of its own, or between a
-// form and a block.
+// Whether the call that comes next carried a byte that is here after it from there: from an argument of its own, into a form
+// from a block, or out of a form.
 fn is_passed<E: TwoEnds<u8, A>, M: TwoEnds<Mark, A>, A: Allocator + Copy>(
     machine: &Core<E, M, A>,
     here: Place<'_>,
@@ -199,7 +199,7 @@ fn is_passed<E: TwoEnds<u8, A>, M: TwoEnds<Mark, A>, A: Allocator + Copy>(
     match there {
         Place::Argument { function, .. } => is_called(machine, function),
         Place::Held(_, _, _) => is_form(here),
-        Place::Form(_, _) => is_held(here),
+        Place::Form(_, _) => !is_form(here),
         _ => false,
     }
 }
@@ -209,13 +209,6 @@ fn is_form(place: Place<'_>) -> bool
     ensures { result ≡ is_in_form (place_of place.entry) }
 {
     matches!(place, Place::Form(_, _))
-}
-
-// Whether a place is in a form that a block holds.
-fn is_held(place: Place<'_>) -> bool
-    ensures { result ≡ is_in_block (place_of place.entry) }
-{
-    matches!(place, Place::Held(_, _, _))
 }
 
 // Whether the step that comes next performs the function of this number.

@@ -7,7 +7,7 @@ ghost use Rattle.trac_rules.specs.declared.item.Item.{Item};
 ghost use Rattle.trac_rules.specs.Scanning.{Moves, scan};
 ghost use Rattle.trac_rules.specs.State.{Environment, State};
 ghost use Rattle.trac_rules.specs.Stepping.{step};
-ghost use Rattle.trac_follow.specs.Places.{IsBare, Tells, is_of_form, place_of};
+ghost use Rattle.trac_follow.specs.Places.{IsBare, IsTakenOut, Tells, place_of};
 
 use crate::front::first_moved_at;
 use crate::place::{Origin, Place};
@@ -25,7 +25,7 @@ pub(crate) fn moved<'a, E: TwoEnds<u8, A>, M: TwoEnds<Mark, A>, A: Allocator + C
 ) -> Origin<'a>
     ensures tells { (environment : Environment) (t : State) (item : Item) → step environment before.now.state ≡ Ok t → scan before.now.state ≡ Moves t → left ≡ length t.active →
         found_at t (place_of place.entry) ≡ Some item → Tells before.now.state result (origin environment before.now.state (place_of place.entry)) }
-    ensures kept { is_of_form result ≡ false }
+    ensures taken { IsTakenOut (place_of place.entry) result }
 {
     if let Place::Active(i) = place {
         return left_over(before.active(), left, i);
@@ -41,7 +41,7 @@ fn left_over<'a>(active: &[u8], left: usize, i: usize) -> Origin<'a>
     ensures tells { (environment : Environment) (s t : State) (item : Item) → step environment s ≡ Ok t → scan s ≡ Moves t → s.active ≡ active.now → left ≡ length t.active →
         found_at t (InActive i) ≡ Some item →
         Tells s result (origin environment s (InActive i)) }
-    ensures kept { is_of_form result ≡ false }
+    ensures taken { IsTakenOut (InActive i) result }
 {
     if active.is_empty() {
         return Origin::Made;
@@ -64,7 +64,7 @@ fn gathered<'a, E: TwoEnds<u8, A>, M: TwoEnds<Mark, A>, A: Allocator + Copy>(
     requires bare { IsBare before.now.state (place_of place) }
     ensures tells { (environment : Environment) (t : State) (item : Item) → step environment before.now.state ≡ Ok t → scan before.now.state ≡ Moves t →
         found_at t (place_of place.entry) ≡ Some item → Tells before.now.state result (origin environment before.now.state (place_of place.entry)) }
-    ensures kept { is_of_form result ≡ false }
+    ensures taken { IsTakenOut (place_of place.entry) result }
 {
     let Some(first) = first_moved_at(before.active()) else {
         return Origin::Nothing;

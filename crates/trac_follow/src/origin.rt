@@ -21,7 +21,8 @@ pub fn origin_of<'a, A: Allocator + Copy>(
     after: After,
     place: Place<'a>,
 ) -> Origin<'a>
-    ensures { TellsOf before.now.state width after (place_of place.entry) result }
+    ensures tells { TellsOf before.now.state width after (place_of place.entry) result }
+    ensures taken { IsTakenOut (place_of place.entry) result }
 {
     told_of(before, width, after, place)
 }

@@ -1,5 +1,5 @@
 //! Where the bytes of a value come from.
-ghost use Rattle.std.specs.Prelude.{◌≡◌, ◌+◌, length, ℕ};
+ghost use Rattle.std.specs.Prelude.{◌≡◌, ◌+◌, false, length, ℕ};
 ghost use Rattle.trac_rules.specs.Effect.{argument};
 ghost use Rattle.trac_rules.specs.Goals.{IsCall, next_call};
 ghost use Rattle.trac_rules.specs.Number.{is_greater, numeral_of};
@@ -11,7 +11,7 @@ ghost use Rattle.trac_origins.specs.Lengths.{number_chosen};
 ghost use Rattle.trac_follow.specs.declared.place.Origin.TheVariants.{Carried};
 ghost use Rattle.trac_follow.specs.declared.place.Place.TheVariants.{Argument};
 ghost use Rattle.trac_follow.specs.Formed.{ToldAsListed};
-ghost use Rattle.trac_follow.specs.Places.{TellsComputed, TellsValue, ToldAsRead, reads_tape};
+ghost use Rattle.trac_follow.specs.Places.{TellsComputed, TellsValue, ToldAsRead, is_from_form, reads_tape};
 
 use crate::formed::{called_byte, read_byte_of};
 use crate::place::{Origin, Place};
@@ -36,7 +36,8 @@ pub(crate) fn value_byte<'a, E: TwoEnds<u8, A>, M: TwoEnds<Mark, A>, A: Allocato
 ) -> Origin<'a>
     requires call { IsCall (next_call before.now.state) kind arguments.now }
     requires number { function + 1 ≡ length before.now.state.frames }
-    ensures { TellsValue before.now.state width seen i result }
+    ensures tells { TellsValue before.now.state width seen i result }
+    ensures taken { is_from_form result ≡ false }
 {
     let primitive = primitive_named(arguments.get(0));
     if reads_tape(primitive) {
@@ -67,7 +68,8 @@ fn handled_byte<'a, E: TwoEnds<u8, A>, M: TwoEnds<Mark, A>, A: Allocator + Copy>
     requires call { IsCall (next_call before.now.state) kind arguments.now }
     requires named { primitive_of (argument 0 arguments.now) ≡ Handle action }
     requires number { function + 1 ≡ length before.now.state.frames }
-    ensures { TellsValue before.now.state width seen i result }
+    ensures tells { TellsValue before.now.state width seen i result }
+    ensures taken { is_from_form result ≡ false }
 {
     match action {
         FormAction::ListNames => listed_byte(before, arguments.get(1).len(), function, i),
@@ -90,7 +92,8 @@ fn formed_byte<'a, E: TwoEnds<u8, A>, M: TwoEnds<Mark, A>, A: Allocator + Copy>(
     requires named { primitive_of (argument 0 arguments.now) ≡ Handle action }
     requires other { action ≡ ListNames → ⊥ }
     requires number { function + 1 ≡ length before.now.state.frames }
-    ensures { TellsValue before.now.state width seen i result }
+    ensures tells { TellsValue before.now.state width seen i result }
+    ensures taken { is_from_form result ≡ false }
 {
     let Some(form) = before.store().get(arguments.get(1)) else {
         return Origin::Nothing;
@@ -111,7 +114,8 @@ fn listed_byte<'a, E: TwoEnds<u8, A>, M: TwoEnds<Mark, A>, A: Allocator + Copy>(
     function: usize,
     i: usize,
 ) -> Origin<'a>
-    ensures { ToldAsListed before.now.state.forms text function i result }
+    ensures tells { ToldAsListed before.now.state.forms text function i result }
+    ensures taken { is_from_form result ≡ false }
 {
     match before.store().byte_listed(text, i) {
         Some(byte) if byte < text => argument_byte(function, 1, byte),
@@ -129,7 +133,8 @@ fn reads_tape(primitive: Primitive) -> bool
 
 // Of a text of the input, which the step reads from the position on.
 fn read_byte<'a>(position: usize, i: usize) -> Origin<'a>
-    ensures { ToldAsRead position i result }
+    ensures tells { ToldAsRead position i result }
+    ensures taken { is_from_form result ≡ false }
 {
     if i > usize::MAX - position {
         return Origin::Nothing;
@@ -145,7 +150,8 @@ fn computed_byte<'a>(
     width: Width,
     i: usize,
 ) -> Origin<'a>
-    ensures { TellsComputed computation arguments.now function width i result }
+    ensures tells { TellsComputed computation arguments.now function width i result }
+    ensures taken { is_from_form result ≡ false }
 {
     match computation {
         Computation::Equal => argument_byte(
@@ -200,7 +206,8 @@ fn calculated_byte<'a>(
     width: Width,
     i: usize,
 ) -> Origin<'a>
-    ensures { TellsComputed (Calculate operation) arguments.now function width i result }
+    ensures tells { TellsComputed (Calculate operation) arguments.now function width i result }
+    ensures taken { is_from_form result ≡ false }
 {
     if result_on(operation, arguments, width).is_none() {
         return argument_byte(function, 3, i);

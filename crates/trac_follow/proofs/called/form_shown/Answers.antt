@@ -2,9 +2,9 @@ use Rattle.std.proofs.Common.{inl, inr, refl, sym, ap, ◌∙◌}
 use Rattle.std.specs.FinMap as finite
 use Rattle.trac_follow.proofs.called.form_shown.Goals as goal
 
-pub returns-in-Some : goal.returns-in-Some
-returns-in-Some g c =
-    inr (c.in-Some.form.now, ap (λ stored. finite.get stored.forms c.args.name.now) (sym c.store.ensures) ∙ sym c.in-Some.ensures.value, c.shown_byte.ensures)
+pub returns-in-Some-clause-tells : goal.returns-in-Some-clause-tells
+returns-in-Some-clause-tells g c =
+    inr (c.in-Some.form.now, ap (λ stored. finite.get stored.forms c.args.name.now) (sym c.store.ensures) ∙ sym c.in-Some.ensures.value, c.shown_byte.ensures.tells)
 
-pub returns-in-None : goal.returns-in-None
-returns-in-None g c = inl (refl, ap (λ stored. finite.get stored.forms c.args.name.now) (sym c.store.ensures) ∙ sym c.in-None.ensures.value)
+pub returns-in-None-clause-tells : goal.returns-in-None-clause-tells
+returns-in-None-clause-tells g c = inl (refl, ap (λ stored. finite.get stored.forms c.args.name.now) (sym c.store.ensures) ∙ sym c.in-None.ensures.value)

@@ -6,14 +6,14 @@ use Rattle.trac_follow.proofs.FormCalls.{shown_tells}
 use Rattle.trac_follow.proofs.ValuesTold.{named_by, printed_tells, prints_form, silent_made}
 use Rattle.trac_follow.proofs.called.of_output.Goals as goal
 
-pub returns-then-i-output : goal.returns-then-i-output
-returns-then-i-output g c = λ width environment t item wide h lengths stands.
+pub returns-then-i-output-clause-tells : goal.returns-then-i-output-clause-tells
+returns-then-i-output-clause-tells g c = λ width environment t item wide h lengths stands.
     let call = given_call c.args.before.now.state c.args.kind c.args.arguments.now c.requires.call in
     output_carried environment c.args.before.now.state t call.0 item h call.1 width wide c.args.i
     (subst (λ text. c.args.i < length text) c.output.ensures c.if-i-output.true)
 
-pub returns-then-is_silent : goal.returns-then-is_silent
-returns-then-is_silent g c = λ width environment t item wide h lengths stands.
+pub returns-then-is_silent-clause-tells : goal.returns-then-is_silent-clause-tells
+returns-then-is_silent-clause-tells g c = λ width environment t item wide h lengths stands.
     let s = c.args.before.now.state in
     let call = given_call s c.args.kind c.args.arguments.now c.requires.call in
     silent_made environment s t call.0 h call.1 c.primitive_named-primitive.result
@@ -21,8 +21,8 @@ returns-then-is_silent g c = λ width environment t item wide h lengths stands.
     (sym c.is_silent.ensures ∙ c.if-is_silent.true) c.args.i
     (subst (λ text. length text ≤ c.args.i) c.output.ensures c.if-i-output.false)
 
-pub returns-in-PrintString : goal.returns-in-PrintString
-returns-in-PrintString g c = λ width environment t item wide h lengths stands.
+pub returns-in-PrintString-clause-tells : goal.returns-in-PrintString-clause-tells
+returns-in-PrintString-clause-tells g c = λ width environment t item wide h lengths stands.
     let s = c.args.before.now.state in
     let call = given_call s c.args.kind c.args.arguments.now c.requires.call in
     printed_tells environment s t call.0 h call.1
@@ -30,10 +30,10 @@ returns-in-PrintString g c = λ width environment t item wide h lengths stands.
     (length c.get-in-PrintString.result.now) c.innermost.result c.args.after.output c.args.i c.printed.result
     (ap (λ text. length text) c.get-in-PrintString.ensures ∙ ap (λ texts. length (argument 1 texts)) (sym call.3))
     (number_is s call.0 call.1 c.innermost.result (c.innermost.ensures call.0 call.1)) lengths.output
-    (subst (λ text. length text ≤ c.args.i) c.output.ensures c.if-i-output.false) (byte_within c.args.i t.output item stands) c.printed.ensures
+    (subst (λ text. length text ≤ c.args.i) c.output.ensures c.if-i-output.false) (byte_within c.args.i t.output item stands) c.printed.ensures.tells
 
-pub returns-in_default : goal.returns-in_default
-returns-in_default g c = λ width environment t item wide h lengths stands.
+pub returns-in_default-clause-tells : goal.returns-in_default-clause-tells
+returns-in_default-clause-tells g c = λ width environment t item wide h lengths stands.
     let s = c.args.before.now.state in
     let call = given_call s c.args.kind c.args.arguments.now c.requires.call in
     let shows = prints_form c.primitive_named-primitive.result (sym c.is_silent.ensures ∙ c.if-is_silent.false) c.in_default.not-PrintString in
@@ -41,4 +41,4 @@ returns-in_default g c = λ width environment t item wide h lengths stands.
     (named_by s c.args.kind c.args.arguments.now call.0 c.primitive_named-primitive.result c.get.result.now c.requires.call call.1 c.get.ensures c.primitive_named-primitive.ensures ∙ shows)
     c.get-in_default.result.now c.args.after.output c.args.i c.form_shown.result
     (c.get-in_default.ensures ∙ ap (argument 1) (sym call.3)) lengths.output
-    (subst (λ text. length text ≤ c.args.i) c.output.ensures c.if-i-output.false) (byte_within c.args.i t.output item stands) c.form_shown.ensures
+    (subst (λ text. length text ≤ c.args.i) c.output.ensures c.if-i-output.false) (byte_within c.args.i t.output item stands) c.form_shown.ensures.tells

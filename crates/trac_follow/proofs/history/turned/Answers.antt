@@ -1,14 +1,14 @@
-use Rattle.std.proofs.Common.{inl, inr, refl, sym, ap, subst}
+use Rattle.std.proofs.Common.{inl, inr, refl, sym, ap, subst, ◌∙◌}
 use Rattle.std.specs.Prelude.{MatchBool}
 use Rattle.trac_follow.specs.declared.history.Source as code
 use Rattle.trac_follow.specs.declared.history.Turn as turning
-use Rattle.trac_follow.specs.Places.{IsPassed, is_of_form, place_of}
+use Rattle.trac_follow.specs.Places.{IsPassed, is_from_form, is_of_form, place_of}
 use Rattle.trac_follow.specs.Running.{IsTurn}
 use Rattle.trac_follow.proofs.history.turned.Goals as goal
 
 pub returns-then-is_passed : goal.returns-then-is_passed
 returns-then-is_passed g c =
-    (c.told_of.result, c.told_of.ensures.tells, subst (λ o. IsTurn c.args.before.now.state c.args.here o (turning.TheVariants.End (code.TheVariants.Passed c.in-Carried.there))) (sym c.in-Carried.is) (inr (refl, subst (λ b. MatchBool b (IsPassed c.args.before.now.state (place_of c.args.here) (place_of c.in-Carried.there)) (IsPassed c.args.before.now.state (place_of c.args.here) (place_of c.in-Carried.there) → ⊥)) c.if-is_passed.true c.is_passed.ensures)))
+    (c.told_of.result, c.told_of.ensures.tells, subst (λ o. IsTurn c.args.before.now.state c.args.here o (turning.TheVariants.End (code.TheVariants.Passed c.in-Carried.there))) (sym c.in-Carried.is) (inr (refl, subst (λ b. MatchBool b (IsPassed c.args.before.now.state (place_of c.args.here) (place_of c.in-Carried.there)) (IsPassed c.args.before.now.state (place_of c.args.here) (place_of c.in-Carried.there) → ⊥)) c.if-is_passed.true c.is_passed.ensures, λ form. c.told_of.ensures.taken.1 (ap is_from_form c.in-Carried.is ∙ form))))
 
 pub returns-else-is_passed : goal.returns-else-is_passed
 returns-else-is_passed g c =
@@ -16,7 +16,7 @@ returns-else-is_passed g c =
 
 pub returns-in-OfForm : goal.returns-in-OfForm
 returns-in-OfForm g c =
-    (c.told_of.result, c.told_of.ensures.tells, subst (λ o. IsTurn c.args.before.now.state c.args.here o (turning.TheVariants.End (code.TheVariants.OfForm c.in-OfForm.i))) (sym c.in-OfForm.is) (refl, (c.told_of.ensures.taken (ap is_of_form c.in-OfForm.is)).0, (c.told_of.ensures.taken (ap is_of_form c.in-OfForm.is)).1))
+    (c.told_of.result, c.told_of.ensures.tells, subst (λ o. IsTurn c.args.before.now.state c.args.here o (turning.TheVariants.End (code.TheVariants.OfForm c.in-OfForm.i))) (sym c.in-OfForm.is) (refl, c.told_of.ensures.taken.0 (ap is_of_form c.in-OfForm.is)))
 
 pub returns-in-Read : goal.returns-in-Read
 returns-in-Read g c =

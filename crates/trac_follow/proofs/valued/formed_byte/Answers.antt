@@ -6,29 +6,29 @@ use Rattle.trac_follow.proofs.FormCalls.{form_value_told, formless_told, silent_
 use Rattle.trac_follow.proofs.Giving.{other_silent}
 use Rattle.trac_follow.proofs.valued.formed_byte.Goals as goal
 
-pub returns-in-Call : goal.returns-in-Call
-returns-in-Call g c =
+pub returns-in-Call-clause-tells : goal.returns-in-Call-clause-tells
+returns-in-Call-clause-tells g c =
     let s = c.args.before.now.state in
     form_value_told s c.args.width c.args.seen c.args.i c.args.function c.called_byte.result c.args.arguments.now c.args.kind (Handle Call) c.in-Some.form.now c.requires.call
     (c.requires.named ∙ ap Handle c.in-Call.is) c.requires.number
     (ap (finite.get s.forms) (sym c.get.ensures) ∙ ap (λ stored. finite.get stored.forms c.get.result.now) (sym c.store.ensures) ∙ sym c.in-Some.ensures.value)
-    (c.called_byte.ensures c.args.width c.args.seen)
+    (c.called_byte.ensures.tells c.args.width c.args.seen)
 
-pub returns-in-Read : goal.returns-in-Read
-returns-in-Read g c =
+pub returns-in-Read-clause-tells : goal.returns-in-Read-clause-tells
+returns-in-Read-clause-tells g c =
     let s = c.args.before.now.state in
     form_value_told s c.args.width c.args.seen c.args.i c.args.function c.read_byte_of.result c.args.arguments.now c.args.kind (Handle (Read c.in-Read.reading)) c.in-Some.form.now c.requires.call
     (c.requires.named ∙ ap Handle c.in-Read.is) c.requires.number
     (ap (finite.get s.forms) (sym c.get.ensures) ∙ ap (λ stored. finite.get stored.forms c.get.result.now) (sym c.store.ensures) ∙ sym c.in-Some.ensures.value)
-    c.read_byte_of.ensures
+    c.read_byte_of.ensures.tells
 
-pub returns-in_default : goal.returns-in_default
-returns-in_default g c =
+pub returns-in_default-clause-tells : goal.returns-in_default-clause-tells
+returns-in_default-clause-tells g c =
     let s = c.args.before.now.state in
     formless_told s c.args.width c.args.seen c.args.i c.args.arguments.now c.args.kind c.args.action c.requires.call c.requires.named c.requires.other
     (ap (finite.get s.forms) (sym c.get.ensures) ∙ ap (λ stored. finite.get stored.forms c.get.result.now) (sym c.store.ensures) ∙ sym c.in_default.ensures.value)
 
-pub returns-in_default-action : goal.returns-in_default-action
-returns-in_default-action g c =
+pub returns-in_default-action-clause-tells : goal.returns-in_default-action-clause-tells
+returns-in_default-action-clause-tells g c =
     silent_told c.args.before.now.state c.args.width c.args.seen c.args.i c.args.arguments.now c.args.kind c.args.action c.requires.call c.requires.named
     (other_silent c.args.action c.requires.other c.in_default-action.not-Call c.in_default-action.not-Read)
