@@ -15,6 +15,7 @@ use Rattle.trac_rules.specs.Scanning.{Call, Scanned, Moves, Calls, scan}
 use Rattle.trac_rules.specs.State.{Environment, Frame, State}
 use Rattle.trac_rules.specs.Stepping.{carried_out, step}
 use Rattle.trac_rules.proofs.Outcomes.{limited_Ok, seen_as-Ok}
+use Rattle.trac_rules.proofs.Scans.{gathered_in_shows}
 use Rattle.trac_origins.specs.Lengths.{current_text, in_current, is_of_text, may_put, value_at}
 use Rattle.trac_origins.specs.Places.{Place, InActive, InBase, InArgument, InForm, InHeld, InOutput, Carried, arguments_of, byte_at, found_at, numbered}
 use Rattle.trac_origins.specs.Stepping.{origin}
@@ -89,9 +90,6 @@ module _ (s : State) (call : Call) (is : scan s ≡ Calls call) where
 
   -- what stands in it
   pub found_without : (place : Place) (x : Item) → is_of_text place ≡ true → found_at s place ≡ Some x → IsOutside (length call.state.frames) place → found_at call.state place ≡ Some x
-  found_without (InActive i) x text e outside = absurd (cc)
-  found_without (InForm name i) x text e outside = absurd (cc)
-  found_without (InHeld number name i) x text e outside = absurd (cc)
   found_without (InBase i) x text e outside = ap (λ (bytes : List ℕ). byte_at i bytes) base_is ∙ e
   found_without (InOutput i) x text e outside = ap (λ (bytes : List ℕ). byte_at i bytes) output_is ∙ e
   found_without (InArgument n k i) x text e outside =
@@ -104,6 +102,7 @@ module _ (s : State) (call : Call) (is : scan s ≡ Calls call) where
       ap (λ (gs : List Frame). look (numbered n gs)) left
       ∙ ap look (sym (cond-false (n == length fs) (Some f) (numbered n fs) (ne_eqb n (length fs) (λ same. absurd (omega (arith, same, less))))))
       ∙ ap (λ (gs : List Frame). look (numbered n gs)) (sym at.2.frames) ∙ e
+  found_without place x text e outside = absurd (cc)
 
   pub form_without : (name : List ℕ) (i : ℕ) (x : Item) → found_at s (InForm name i) ≡ Some x → found_at call.state (InForm name i) ≡ Some x
   form_without name i x e = ap (λ (u : State). found_at u (InForm name i)) (ended s call is).2.state ∙ e
@@ -124,12 +123,15 @@ module _ (s : State) (call : Call) (is : scan s ≡ Calls call) where
 
 -- ---- where a value stands
 
+pub output-placed : (kind : Kind) (forced : Bool) (value : List ℕ) (u : State) → (placed kind forced value u).output ≡ u.output
+output-placed Neutral false value u = gathered_in_shows (λ (v : State). v.output) (λ v active base frames. refl) u.frames value u
+output-placed kind forced value u = refl
+
 -- before what is left of the active text
 value_before : (kind : Kind) (forced : Bool) (value : List ℕ) (u v : State) (i : ℕ) → i < length (placed kind forced value u).active - length u.active →
     (InActive i ≡ value_at kind forced v i) × (i < length value) × (length (placed kind forced value u).active ≡ length value + length u.active)
-value_before Active forced value u v i l = (refl, omega (arith, l, length-append value u.active), length-append value u.active)
-value_before Neutral true value u v i l = (refl, omega (arith, l, length-append value u.active), length-append value u.active)
 value_before Neutral false value u v i l = absurd (omega (arith, l, ap (λ (text : List ℕ). length text) (active-gathered u.frames value u)))
+value_before kind forced value u v i l = (refl, omega (arith, l, length-append value u.active), length-append value u.active)
 
 -- after the current text
 same_current : (fs : List Frame) (e : Effect) (v : State) → current_text fs (changed_by e v) ≡ current_text fs v
@@ -143,20 +145,15 @@ other_active (f ∷ fs) text u = refl
 value_after : (kind : Kind) (forced : Bool) (value : List ℕ) (e : Effect) (v : State) (n : ℕ) (item : Item) →
     found_at (placed kind forced value (changed_by e v)) (in_current v.frames (length (current_text v.frames v) + n)) ≡ Some item →
     (in_current v.frames (length (current_text v.frames v) + n) ≡ value_at kind forced v n) × (n < length value) × (forced ≡ false)
-value_after Active forced value e v n item stands =
-    let u : State = changed_by e v in
-    let w : State = record u { active = value ++ u.active } in
-    let within = within_current v.frames w (length (current_text v.frames v) + n) item refl stands in
-    absurd (omega (arith, within, ap (λ (text : List ℕ). length text) (other_active v.frames (value ++ u.active) u ∙ same_current v.frames e v)))
-value_after Neutral true value e v n item stands =
-    let u : State = changed_by e v in
-    let w : State = record u { active = value ++ u.active } in
-    let within = within_current v.frames w (length (current_text v.frames v) + n) item refl stands in
-    absurd (omega (arith, within, ap (λ (text : List ℕ). length text) (other_active v.frames (value ++ u.active) u ∙ same_current v.frames e v)))
 value_after Neutral false value e v n item stands =
     let u : State = changed_by e v in
     let within = within_gathered u.frames value u (length (current_text v.frames v) + n) item refl stands in
     (refl, omega (arith, within, length-current u.frames value u refl, ap (λ (text : List ℕ). length text) (same_current v.frames e v)), refl)
+value_after kind forced value e v n item stands =
+    let u : State = changed_by e v in
+    let w : State = record u { active = value ++ u.active } in
+    let within = within_current v.frames w (length (current_text v.frames v) + n) item refl stands in
+    absurd (omega (arith, within, ap (λ (text : List ℕ). length text) (other_active v.frames (value ++ u.active) u ∙ same_current v.frames e v)))
 
 -- ---- what is told of it
 
@@ -192,9 +189,8 @@ module _ (environment : Environment) (s t : State) (call : Call) (item : Item) (
       omega (arith, ap (λ (u : State). length u.active) done.after, active_left s call is, go call.kind e.forced e.value (changed_by e call.state))
     where
       go : (kind : Kind) (forced : Bool) (value : List ℕ) (u : State) → length u.active ≤ length (placed kind forced value u).active
-      go Active forced value u = omega (arith, length-append value u.active)
-      go Neutral true value u = omega (arith, length-append value u.active)
       go Neutral false value u = omega (arith, ap (λ (text : List ℕ). length text) (active-gathered u.frames value u))
+      go kind forced value u = omega (arith, length-append value u.active)
 
   -- a place in a text at which nothing stood around the function is past the current text
   pub text_new : (place : Place) (function : ℕ) → function + 1 ≡ length s.frames → is_in_text place ≡ true → (IsOutside function place → IsBare s place) → found_at t place ≡ Some item →

@@ -1,12 +1,8 @@
 -- Forms that `fb` brings back, as the code tells them.
 use Rattle.std.proofs.Common.{◌≡◌, ℕ, Bool, true, false, cond, List, [], ◌∷◌, refl, sym, ap, ◌∙◌}
-use Rattle.std.specs.Prelude.{Option, None, Some, Ok, Err, bytes_eq, if◌then◌else◌, is_some, nat_le, slice_get}
-use Rattle.std.specs.Cmp.Lexicographic.{slice_cmp}
+use Rattle.std.specs.Prelude.{Option, None, Some, Ok, Err, if◌then◌else◌, is_some, nat_le, slice_get}
 use Rattle.std.specs.FinMap as finite
-use Rattle.std.specs.Ordering.{nat_cmp}
 use Rattle.trac_rules.specs.declared.item.Item.{Item}
-use Rattle.trac_rules.specs.declared.kind.Kind.{Kind}
-use Rattle.trac_rules.specs.declared.kind.Kind.TheVariants.{Active, Neutral}
 use Rattle.trac_rules.specs.declared.limit.TheConstants.{FORM_COUNT_LIMIT}
 use Rattle.trac_rules.specs.declared.primitive.BlockAction.TheVariants.{FetchBlock}
 use Rattle.trac_rules.specs.declared.primitive.Primitive.TheVariants.{HandleBlock}
@@ -16,14 +12,15 @@ use Rattle.trac_rules.specs.Effect.{Effect, argument, leaves}
 use Rattle.trac_rules.specs.Form.{Form}
 use Rattle.trac_rules.specs.Handling.{keeping}
 use Rattle.trac_rules.specs.Outcomes.{seen_as}
-use Rattle.trac_rules.specs.Performing.{after_call, changed_by, effect_of, performed, placed, primitive_of, printed_after, trace_line}
-use Rattle.trac_rules.specs.Scanning.{Call, Calls, gathered_in, scan}
-use Rattle.trac_rules.specs.State.{Block, Environment, Forms, Frame, Held, State, storage_of}
+use Rattle.trac_rules.specs.Performing.{after_call, changed_by, effect_of, performed, primitive_of, printed_after, trace_line}
+use Rattle.trac_rules.specs.Scanning.{Call, Calls, scan}
+use Rattle.trac_rules.specs.State.{Block, Environment, Forms, State, Storage, storage_of}
 use Rattle.trac_rules.specs.Stepping.{step}
-use Rattle.trac_rules.proofs.Found.{put_get}
+use Rattle.trac_rules.proofs.ProperStates.{storage-placed}
 use Rattle.trac_origins.specs.Lengths.{IsCallOf}
 use Rattle.trac_origins.specs.Places.{Place, InForm, InHeld, Carried, found_at, held_form, items_of}
 use Rattle.trac_origins.specs.Stepping.{origin}
+use Rattle.trac_origins.proofs.Stored.{found_of_copies}
 use Rattle.trac_origins.proofs.ToldCalls.{ended}
 use Rattle.trac_origins.proofs.ToldPut.{fetched_told, unaddressed_told, unfetched_told}
 use Rattle.trac_follow.specs.Fetched.{block_named, place_fetched}
@@ -37,44 +34,20 @@ abbrev first_of : Option Form → Option Form → Option Form
 first_of None second = second
 first_of (Some form) second = Some form
 
-either : (b : Bool) (form : Form) (first second : Option Form) → cond b (Some form) (first_of first second) ≡ first_of (cond b (Some form) first) second
-either true form first second = refl
-either false form first second = refl
-
-copied : (held : Held) (m n forms : Forms) (q : List ℕ) → finite.get n q ≡ first_of (finite.get m q) (finite.get forms q) →
-    finite.get (with_all held n) q ≡ first_of (finite.get (with_all held m) q) (finite.get forms q)
-copied [] m n forms q e = e
-copied (entry ∷ held) m n forms q e =
-    copied held (finite.insert m entry.0 entry.1) (finite.insert n entry.0 entry.1) forms q
-    (put_get n entry.0 q entry.1
-    ∙ ap (λ (found : Option Form). cond (bytes_eq q entry.0) (Some entry.1) found) e
-    ∙ either (bytes_eq q entry.0) entry.1 (finite.get m q) (finite.get forms q)
-    ∙ ap (λ (found : Option Form). first_of found (finite.get forms q)) (sym (put_get m entry.0 q entry.1)))
-
 -- what is found among forms after that is the block's, or was there
 found_after : (block : Block) (forms : Forms) (q : List ℕ) (found : Option Form) → held_form q block ≡ found →
     finite.get (with_all (forms_in block) forms) q ≡ first_of found (finite.get forms q)
-found_after block forms q found is =
-    copied (forms_in block) finite.empty forms forms q (ap (λ (f : Option Form). first_of f (finite.get forms q)) (sym (finite.get-empty (slice_cmp nat_cmp) q)))
-    ∙ ap (λ (f : Option Form). first_of f (finite.get forms q)) is
+found_after block forms q None is = found_of_copies block forms q ∙ rw is refl
+found_after block forms q (Some form) is = found_of_copies block forms q ∙ rw is refl
 
 -- ---- after the call
-
-forms-gathered : (fs : List Frame) (text : List ℕ) (u : State) → (gathered_in fs text u).forms ≡ u.forms
-forms-gathered [] text u = refl
-forms-gathered (f ∷ fs) text u = refl
-
-forms-placed : (kind : Kind) (forced : Bool) (value : List ℕ) (u : State) → (placed kind forced value u).forms ≡ u.forms
-forms-placed Active forced value u = refl
-forms-placed Neutral true value u = refl
-forms-placed Neutral false value u = forms-gathered u.frames value u
 
 module _ (environment : Environment) (s t : State) (call : Call) (e : Effect) (scans : scan s ≡ Calls call) (of : IsCallOf environment s call (HandleBlock FetchBlock) e) (after : t ≡ after_call call e) where
   abbrev line : List ℕ
   line = trace_line call.state.trace call.kind call.arguments
 
   forms_are : t.forms ≡ e.storage.forms
-  forms_are = ap (λ (u : State). u.forms) after ∙ forms-placed call.kind e.forced e.value (changed_by e call.state)
+  forms_are = ap (λ (u : State). u.forms) after ∙ ap (λ (left : Storage). left.forms) (storage-placed call.kind e.forced e.value (changed_by e call.state))
 
   -- what the primitive does
   done_by : (found : Option ℕ) → named_block_number call.arguments (storage_of call.state) ≡ found →

@@ -47,9 +47,8 @@ items_on items n =
 -- texts that begin alike
 same_front : (item : Option Item) (text : List ℕ) (others : List Item) →
     bytes_eq (bytes_in (option_to_list item) ++ text) (bytes_in (option_to_list item ++ others)) ≡ bytes_eq text (bytes_in others)
-same_front None text others = refl
-same_front (Some (Gap ordinal width)) text others = refl
 same_front (Some (Byte b)) text others = ap (λ t. t && bytes_eq text (bytes_in others)) (eq-eqb b b refl)
+same_front item text others = refl
 
 -- one item more, whose byte the text has
 pub read_on : (items : List Item) (place : ℕ) (whole : Bool) (rest others : List ℕ) → rest ≡ bytes_in (option_to_list (slice_get items place)) ++ others →

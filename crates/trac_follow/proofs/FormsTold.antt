@@ -10,8 +10,6 @@ use Rattle.std.proofs.lemmas.Map.Text.{is_eq-slice_cmp}
 use Rattle.std.proofs.lemmas.Slice.Eq.{bytes_eq-Decides}
 use Rattle.trac_rules.specs.declared.item.Item.{Item}
 use Rattle.trac_rules.specs.declared.item.Item.TheVariants.{Byte, Gap}
-use Rattle.trac_rules.specs.declared.kind.Kind.{Kind}
-use Rattle.trac_rules.specs.declared.kind.Kind.TheVariants.{Active, Neutral}
 use Rattle.trac_rules.specs.declared.limit.TheConstants.{OUTPUT_LIMIT}
 use Rattle.trac_rules.specs.declared.primitive.FormAction.TheVariants as action
 use Rattle.trac_rules.specs.declared.primitive.FormReading.{FormReading}
@@ -25,12 +23,13 @@ use Rattle.trac_rules.specs.Form.{Form, all_items, extent}
 use Rattle.trac_rules.specs.Handling.{keeping, named_form, on_form, piece_read, putting}
 use Rattle.trac_rules.specs.Limits.{may_be_put}
 use Rattle.trac_rules.specs.Outcomes.{seen_as}
-use Rattle.trac_rules.specs.Performing.{after_call, changed_by, effect_of, performed, placed, primitive_of, printed_after, trace_line}
+use Rattle.trac_rules.specs.Performing.{after_call, changed_by, effect_of, performed, primitive_of, printed_after, trace_line}
 use Rattle.trac_rules.specs.Pieces.{Piece, bytes_in, is_gap}
-use Rattle.trac_rules.specs.Scanning.{Call, Calls, gathered_in, scan}
+use Rattle.trac_rules.specs.Scanning.{Call, Calls, scan}
 use Rattle.trac_rules.specs.Segmenting.{segmented}
 use Rattle.trac_rules.specs.Showing.{shown, shown_item, shown_items}
-use Rattle.trac_rules.specs.State.{Environment, Frame, State, storage_of}
+use Rattle.trac_rules.specs.State.{Environment, State, Storage, storage_of}
+use Rattle.trac_rules.proofs.ProperStates.{storage-placed}
 use Rattle.trac_forms.specs.declared.piece.Piece.{Piece as Measured}
 use Rattle.trac_forms.specs.Taken.{IsThere, items_from, taken}
 use Rattle.trac_origins.specs.Lengths.{IsCallOf, cut_from, number_of_default, of_form, printed_at, value_at}
@@ -40,6 +39,7 @@ use Rattle.trac_origins.proofs.ToldCalls.{ended}
 use Rattle.trac_origins.proofs.ToldEffects.{line_told}
 use Rattle.trac_origins.proofs.ToldPut.{segmented_told}
 use Rattle.trac_origins.proofs.ToldValues.{after_printed, before_printed, called_told, filled_told, mark_after_printed, mark_before_printed, other_told, piece_told, pointer_printed}
+use Rattle.trac_follow.proofs.CallsTold.{output-placed}
 use Rattle.trac_follow.specs.declared.items.Given.{Given}
 use Rattle.trac_follow.specs.declared.place.Origin as told
 use Rattle.trac_follow.specs.declared.place.Place as code_place
@@ -118,9 +118,6 @@ module _ (reading : FormReading) (form : Form) (arguments : List (List ℕ)) (fu
 
   pub piece_item : (piece : Piece) (first : ℕ) (o : told.Origin) → Some piece ≡ piece_read reading width arguments form → first ≡ min (length form.before) piece.place →
       length piece.value ≤ length (bytes_in (drop first (all_items form))) → ToldFrom form first i o → TellsOfForm (Handle (action.Read reading)) form arguments function width seen i o
-  piece_item piece first (told.TheVariants.Carried place) read begins few tells environment s call e wide of same number names is_seen l = absurd tells
-  piece_item piece first (told.TheVariants.Read n) read begins few tells environment s call e wide of same number names is_seen l = absurd tells
-  piece_item piece first told.TheVariants.Made read begins few tells environment s call e wide of same number names is_seen l = absurd tells
   piece_item piece first told.TheVariants.Nothing read begins few tells environment s call e wide of same number names is_seen l =
       absurd (omega (arith, l, few, tells, ap (λ (text : List ℕ). length text) (piece_gives environment s call e reading form piece of names (read_in environment call (Some piece) wide same read))))
   piece_item piece first (told.TheVariants.OfForm n) read begins few tells environment s call e wide of same number names is_seen l =
@@ -137,6 +134,7 @@ module _ (reading : FormReading) (form : Form) (arguments : List (List ℕ)) (fu
             (ap (λ (xs : List Item). slice_get xs m) items ∙ tells.3) (subst (λ k. k < length e.value) index l)
             ∙ ap (λ k. Carried (InForm (argument 1 call.arguments) k)) where_is,
       )
+  piece_item piece first told read begins few tells environment s call e wide of same number names is_seen l = absurd tells
 
   -- a piece that is measured, or none
   pub reading_tells : (found : Option Measured) (other : ℕ) (o : told.Origin) → option_map (λ piece. taken piece form) found ≡ piece_read reading width arguments form → IfSome found (IsThere form) →
@@ -152,15 +150,6 @@ module _ (reading : FormReading) (form : Form) (arguments : List (List ℕ)) (fu
 module _ (environment : Environment) (s t : State) (call : Call) (e : Effect) (form : Form) (scans : scan s ≡ Calls call) (does : performed environment call ≡ Ok e) (after : t ≡ after_call call e) where
   output_before : call.state.output ≡ s.output
   output_before = ap (λ (u : State). u.output) (ended s call scans).2.state
-
-  output-after : (kind : Kind) (forced : Bool) (value : List ℕ) (u : State) → (placed kind forced value u).output ≡ u.output
-  output-after Active forced value u = refl
-  output-after Neutral true value u = refl
-  output-after Neutral false value u = go u.frames
-    where
-      go : (fs : List Frame) → (gathered_in fs value u).output ≡ u.output
-      go [] = refl
-      go (f ∷ fs) = refl
 
   -- what the primitive does
   done_by : (primitive : Primitive) → primitive_of (argument 0 call.arguments) ≡ primitive →
@@ -190,7 +179,7 @@ module _ (environment : Environment) (s t : State) (call : Call) (e : Effect) (f
         omega (
           arith,
           ap (λ (u : State). length u.output) after,
-          ap (λ (bytes : List ℕ). length bytes) (output-after call.kind e.forced e.value (changed_by e call.state)),
+          ap (λ (bytes : List ℕ). length bytes) (output-placed call.kind e.forced e.value (changed_by e call.state)),
           length-append call.state.output e.printed,
           ap (λ (bytes : List ℕ). length bytes) output_before,
           printed_is,
@@ -279,20 +268,11 @@ module _ (environment : Environment) (s t : State) (call : Call) (e : Effect) (f
         let done : seen_as (printed_after line) (putting name (segmented texts form) storage) ≡ Ok e =
         ap (λ (found : Option Form). seen_as (printed_after line) (on_form found (λ f. putting name (segmented texts f) storage) storage)) (sym names) ∙ done_by (Handle action.Segment) of.named in
         ap (λ (u : State). finite.get u.forms name) after
-        ∙ ap (λ forms. finite.get forms name) (forms-after call.kind e.forced e.value (changed_by e call.state))
+        ∙ ap (λ (left : Storage). finite.get left.forms name) (storage-placed call.kind e.forced e.value (changed_by e call.state))
         ∙ ap (λ forms. finite.get forms name) (put_by (may_be_put name (segmented texts form) storage.forms) done)
         ∙ finite.get-insert nat_list_cmp_total storage.forms name (segmented texts form) name
         ∙ cond-true _ (Some (segmented texts form)) (finite.get storage.forms name) (is_eq-slice_cmp name name ∙ (bytes_eq-Decides name name).1 refl)
       where
-        forms-after : (kind : Kind) (forced : Bool) (value : List ℕ) (u : State) → (placed kind forced value u).forms ≡ u.forms
-        forms-after Active forced value u = refl
-        forms-after Neutral true value u = refl
-        forms-after Neutral false value u = go u.frames
-          where
-            go : (fs : List Frame) → (gathered_in fs value u).forms ≡ u.forms
-            go [] = refl
-            go (f ∷ fs) = refl
-
         put_by : (b : Bool) →
             seen_as (printed_after (trace_line call.state.trace call.kind call.arguments))
             (cond b (Ok (leaves (keeping (finite.insert call.state.forms (argument 1 call.arguments) (segmented texts form)) (storage_of call.state)))) (Err TooLong)) ≡ Ok e →
@@ -330,10 +310,7 @@ module _ (environment : Environment) (s t : State) (call : Call) (e : Effect) (f
       where
         is_carried : (n : ℕ) (p : told.Origin) (r : Origin) → name ≡ argument 1 call.arguments → r ≡ of_form call n → CarriedFrom p name n → Tells s p r
         is_carried n (told.TheVariants.Carried place) r is_name is at = is ∙ ap (λ q. Carried (InForm q n)) (sym is_name) ∙ ap Carried (sym at)
-        is_carried n (told.TheVariants.OfForm k) r is_name is at = absurd at
-        is_carried n (told.TheVariants.Read k) r is_name is at = absurd at
-        is_carried n told.TheVariants.Made r is_name is at = absurd at
-        is_carried n told.TheVariants.Nothing r is_name is at = absurd at
+        is_carried n other r is_name is at = absurd at
 
         named_so : name ≡ argument 1 call.arguments
         named_so = (bytes_eq-Decides name (argument 1 call.arguments)).0 same

@@ -9,19 +9,18 @@ use Rattle.trac_rules.specs.declared.primitive.FormReading.{FormReading}
 use Rattle.trac_rules.specs.declared.primitive.Primitive.{Primitive}
 use Rattle.trac_rules.specs.declared.primitive.Primitive.TheVariants.{PrintString, ReadString, ReadByte, Halt, SetMeta, SetTrace, Compute, Handle, HandleBlock, Unknown}
 use Rattle.trac_rules.specs.Blocks.{named_block_number}
-use Rattle.trac_rules.specs.declared.kind.Kind.{Kind}
-use Rattle.trac_rules.specs.declared.kind.Kind.TheVariants.{Active, Neutral}
 use Rattle.trac_rules.specs.Effect.{Effect, argument, gives, leaves}
 use Rattle.trac_rules.specs.Filling.{called}
 use Rattle.trac_rules.specs.Form.{Form}
 use Rattle.trac_rules.specs.Handling.{default_argument, form_read, gives_piece, named_form, on_form, piece_read, putting}
 use Rattle.trac_rules.specs.Listing.{listed}
 use Rattle.trac_rules.specs.Outcomes.{seen_as}
-use Rattle.trac_rules.specs.Performing.{after_call, changed_by, effect_of, performed, placed, printed_after, trace_line}
+use Rattle.trac_rules.specs.Performing.{after_call, changed_by, effect_of, performed, printed_after, trace_line}
 use Rattle.trac_rules.specs.Pieces.{Piece}
-use Rattle.trac_rules.specs.Scanning.{Call, gathered_in}
+use Rattle.trac_rules.specs.Scanning.{Call}
 use Rattle.trac_rules.specs.Segmenting.{segmented}
-use Rattle.trac_rules.specs.State.{Environment, Frame, State, Storage, storage_of}
+use Rattle.trac_rules.specs.State.{Environment, State, Storage, storage_of}
+use Rattle.trac_rules.proofs.ProperStates.{storage-placed}
 use Rattle.trac_origins.specs.Lengths.{IsCallOf}
 use Rattle.trac_origins.specs.Performing.{EffectOrigins, Performed, called_from, fetched_from, gives_from, handled_from, on_block_from, on_form_from, reading_from}
 use Rattle.trac_origins.specs.Places.{Origin}
@@ -49,35 +48,24 @@ pub other_silent : (a : FormAction) → (a ≡ action.ListNames → ⊥) → (a 
 other_silent action.Call lists calls reads gives = calls refl
 other_silent (action.Read reading) lists calls reads gives = reads reading refl
 other_silent action.ListNames lists calls reads gives = lists refl
-other_silent action.Define lists calls reads gives = gives
-other_silent action.Delete lists calls reads gives = gives
-other_silent action.DeleteAll lists calls reads gives = gives
-other_silent action.Segment lists calls reads gives = gives
-other_silent action.Restore lists calls reads gives = gives
-other_silent action.PrintForm lists calls reads gives = gives
+other_silent other lists calls reads gives = gives
 
 action_empty : (a : FormAction) (d : Performed) → (gives_form a → ⊥) → (handled_from a d).value ≡ []
-action_empty action.Define d none = refl
-action_empty action.Delete d none = refl
-action_empty action.DeleteAll d none = refl
 action_empty action.Segment d none = form_empty d (named_form d.call.arguments (storage_of d.call.state)) _ (λ form. refl)
-action_empty action.Restore d none = refl
+action_empty action.PrintForm d none = form_empty d (named_form d.call.arguments (storage_of d.call.state)) _ (λ form. refl)
 action_empty action.Call d none = absurd (none tt)
 action_empty (action.Read reading) d none = absurd (none tt)
 action_empty action.ListNames d none = absurd (none tt)
-action_empty action.PrintForm d none = form_empty d (named_form d.call.arguments (storage_of d.call.state)) _ (λ form. refl)
+action_empty other d none = refl
 
 -- without a form all but `ln` give nothing
 formless_empty : (a : FormAction) (d : Performed) → (a ≡ action.ListNames → ⊥) → named_form d.call.arguments (storage_of d.call.state) ≡ None → (handled_from a d).value ≡ []
-formless_empty action.Define d other none = refl
-formless_empty action.Delete d other none = refl
-formless_empty action.DeleteAll d other none = refl
 formless_empty action.Segment d other none = form_empty d (named_form d.call.arguments (storage_of d.call.state)) _ (λ form. refl)
-formless_empty action.Restore d other none = refl
 formless_empty action.Call d other none = ap (λ (found : Option Form). (on_form_from found (λ form. gives_from (called_from form d) d) d).value) none
 formless_empty (action.Read reading) d other none = ap (λ (found : Option Form). (on_form_from found (λ form. gives_from (reading_from reading form d) d) d).value) none
 formless_empty action.ListNames d other none = absurd (other refl)
 formless_empty action.PrintForm d other none = form_empty d (named_form d.call.arguments (storage_of d.call.state)) _ (λ form. refl)
+formless_empty rest d other none = refl
 
 module _ (environment : Environment) (s : State) (call : Call) (e : Effect) where
   pub action_gives_none : (a : FormAction) → (gives_form a → ⊥) → IsCallOf environment s call (Handle a) e → (i : ℕ) → i < length e.value → ⊥
@@ -90,20 +78,14 @@ module _ (environment : Environment) (s : State) (call : Call) (e : Effect) wher
 
   pub others_give_none : (p : Primitive) → reads_tape p ≡ false → ((computation : Computation) → p ≡ Compute computation → ⊥) → ((a : FormAction) → p ≡ Handle a → ⊥) →
       IsCallOf environment s call p e → (i : ℕ) → i < length e.value → ⊥
-  others_give_none PrintString reads computes handles is i l = absurd (omega (arith, l, length_value environment s call PrintString e is))
   others_give_none ReadString reads computes handles is i l = absurd (cc)
   others_give_none ReadByte reads computes handles is i l = absurd (cc)
-  others_give_none Halt reads computes handles is i l = absurd (omega (arith, l, length_value environment s call Halt e is))
-  others_give_none SetMeta reads computes handles is i l = absurd (omega (arith, l, length_value environment s call SetMeta e is))
-  others_give_none (SetTrace trace) reads computes handles is i l = absurd (omega (arith, l, length_value environment s call (SetTrace trace) e is))
   others_give_none (Compute computation) reads computes handles is i l = absurd (computes computation refl)
   others_give_none (Handle a) reads computes handles is i l = absurd (handles a refl)
-  others_give_none (HandleBlock StoreBlock) reads computes handles is i l = absurd (omega (arith, l, length_value environment s call (HandleBlock StoreBlock) e is))
   others_give_none (HandleBlock FetchBlock) reads computes handles is i l =
       let d : Performed = call_of environment s call (HandleBlock FetchBlock) e is in
       absurd (omega (arith, l, length_value environment s call (HandleBlock FetchBlock) e is, ap (λ (os : List Origin). length os) (block_empty d (named_block_number d.call.arguments (storage_of d.call.state)))))
-  others_give_none (HandleBlock EraseBlock) reads computes handles is i l = absurd (omega (arith, l, length_value environment s call (HandleBlock EraseBlock) e is))
-  others_give_none Unknown reads computes handles is i l = absurd (omega (arith, l, length_value environment s call Unknown e is))
+  others_give_none p reads computes handles is i l = absurd (omega (arith, l, length_value environment s call p e is))
 
   -- ---- what calls on forms give
 
@@ -153,17 +135,8 @@ module _ (environment : Environment) (s : State) (call : Call) (e : Effect) wher
 
   pub parts_after : (t : State) → t ≡ after_call call e → (t.forms ≡ e.storage.forms) × (t.blocks ≡ e.storage.blocks)
   parts_after t after =
-      let placed_forms = go call.kind e.forced (changed_by e call.state) in
-      (ap (λ (u : State). u.forms) after ∙ placed_forms.0, ap (λ (u : State). u.blocks) after ∙ placed_forms.1)
-    where
-      gathered : (fs : List Frame) (u : State) → ((gathered_in fs e.value u).forms ≡ u.forms) × ((gathered_in fs e.value u).blocks ≡ u.blocks)
-      gathered [] u = (refl, refl)
-      gathered (f ∷ fs) u = (refl, refl)
-
-      go : (kind : Kind) (forced : Bool) (u : State) → ((placed kind forced e.value u).forms ≡ u.forms) × ((placed kind forced e.value u).blocks ≡ u.blocks)
-      go Active forced u = (refl, refl)
-      go Neutral true u = (refl, refl)
-      go Neutral false u = gathered u.frames u
+      let left : storage_of t ≡ e.storage = ap (λ (u : State). storage_of u) after ∙ storage-placed call.kind e.forced e.value (changed_by e call.state) in
+      (ap (λ (left : Storage). left.forms) left, ap (λ (left : Storage). left.blocks) left)
 
   -- `ss` of no form leaves all
   pub segment_left : IsCallOf environment s call (Handle action.Segment) e → named_form call.arguments (storage_of call.state) ≡ None → (t : State) → t ≡ after_call call e → t.forms ≡ call.state.forms

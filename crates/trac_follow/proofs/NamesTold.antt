@@ -61,13 +61,6 @@ module _ (s : State) (width : Width) (seen : Option ℕ) (i function : ℕ) (tex
           ap (λ m. origin environment s (value_at call.kind e.forced call.state m)) (sym (ap (λ m. m + j) (before_is listed.number) ∙ listed.place))
           ∙ listed_told environment s call e of listed.number listed.name listed.there j (omega (arith, at.2, text_is))
           ∙ ap₂ (λ f m. Carried (InArgument f m j)) (number_is s call scans function number ∙ sym at.0) (sym at.1)
-      go (told.TheVariants.Carried (code_place.TheVariants.Active j)) at = absurd at
-      go (told.TheVariants.Carried (code_place.TheVariants.Base j)) at = absurd at
-      go (told.TheVariants.Carried (code_place.TheVariants.Form name j)) at = absurd at
-      go (told.TheVariants.Carried (code_place.TheVariants.Held k name j)) at = absurd at
-      go (told.TheVariants.Carried (code_place.TheVariants.Output j)) at = absurd at
-      go (told.TheVariants.OfForm n) at = absurd at
-      go (told.TheVariants.Read n) at = absurd at
       go told.TheVariants.Made at =
           let j : ℕ = at.0 in
           let listed = there j at.2 in
@@ -85,3 +78,4 @@ module _ (s : State) (width : Width) (seen : Option ℕ) (i function : ℕ) (tex
             ap (λ m. listed_len m (names_of call.state.forms)) text_is,
             ap (λ (forms : Forms). listed_len text (names_of forms)) forms_are,
           ))
+      go other at = absurd at

@@ -34,11 +34,10 @@ texts_before (suc k) (text ∷ texts) = omega (arith, texts_before k texts)
 
 -- an empty text at the end
 empty_at_end : (k : ℕ) (texts : List (List ℕ)) → total_length (take k (texts ++ [] ∷ [])) ≡ total_length (take k texts)
-empty_at_end zero [] = refl
 empty_at_end (suc zero) [] = refl
 empty_at_end (suc (suc k)) [] = refl
-empty_at_end zero (text ∷ texts) = refl
 empty_at_end (suc k) (text ∷ texts) = ap (λ n. length text + n) (empty_at_end k texts)
+empty_at_end k texts = refl
 
 -- a byte that stands in one of some texts
 one_of : (k i : ℕ) (texts : List (List ℕ)) (last : List ℕ) (item : Item) → byte_at i (get_or (texts ++ last ∷ []) k []) ≡ Some item → k ≤ length texts
@@ -82,12 +81,9 @@ argument_within (f ∷ fs) base n k i item e =
     (cases_Bool (n == length fs))
 
 pub stands_within : (s : State) (p : Place) (item : Item) → is_in_text p ≡ true → found_at s p ≡ Some item → offset s p < neutral_bytes s
-stands_within s (InActive i) item text e = absurd (cc)
 stands_within s (InBase i) item text e = omega (arith, byte_within i s.base item e)
 stands_within s (InArgument n k i) item text e = argument_within s.frames s.base n k i item e
-stands_within s (InForm name i) item text e = absurd (cc)
-stands_within s (InHeld number name i) item text e = absurd (cc)
-stands_within s (InOutput i) item text e = absurd (cc)
+stands_within s p item text e = absurd (cc)
 
 -- what is past the current text is past its end
 pub new_past : (fs : List Frame) (u : State) (m : ℕ) → u.frames ≡ fs → offset u (in_current fs (length (current_text fs u) + m)) ≡ neutral_bytes u + m
@@ -107,10 +103,6 @@ new_past (f ∷ fs) u m is =
 
 gathered_offset : (fs : List Frame) (text : List ℕ) (u : State) (p : Place) (item : Item) → u.frames ≡ fs → is_in_text p ≡ true → found_at (gathered_in fs text u) p ≡ Some item →
     offset (gathered_in fs text u) p ≡ offset u p
-gathered_offset fs text u (InActive i) item is within e = absurd (cc)
-gathered_offset fs text u (InForm name i) item is within e = absurd (cc)
-gathered_offset fs text u (InHeld number name i) item is within e = absurd (cc)
-gathered_offset fs text u (InOutput i) item is within e = absurd (cc)
 gathered_offset fs text u (InBase i) item is within e = refl
 gathered_offset [] text u (InArgument n k i) item is within e =
     ap (λ (gs : List Frame). argument_offset gs (u.base ++ text) n k i) is ∙ sym (ap (λ (gs : List Frame). argument_offset gs u.base n k i) is)
@@ -121,25 +113,16 @@ gathered_offset (f ∷ fs) text u (InArgument n k i) item is within e =
     let few : k ≤ length f.arguments = one_of k i f.arguments (f.gathered ++ text) item (sym (look_first g fs n k i t) ∙ e) in
     ap (λ (texts : List (List ℕ)). total_length texts) (take-append-le k f.arguments ((f.gathered ++ text) ∷ []) few ∙ sym (take-append-le k f.arguments (f.gathered ∷ []) few)))
     ∙ sym (ap (λ (gs : List Frame). argument_offset gs u.base n k i) is)
+gathered_offset fs text u p item is within e = absurd (cc)
 
 comma_offset : (fs : List Frame) (u : State) (p : Place) → u.frames ≡ fs → offset (comma_in fs u) p ≡ offset u p
-comma_offset [] u p is = refl
-comma_offset (f ∷ fs) u (InActive i) is = refl
-comma_offset (f ∷ fs) u (InForm name i) is = refl
-comma_offset (f ∷ fs) u (InHeld number name i) is = refl
-comma_offset (f ∷ fs) u (InOutput i) is = refl
-comma_offset (f ∷ fs) u (InBase i) is = refl
 comma_offset (f ∷ fs) u (InArgument n k i) is =
     let g : Frame = record f { arguments = f.arguments ++ f.gathered ∷ []; gathered = [] } in
     same_offset f g fs u.base n k i (λ t. empty_at_end k (f.arguments ++ f.gathered ∷ []))
     ∙ sym (ap (λ (gs : List Frame). argument_offset gs u.base n k i) is)
+comma_offset fs u p is = refl
 
 begun_offset : (kind : Kind) (u : State) (p : Place) (item : Item) → found_at (begun kind u) p ≡ Some item → offset (begun kind u) p ≡ offset u p
-begun_offset kind u (InActive i) item e = refl
-begun_offset kind u (InForm name i) item e = refl
-begun_offset kind u (InHeld number name i) item e = refl
-begun_offset kind u (InOutput i) item e = refl
-begun_offset kind u (InBase i) item e = refl
 begun_offset kind u (InArgument n k i) item e =
     let g : Frame = record { kind = kind; arguments = []; gathered = [] } in
     ⊎_elim
@@ -150,14 +133,11 @@ begun_offset kind u (InArgument n k i) item e =
     nothing : (k : ℕ) → byte_at i (get_or ([] ∷ []) k []) ≡ Some item → ⊥
     nothing zero e = absurd (cc)
     nothing (suc k) e = absurd (cc)
+begun_offset kind u p item e = refl
 
 other_active : (u : State) (text : List ℕ) (p : Place) → offset (record u { active = text }) p ≡ offset u p
-other_active u text (InActive i) = refl
-other_active u text (InForm name i) = refl
-other_active u text (InHeld number name i) = refl
-other_active u text (InOutput i) = refl
-other_active u text (InBase i) = refl
 other_active u text (InArgument n k i) = refl
+other_active u text p = refl
 
 -- a rule that moves on
 pub moved_offset : (s t : State) (p : Place) (item : Item) → scan s ≡ Moves t → is_in_text p ≡ true → found_at t p ≡ Some item → offset t p ≡ offset s p
@@ -172,13 +152,10 @@ moved_offset s t p item is within e = go (front_of s.active) (sym (at_front s) �
     gathers text left same = by _ left same (λ there. gathered_offset s.frames text (record s { active = left }) p item refl within there)
 
     idle : (q : Place) (u : State) → u.frames ≡ [] → is_in_text q ≡ true → found_at u q ≡ Some item → offset u q ≡ offset s q
-    idle (InActive i) u frames text there = absurd (cc)
-    idle (InForm name i) u frames text there = absurd (cc)
-    idle (InHeld number name i) u frames text there = absurd (cc)
-    idle (InOutput i) u frames text there = absurd (cc)
     idle (InBase i) u frames text there = refl
     idle (InArgument n k i) u frames text there =
         absurd (let none : None ≡ Some item = sym (ap (λ (gs : List Frame). look k i (numbered n gs)) frames) ∙ there in cc)
+    idle q u frames text there = absurd (cc)
 
     closes : (fs : List Frame) → closing_in fs (deleted 1 s) ≡ Moves t → offset t p ≡ offset s p
     closes [] same = by (deleted 1 s) (drop 1 s.active) same (λ there. refl)
@@ -197,12 +174,8 @@ moved_offset s t p item is within e = go (front_of s.active) (sym (at_front s) �
 
 -- a call
 other_parts : (e : Effect) (v : State) (p : Place) → offset (changed_by e v) p ≡ offset v p
-other_parts e v (InActive i) = refl
-other_parts e v (InForm name i) = refl
-other_parts e v (InHeld number name i) = refl
-other_parts e v (InOutput i) = refl
-other_parts e v (InBase i) = refl
 other_parts e v (InArgument n k i) = refl
+other_parts e v p = refl
 
 pub called_offset : (call : Call) (e : Effect) (p : Place) (item : Item) → is_in_text p ≡ true → found_at (after_call call e) p ≡ Some item → offset (after_call call e) p ≡ offset call.state p
 called_offset call e p item within h = go call.kind e.forced h
@@ -211,17 +184,11 @@ called_offset call e p item within h = go call.kind e.forced h
     u = changed_by e call.state
 
     go : (kind : Kind) (forced : Bool) → found_at (placed kind forced e.value u) p ≡ Some item → offset (placed kind forced e.value u) p ≡ offset call.state p
-    go Active forced there = other_active u (e.value ++ u.active) p ∙ other_parts e call.state p
-    go Neutral true there = other_active u (e.value ++ u.active) p ∙ other_parts e call.state p
     go Neutral false there = gathered_offset u.frames e.value u p item refl within there ∙ other_parts e call.state p
+    go kind forced there = other_active u (e.value ++ u.active) p ∙ other_parts e call.state p
 
 -- what stands around the function that is called
 pub around_offset : (s : State) (call : Call) (p : Place) → scan s ≡ Calls call → is_in_text p ≡ true → IsOutside (length call.state.frames) p → offset s p ≡ offset call.state p
-around_offset s call (InActive i) is text outside = refl
-around_offset s call (InForm name i) is text outside = refl
-around_offset s call (InHeld number name i) is text outside = refl
-around_offset s call (InOutput i) is text outside = refl
-around_offset s call (InBase i) is text outside = refl
 around_offset s call (InArgument n k i) is text outside =
     let at = ended s call is in
     let f : Frame = at.0 in
@@ -230,6 +197,7 @@ around_offset s call (InArgument n k i) is text outside =
     ap (λ (gs : List Frame). argument_offset gs s.base n k i) at.2.frames
     ∙ rest_offset f fs s.base n k i (ne_eqb n (length fs) (λ same. absurd (omega (arith, same, less))))
     ∙ ap (λ (u : State). argument_offset u.frames u.base n k i) (sym at.2.state)
+around_offset s call p is text outside = refl
 
 -- a run of bytes that move on
 pub offset_before : (n : ℕ) (s : State) (p : Place) (bytes : ℕ) (gap : Bool) (item : Item) → found_at (moved_on n s) p ≡ Some item → IsPlaced bytes gap (moved_on n s) p →

@@ -35,17 +35,15 @@ byte_split (suc i) (x ∷ xs) ys item e =
 -- the last of some texts is another, and the others are the same
 last_split : (k : ℕ) (xs : List (List ℕ)) (y z : List ℕ) → ((k ≡ length xs) × (get_or (xs ++ z ∷ []) k [] ≡ z)) ⊎ (get_or (xs ++ z ∷ []) k [] ≡ get_or (xs ++ y ∷ []) k [])
 last_split zero [] y z = inl (refl, refl)
-last_split (suc k) [] y z = inr refl
-last_split zero (x ∷ xs) y z = inr refl
 last_split (suc k) (x ∷ xs) y z =
     ⊎_elim (λ (h : (k ≡ length xs) × (get_or (xs ++ z ∷ []) k [] ≡ z)). inl (ap suc h.0, h.1)) (λ (h : get_or (xs ++ z ∷ []) k [] ≡ get_or (xs ++ y ∷ []) k []). inr h) (last_split k xs y z)
+last_split k xs y z = inr refl
 
 -- an empty text after others is nothing
 empty_last : (k : ℕ) (xs : List (List ℕ)) → get_or (xs ++ [] ∷ []) k [] ≡ get_or xs k []
 empty_last zero [] = refl
-empty_last (suc k) [] = refl
-empty_last zero (x ∷ xs) = refl
 empty_last (suc k) (x ∷ xs) = empty_last k xs
+empty_last k xs = refl
 
 abbrev pub look : ℕ → ℕ → Option Frame → Option Item
 look k i = option_and_then (λ (g : Frame). byte_at i (argument k (arguments_of g)))
@@ -60,10 +58,6 @@ module _ (f : Frame) (fs : List Frame) (n k i : ℕ) where
 
 gathered_new : (fs : List Frame) (text : List ℕ) (u : State) (p : Place) (item : Item) → u.frames ≡ fs → is_in_text p ≡ true → found_at (gathered_in fs text u) p ≡ Some item →
     (found_at u p ≡ Some item) ⊎ IsNew fs u p
-gathered_new fs text u (InActive i) item is within e = absurd (cc)
-gathered_new fs text u (InForm name i) item is within e = absurd (cc)
-gathered_new fs text u (InHeld number name i) item is within e = absurd (cc)
-gathered_new fs text u (InOutput i) item is within e = absurd (cc)
 gathered_new [] text u (InBase i) item is within e =
     ⊎_elim
     (λ (h : byte_at i u.base ≡ Some item). inl h)
@@ -90,15 +84,12 @@ gathered_new (f ∷ fs) text u (InArgument n k i) item is within e =
     (λ (t : (n == length fs) ≡ false).
     inl (ap (λ (gs : List Frame). look k i (numbered n gs)) is ∙ look_rest f fs n k i t ∙ sym (look_rest g fs n k i t) ∙ e))
     (cases_Bool (n == length fs))
+gathered_new fs text u p item is within e = absurd (cc)
 
 -- ---- a rule that moves on
 
 -- after an ended argument
 comma_old : (fs : List Frame) (u : State) (p : Place) (item : Item) → u.frames ≡ fs → is_in_text p ≡ true → found_at (comma_in fs u) p ≡ Some item → found_at u p ≡ Some item
-comma_old fs u (InActive i) item is within e = absurd (cc)
-comma_old fs u (InForm name i) item is within e = absurd (cc)
-comma_old fs u (InHeld number name i) item is within e = absurd (cc)
-comma_old fs u (InOutput i) item is within e = absurd (cc)
 comma_old [] u (InBase i) item is within e = e
 comma_old (f ∷ fs) u (InBase i) item is within e = e
 comma_old [] u (InArgument n k i) item is within e = e
@@ -110,13 +101,10 @@ comma_old (f ∷ fs) u (InArgument n k i) item is within e =
     ∙ sym (ap (byte_at i) (empty_last k (f.arguments ++ f.gathered ∷ []))) ∙ sym (look_first g fs n k i t) ∙ e)
     (λ (t : (n == length fs) ≡ false). ap (λ (gs : List Frame). look k i (numbered n gs)) is ∙ look_rest f fs n k i t ∙ sym (look_rest g fs n k i t) ∙ e)
     (cases_Bool (n == length fs))
+comma_old fs u p item is within e = absurd (cc)
 
 -- after a begun function
 begun_old : (kind : Kind) (u : State) (p : Place) (item : Item) → is_in_text p ≡ true → found_at (begun kind u) p ≡ Some item → found_at u p ≡ Some item
-begun_old kind u (InActive i) item within e = absurd (cc)
-begun_old kind u (InForm name i) item within e = absurd (cc)
-begun_old kind u (InHeld number name i) item within e = absurd (cc)
-begun_old kind u (InOutput i) item within e = absurd (cc)
 begun_old kind u (InBase i) item within e = e
 begun_old kind u (InArgument n k i) item within e =
     let g : Frame = record { kind = kind; arguments = []; gathered = [] } in
@@ -125,15 +113,13 @@ begun_old kind u (InArgument n k i) item within e =
     absurd (let none : None ≡ Some item = sym (ap (byte_at i) (empty_last k [])) ∙ sym (look_first g u.frames n k i t) ∙ e in cc))
     (λ (t : (n == length u.frames) ≡ false). sym (look_rest g u.frames n k i t) ∙ e)
     (cases_Bool (n == length u.frames))
+begun_old kind u p item within e = absurd (cc)
 
 -- the active text is no part of it
 other_active : (u : State) (text : List ℕ) (p : Place) (item : Item) → is_in_text p ≡ true → found_at (record u { active = text }) p ≡ Some item → found_at u p ≡ Some item
-other_active u text (InActive i) item within e = absurd (cc)
-other_active u text (InForm name i) item within e = absurd (cc)
-other_active u text (InHeld number name i) item within e = absurd (cc)
-other_active u text (InOutput i) item within e = absurd (cc)
 other_active u text (InBase i) item within e = e
 other_active u text (InArgument n k i) item within e = e
+other_active u text p item within e = absurd (cc)
 
 still_new : (fs : List Frame) (u : State) (text : List ℕ) (p : Place) → IsNew fs (record u { active = text }) p → IsNew fs u p
 still_new [] u text p new = record { number = new.number; at = new.at }
@@ -163,12 +149,9 @@ moved_new s t p item is within e = go (front_of s.active) (sym (at_front s) ∙ 
         other_active s left p item within (back (subst (λ (v : State). found_at v p ≡ Some item) after e))
 
     idle : (q : Place) → is_in_text q ≡ true → (u : State) → u.base ≡ [] → u.frames ≡ [] → found_at u q ≡ Some item → ⊥
-    idle (InActive i) within u base frames e = absurd (cc)
-    idle (InForm name i) within u base frames e = absurd (cc)
-    idle (InHeld number name i) within u base frames e = absurd (cc)
-    idle (InOutput i) within u base frames e = absurd (cc)
     idle (InBase i) within u base frames e = absurd (let none : None ≡ Some item = sym (ap (byte_at i) base) ∙ e in cc)
     idle (InArgument n k i) within u base frames e = absurd (let none : None ≡ Some item = sym (ap (λ (gs : List Frame). look k i (numbered n gs)) frames) ∙ e in cc)
+    idle q within u base frames e = absurd (cc)
 
     closes : (fs : List Frame) → closing_in fs (deleted 1 s) ≡ Moves t → found_at s p ≡ Some item
     closes [] same = old (deleted 1 s) (drop 1 s.active) same (λ h. h)
@@ -205,26 +188,20 @@ moved_output s t is = go (front_of s.active) (sym (at_front s) ∙ is)
     closes (f ∷ fs) same = absurd (cc)
 
     go : (f : Front) → scan_at f s ≡ Moves t → t.output ≡ s.output
-    go Nothing same = same_output _ same refl
     go Opening same = same_output _ same (gathered s.frames _ _)
-    go Layout same = same_output _ same refl
     go Comma same = same_output _ same (comma s.frames (deleted 1 s))
-    go ActiveCall same = same_output _ same refl
-    go NeutralCall same = same_output _ same refl
     go Sharp same = same_output _ same (gathered s.frames _ _)
     go Closing same = closes s.frames same
     go Plain same = same_output _ same (gathered s.frames _ _)
+    go front same = same_output _ same refl
 
 -- ---- a call
 
 -- what a call changes beside the texts is no part of them
 other_parts : (e : Effect) (v : State) (p : Place) (item : Item) → is_in_text p ≡ true → found_at (changed_by e v) p ≡ Some item → found_at v p ≡ Some item
-other_parts e v (InActive i) item within h = absurd (cc)
-other_parts e v (InForm name i) item within h = absurd (cc)
-other_parts e v (InHeld number name i) item within h = absurd (cc)
-other_parts e v (InOutput i) item within h = absurd (cc)
 other_parts e v (InBase i) item within h = h
 other_parts e v (InArgument n k i) item within h = h
+other_parts e v p item within h = absurd (cc)
 
 new_so : (fs : List Frame) (e : Effect) (v : State) (p : Place) → IsNew fs (changed_by e v) p → IsNew fs v p
 new_so [] e v p new = record { number = new.number; at = new.at }
@@ -249,10 +226,6 @@ called_new call e p item within h = go call.kind e.forced h
 -- what stands without the function stands with it, around it
 pub around_it : (s : State) (call : Call) (p : Place) (item : Item) → scan s ≡ Calls call → is_in_text p ≡ true → found_at call.state p ≡ Some item →
     (found_at s p ≡ Some item) × IsOutside (length call.state.frames) p
-around_it s call (InActive i) item is within e = absurd (cc)
-around_it s call (InForm name i) item is within e = absurd (cc)
-around_it s call (InHeld number name i) item is within e = absurd (cc)
-around_it s call (InOutput i) item is within e = absurd (cc)
 around_it s call (InBase i) item is within e =
     (ap (λ (u : State). byte_at i u.base) (sym (ended s call is).2.state) ∙ e, tt)
 around_it s call (InArgument n k i) item is within e =
@@ -271,3 +244,4 @@ around_it s call (InArgument n k i) item is within e =
     found_number : (found : Option Frame) → numbered n call.state.frames ≡ found → look k i found ≡ Some item → n < length call.state.frames
     found_number None is e = absurd (cc)
     found_number (Some g) is e = number_within n call.state.frames g is
+around_it s call p item is within e = absurd (cc)

@@ -64,12 +64,10 @@ stays_carried environment s t place x item is outside before after =
     (cases_Bool (makes_idle (front_of s.active)))
   where
     stored : (p : Place) → is_outside p ≡ true → found_at (record s { active = idle_program; base = []; frames = [] }) p ≡ Some item → is_stored p ≡ true
-    stored (InActive i) outside e = absurd (cc)
     stored (InBase i) outside e = absurd (cc)
     stored (InArgument n k i) outside e = absurd (cc)
-    stored (InForm name i) outside e = refl
-    stored (InHeld number name i) outside e = refl
-    stored (InOutput i) outside e = refl
+    stored (InActive i) outside e = absurd (cc)
+    stored p outside e = refl
 
 pub gathered_carried : (environment : Environment) (s t : State) (place : Place) (n : ℕ) (item : Item) → scan s ≡ Moves t → moves_bytes (front_of s.active) ≡ true →
     place ≡ in_current s.frames (length (current_text s.frames s) + n) → found_at t place ≡ Some item → origin environment s place ≡ Carried (InActive (first_moved (front_of s.active) + n))

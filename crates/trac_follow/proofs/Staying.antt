@@ -109,20 +109,13 @@ held_stays s bytes gap number name i within environment t item h stands placed =
 -- ---- in the neutral text
 
 of_text : (p : Place) → is_in_text p ≡ true → (is_outside p ≡ true) × (is_of_text p ≡ true)
-of_text (InActive i) text = absurd (cc)
 of_text (InBase i) text = (refl, refl)
 of_text (InArgument n k i) text = (refl, refl)
-of_text (InForm name i) text = absurd (cc)
-of_text (InHeld number name i) text = absurd (cc)
-of_text (InOutput i) text = absurd (cc)
+of_text p text = absurd (cc)
 
 measured_aside : (bytes : ℕ) (gap : Bool) (s : State) (p : Place) → is_in_text p ≡ true → IsMeasured bytes gap s p
-measured_aside bytes gap s (InActive i) text = tt
-measured_aside bytes gap s (InBase i) text = tt
-measured_aside bytes gap s (InArgument n k i) text = tt
 measured_aside bytes gap s (InForm name i) text = absurd (cc)
-measured_aside bytes gap s (InHeld number name i) text = tt
-measured_aside bytes gap s (InOutput i) text = tt
+measured_aside bytes gap s p text = tt
 
 module _ (environment : Environment) (s t : State) (bytes : ℕ) (p : Place) (item : Item) (h : step environment s ≡ Ok t) (text : is_in_text p ≡ true) (less : bytes < bytes_left s) (stands : found_at t p ≡ Some item)
     (at : bytes ≡ offset t p) where
@@ -209,15 +202,12 @@ measured_or bytes gap s (Some i) p m = tt
 
 pub measured_before : (n : ℕ) (s : State) (here : Place) (bytes : ℕ) (gap : Bool) → IsMeasured bytes gap (moved_on n s) here → IsMeasured bytes gap s (before_moved n s here)
 measured_before n s (InActive i) bytes gap m = tt
-measured_before n s (InBase i) bytes gap m = measured_or bytes gap s (past_in s.frames s (InBase i)) (InBase i) tt
-measured_before n s (InArgument k l i) bytes gap m = measured_or bytes gap s (past_in s.frames s (InArgument k l i)) (InArgument k l i) tt
 measured_before n s (InForm name i) bytes gap m =
     let forms : (moved_on n s).forms ≡ s.forms =
     gathered_in_shows (λ (u : State). u.forms) (λ u active base frames. refl) s.frames (take n s.active) (deleted n s) in
     measured_or bytes gap s (past_in s.frames s (InForm name i)) (InForm name i)
     (measured_alike bytes gap s (moved_on n s) name i (ap (λ (all : Forms). items_of (finite.get all name)) forms) m)
-measured_before n s (InHeld number name i) bytes gap m = measured_or bytes gap s (past_in s.frames s (InHeld number name i)) (InHeld number name i) tt
-measured_before n s (InOutput i) bytes gap m = measured_or bytes gap s (past_in s.frames s (InOutput i)) (InOutput i) tt
+measured_before n s p bytes gap m = measured_or bytes gap s (past_in s.frames s p) p tt
 
 pub placed_before : (n : ℕ) (s : State) (here : Place) (bytes : ℕ) (gap : Bool) (item : Item) → found_at (moved_on n s) here ≡ Some item → IsPlaced bytes gap (moved_on n s) here →
     IsPlaced bytes gap s (before_moved n s here)
@@ -230,19 +220,12 @@ placed_before n s here bytes gap item stands placed =
 
     go : (p : Place) → (is_in_text p ≡ true → bytes ≡ offset s p) → is_in_text (before_moved n s p) ≡ true → bytes ≡ offset s (before_moved n s p)
     go (InActive i) at text = absurd (cc)
-    go (InBase i) at text = one_of (past_in s.frames s (InBase i)) (InBase i) at text
-    go (InArgument m k i) at text = one_of (past_in s.frames s (InArgument m k i)) (InArgument m k i) at text
-    go (InForm name i) at text = one_of (past_in s.frames s (InForm name i)) (InForm name i) at text
-    go (InHeld number name i) at text = one_of (past_in s.frames s (InHeld number name i)) (InHeld number name i) at text
-    go (InOutput i) at text = one_of (past_in s.frames s (InOutput i)) (InOutput i) at text
+    go p at text = one_of (past_in s.frames s p) p at text
 
 moved_in_text : (n : ℕ) (s : State) (p : Place) → is_in_text p ≡ true → before_moved n s p ≡ in_active (past_in s.frames s p) p
-moved_in_text n s (InActive i) text = absurd (cc)
 moved_in_text n s (InBase i) text = refl
 moved_in_text n s (InArgument m k i) text = refl
-moved_in_text n s (InForm name i) text = absurd (cc)
-moved_in_text n s (InHeld number name i) text = absurd (cc)
-moved_in_text n s (InOutput i) text = absurd (cc)
+moved_in_text n s p text = absurd (cc)
 
 -- a byte of a text, as the code finds it
 pub text_before : (n : ℕ) (s : State) (p : Place) (bytes : ℕ) (gap : Bool) (item : Item) (past : Option ℕ) → is_in_text p ≡ true → found_at (moved_on n s) p ≡ Some item → IsPlaced bytes gap (moved_on n s) p →

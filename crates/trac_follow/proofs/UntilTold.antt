@@ -183,9 +183,8 @@ module _ (form : Form) (text : List ℕ) (bytes start : ℕ) (starts : start ≡
 
 -- one byte after another
 begin_step : (b : ℕ) (text : List ℕ) (items : List Item) → begin_with (b ∷ text) items ≡ (is_byte (slice_get items 0) b && begin_with text (drop 1 items))
-begin_step b text [] = refl
 begin_step b text (Byte c ∷ items) = refl
-begin_step b text (Gap ordinal width ∷ items) = refl
+begin_step b text items = refl
 
 pub begins_next : (items : List Item) (at b : ℕ) (text : List ℕ) → begin_with (b ∷ text) (drop at items) ≡ (is_byte (slice_get items at) b && begin_with text (drop (at + 1) items))
 begins_next items at b text =

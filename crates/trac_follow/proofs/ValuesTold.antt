@@ -7,7 +7,6 @@ use Rattle.std.proofs.lemmas.Option.{slice_get-get_or}
 use Rattle.std.proofs.lemmas.Slice.Eq.{bytes_eq-Decides}
 use Rattle.trac_rules.specs.declared.item.Item.{Item}
 use Rattle.trac_rules.specs.declared.kind.Kind.{Kind}
-use Rattle.trac_rules.specs.declared.kind.Kind.TheVariants.{Active, Neutral}
 use Rattle.trac_rules.specs.declared.primitive.BlockAction.TheVariants.{StoreBlock, FetchBlock, EraseBlock}
 use Rattle.trac_rules.specs.declared.primitive.Computation.{Computation}
 use Rattle.trac_rules.specs.declared.primitive.Computation.TheVariants.{Equal, Greater, Calculate}
@@ -22,9 +21,9 @@ use Rattle.trac_rules.specs.Effect.{Effect, argument, gives_or_forces}
 use Rattle.trac_rules.specs.Goals.{IsCall, next_call}
 use Rattle.trac_rules.specs.Number.{after_prefix, calculated, is_greater, numeral_of, on_both, prefix_of}
 use Rattle.trac_rules.specs.Outcomes.{seen_as}
-use Rattle.trac_rules.specs.Performing.{after_call, changed_by, effect_of, performed, placed, primitive_of, printed_after, trace_line}
-use Rattle.trac_rules.specs.Scanning.{Call, Calls, gathered_in, scan}
-use Rattle.trac_rules.specs.State.{Block, Environment, Frame, State, Storage, storage_of}
+use Rattle.trac_rules.specs.Performing.{after_call, changed_by, effect_of, performed, primitive_of, printed_after, trace_line}
+use Rattle.trac_rules.specs.Scanning.{Call, Calls, scan}
+use Rattle.trac_rules.specs.State.{Block, Environment, State, Storage, storage_of}
 use Rattle.trac_rules.specs.Stepping.{step}
 use Rattle.trac_origins.specs.Lengths.{IsCallOf, gives_bits, is_silent, may_put, number_chosen, of_argument, value_at}
 use Rattle.trac_origins.specs.Places.{InArgument, InForm, InHeld, InOutput, Carried, Read, Made, found_at, items_of}
@@ -41,7 +40,7 @@ use Rattle.trac_origins.specs.Accounts.{Accounts}
 use Rattle.trac_origins.proofs.Accounted.{accounted}
 use Rattle.trac_follow.proofs.Giving.{others_give_none}
 use Rattle.trac_follow.proofs.Within.{defined_within, no_block, stored_within}
-use Rattle.trac_follow.proofs.CallsTold.{blocks_are, given_call, has_done, number_is, output_is, position_is}
+use Rattle.trac_follow.proofs.CallsTold.{blocks_are, given_call, has_done, number_is, output_is, output-placed, position_is}
 
 -- a call is one
 one_call : (s : State) (a b : Call) → scan s ≡ Calls a → scan s ≡ Calls b → a ≡ b
@@ -58,16 +57,9 @@ arguments_given s kind arguments call is scans =
 
 -- a primitive that reads is one of two
 reads_one : (primitive : Primitive) → reads_tape primitive ≡ true → (primitive ≡ ReadString) ⊎ (primitive ≡ ReadByte)
-reads_one PrintString e = absurd (cc)
 reads_one ReadString e = inl refl
 reads_one ReadByte e = inr refl
-reads_one Halt e = absurd (cc)
-reads_one SetMeta e = absurd (cc)
-reads_one (SetTrace trace) e = absurd (cc)
-reads_one (Compute computation) e = absurd (cc)
-reads_one (Handle action) e = absurd (cc)
-reads_one (HandleBlock action) e = absurd (cc)
-reads_one Unknown e = absurd (cc)
+reads_one p e = absurd (cc)
 
 pub read_told : (s : State) (width : Width) (seen : Option ℕ) (i : ℕ) (told : code_origin.Origin) (arguments : List (List ℕ)) (kind : Kind) (primitive : Primitive) →
     IsCall (next_call s) kind arguments → primitive ≡ primitive_of (argument 0 arguments) →
@@ -85,13 +77,11 @@ read_told s width seen i told arguments kind primitive is named which tells envi
         (reads_one primitive which)
 
     go : (o : code_origin.Origin) → ToldAsRead s.position i o → Tells s o (origin environment s (value_at call.kind e.forced call.state i))
-    go (code_origin.TheVariants.Carried place) at = absurd at
-    go (code_origin.TheVariants.OfForm n) at = absurd at
-    go code_origin.TheVariants.Made at = absurd at
     go (code_origin.TheVariants.Read n) at = is_read ∙ ap Read (sym at)
     go code_origin.TheVariants.Nothing at =
         let within = subst (λ o. Accounts environment s t o item) is_read (accounted environment s t h (value_at call.kind e.forced call.state i) item stands) in
         absurd (omega (arith, at, within.1, readable))
+    go other at = absurd at
 
 -- ---- primitives without a value
 
@@ -197,20 +187,10 @@ module _ (arguments : List (List ℕ)) (function : ℕ) (width : Width) (i : ℕ
 -- a test for a result
 pub is_none_by : (found : Option ℤ) (none : Bool) → is_some found ≡ not none → is_none found ≡ none
 is_none_by None true e = refl
-is_none_by None false e = absurd (cc)
-is_none_by (Some n) true e = absurd (cc)
 is_none_by (Some n) false e = refl
+is_none_by found none e = absurd (cc)
 
 -- ---- what is printed
-
-output-placed : (kind : Kind) (forced : Bool) (value : List ℕ) (u : State) → (placed kind forced value u).output ≡ u.output
-output-placed Active forced value u = refl
-output-placed Neutral true value u = refl
-output-placed Neutral false value u = go u.frames
-  where
-    go : (fs : List Frame) → (gathered_in fs value u).output ≡ u.output
-    go [] = refl
-    go (f ∷ fs) = refl
 
 -- what may put a form
 pub record IsPutBy (p : Primitive) (put : code_put.Put) : Type 0 where
@@ -251,23 +231,8 @@ is_put_by Unknown = puts_none Unknown (λ given name. refl)
 -- what prints and is not `ps` is `pf`
 pub prints_form : (p : Primitive) → is_silent p ≡ false → (p ≡ PrintString → ⊥) → p ≡ Handle PrintForm
 prints_form PrintString loud other = absurd (other refl)
-prints_form ReadString loud other = absurd (cc)
-prints_form ReadByte loud other = absurd (cc)
-prints_form Halt loud other = absurd (cc)
-prints_form SetMeta loud other = absurd (cc)
-prints_form (SetTrace trace) loud other = absurd (cc)
-prints_form (Compute computation) loud other = absurd (cc)
 prints_form (Handle PrintForm) loud other = refl
-prints_form (Handle Define) loud other = absurd (cc)
-prints_form (Handle Delete) loud other = absurd (cc)
-prints_form (Handle DeleteAll) loud other = absurd (cc)
-prints_form (Handle Segment) loud other = absurd (cc)
-prints_form (Handle Restore) loud other = absurd (cc)
-prints_form (Handle Calling) loud other = absurd (cc)
-prints_form (Handle (Reads reading)) loud other = absurd (cc)
-prints_form (Handle ListNames) loud other = absurd (cc)
-prints_form (HandleBlock action) loud other = absurd (cc)
-prints_form Unknown loud other = absurd (cc)
+prints_form p loud other = absurd (cc)
 
 -- a name that is given
 pub named_by : (s : State) (kind : Kind) (arguments : List (List ℕ)) (call : Call) (primitive : Primitive) (name : List ℕ) → IsCall (next_call s) kind arguments → scan s ≡ Calls call →
@@ -323,19 +288,13 @@ module _ (environment : Environment) (s t : State) (call : Call) (h : step envir
           ap (λ m. origin environment s (InOutput m)) index
           ∙ text_printed environment s call done.0 done.1 j (omega (arith, at.3, long))
           ∙ ap₂ (λ m a. Carried (InArgument m a j)) (number ∙ sym at.0) (sym at.1)
-      go (code_origin.TheVariants.Carried (code_place.TheVariants.Active j)) at = absurd at
-      go (code_origin.TheVariants.Carried (code_place.TheVariants.Base j)) at = absurd at
-      go (code_origin.TheVariants.Carried (code_place.TheVariants.Form name j)) at = absurd at
-      go (code_origin.TheVariants.Carried (code_place.TheVariants.Held k name j)) at = absurd at
-      go (code_origin.TheVariants.Carried (code_place.TheVariants.Output j)) at = absurd at
-      go (code_origin.TheVariants.OfForm n) at = absurd at
-      go (code_origin.TheVariants.Read n) at = absurd at
       go code_origin.TheVariants.Nothing at =
           ⊎_elim (λ (l : end < text). absurd (omega (arith, l, whole))) (λ (l : end ≤ i). absurd (omega (arith, l, ends, stands))) at
       go code_origin.TheVariants.Made at =
           let index : i ≡ length call.state.output + (i - length s.output) = omega (arith, past, before) in
           ap (λ m. origin environment s (InOutput m)) index
           ∙ line_told environment s call PrintString done.0 done.1 (i - length s.output) (omega (arith, at, whole, past))
+      go other at = absurd at
 
   -- ---- what is put
 
@@ -361,17 +320,10 @@ module _ (environment : Environment) (s t : State) (call : Call) (h : step envir
       go (code_origin.TheVariants.Carried (code_place.TheVariants.Argument n k j)) at =
           defined_is name i function named same number (omega (arith, at.3, long))
           ∙ ap₂ (λ m a. Carried (InArgument m a i)) (sym at.0) (sym at.1) ∙ ap (λ b. Carried (InArgument n k b)) (sym at.2)
-      go (code_origin.TheVariants.Carried (code_place.TheVariants.Active j)) at = absurd at
-      go (code_origin.TheVariants.Carried (code_place.TheVariants.Base j)) at = absurd at
-      go (code_origin.TheVariants.Carried (code_place.TheVariants.Form q j)) at = absurd at
-      go (code_origin.TheVariants.Carried (code_place.TheVariants.Held k q j)) at = absurd at
-      go (code_origin.TheVariants.Carried (code_place.TheVariants.Output j)) at = absurd at
-      go (code_origin.TheVariants.OfForm n) at = absurd at
-      go (code_origin.TheVariants.Read n) at = absurd at
-      go code_origin.TheVariants.Made at = absurd at
       go code_origin.TheVariants.Nothing at =
           let done = call_does (Handle Define) named in
           absurd (omega (arith, at, long, defined_within environment s t call done.0 h done.1 name i item same stands))
+      go other at = absurd at
 
   pub stored_tells : (number : ℕ) (name : List ℕ) (i : ℕ) (item : Item) → primitive_of (argument 0 call.arguments) ≡ HandleBlock StoreBlock → number ≡ length s.blocks →
       found_at t (InHeld number name i) ≡ Some item → origin environment s (InHeld number name i) ≡ Carried (InForm name i)

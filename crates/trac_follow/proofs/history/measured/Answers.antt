@@ -26,12 +26,10 @@ returns-in-Argument g c = λ stands.
 
 others : (s : State) (p : code_place.Place) → ((i : ℕ) → p ≡ code_place.TheVariants.Base i → ⊥) → ((f k i : ℕ) → p ≡ code_place.TheVariants.Argument f k i → ⊥) →
     ((name : _) (i : ℕ) → p ≡ code_place.TheVariants.Form name i → ⊥) → IsPlaced 0 false s (place_of p)
-others s (code_place.TheVariants.Active i) base argument form = aside 0 false s (place_of (code_place.TheVariants.Active i)) refl tt
 others s (code_place.TheVariants.Base i) base argument form = absurd (base i refl)
 others s (code_place.TheVariants.Argument f k i) base argument form = absurd (argument f k i refl)
 others s (code_place.TheVariants.Form name i) base argument form = absurd (form name i refl)
-others s (code_place.TheVariants.Held number name i) base argument form = aside 0 false s (place_of (code_place.TheVariants.Held number name i)) refl tt
-others s (code_place.TheVariants.Output i) base argument form = aside 0 false s (place_of (code_place.TheVariants.Output i)) refl tt
+others s p base argument form = aside 0 false s (place_of p) refl tt
 
 pub returns-in_default : goal.returns-in_default
 returns-in_default g c = λ stands. others c.args.machine.now.state c.args.place c.in_default.not-Base c.in_default.not-Argument c.in_default.not-Form

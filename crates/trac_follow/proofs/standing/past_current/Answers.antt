@@ -5,12 +5,9 @@ use Rattle.trac_follow.proofs.Found.{past_elsewhere, past_in_base}
 use Rattle.trac_follow.proofs.standing.past_current.Goals as goal
 
 elsewhere : (p : code_place.Place) → ((i : ℕ) → p ≡ code_place.TheVariants.Base i → ⊥) → ((f k i : ℕ) → p ≡ code_place.TheVariants.Argument f k i → ⊥) → is_in_text (place_of p) ≡ false
-elsewhere (code_place.TheVariants.Active i) base argument = refl
 elsewhere (code_place.TheVariants.Base i) base argument = absurd (base i refl)
 elsewhere (code_place.TheVariants.Argument f k i) base argument = absurd (argument f k i refl)
-elsewhere (code_place.TheVariants.Form name i) base argument = refl
-elsewhere (code_place.TheVariants.Held number name i) base argument = refl
-elsewhere (code_place.TheVariants.Output i) base argument = refl
+elsewhere p base argument = refl
 
 pub returns-in-Base : goal.returns-in-Base
 returns-in-Base g c = λ n at.
