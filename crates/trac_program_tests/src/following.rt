@@ -1,8 +1,8 @@
-//! Following the bytes of an output back makes no request for memory.
+//! Following bytes back: one by a way that was worked out by hand, and those of an output with no request for memory.
 use std::alloc::Global;
 use std::process::Abort;
 use trac_faults::Refusing;
-use trac_follow::{Place, Source, follow};
+use trac_follow::{Followed, Place, Source, follow};
 use trac_rules::refusal::Refusal;
 use trac_rules::width::Width;
 use trac_session::Session;
@@ -23,11 +23,11 @@ fn go_on(session: &mut Session<Memory<'_>>) -> Option<Refusal> {
     session.forward(60_000).why
 }
 
-fn followed(session: &mut Session<Memory<'_>>, place: Place<'static>) -> Source<'static> {
-    follow(session, Width::W128, place, u64::MAX).source
+fn followed(session: &mut Session<Memory<'_>>, place: Place<'static>) -> Followed<'static> {
+    follow(session, Width::W128, place, u64::MAX)
 }
 
-// The form that the call which comes next names by its argument 1, of the two that the program has longest.
+// The form that the call which comes next names by its argument 1, of the two that the programs have longest.
 fn form_called(session: &Session<Memory<'_>>) -> &'static [u8] {
     match session.machine().next_call() {
         Some((_kind, arguments)) if arguments.get(1) == b"B".as_slice() => b"B",
@@ -56,7 +56,7 @@ fn expect_no_request(
     let mut place = Some(Place::Output(byte));
     for _turn in 0..8 {
         if let Some(here) = place {
-            let source = followed(session, here);
+            let source = followed(session, here).source;
             place = place_before(session, source);
         }
     }
@@ -73,6 +73,87 @@ fn follow_each(rt: &impl Abort, memory: Memory<'_>, session: &mut Session<Memory
     }
 }
 
+// Byte 7 is the `x`. It becomes the form A, goes with it into a block, comes back, and is called and printed. The `ps` of the
+// idle program is function 0 all the while, and each call of the program function 1.
+const PROGRAM: &[u8] = b"#(ds,A,x)#(sb,B,A)#(fb,B)#(ps,##(cl,A))'";
+
+// The way of the byte that it prints, the latest first: how many steps were gone back over, and what was found. There are 50
+// steps before the input ends: 8 that read the program, then 8, 8 and 6 up to `ds`, `sb` and `fb` and with these, 10 with `cl`,
+// 1 that prints, and 9 up to the next `rs`.
+const WAY: &[(u64, Source<'static>)] = &[
+    (
+        10,
+        Source::Passed(Place::Argument {
+            function: 1,
+            argument: 1,
+            byte: 0,
+        }),
+    ),
+    (1, Source::OfForm(0)),
+    (10, Source::Passed(Place::Held(0, b"A", 0))),
+    (6, Source::Passed(Place::Form(b"A", 0))),
+    (
+        8,
+        Source::Passed(Place::Argument {
+            function: 1,
+            argument: 2,
+            byte: 0,
+        }),
+    ),
+    (8, Source::Read(7)),
+];
+
+fn is_same_place(one: Place<'_>, other: Place<'_>) -> bool {
+    match (one, other) {
+        (
+            Place::Argument {
+                function: f,
+                argument: a,
+                byte: i,
+            },
+            Place::Argument {
+                function,
+                argument,
+                byte,
+            },
+        ) => (f, a, i) == (function, argument, byte),
+        (Place::Form(a, i), Place::Form(b, j)) => a == b && i == j,
+        (Place::Held(n, a, i), Place::Held(m, b, j)) => n == m && a == b && i == j,
+        _ => false,
+    }
+}
+
+fn is_same(one: Source<'_>, other: Source<'_>) -> bool {
+    match (one, other) {
+        (Source::Passed(a), Source::Passed(b)) => is_same_place(a, b),
+        (Source::OfForm(i), Source::OfForm(j)) => i == j,
+        (Source::Read(i), Source::Read(j)) => i == j,
+        _ => false,
+    }
+}
+
+fn expect_way(rt: &impl Abort, session: &mut Session<Memory<'_>>) {
+    let mut place = Some(Place::Output(0));
+    for (steps, source) in WAY.iter() {
+        if let Some(here) = place {
+            let found = followed(session, here);
+            assert!(rt;
+                found.steps == *steps && is_same(found.source, *source),
+                "{steps}"
+            );
+            place = place_before(session, found.source);
+        }
+    }
+    assert!(rt; place.is_none());
+}
+
+fn follow_one(rt: &impl Abort, session: &mut Session<Memory<'_>>) {
+    feed(session, PROGRAM).expect(rt, "it was refused");
+    session.end();
+    assert!(rt; go_on(session) == Some(Refusal::Ended));
+    expect_way(rt, session);
+}
+
 fn let_go(session: Session<Memory<'_>>) {
     let _last = session;
 }
@@ -82,5 +163,13 @@ fn each_byte_of_the_output(rt: HostRuntime) {
     let memory = Refusing::new(rt.alloc());
     let mut session = new_session(&memory).expect(&rt, "it was refused");
     follow_each(&rt, &memory, &mut session);
+    let_go(session);
+}
+
+#[test]
+fn through_a_form_and_a_block(rt: HostRuntime) {
+    let memory = Refusing::new(rt.alloc());
+    let mut session = new_session(&memory).expect(&rt, "it was refused");
+    follow_one(&rt, &mut session);
     let_go(session);
 }
