@@ -5,7 +5,7 @@ use Rattle.std.proofs.lemmas.Bool.{cond-false, ne_eqb}
 use Rattle.std.proofs.lemmas.List.{length-append, length-drop}
 use Rattle.trac_rules.specs.declared.item.Item.{Item}
 use Rattle.trac_rules.specs.declared.kind.Kind.{Kind}
-use Rattle.trac_rules.specs.declared.kind.Kind.TheVariants.{Active, Neutral}
+use Rattle.trac_rules.specs.declared.kind.Kind.TheVariants.{Neutral}
 use Rattle.trac_rules.specs.declared.width.Width.{Width}
 use Rattle.trac_rules.specs.Effect.{Effect, argument}
 use Rattle.trac_rules.specs.Goals.{IsCall, call_asked, next_call}
@@ -17,7 +17,7 @@ use Rattle.trac_rules.specs.Stepping.{carried_out, step}
 use Rattle.trac_rules.proofs.Outcomes.{limited_Ok, seen_as-Ok}
 use Rattle.trac_rules.proofs.Scans.{gathered_in_shows}
 use Rattle.trac_origins.specs.Lengths.{current_text, in_current, is_of_text, may_put, value_at}
-use Rattle.trac_origins.specs.Places.{Place, InActive, InBase, InArgument, InForm, InHeld, InOutput, Carried, arguments_of, byte_at, found_at, numbered}
+use Rattle.trac_origins.specs.Places.{Place, InActive, InBase, InArgument, InForm, InOutput, Carried, arguments_of, byte_at, found_at, numbered}
 use Rattle.trac_origins.specs.Stepping.{origin}
 use Rattle.trac_origins.proofs.ToldCalls.{call_rest, call_stays, ended}
 use Rattle.trac_origins.proofs.ToldForms.{call_forms}

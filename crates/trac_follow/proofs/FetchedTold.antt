@@ -1,5 +1,5 @@
 -- Forms that `fb` brings back, as the code tells them.
-use Rattle.std.proofs.Common.{◌≡◌, ℕ, Bool, true, false, cond, List, [], ◌∷◌, refl, sym, ap, ◌∙◌}
+use Rattle.std.proofs.Common.{◌≡◌, ℕ, Bool, true, false, cond, List, refl, sym, ap, ◌∙◌}
 use Rattle.std.specs.Prelude.{Option, None, Some, Ok, Err, if◌then◌else◌, is_some, nat_le, slice_get}
 use Rattle.std.specs.FinMap as finite
 use Rattle.trac_rules.specs.declared.item.Item.{Item}

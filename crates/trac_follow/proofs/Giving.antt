@@ -1,13 +1,13 @@
 -- What calls give.
-use Rattle.std.proofs.Common.{◌≡◌, ℕ, ◌<◌, Bool, true, false, List, [], ◌∷◌, drop, length, refl, sym, ap, ◌∙◌, arith}
+use Rattle.std.proofs.Common.{◌≡◌, ℕ, ◌<◌, true, false, List, [], drop, length, refl, sym, ap, ◌∙◌, arith}
 use Rattle.std.specs.Prelude.{Option, None, Some, Ok}
-use Rattle.trac_rules.specs.declared.primitive.BlockAction.TheVariants.{StoreBlock, FetchBlock, EraseBlock}
+use Rattle.trac_rules.specs.declared.primitive.BlockAction.TheVariants.{FetchBlock}
 use Rattle.trac_rules.specs.declared.primitive.Computation.{Computation}
 use Rattle.trac_rules.specs.declared.primitive.FormAction.{FormAction}
 use Rattle.trac_rules.specs.declared.primitive.FormAction.TheVariants as action
 use Rattle.trac_rules.specs.declared.primitive.FormReading.{FormReading}
 use Rattle.trac_rules.specs.declared.primitive.Primitive.{Primitive}
-use Rattle.trac_rules.specs.declared.primitive.Primitive.TheVariants.{PrintString, ReadString, ReadByte, Halt, SetMeta, SetTrace, Compute, Handle, HandleBlock, Unknown}
+use Rattle.trac_rules.specs.declared.primitive.Primitive.TheVariants.{ReadString, ReadByte, Compute, Handle, HandleBlock}
 use Rattle.trac_rules.specs.Blocks.{named_block_number}
 use Rattle.trac_rules.specs.Effect.{Effect, argument, gives, leaves}
 use Rattle.trac_rules.specs.Filling.{called}

@@ -17,7 +17,7 @@ use Rattle.trac_rules.specs.Scanning.{Call, Calls, Moves, begun, closing_in, com
 use Rattle.trac_rules.specs.State.{Frame, State}
 use Rattle.trac_rules.proofs.Bounded.{total_length-append}
 use Rattle.trac_origins.specs.Lengths.{current_text, in_current}
-use Rattle.trac_origins.specs.Places.{Place, InActive, InBase, InArgument, InForm, InHeld, InOutput, arguments_of, byte_at, found_at, numbered}
+use Rattle.trac_origins.specs.Places.{Place, InBase, InArgument, arguments_of, byte_at, found_at, numbered}
 use Rattle.trac_origins.proofs.Told.{byte_within}
 use Rattle.trac_origins.proofs.ToldCalls.{ended}
 use Rattle.trac_follow.specs.Offsets.{IsPlaced, argument_offset, neutral_bytes, offset}

@@ -14,7 +14,7 @@ use Rattle.trac_rules.specs.Performing.{after_call, changed_by, placed}
 use Rattle.trac_rules.specs.Scanning.{Call, Calls, Moves, begun, closing_in, comma_in, deleted, front_of, gathered_in, scan, scan_at}
 use Rattle.trac_rules.specs.State.{Frame, State}
 use Rattle.trac_origins.specs.Lengths.{current_text, in_current, moves_bytes}
-use Rattle.trac_origins.specs.Places.{Place, InActive, InBase, InArgument, InForm, InHeld, InOutput, arguments_of, byte_at, found_at, numbered}
+use Rattle.trac_origins.specs.Places.{Place, InBase, InArgument, arguments_of, byte_at, found_at, numbered}
 use Rattle.trac_origins.proofs.ToldCalls.{ended}
 use Rattle.trac_origins.proofs.Zips.{number_within}
 use Rattle.trac_follow.specs.Places.{IsOutside, is_in_text}

@@ -12,7 +12,7 @@ use Rattle.trac_rules.proofs.MovedOn.{active-gathered, moved_on-suc}
 use Rattle.trac_origins.specs.Accounts.{Accounts}
 use Rattle.trac_origins.specs.Following.{followed, going_back}
 use Rattle.trac_origins.specs.Lengths.{before_moved, in_active, past_in}
-use Rattle.trac_origins.specs.Places.{Place, InActive, InBase, InArgument, InForm, InHeld, InOutput, Origin, Carried, Read, Made, found_at}
+use Rattle.trac_origins.specs.Places.{Place, InActive, InArgument, InForm, InHeld, Origin, Carried, found_at}
 use Rattle.trac_origins.specs.Stepping.{origin}
 use Rattle.trac_origins.proofs.Accounted.{accounted}
 use Rattle.trac_origins.proofs.Moved.{one_before, plain}

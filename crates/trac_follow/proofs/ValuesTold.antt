@@ -1,5 +1,5 @@
 -- Bytes of values, and of what is printed and put, as the code tells them.
-use Rattle.std.proofs.Common.{◌≡◌, ℕ, ◌+◌, ◌-◌, ◌<◌, ◌≤◌, Bool, true, false, List, [], ◌∷◌, length, get_or, refl, sym, ap, ap₂, subst, ◌∙◌, ℤ, inl, inr, not, ⊎_elim, arith}
+use Rattle.std.proofs.Common.{◌≡◌, ℕ, ◌+◌, ◌-◌, ◌<◌, ◌≤◌, Bool, true, false, List, length, get_or, refl, sym, ap, ap₂, subst, ◌∙◌, ℤ, inl, inr, not, ⊎_elim, arith}
 use Rattle.std.specs.Prelude.{Option, None, Some, Ok, ◌⊎◌, bytes_eq, is_none, is_some}
 use Rattle.std.specs.FinMap as finite
 use Rattle.std.proofs.lemmas.List.{length-append}
