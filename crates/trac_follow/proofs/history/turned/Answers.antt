@@ -8,24 +8,52 @@ use Rattle.trac_follow.proofs.history.turned.Goals as goal
 
 pub returns-then-is_passed : goal.returns-then-is_passed
 returns-then-is_passed g c =
-    (c.told_of.result, c.told_of.ensures.tells, subst (λ o. IsTurn c.args.before.now.state c.args.here o (turning.TheVariants.End (code.TheVariants.Passed c.in-Carried.there))) (sym c.in-Carried.is) (inr (refl, subst (λ b. MatchBool b (IsPassed c.args.before.now.state (place_of c.args.here) (place_of c.in-Carried.there)) (IsPassed c.args.before.now.state (place_of c.args.here) (place_of c.in-Carried.there) → ⊥)) c.if-is_passed.true c.is_passed.ensures, λ form. c.told_of.ensures.taken.1 (ap is_from_form c.in-Carried.is ∙ form))))
+    let s = c.args.before.now.state in
+    let here = place_of c.args.here in
+    let there = place_of c.in-Carried.there in
+    let passed = subst (λ b. MatchBool b (IsPassed s here there) (IsPassed s here there → ⊥)) c.if-is_passed.true c.is_passed.ensures in (
+      c.told_of.result,
+      c.told_of.ensures.tells,
+      subst (λ o. IsTurn s c.args.here o (turning.TheVariants.End (code.TheVariants.Passed c.in-Carried.there))) (sym c.in-Carried.is)
+          (inr (refl, passed, λ form. c.told_of.ensures.taken.1 (ap is_from_form c.in-Carried.is ∙ form))),
+    )
 
 pub returns-else-is_passed : goal.returns-else-is_passed
 returns-else-is_passed g c =
-    (c.told_of.result, c.told_of.ensures.tells, subst (λ o. IsTurn c.args.before.now.state c.args.here o (turning.TheVariants.On c.in-Carried.there)) (sym c.in-Carried.is) (inl (refl, subst (λ b. MatchBool b (IsPassed c.args.before.now.state (place_of c.args.here) (place_of c.in-Carried.there)) (IsPassed c.args.before.now.state (place_of c.args.here) (place_of c.in-Carried.there) → ⊥)) c.if-is_passed.false c.is_passed.ensures)))
+    let s = c.args.before.now.state in
+    let here = place_of c.args.here in
+    let there = place_of c.in-Carried.there in
+    let on = subst (λ b. MatchBool b (IsPassed s here there) (IsPassed s here there → ⊥)) c.if-is_passed.false c.is_passed.ensures in (
+      c.told_of.result,
+      c.told_of.ensures.tells,
+      subst (λ o. IsTurn s c.args.here o (turning.TheVariants.On c.in-Carried.there)) (sym c.in-Carried.is) (inl (refl, on)),
+    )
 
 pub returns-in-OfForm : goal.returns-in-OfForm
-returns-in-OfForm g c =
-    (c.told_of.result, c.told_of.ensures.tells, subst (λ o. IsTurn c.args.before.now.state c.args.here o (turning.TheVariants.End (code.TheVariants.OfForm c.in-OfForm.i))) (sym c.in-OfForm.is) (refl, c.told_of.ensures.taken.0 (ap is_of_form c.in-OfForm.is)))
+returns-in-OfForm g c = (
+  c.told_of.result,
+  c.told_of.ensures.tells,
+  subst (λ o. IsTurn c.args.before.now.state c.args.here o (turning.TheVariants.End (code.TheVariants.OfForm c.in-OfForm.i))) (sym c.in-OfForm.is)
+      (refl, c.told_of.ensures.taken.0 (ap is_of_form c.in-OfForm.is)),
+)
 
 pub returns-in-Read : goal.returns-in-Read
-returns-in-Read g c =
-    (c.told_of.result, c.told_of.ensures.tells, subst (λ o. IsTurn c.args.before.now.state c.args.here o (turning.TheVariants.End (code.TheVariants.Read c.in-Read.n))) (sym c.in-Read.is) (refl))
+returns-in-Read g c = (
+  c.told_of.result,
+  c.told_of.ensures.tells,
+  subst (λ o. IsTurn c.args.before.now.state c.args.here o (turning.TheVariants.End (code.TheVariants.Read c.in-Read.n))) (sym c.in-Read.is) refl,
+)
 
 pub returns-in-Made : goal.returns-in-Made
-returns-in-Made g c =
-    (c.told_of.result, c.told_of.ensures.tells, subst (λ o. IsTurn c.args.before.now.state c.args.here o (turning.TheVariants.End code.TheVariants.Made)) (sym c.in-Made.is) (refl))
+returns-in-Made g c = (
+  c.told_of.result,
+  c.told_of.ensures.tells,
+  subst (λ o. IsTurn c.args.before.now.state c.args.here o (turning.TheVariants.End code.TheVariants.Made)) (sym c.in-Made.is) refl,
+)
 
 pub returns-in-Nothing : goal.returns-in-Nothing
-returns-in-Nothing g c =
-    (c.told_of.result, c.told_of.ensures.tells, subst (λ o. IsTurn c.args.before.now.state c.args.here o (turning.TheVariants.End code.TheVariants.Nothing)) (sym c.in-Nothing.is) (refl))
+returns-in-Nothing g c = (
+  c.told_of.result,
+  c.told_of.ensures.tells,
+  subst (λ o. IsTurn c.args.before.now.state c.args.here o (turning.TheVariants.End code.TheVariants.Nothing)) (sym c.in-Nothing.is) refl,
+)
