@@ -3,7 +3,8 @@
 
 Each program defines a form and prints a byte first, and then calls much, for up to 990,000 steps. The way back of that byte of
 the output, and of the form's byte, goes over all of them. In a second table a call prints a byte that waited in its argument
-while a loop called itself last, or while functions were begun within one another, and a byte that was not scanned meanwhile.
+while a loop called itself last, or while functions were begun within one another, and a byte that was not scanned meanwhile. In
+a third each level of a recursion hands a byte to the next as an argument, and the innermost prints it.
 Walks are made with a journal of 1,048,576 records, the most that there may be: the time of a session that goes forward and then
 back, or follows a byte, less that of one that only goes forward. Each is the least processor time of all rounds: other work on
 the machine can only add to it.
@@ -22,6 +23,7 @@ STEPS = 990_000
 FIRST = b"#(ds,keep,x)'\n#(ps,a)'\n"
 LOOP = b"#(ds,Loop,(#(gr,N,0,(#(cl,Loop,##(su,N,1))),)))'\n#(ss,Loop,N)'\n#(ps,a#(cl,Loop,25000)b)'\n"
 DEEP = b"#(ds,Deep,(#(eq,N,0,,(#(ad,1,#(cl,Deep,##(su,N,1)))))))'\n#(ss,Deep,N)'\n#(ps,a#(cl,Deep,18000)b)'\n"
+HANDED = b"#(ds,Deep,(#(eq,N,0,(#(ps,W)),(#(ad,1,#(cl,Deep,##(su,N,1),W))))))'\n#(ss,Deep,N,W)'\n#(cl,Deep,%d,a)'\n"
 
 
 def calls():
@@ -90,6 +92,10 @@ def main():
     table(program, ["`y` of an argument", "of the active text"], [
         ("a loop of 25,000 turns", LOOP, call, ["y . 1 1", "y . 1 2"]),
         ("18,000 functions within one another", DEEP, call, ["y . 1 1", "y . 1 7"]),
+    ], rounds)
+    print()
+    table(program, ["`y` of the output"], [
+        (f"{levels:,} levels hand it on", HANDED % levels, forward, ["y #1"]) for levels in (1_000, 4_000, 20_000)
     ], rounds)
 
 
