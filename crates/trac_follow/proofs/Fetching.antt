@@ -86,9 +86,7 @@ nothing_first b (x ∷ text) others none = absurd (omega (arith, none))
 
 turned : (first rest : Bool) (found : Option Form) (form : Form) → (rest || is_some (cond first (Some form) found)) ≡ ((first || rest) || is_some found)
 turned true true found form = refl
-turned true false found form = refl
-turned false true found form = refl
-turned false false found form = refl
+turned first rest found form = refl
 
 -- a name is found among forms that were put, where one of them has it
 any_put : (held : Held) (forms : Forms) (q : List ℕ) → is_some (finite.get (with_all held forms) q) ≡ (list_any (is_entry q) held || is_some (finite.get forms q))

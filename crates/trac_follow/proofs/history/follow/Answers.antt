@@ -70,6 +70,7 @@ loop-steps-preserved g c =
 
 pub returns-in-End-clause-followed : goal.returns-in-End-clause-followed
 returns-in-End-clause-followed g c = λ wide trail.
+    let stands = subst (λ (s : State). Stands s (place_of c.args.place)) c.machine.ensures.last (c.stands.ensures.there c.if-not-stands.false) in
     let same = same_session c.pass_back-count.result c.loop-steps.session c.pass_back-count.new.self c.pass_back-count.ensures.passed c.if-count-gt0.false in
     let goes = subst (λ (p : PlainSession). GoesBack c.args.width c.args.session.now p (place_of c.args.place) (place_of c.loop-steps.here) c.loop-steps.steps) same c.loop-steps.invariant.1 in
     let placed = subst (λ (p : PlainSession). IsKnown c.args.width c.args.session.now → IsPlaced c.loop-steps.measure.0 c.loop-steps.measure.1 p.last (place_of c.loop-steps.here)) same c.loop-steps.invariant.2 in
@@ -81,21 +82,24 @@ returns-in-End-clause-followed g c = λ wide trail.
     c.seen_after-after.ensures.active c.seen_after-after.ensures.output c.seen_after-after.ensures.extent c.seen_after-after.ensures.gap c.seen_after-after.ensures.read c.machine-in-loop-steps.ensures.last (placed trail))
     c.machine-in-loop-steps-3.ensures.last c.turned.ensures.1) in
     turned_end c.args.session.now c.pass_back-count.new.self c.back.new.self (place_of c.args.place) (place_of c.loop-steps.here) c.loop-steps.steps c.turned.ensures.0 c.args.width has
-    c.machine-in-loop-steps-3.result.now.state c.args.most c.loop-steps.here c.turned.result c.in-End.source c.found.result c.machine-in-loop-steps-3.ensures.last refl c.turned.ensures.2 c.in-End.is c.found.ensures.steps c.found.ensures.source (subst (λ (s : State). Stands s (place_of c.args.place)) c.machine.ensures.last (c.stands.ensures.there c.if-not-stands.false)) (wide, trail)
+    c.machine-in-loop-steps-3.result.now.state c.args.most c.loop-steps.here c.turned.result c.in-End.source c.found.result c.machine-in-loop-steps-3.ensures.last refl c.turned.ensures.2 c.in-End.is
+    c.found.ensures.steps c.found.ensures.source stands (wide, trail)
 
 pub returns-clause-followed : goal.returns-clause-followed
-returns-clause-followed g c = λ wide trail. elim c.loop-steps-test.branch [
-  | else-loop-steps-test w ↦
-      stops c.args.width c.args.session.now c.loop-steps.session c.loop-steps-test.session (place_of c.args.place) (place_of c.loop-steps.here) c.args.most c.loop-steps.steps c.loop-steps.here c.found-2.result refl
-      c.loop-steps.invariant.1 (inl (omega (arith, w.loop-steps-test.false, c.loop-steps.invariant.0))) w.session-is c.found-2.ensures.steps c.found-2.ensures.source (subst (λ (s : State). Stands s (place_of c.args.place)) c.machine.ensures.last (c.stands.ensures.there c.if-not-stands.false)) (wide, trail)
-  | then-loop-steps-test+else-count-gt0+then-is_some w ↦
-      let same = same_session w.pass_back-count.result c.loop-steps.session w.pass_back-count.new.self w.pass_back-count.ensures.passed w.if-count-gt0.false in
-      let refusal = some_by_test w.back.result.why w.is_some.result w.is_some.ensures w.if-is_some.true in
-      let nowhere = no_way_back w.pass_back-count.new.self w.back.new.self w.back.result.done w.back.result.why refusal.0 w.back.ensures refusal.1 in
-      stops c.args.width c.args.session.now c.loop-steps.session c.loop-steps-test.session (place_of c.args.place) (place_of c.loop-steps.here) c.args.most c.loop-steps.steps c.loop-steps.here c.found-2.result refl
-      c.loop-steps.invariant.1 (inr (ap (λ (p : PlainSession). p.earlier) (same ∙ sym nowhere.0) ∙ nowhere.1)) (w.session-is ∙ nowhere.0 ∙ sym same)
-      c.found-2.ensures.steps c.found-2.ensures.source (subst (λ (s : State). Stands s (place_of c.args.place)) c.machine.ensures.last (c.stands.ensures.there c.if-not-stands.false)) (wide, trail)
-]
+returns-clause-followed g c = λ wide trail.
+    let stands = subst (λ (s : State). Stands s (place_of c.args.place)) c.machine.ensures.last (c.stands.ensures.there c.if-not-stands.false) in
+    elim c.loop-steps-test.branch [
+      | else-loop-steps-test w ↦
+          stops c.args.width c.args.session.now c.loop-steps.session c.loop-steps-test.session (place_of c.args.place) (place_of c.loop-steps.here) c.args.most c.loop-steps.steps c.loop-steps.here c.found-2.result refl
+          c.loop-steps.invariant.1 (inl (omega (arith, w.loop-steps-test.false, c.loop-steps.invariant.0))) w.session-is c.found-2.ensures.steps c.found-2.ensures.source stands (wide, trail)
+      | then-loop-steps-test+else-count-gt0+then-is_some w ↦
+          let same = same_session w.pass_back-count.result c.loop-steps.session w.pass_back-count.new.self w.pass_back-count.ensures.passed w.if-count-gt0.false in
+          let refusal = some_by_test w.back.result.why w.is_some.result w.is_some.ensures w.if-is_some.true in
+          let nowhere = no_way_back w.pass_back-count.new.self w.back.new.self w.back.result.done w.back.result.why refusal.0 w.back.ensures refusal.1 in
+          stops c.args.width c.args.session.now c.loop-steps.session c.loop-steps-test.session (place_of c.args.place) (place_of c.loop-steps.here) c.args.most c.loop-steps.steps c.loop-steps.here c.found-2.result refl
+          c.loop-steps.invariant.1 (inr (ap (λ (p : PlainSession). p.earlier) (same ∙ sym nowhere.0) ∙ nowhere.1)) (w.session-is ∙ nowhere.0 ∙ sym same)
+          c.found-2.ensures.steps c.found-2.ensures.source stands (wide, trail)
+    ]
 
 pub returns-in-End-clause-back : goal.returns-in-End-clause-back
 returns-in-End-clause-back g c =
