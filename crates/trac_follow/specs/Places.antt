@@ -30,7 +30,7 @@ place_of (code_place.TheVariants.Output i) = InOutput i
 abbrev pub IsCalled : State → ℕ → Type 0
 IsCalled s function = (call : Call) × (scan s ≡ Calls call) × (function + 1 ≡ length s.frames)
 
--- whether a place is in a form, and in one or in a block
+-- whether a place is in a form; and whether it is in a form or in a block
 abbrev pub is_in_form : Place → Bool
 is_in_form (InForm name i) = true
 is_in_form place = false
