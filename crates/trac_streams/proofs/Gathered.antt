@@ -1,12 +1,12 @@
 -- Bytes that are read, a read after the other.
 use Rattle.std.proofs.Common.{◌≡◌, ℕ, ◌+◌, ◌-◌, ◌<◌, ◌≤◌, Bool, true, false, List, [], ◌++◌, length, refl, sym, ap, subst, ◌∙◌, arith, inl, inr, ⊎_elim}
 use Rattle.std.specs.Prelude.{◌⊎◌, Option, None, Some, take, if◌then◌else◌}
-use Rattle.std.specs.Io.KnownBytes.{Consumes, IsAtEnd, Keeps}
+use Rattle.std.specs.Io.KnownBytes.{Consumes, Keeps}
 use Rattle.std.proofs.lemmas.Bool.{false≢true, cases_Bool}
 use Rattle.std.proofs.lemmas.List.{append-nil, append_assoc, length-append, length-take-le}
 use Rattle.trac_streams.specs.declared.ending.Ending.{Ending}
 use Rattle.trac_streams.specs.declared.ending.Ending.TheVariants.{Memory, Read}
-use Rattle.trac_streams.proofs.Known.{Consumes-nothing, Consumes-both}
+use Rattle.trac_streams.proofs.Known.{Consumes-both}
 use Rattle.trac_streams.specs.declared.lines.NextLine.{NextLine}
 use Rattle.trac_streams.specs.declared.lines.NextLine.TheVariants.{Part}
 use Rattle.trac_streams.specs.declared.lines.TheConstants.{LINE_LIMIT}

@@ -1,5 +1,7 @@
 //! The options of a run.
-ghost use Rattle.std.specs.Prelude.{◌≡◌, ◌≤◌, MatchOption};
+ghost use Rattle.std.specs.Prelude.{◌≡◌, ◌≤◌, ◌↔◌, MatchOption, Some, true};
+ghost use Rattle.trac_rules.specs.declared.width.Width.TheVariants.{W128};
+ghost use Rattle.trac_streams.specs.Widths.{width_of};
 
 use trac_rules::width::Width;
 
@@ -31,4 +33,28 @@ pub fn budget_of(asked: Option<u64>) -> u64
         Some(budget) => budget.clamp(1, BUDGET_LIMIT),
         None => DEFAULT_BUDGET,
     }
+}
+
+/// Whether a number is one from 1 to the most.
+pub fn is_in_range(number: u64, most: u64) -> bool
+    ensures { (result ≡ true) ↔ ((1 ≤ number) × (number ≤ most)) }
+{
+    1 <= number && number <= most
+}
+
+/// How wide numbers are to be where this is wanted: of 128 bits where nothing is said. None where another width is wanted (this
+/// project's profile).
+pub fn decimals_of(asked: Option<&str>) -> Option<Width>
+    ensures { MatchOption asked.entry (result ≡ Some W128) (λ bits. result ≡ width_of bits.now) }
+{
+    let Some(bits) = asked else {
+        return Some(Width::W128);
+    };
+    if bits == "64" {
+        return Some(Width::W64);
+    }
+    if bits == "128" {
+        return Some(Width::W128);
+    }
+    None
 }

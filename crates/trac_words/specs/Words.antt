@@ -1,9 +1,6 @@
 -- What a command line may ask for.
-use Rattle.std.specs.Prelude.{◌≤◌, ℕ, List, Option, None, Some, codes, if◌then◌else◌}
-use Rattle.std.specs.Str.{bytes_eq}
+use Rattle.std.specs.Prelude.{◌≤◌}
 use Rattle.trac_rules.specs.declared.limit.TheConstants.{JOURNAL_LIMIT}
-use Rattle.trac_rules.specs.declared.width.Width.{Width}
-use Rattle.trac_rules.specs.declared.width.Width.TheVariants.{W64, W128}
 use Rattle.trac_streams.specs.declared.options.TheConstants.{BUDGET_LIMIT}
 use Rattle.trac_streams.specs.declared.options.Options.{Options}
 use Rattle.trac_words.specs.declared.walk_words.WalkLine.{WalkLine}
@@ -36,7 +33,3 @@ abbrev pub IsWalkLine : WalkLine → Type 0
 IsWalkLine (walks.Walk path options prompt) = AreWithin options
 IsWalkLine (walks.Help text) = Unit {0}
 IsWalkLine (walks.Bad text) = Unit {0}
-
--- the width of numbers that a word asks for, if it asks for one
-abbrev pub width_of : List ℕ → Option Width
-width_of bits = if bytes_eq bits (codes "64") then Some W64 else (if bytes_eq bits (codes "128") then Some W128 else None)

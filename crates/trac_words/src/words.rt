@@ -1,7 +1,6 @@
 //! The command line.
-ghost use Rattle.std.specs.Prelude.{◌≡◌, ◌≤◌, IfOk, IfSome, MatchOption, Some};
-ghost use Rattle.trac_rules.specs.declared.width.Width.TheVariants.{W128};
-ghost use Rattle.trac_words.specs.Words.{IsLine, IsWithin, width_of};
+ghost use Rattle.std.specs.Prelude.{◌≤◌, IfOk, IfSome};
+ghost use Rattle.trac_words.specs.Words.{IsLine, IsWithin};
 
 use crate::help::{DEBUG_USE, RUN_USAGE, RUN_USE, USE, VERSION};
 use crate::tips::with_tip;
@@ -10,7 +9,7 @@ use clap::{Arg, ArgMatches, Command, Error};
 use std::alloc::{AllocError, Global};
 use trac_rules::limit::JOURNAL_LIMIT;
 use trac_rules::width::Width;
-use trac_streams::{BUDGET_LIMIT, DEFAULT_BUDGET, Options};
+use trac_streams::{BUDGET_LIMIT, DEFAULT_BUDGET, Options, decimals_of, is_in_range};
 
 /// How many records a run's journal may hold where nothing else is said (this project's profile).
 pub const DEFAULT_JOURNAL: usize = 65_536;
@@ -152,7 +151,7 @@ fn number_in(found: &ArgMatches<'_>, option: &str, default: u64, most: u64) -> O
         return Some(default);
     }
     let number = found.get_one::<u64>(option)?;
-    if 1 <= number && number <= most {
+    if is_in_range(number, most) {
         Some(number)
     } else {
         None
@@ -171,22 +170,6 @@ fn out_of_range(
         "error: invalid value '{value}' for '--{option} <N>': it has to be a number from 1 to {most}\n\n\
          For more information, try '--help'.\n"
     )
-}
-
-// How wide numbers are to be where this is wanted: of 128 bits where nothing is said. None where another width is wanted.
-fn decimals_of(asked: Option<&str>) -> Option<Width>
-    ensures { MatchOption asked.entry (result ≡ Some W128) (λ bits. result ≡ width_of bits.now) }
-{
-    let Some(bits) = asked else {
-        return Some(Width::W128);
-    };
-    if bits == "64" {
-        return Some(Width::W64);
-    }
-    if bits == "128" {
-        return Some(Width::W128);
-    }
-    None
 }
 
 // What is said of a width that is neither of the two.
