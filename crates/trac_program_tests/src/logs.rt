@@ -103,16 +103,8 @@ fn expect_calls(rt: &impl Abort, noted: Option<Vec<LoggedCall>>, wanted: &[Logge
 }
 
 #[test]
-fn a_run_is_flushed_before_more_is_read(rt: HostRuntime) {
+fn all_is_flushed_before_more_is_read(rt: HostRuntime) {
     expect_calls(&rt, noted_in_a_run(&rt), IN_A_RUN);
-}
-
-#[test]
-fn a_session_is_flushed_before_more_is_read(rt: HostRuntime) {
     expect_calls(&rt, noted_in_a_session(&rt), IN_A_SESSION);
-}
-
-#[test]
-fn a_walk_is_flushed_before_more_is_read(rt: HostRuntime) {
     expect_calls(&rt, noted_in_a_walk(&rt), IN_A_WALK);
 }

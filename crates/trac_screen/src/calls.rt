@@ -2,11 +2,10 @@
 
 use crate::notes::refused;
 use crate::screen_line::ScreenLine;
-use crate::standing_line::{call_into, innermost};
+use crate::sight::{Sight, last_of};
+use crate::standing_line::call_into;
 use std::alloc::{AllocError, Allocator};
-use trac_gap::TwoEnds;
 use trac_rules::refusal::Refusal;
-use trac_step::{Core, Machine, Mark};
 
 // So many columns a call takes at most, with its number, so that its value is seen.
 const CALL_WIDTH: usize = 56;
@@ -16,27 +15,36 @@ const CALL_WIDTH: usize = 56;
 pub fn call_line<A: Allocator + Copy>(
     alloc: A,
     step: u64,
-    machine: &Machine<A>,
+    sight: &Sight<'_, A>,
 ) -> Result<ScreenLine<A>, AllocError> {
     let mut line = ScreenLine::new(alloc);
-    line.count(step)?;
-    line.say(b"  ")?;
-    if let Some((kind, arguments)) = innermost(machine) {
-        call_into(kind, &arguments, &mut line)?;
-    }
+    say_call(step, sight, &mut line)?;
     line.cut(CALL_WIDTH)?;
     Ok(line)
+}
+
+fn say_call<A: Allocator + Copy>(
+    step: u64,
+    sight: &Sight<'_, A>,
+    line: &mut ScreenLine<A>,
+) -> Result<(), AllocError> {
+    line.count(step)?;
+    line.say(b"  ")?;
+    match &sight.begun {
+        Some((kind, arguments)) => call_into(*kind, arguments, line),
+        None => Ok(()),
+    }
 }
 
 /// Puts what the call gave at the end of its line: its value, or why it was refused.
 pub fn outcome_into<A: Allocator + Copy>(
     before: Lengths,
     why: Option<Refusal>,
-    machine: &Machine<A>,
+    sight: &Sight<'_, A>,
     line: &mut ScreenLine<A>,
 ) -> Result<(), AllocError> {
     match why {
-        None => value_into(before.value(machine), line),
+        None => value_into(before.value(sight), line),
         Some(refusal) => {
             line.say(b": ")?;
             line.say(refused(refusal))
@@ -67,46 +75,28 @@ pub struct Lengths {
 
 impl Lengths {
     /// Before a call.
-    pub fn of<A: Allocator + Copy>(machine: &Machine<A>) -> Lengths {
-        lengths_of(machine)
+    pub fn of<A: Allocator + Copy>(sight: &Sight<'_, A>) -> Lengths {
+        Lengths {
+            active: sight.active.len().saturating_sub(1),
+            around: sight.around.len(),
+        }
     }
 
     // The value, after the call: what was added to the front of the active text, or to the end of the text around.
-    fn value<'m, E: TwoEnds<u8, A>, M: TwoEnds<Mark, A>, A: Allocator + Copy>(
-        &self,
-        machine: &'m Core<E, M, A>,
-    ) -> &'m [u8] {
-        let active = machine.active();
+    fn value<'m, A: Allocator + Copy>(&self, sight: &Sight<'m, A>) -> &'m [u8] {
+        let active = sight.active;
         if active.len() > self.active {
             return active.split_at(active.len() - self.active).0;
         }
-        let around = current_at(machine, machine.depth());
+        let around = current_in(sight);
         around.split_at(around.len().min(self.around)).1
     }
 }
 
-// How long the texts of a machine are before a call. Here and below the machine may be of any representation: that the gap
-// buffer is one is shown once by each public call, and not by each function.
-fn lengths_of<E: TwoEnds<u8, A>, M: TwoEnds<Mark, A>, A: Allocator + Copy>(
-    machine: &Core<E, M, A>,
-) -> Lengths {
-    let depth = machine.depth().saturating_sub(1);
-    Lengths {
-        active: machine.active().len().saturating_sub(1),
-        around: current_at(machine, depth).len(),
-    }
-}
-
-// The text that is gathered at this depth.
-fn current_at<E: TwoEnds<u8, A>, M: TwoEnds<Mark, A>, A: Allocator + Copy>(
-    machine: &Core<E, M, A>,
-    depth: usize,
-) -> &[u8] {
-    if depth == 0 {
-        return machine.base();
-    }
-    match machine.frame(depth - 1) {
-        Some((_, arguments)) => arguments.get(arguments.count().saturating_sub(1)),
-        None => &[],
+// The text that is gathered.
+fn current_in<'m, A: Allocator + Copy>(sight: &Sight<'m, A>) -> &'m [u8] {
+    match &sight.begun {
+        Some((_, arguments)) => last_of(arguments),
+        None => sight.around,
     }
 }

@@ -21,16 +21,36 @@ pub fn list_into<A: Allocator + Copy>(
         return out.extend_from_slice(b"there are no forms\n");
     }
     for name in &names {
-        let mut line = ScreenLine::new(alloc);
-        line.say(b"length ")?;
-        if let Some(form) = store.get(name) {
-            line.count(form.len() as u64)?;
-        }
-        line.say(b"  ")?;
-        line.show(name)?;
-        line.end_into(out)?;
+        let len = match store.get(name) {
+            Some(form) => form.len(),
+            None => 0,
+        };
+        length_into(alloc, name, len, out)?;
     }
     Ok(())
+}
+
+// A line for a form of this name that has so many items.
+fn length_into<A: Allocator + Copy>(
+    alloc: A,
+    name: &[u8],
+    len: usize,
+    out: &mut Vec<u8, A>,
+) -> Result<(), AllocError> {
+    let mut line = ScreenLine::new(alloc);
+    say_length(name, len, &mut line)?;
+    line.end_into(out)
+}
+
+fn say_length<A: Allocator + Copy>(
+    name: &[u8],
+    len: usize,
+    line: &mut ScreenLine<A>,
+) -> Result<(), AllocError> {
+    line.say(b"length ")?;
+    line.count(len as u64)?;
+    line.say(b"  ")?;
+    line.show(name)
 }
 
 /// Puts the form of a name at the end of a text, all of it, in one line: a gap of number k as `[k]`, and the pointer as `[^]`.

@@ -2,7 +2,6 @@
 //! asks a machine something.
 
 use std::alloc::Allocator;
-use trac_forms::Store;
 use trac_gap::TwoEnds;
 use trac_step::{Core, Machine, Mark};
 
@@ -47,14 +46,4 @@ fn beginning_of(active: &[u8]) -> usize {
         [b'#', b'#', b'(', ..] => 3,
         _ => 0,
     }
-}
-
-/// The forms and blocks of a machine.
-pub fn store_of<A: Allocator + Copy>(machine: &Machine<A>) -> &Store<A> {
-    machine.store()
-}
-
-/// Whether the next step of a machine performs `rs`, which reads a text up to the meta character.
-pub fn reads_text<A: Allocator + Copy>(machine: &Machine<A>) -> bool {
-    matches!(machine.at_call(), Some([b'r' | b'R', b's' | b'S']))
 }

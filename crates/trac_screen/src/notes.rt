@@ -33,6 +33,12 @@ pub enum Stop {
     PrintedEarlier,
     /// Nothing stands at the place.
     NoByte,
+    /// Of the name of the call that comes next nothing is scanned.
+    NoName,
+    /// There is no form of this name.
+    NoSuchForm,
+    /// There is no form whose name is a dot; an argument was meant, and one number more is wanted.
+    NoByteOfArgument,
 }
 
 // What may have been meant where there is no form of a name.
@@ -89,6 +95,9 @@ fn reason(stop: Stop) -> &'static [u8] {
         Stop::NotPrintedSince => b"that was not printed since the way back begins, at step ",
         Stop::PrintedEarlier => b"that was printed before the way back begins, at step ",
         Stop::NoByte => b"no byte stands there",
+        Stop::NoName => b"no byte of the name of this call is scanned",
+        Stop::NoSuchForm => b"there is no form of this name",
+        Stop::NoByteOfArgument => b"there is no form of this name; byte K of argument A is y . A K",
     }
 }
 

@@ -6,7 +6,7 @@ use crate::standing_line::{begun_into, sharps};
 use std::alloc::{AllocError, Allocator};
 use trac_gap::TwoEnds;
 use trac_rules::byte::LINE_FEED;
-use trac_step::{Core, Machine, Mark};
+use trac_step::{Args, Core, Kind, Machine, Mark};
 use trac_streams::escaped_into;
 
 // So many begun functions are shown at most: the outermost and the innermost of them.
@@ -85,11 +85,19 @@ fn functions_into<E: TwoEnds<u8, A>, M: TwoEnds<Mark, A>, A: Allocator + Copy>(
         return rows_into(alloc, machine, 0, depth, out);
     }
     rows_into(alloc, machine, 0, OUTER_ROWS, out)?;
-    let mut line = labelled(alloc, b"begun   .. ")?;
-    line.count((depth - OUTER_ROWS - INNER_ROWS) as u64)?;
-    line.say(b" more ..")?;
-    line.end_into(out)?;
+    more_into(alloc, depth - OUTER_ROWS - INNER_ROWS, out)?;
     rows_into(alloc, machine, depth - INNER_ROWS, depth, out)
+}
+
+// A line for so many begun functions that are left out.
+fn more_into<A: Allocator + Copy>(
+    alloc: A,
+    count: usize,
+    out: &mut Vec<u8, A>,
+) -> Result<(), AllocError> {
+    let mut line = labelled(alloc, b"begun   ")?;
+    line.say_left_out(count)?;
+    line.end_into(out)
 }
 
 // The begun functions from one number up to another.
@@ -101,13 +109,23 @@ fn rows_into<E: TwoEnds<u8, A>, M: TwoEnds<Mark, A>, A: Allocator + Copy>(
     out: &mut Vec<u8, A>,
 ) -> Result<(), AllocError> {
     for i in from..to {
-        let mut line = labelled(alloc, b"begun   ")?;
         if let Some((kind, arguments)) = machine.frame(i) {
-            begun_into(kind, &arguments, &mut line)?;
+            row_into(alloc, kind, &arguments, out)?;
         }
-        line.end_into(out)?;
     }
     Ok(())
+}
+
+// A begun function, in a line.
+fn row_into<A: Allocator + Copy>(
+    alloc: A,
+    kind: Kind,
+    arguments: &Args<'_>,
+    out: &mut Vec<u8, A>,
+) -> Result<(), AllocError> {
+    let mut line = labelled(alloc, b"begun   ")?;
+    begun_into(kind, arguments, &mut line)?;
+    line.end_into(out)
 }
 
 // The text around the place that scanning has reached.
@@ -184,22 +202,39 @@ fn output_into<A: Allocator + Copy>(
     for row in 0..OUTPUT_ROWS {
         let label: &[u8] = if row == 0 { b"output  " } else { b"        " };
         let len = line_len(rest);
-        let mut shown = Vec::new(alloc);
-        escaped_into(rest.split_at(len).0, &mut shown)?;
-        let mut line = labelled(alloc, label)?;
-        end_of_into(
-            shown.as_slice(),
-            OUTPUT_WIDTH,
-            row == 0 && is_cut,
-            &mut line,
-        )?;
-        line.end_into(out)?;
-        if len == rest.len() {
+        let (shown, others) = rest.split_at(len);
+        output_line_into(alloc, label, shown, row == 0 && is_cut, out)?;
+        if others.is_empty() {
             return Ok(());
         }
-        rest = rest.split_at(len).1;
+        rest = others;
     }
     Ok(())
+}
+
+// The end of a line of the output, after this label, and after `..` where it is cut already.
+fn output_line_into<A: Allocator + Copy>(
+    alloc: A,
+    label: &[u8],
+    text: &[u8],
+    is_cut: bool,
+    out: &mut Vec<u8, A>,
+) -> Result<(), AllocError> {
+    let mut line = labelled(alloc, label)?;
+    escaped_end_into(alloc, text, is_cut, &mut line)?;
+    line.end_into(out)
+}
+
+// The end of a text, shown.
+fn escaped_end_into<A: Allocator + Copy>(
+    alloc: A,
+    text: &[u8],
+    is_cut: bool,
+    line: &mut ScreenLine<A>,
+) -> Result<(), AllocError> {
+    let mut shown = Vec::new(alloc);
+    escaped_into(text, &mut shown)?;
+    end_of_into(shown.as_slice(), OUTPUT_WIDTH, is_cut, line)
 }
 
 // Whether the last bytes of a text, so many, begin within a line.
@@ -243,17 +278,30 @@ fn storage_into<E: TwoEnds<u8, A>, M: TwoEnds<Mark, A>, A: Allocator + Copy>(
 ) -> Result<(), AllocError> {
     let store = machine.store();
     let mut line = labelled(alloc, b"forms   ")?;
-    line.count(store.form_count() as u64)?;
-    line.say(b" (f lists them), blocks ")?;
-    line.count(store.block_count() as u64)?;
-    line.say(b", meta ")?;
-    line.show(&[machine.meta()])?;
-    line.say(if machine.trace() {
-        b", trace on"
-    } else {
-        b", trace off"
-    })?;
+    say_counts(store.form_count(), store.block_count(), &mut line)?;
+    say_settings(machine.meta(), machine.trace(), &mut line)?;
     line.end_into(out)
+}
+
+// Here and below what says several words is lent the line: each word that may be refused would else let go of it.
+fn say_counts<A: Allocator + Copy>(
+    forms: usize,
+    blocks: usize,
+    line: &mut ScreenLine<A>,
+) -> Result<(), AllocError> {
+    line.count(forms as u64)?;
+    line.say(b" (f lists them), blocks ")?;
+    line.count(blocks as u64)
+}
+
+fn say_settings<A: Allocator + Copy>(
+    meta: u8,
+    trace: bool,
+    line: &mut ScreenLine<A>,
+) -> Result<(), AllocError> {
+    line.say(b", meta ")?;
+    line.show(&[meta])?;
+    line.say(if trace { b", trace on" } else { b", trace off" })
 }
 
 // How far one can go back, and what is read and printed.
@@ -263,15 +311,29 @@ fn reach_into<A: Allocator + Copy>(
     out: &mut Vec<u8, A>,
 ) -> Result<(), AllocError> {
     let mut line = labelled(alloc, b"step    ")?;
+    say_steps(reach, &mut line)?;
+    say_bytes(reach, &mut line)?;
+    line.end_into(out)
+}
+
+fn say_steps<A: Allocator + Copy>(
+    reach: Reach,
+    line: &mut ScreenLine<A>,
+) -> Result<(), AllocError> {
     line.count(reach.step)?;
     line.say(b", back to ")?;
-    line.count(reach.first_step)?;
+    line.count(reach.first_step)
+}
+
+fn say_bytes<A: Allocator + Copy>(
+    reach: Reach,
+    line: &mut ScreenLine<A>,
+) -> Result<(), AllocError> {
     line.say(b"; ")?;
-    bytes_into(reach.unread, &mut line)?;
+    bytes_into(reach.unread, line)?;
     line.say(b" of input not read, ")?;
-    bytes_into(reach.printed, &mut line)?;
-    line.say(b" printed")?;
-    line.end_into(out)
+    bytes_into(reach.printed, line)?;
+    line.say(b" printed")
 }
 
 // How many bytes, in words.

@@ -49,6 +49,13 @@ impl<A: Allocator + Copy> ScreenLine<A> {
         number_into(number, &mut self.bytes)
     }
 
+    /// Puts at the end that so many are left out.
+    pub fn say_left_out(&mut self, number: usize) -> Result<(), AllocError> {
+        self.say(b".. ")?;
+        self.count(number as u64)?;
+        self.say(b" more ..")
+    }
+
     /// Puts a text at the end, its bytes shown as `trac debug` shows them.
     pub fn show(&mut self, text: &[u8]) -> Result<(), AllocError> {
         if self.is_full() {

@@ -1,56 +1,45 @@
 //! Where a walk stands, in one line.
 
 use crate::screen_line::{ScreenLine, front};
+use crate::sight::Sight;
 use std::alloc::{AllocError, Allocator};
-use trac_gap::TwoEnds;
-use trac_step::{Args, Core, Kind, Machine, Mark};
+use trac_step::{Args, Kind};
 
 /// Puts a line at the end of a text: the number of the next step, which is this, and what that step does. The error is that
 /// memory was refused, here and below.
 pub fn standing_into<A: Allocator + Copy>(
     alloc: A,
     step: u64,
-    machine: &Machine<A>,
+    sight: &Sight<'_, A>,
     out: &mut Vec<u8, A>,
 ) -> Result<(), AllocError> {
     let mut line = ScreenLine::new(alloc);
-    line.count(step)?;
-    line.say(b"  ")?;
-    next_into(machine, &mut line)?;
+    next_into(step, sight, &mut line)?;
     line.end_into(out)
 }
 
-/// What the next step does: the call that it performs, or the rule of scanning that it follows. Here and below the machine may
-/// be of any representation: that the gap buffer is one is shown once by each public call, and not by each function.
-pub fn next_into<E: TwoEnds<u8, A>, M: TwoEnds<Mark, A>, A: Allocator + Copy>(
-    machine: &Core<E, M, A>,
+/// The number of the next step, which is this, and what that step does: the call that it performs, or the rule of scanning that it follows.
+pub fn next_into<A: Allocator + Copy>(
+    step: u64,
+    sight: &Sight<'_, A>,
     line: &mut ScreenLine<A>,
 ) -> Result<(), AllocError> {
-    match innermost(machine) {
-        Some((kind, arguments)) => inside_into(machine, kind, &arguments, line),
-        None => outside_into(machine.active(), line),
+    line.count(step)?;
+    line.say(b"  ")?;
+    match &sight.begun {
+        Some((kind, arguments)) => inside_into(sight.active, *kind, arguments, line),
+        None => outside_into(sight.active, line),
     }
-}
-
-/// The innermost begun function: its kind and its arguments.
-pub fn innermost<E: TwoEnds<u8, A>, M: TwoEnds<Mark, A>, A: Allocator + Copy>(
-    machine: &Core<E, M, A>,
-) -> Option<(Kind, Args<'_>)> {
-    let depth = machine.depth();
-    if depth == 0 {
-        return None;
-    }
-    machine.frame(depth - 1)
 }
 
 // What the next step does inside a function.
-fn inside_into<E: TwoEnds<u8, A>, M: TwoEnds<Mark, A>, A: Allocator + Copy>(
-    machine: &Core<E, M, A>,
+fn inside_into<A: Allocator + Copy>(
+    active: &[u8],
     kind: Kind,
     arguments: &Args<'_>,
     line: &mut ScreenLine<A>,
 ) -> Result<(), AllocError> {
-    match machine.active() {
+    match active {
         [b')', ..] => call_into(kind, arguments, line),
         [b',', ..] => {
             line.say(b"\",\" ends an argument of ")?;

@@ -1,9 +1,9 @@
 //! The way of a byte back: what steps did with it, one in a line.
 
 use crate::screen_line::ScreenLine;
+use crate::sight::Sight;
 use crate::standing_line::next_into;
 use std::alloc::{AllocError, Allocator};
-use trac_step::Machine;
 
 // So many columns a step takes at most, so that what it did is seen.
 const STEP_WIDTH: usize = 48;
@@ -20,14 +20,21 @@ pub enum Treatment {
     Puts,
     /// A call gave it in its value.
     Gives,
+    /// The way back ends here, so.
+    Ends(Origin),
+}
+
+/// Where a byte comes from.
+#[derive(Clone, Copy)]
+pub enum Origin {
     /// The step made it.
-    Makes,
+    Made,
     /// A call read it, as this byte of this line of the program, both counted from 1.
-    Reads(u64, u64),
+    Read(u64, u64),
     /// A call read it, as the byte of this number, counted from 1, of the input after the program.
-    ReadsFed(u64),
+    ReadFed(u64),
     /// The way back begins after the step that brought it here.
-    Keeps,
+    There,
 }
 
 /// The beginning of a line: the number of the next step, which is this, and what the step does. The error is that memory was
@@ -35,12 +42,10 @@ pub enum Treatment {
 pub fn step_line<A: Allocator + Copy>(
     alloc: A,
     step: u64,
-    machine: &Machine<A>,
+    sight: &Sight<'_, A>,
 ) -> Result<ScreenLine<A>, AllocError> {
     let mut line = ScreenLine::new(alloc);
-    line.count(step)?;
-    line.say(b"  ")?;
-    next_into(machine, &mut line)?;
+    next_into(step, sight, &mut line)?;
     line.cut(STEP_WIDTH)?;
     line.pad(TREATMENT_COLUMN)?;
     Ok(line)
@@ -50,11 +55,11 @@ pub fn step_line<A: Allocator + Copy>(
 pub fn treatment_into<A: Allocator + Copy>(
     alloc: A,
     step: u64,
-    machine: &Machine<A>,
+    sight: &Sight<'_, A>,
     treatment: Treatment,
     out: &mut Vec<u8, A>,
 ) -> Result<(), AllocError> {
-    let mut line = step_line(alloc, step, machine)?;
+    let mut line = step_line(alloc, step, sight)?;
     say_treatment(treatment, &mut line)?;
     line.end_into(out)
 }
@@ -66,8 +71,8 @@ fn say_treatment<A: Allocator + Copy>(
 ) -> Result<(), AllocError> {
     line.say(words_of(treatment))?;
     match treatment {
-        Treatment::Reads(row, column) => place_into(row, column, line),
-        Treatment::ReadsFed(number) => fed_into(number, line),
+        Treatment::Ends(Origin::Read(row, column)) => place_into(row, column, line),
+        Treatment::Ends(Origin::ReadFed(number)) => fed_into(number, line),
         _ => Ok(()),
     }
 }
@@ -89,31 +94,27 @@ fn fed_into<A: Allocator + Copy>(number: u64, line: &mut ScreenLine<A>) -> Resul
     line.say(b" after FILE")
 }
 
-/// Puts where a byte comes from at the end of a line, by what the step of this number did with it.
-pub fn source_into<A: Allocator + Copy>(
-    treatment: Treatment,
+/// Puts where a byte comes from at the end of a line; the way back ends at the step of this number.
+pub fn origin_into<A: Allocator + Copy>(
+    origin: Origin,
     step: u64,
     line: &mut ScreenLine<A>,
 ) -> Result<(), AllocError> {
-    match treatment {
-        Treatment::Reads(row, column) => {
+    match origin {
+        Origin::Read(row, column) => {
             line.say(b"line ")?;
             place_into(row, column, line)
         }
-        Treatment::ReadsFed(number) => {
+        Origin::ReadFed(number) => {
             line.say(b"byte ")?;
             fed_into(number, line)
         }
-        Treatment::Makes => {
+        Origin::Made => {
             line.say(b"made by step ")?;
             line.count(step)
         }
-        Treatment::Keeps => {
+        Origin::There => {
             line.say(b"there at step ")?;
-            line.count(step)
-        }
-        _ => {
-            line.say(b"brought by step ")?;
             line.count(step)
         }
     }
@@ -125,10 +126,10 @@ fn words_of(treatment: Treatment) -> &'static [u8] {
         Treatment::Prints => b"prints it",
         Treatment::Puts => b"sets it",
         Treatment::Gives => b"gives it",
-        Treatment::Makes => b"makes it",
-        Treatment::Reads(_, _) => b"reads it: line ",
-        Treatment::ReadsFed(_) => b"reads it: byte ",
-        Treatment::Keeps => b"it is there already",
+        Treatment::Ends(Origin::Made) => b"makes it",
+        Treatment::Ends(Origin::Read(_, _)) => b"reads it: line ",
+        Treatment::Ends(Origin::ReadFed(_)) => b"reads it: byte ",
+        Treatment::Ends(Origin::There) => b"it is there already",
     }
 }
 
@@ -139,8 +140,6 @@ pub fn left_out_into<A: Allocator + Copy>(
     out: &mut Vec<u8, A>,
 ) -> Result<(), AllocError> {
     let mut line = ScreenLine::new(alloc);
-    line.say(b".. ")?;
-    line.count(count as u64)?;
-    line.say(b" more ..")?;
+    line.say_left_out(count)?;
     line.end_into(out)
 }

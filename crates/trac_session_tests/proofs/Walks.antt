@@ -10,11 +10,16 @@ use Rattle.trac_rules.specs.declared.refusal.Refusal.{Refusal}
 use Rattle.trac_rules.specs.Form.{Form}
 use Rattle.trac_rules.specs.Limits.{marks, text_bytes, texts_fit}
 use Rattle.trac_rules.specs.Matching.{match_of}
+use Rattle.trac_rules.specs.Outcomes.{MayAnswer}
 use Rattle.trac_rules.specs.Performing.{performed}
 use Rattle.trac_rules.specs.Scanning.{scan}
 use Rattle.trac_rules.specs.State.{Environment, Forms, State, initial}
 use Rattle.trac_rules.specs.Stepping.{step}
+use Rattle.trac_rules.proofs.Outcomes.{limited_Ok}
+use Rattle.trac_storage.specs.declared.parts.Parts as code
+use Rattle.trac_storage.specs.Loading.{loaded, parts_fit, state_in}
 use Rattle.trac_step.specs.Layout.{Shown}
+use Rattle.trac_step.specs.Loading.{HasAsked}
 use Rattle.trac_step.specs.Room.{HasRoom, IsNoLess}
 use Rattle.trac_step.proofs.Rooms.{HasRoom-kept}
 
@@ -28,6 +33,21 @@ goes_back o s old new is more room = subst (λ x. IsSomeAnd x (λ u. HasRoom new
 pub room_before : (e : Environment) (n : ℕ) (s : State) (m : Shown) → 0 < n → LeadsTo e n s m → HasRoom m s
 room_before e zero s m some leads = absurd (omega (arith, some))
 room_before e (suc n) s m some leads = leads.0
+
+-- ---- a machine that is loaded
+
+-- it shows the state of its parts, and has the rooms that they ask for; here all is as at the start but for texts and places
+pub shows_loaded : {A : Type 0} (parts : code.Parts A) (active output : List ℕ) (result : Result Shown Refusal) →
+    parts.active.items ≡ active → parts.base.items ≡ [] → parts.frames.items ≡ [] → parts.forms.items ≡ [] → parts.blocks.items ≡ [] →
+    parts.meta ≡ 39 → parts.trace ≡ false → parts.output.items ≡ output →
+    MayAnswer (λ (m : Shown). m.state) (loaded parts) result → IfOk result (HasAsked parts) →
+    IfOk result (IsLoaded (begun_with active output parts.position) parts.text_room parts.mark_room parts.output_room)
+shows_loaded parts active output (Err refusal) a b f n h m t o answer asked = tt
+shows_loaded parts active output (Ok m) a b f n h c t o answer asked =
+    let is : Ok (state_in parts) ≡ Ok m.state = (limited_Ok (λ _. parts_fit parts) (Ok (state_in parts)) m.state answer).0 in
+    let shown : m.state ≡ state_in parts = cc in
+    let same : state_in parts ≡ begun_with active output parts.position = rw a (rw b (rw f (rw n (rw h (rw c (rw t (rw o refl))))))) in
+    record { state = shown ∙ same; text = asked.text; marks = asked.marks; output = asked.output }
 
 -- ---- walks that are computed
 

@@ -13,10 +13,10 @@ use crate::machines::{Memory, expect_shown, let_go, shown_by};
 use std::alloc::{Allocator, Global};
 use std::process::Abort;
 use trac_faults::Refusing;
-use trac_gap::TwoEnds;
+use trac_gap::{GapBuf, TwoEnds};
 use trac_rules::refusal::Refusal;
 use trac_rules::width::Width;
-use trac_step::{Core, Machine, Mark, Parts, Record, Tape};
+use trac_step::{Core, Mark, Parts, Record, Tape};
 
 /// What a walk is over.
 #[derive(Clone, Copy)]
@@ -119,53 +119,48 @@ fn back_on_another<E: TwoEnds<u8, A>, M: TwoEnds<Mark, A>, A: Allocator + Copy>(
 }
 
 // A machine that is loaded from the parts of the state after a walk.
-fn loaded_after<'a>(
+fn loaded_after<E: TwoEnds<u8, A>, M: TwoEnds<Mark, A>, A: Allocator + Copy>(
     rt: &impl Abort,
-    memory: Memory<'a>,
+    alloc: A,
     after: After,
-) -> Result<Machine<Memory<'a>>, Refusal>
+) -> Result<Core<E, M, A>, Refusal>
     ensures { IfOk result (IsLoaded (begun_with after.active.now after.output.now after.position) after.text_room after.mark_room after.output_room) }
 {
     let parts = Parts {
-        active: Vec::from_slice(memory, after.active).expect(rt, "there was no memory"),
-        base: Vec::new(memory),
-        frames: Vec::new(memory),
-        forms: Vec::new(memory),
-        blocks: Vec::new(memory),
+        active: Vec::from_slice(alloc, after.active).expect(rt, "there was no memory"),
+        base: Vec::new(alloc),
+        frames: Vec::new(alloc),
+        forms: Vec::new(alloc),
+        blocks: Vec::new(alloc),
         meta: b'\'',
         trace: false,
         position: after.position,
-        output: Vec::from_slice(memory, after.output).expect(rt, "there was no memory"),
+        output: Vec::from_slice(alloc, after.output).expect(rt, "there was no memory"),
         text_room: after.text_room,
         mark_room: after.mark_room,
         output_room: after.output_room,
-        names: Vec::new(memory),
+        names: Vec::new(alloc),
     };
     assert!(rt; parts.each_gathers());
-    Machine::load(memory, &parts, Width::W128)
+    Core::load(alloc, &parts, Width::W128)
 }
 
 // A machine that is loaded from the parts of the state after a walk goes back over that walk.
-fn expect_back(
+fn expect_back<E: TwoEnds<u8, A>, M: TwoEnds<Mark, A>, A: Allocator + Copy>(
     rt: &impl Abort,
-    plain: Global,
-    input: &[u8],
-    scarce: &[u64],
+    alloc: A,
+    walk: &Walk<'_>,
     after: After,
     steps: u64,
 )
-    requires { (m : Shown) → IsLoaded (begun_with after.active.now after.output.now after.position) after.text_room after.mark_room after.output_room m → LeadsTo (over_whole input.now) steps initial m }
+    requires { (m : Shown) → IsLoaded (begun_with after.active.now after.output.now after.position) after.text_room after.mark_room after.output_room m → LeadsTo (over_whole walk.now.input.now) steps initial m }
 {
-    let memory = Refusing::new(plain);
-    let walk = Walk {
-        plain,
-        memory: &memory,
-        input,
-        scarce,
-    };
-    let mut machine = Core::new(&memory, Width::W128).expect(rt, "there was no memory");
-    let mut other = loaded_after(rt, &memory, after).expect(rt, "the parts were refused");
-    back_on_another(rt, &walk, &mut machine, &mut other, 0, steps);
+    let mut machine: Core<E, M, A> = Core::new(alloc, Width::W128).expect(
+        rt,
+        "there was no memory",
+    );
+    let mut other = loaded_after(rt, alloc, after).expect(rt, "the parts were refused");
+    back_on_another(rt, walk, &mut machine, &mut other, 0, steps);
     let_go(machine);
     let_go(other);
 }
@@ -180,7 +175,15 @@ fn eleven_steps_back_on_a_loaded_machine(rt: HostRuntime) {
         mark_room: 3,
         output_room: 2,
     };
-    // These only move, on a machine that has had a mark.
-    let scarce = &[2, 3, 6, 7, 9, 10];
-    expect_back(&rt, rt.alloc(), b"AB'", scarce, after, 11);
+    let memory = Refusing::new(rt.alloc());
+    let walk = Walk {
+        plain: rt.alloc(),
+        memory: &memory,
+        input: b"AB'",
+        // these only move, on a machine that has had a mark
+        scarce: &[2, 3, 6, 7, 9, 10],
+    };
+    expect_back::<GapBuf<u8, Memory<'_>>, GapBuf<Mark, Memory<'_>>, Memory<'_>>(
+        &rt, &memory, &walk, after, 11,
+    );
 }

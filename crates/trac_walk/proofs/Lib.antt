@@ -1,1 +1,1 @@
-pub mod Talked
+pub mod Ended

@@ -1,2 +1,2 @@
--- What a dialogue with a person reads and writes, and how it ends.
-pub mod Talks
+-- How a walk ends.
+pub mod Ends

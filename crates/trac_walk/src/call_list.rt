@@ -72,9 +72,9 @@ fn line_into<A: Allocator + Copy>(
     walker: &mut Walker<A>,
     out: &mut Vec<u8, A>,
 ) -> Result<(), AllocError> {
-    let mut line = call_line(alloc, walker.step(), walker.machine())?;
-    let before = Lengths::of(walker.machine());
+    let mut line = call_line(alloc, walker.step(), &walker.sight())?;
+    let before = Lengths::of(&walker.sight());
     let why = walker.forward(1);
-    outcome_into(before, why, walker.machine(), &mut line)?;
+    outcome_into(before, why, &walker.sight(), &mut line)?;
     line.end_into(out)
 }

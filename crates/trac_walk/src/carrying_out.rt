@@ -66,7 +66,7 @@ fn call_aim<'a>(call: &'a [&'a [u8]]) -> Aim<'a> {
 // Back to the call that changed the form of this name last.
 fn to_change<A: Allocator + Copy>(walker: &mut Walker<A>, name: &[u8]) -> Option<Stop> {
     let stopped = stop_back(walker.return_to_change(name));
-    if matches!(stopped, Some(Stop::NotMet)) && walker.store().get(name).is_none() {
+    if matches!(stopped, Some(Stop::NotMet)) && walker.sight().store.get(name).is_none() {
         return Some(Stop::NoForm);
     }
     stopped

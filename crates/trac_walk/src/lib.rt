@@ -1,13 +1,14 @@
-//! A debugger for a person at a terminal: forgiving lines, moves to a goal over a session, and one line that says where it
-//! stands after each.
+//! A debugger for a person at a terminal: a walker over a session, moves to a goal, what is replied to each line, and the way of a
+//! byte back to where it comes from.
 #![tactic(auto)]
 
 mod aim;
 mod call_list;
 mod carrying_out;
-mod dialogue;
 mod origins;
 mod replying;
+mod standing;
 mod walker;
+mod walking;
 
-pub use dialogue::{Settings, walk};
+pub use walking::{Settings, walk};

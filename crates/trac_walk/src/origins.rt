@@ -1,5 +1,6 @@
 //! The way of a byte back to where it comes from.
 
+use crate::standing::stand_into;
 use crate::walker::Walker;
 use memchr::memmem;
 use std::alloc::{AllocError, Allocator};
@@ -7,7 +8,7 @@ use trac_follow::{Place, Source};
 use trac_orders::Spot;
 use trac_rules::byte::LINE_FEED;
 use trac_screen::{
-    Stop, Treatment, left_out_into, source_into, standing_into, step_line, stop_into,
+    Origin, Stop, Treatment, left_out_into, origin_into, performed_in, step_line, stop_into,
     treatment_into,
 };
 
@@ -44,7 +45,7 @@ enum Found {
     // the call that comes next has it from this item of the form that it names
     OfForm(usize),
     // so it ends
-    End(Treatment),
+    End(Origin),
     // nothing stands there
     Nothing,
 }
@@ -69,11 +70,11 @@ pub fn way_into<A: Allocator + Copy>(
         shown: 0,
         left_out: 0,
     };
-    if let Some(stop) = trail_into(alloc, walker, program, trail, out)? {
-        return stay(alloc, walker, stop, out);
+    if !trail_into(alloc, walker, program, trail, out)? {
+        return stay(alloc, walker, absent(walker, spot), out);
     }
     out.extend_from_slice(b"here: ")?;
-    standing_into(alloc, walker.step(), walker.machine(), out)
+    stand_into(alloc, walker, out)
 }
 
 /// Puts a line at the end of a text that says where it stands, and where the name of the call that comes next was written. For
@@ -90,16 +91,16 @@ pub fn written_into<A: Allocator + Copy>(
         Err(stop) => return stay(alloc, walker, stop, out),
     };
     let end = walker.step();
-    let mut line = step_line(alloc, end, walker.machine())?;
-    let found = treatment_from(alloc, walker, program, here)?;
+    let mut line = step_line(alloc, end, &walker.sight())?;
+    let found = origin_from(alloc, walker, program, here)?;
     let source = walker.step();
     if let Some(refusal) = walker.forward(end.saturating_sub(source)) {
         return stay(alloc, walker, Stop::Refused(refusal), out);
     }
-    let Some(treatment) = found else {
-        return stay(alloc, walker, Stop::NoByte, out);
+    let Some(origin) = found else {
+        return stay(alloc, walker, Stop::NoName, out);
     };
-    source_into(treatment, source, &mut line)?;
+    origin_into(origin, source, &mut line)?;
     line.end_into(out)
 }
 
@@ -111,7 +112,7 @@ fn stay<A: Allocator + Copy>(
     out: &mut Vec<u8, A>,
 ) -> Result<(), AllocError> {
     stop_into(alloc, walker.first_step(), stop, out)?;
-    standing_into(alloc, walker.step(), walker.machine(), out)
+    stand_into(alloc, walker, out)
 }
 
 // ---- where a byte stands
@@ -128,6 +129,23 @@ fn here_of<'s, A: Allocator + Copy>(
         Spot::OfForm(name, number) => Ok((Here::Form(counted(number)?), name)),
         Spot::OfArgument(argument, number) => Ok((of_argument(walker, argument, number)?, &[])),
         Spot::Next => Ok((of_next(walker)?, &[])),
+    }
+}
+
+// Why nothing stands where a byte is wanted.
+fn absent<A: Allocator + Copy>(walker: &Walker<A>, spot: Spot<'_>) -> Stop {
+    match spot {
+        Spot::Next => Stop::NoName,
+        Spot::OfForm(name, _) if walker.sight().store.get(name).is_none() => absent_form(name),
+        _ => Stop::NoByte,
+    }
+}
+
+// What is said where there is no form of this name: a dot may have been meant for an argument.
+fn absent_form(name: &[u8]) -> Stop {
+    match name {
+        b"." => Stop::NoByteOfArgument,
+        _ => Stop::NoSuchForm,
     }
 }
 
@@ -231,15 +249,14 @@ fn without_name(place: Place<'_>) -> Here {
 
 // ---- the way back
 
-// Goes back to where a byte comes from, with a line for each call that carried it. Returns why it is not followed, where it is
-// not.
+// Goes back to where a byte comes from, with a line for each call that carried it; whether a byte stands there.
 fn trail_into<A: Allocator + Copy>(
     alloc: A,
     walker: &mut Walker<A>,
     program: &[u8],
     mut trail: Trail<A>,
     out: &mut Vec<u8, A>,
-) -> Result<Option<Stop>, AllocError> {
+) -> Result<bool, AllocError> {
     for _ in 0..u64::MAX {
         match found_from(walker, program, &trail) {
             Found::Passed(there) => {
@@ -251,26 +268,43 @@ fn trail_into<A: Allocator + Copy>(
                 trail.name = form_called(alloc, walker)?;
                 trail.here = Here::Form(i);
             }
-            Found::End(treatment) => {
-                if trail.left_out > 0 {
-                    left_out_into(alloc, trail.left_out, out)?;
-                }
-                treatment_into(alloc, walker.step(), walker.machine(), treatment, out)?;
-                return Ok(None);
+            Found::End(origin) => {
+                end_into(alloc, walker, trail.left_out, origin, out)?;
+                return Ok(true);
             }
-            Found::Nothing => return Ok(Some(Stop::NoByte)),
+            Found::Nothing => return Ok(false),
         }
     }
-    Ok(None)
+    Ok(true)
+}
+
+// The last lines of a way: how many are left out before it, and the step at which it ends.
+fn end_into<A: Allocator + Copy>(
+    alloc: A,
+    walker: &Walker<A>,
+    left_out: usize,
+    origin: Origin,
+    out: &mut Vec<u8, A>,
+) -> Result<(), AllocError> {
+    if left_out > 0 {
+        left_out_into(alloc, left_out, out)?;
+    }
+    treatment_into(
+        alloc,
+        walker.step(),
+        &walker.sight(),
+        Treatment::Ends(origin),
+        out,
+    )
 }
 
 // Goes back to where a byte comes from that stands in no form; none where no byte stands there.
-fn treatment_from<A: Allocator + Copy>(
+fn origin_from<A: Allocator + Copy>(
     alloc: A,
     walker: &mut Walker<A>,
     program: &[u8],
     here: Here,
-) -> Result<Option<Treatment>, AllocError> {
+) -> Result<Option<Origin>, AllocError> {
     let mut trail = Trail {
         here,
         name: Vec::new(alloc),
@@ -284,7 +318,7 @@ fn treatment_from<A: Allocator + Copy>(
                 trail.name = form_called(alloc, walker)?;
                 trail.here = Here::Form(i);
             }
-            Found::End(treatment) => return Ok(Some(treatment)),
+            Found::End(origin) => return Ok(Some(origin)),
             Found::Nothing => return Ok(None),
         }
     }
@@ -300,17 +334,17 @@ fn found_from<A: Allocator + Copy>(
     match walker.follow(place_of(trail.here, trail.name.as_slice())) {
         Source::Passed(there) => Found::Passed(without_name(there)),
         Source::OfForm(i) => Found::OfForm(i),
-        Source::Made => Found::End(Treatment::Makes),
+        Source::Made => Found::End(Origin::Made),
         Source::Read(n) => Found::End(read_as(walker.input_number(n), program)),
-        Source::Here(_) => Found::End(Treatment::Keeps),
+        Source::Here(_) => Found::End(Origin::There),
         Source::Nothing => Found::Nothing,
     }
 }
 
 // What is said of the byte of this number of the input, which begins with this program.
-fn read_as(number: u64, program: &[u8]) -> Treatment {
+fn read_as(number: u64, program: &[u8]) -> Origin {
     if number >= program.len() as u64 {
-        return Treatment::ReadsFed((number - program.len() as u64).saturating_add(1));
+        return Origin::ReadFed((number - program.len() as u64).saturating_add(1));
     }
     let mut line = 1_u64;
     let mut column = 1_u64;
@@ -322,7 +356,7 @@ fn read_as(number: u64, program: &[u8]) -> Treatment {
             column = column.saturating_add(1);
         }
     }
-    Treatment::Reads(line, column)
+    Origin::Read(line, column)
 }
 
 // A line for the call that comes next, which carried a byte to here.
@@ -342,7 +376,7 @@ fn carried_into<A: Allocator + Copy>(
         Here::Form(_) | Here::Held(_, _) => Treatment::Puts,
         _ => Treatment::Gives,
     };
-    treatment_into(alloc, walker.step(), walker.machine(), treatment, out)
+    treatment_into(alloc, walker.step(), &walker.sight(), treatment, out)
 }
 
 // The name of the form that the call that comes next names.
@@ -350,8 +384,8 @@ fn form_called<A: Allocator + Copy>(
     alloc: A,
     walker: &Walker<A>,
 ) -> Result<Vec<u8, A>, AllocError> {
-    match walker.machine().next_call() {
-        Some((_, arguments)) => Vec::from_slice(alloc, arguments.get(1)),
+    match performed_in(&walker.sight()) {
+        Some(arguments) => Vec::from_slice(alloc, arguments.get(1)),
         None => Ok(Vec::new(alloc)),
     }
 }

@@ -3,6 +3,7 @@
 use crate::call_list::calls_into;
 use crate::carrying_out::carry_out;
 use crate::origins::{way_into, written_into};
+use crate::standing::stand_into;
 use crate::walker::Walker;
 use std::alloc::{AllocError, Allocator};
 use trac_orders::{
@@ -12,7 +13,7 @@ use trac_prims::primitive_named;
 use trac_rules::primitive::Primitive;
 use trac_screen::{
     NO_PRIMITIVE, Stop, form_into, list_into, no_end_into, reads_text, refused, screen_into,
-    standing_into, stop_into, window_into,
+    stop_into, window_into,
 };
 use trac_show::machine_lines;
 
@@ -66,7 +67,7 @@ fn repeat<A: Allocator + Copy>(
     out: &mut Vec<u8, A>,
 ) -> Result<(), AllocError> {
     if memo.last.is_empty() {
-        return standing_into(alloc, walker.step(), walker.machine(), out);
+        return stand_into(alloc, walker, out);
     }
     let last = Vec::from_slice(alloc, memo.last.as_slice())?;
     repeat_line(alloc, walker, memo, last.as_slice(), out)
@@ -158,7 +159,7 @@ fn go<A: Allocator + Copy>(
     if is_unmet(stop) && names_no_primitive(way) {
         out.extend_from_slice(NO_PRIMITIVE)?;
     }
-    standing_into(alloc, walker.step(), walker.machine(), out)
+    stand_into(alloc, walker, out)
 }
 
 // Whether a move stopped because what it looked for is not met.
@@ -207,11 +208,11 @@ fn feed<A: Allocator + Copy>(
         out.extend_from_slice(refused(refusal))?;
         return out.extend_from_slice(b"\n");
     }
-    let meta = walker.machine().meta();
-    if reads_text(walker.machine()) && !text.contains(&meta) {
+    let meta = walker.sight().meta;
+    if reads_text(&walker.sight()) && !text.contains(&meta) {
         no_end_into(alloc, meta, out)?;
     }
-    standing_into(alloc, walker.step(), walker.machine(), out)
+    stand_into(alloc, walker, out)
 }
 
 // Ends the input, and says where it stands.
@@ -221,7 +222,7 @@ fn end_input<A: Allocator + Copy>(
     out: &mut Vec<u8, A>,
 ) -> Result<(), AllocError> {
     walker.end_input();
-    standing_into(alloc, walker.step(), walker.machine(), out)
+    stand_into(alloc, walker, out)
 }
 
 // Lists the last calls, and says where it stands.
@@ -234,7 +235,7 @@ fn list_calls<A: Allocator + Copy>(
     if let Some(refusal) = calls_into(alloc, walker, count, out)? {
         stop_into(alloc, walker.first_step(), Stop::Refused(refusal), out)?;
     }
-    standing_into(alloc, walker.step(), walker.machine(), out)
+    stand_into(alloc, walker, out)
 }
 
 // Carries out an order that only shows something.
@@ -250,8 +251,8 @@ fn show<A: Allocator + Copy>(
             let lines = machine_lines(alloc, walker.machine(), walker.steps_back())?;
             out.extend_from_slice(lines.as_slice())
         }
-        Order::Forms => list_into(alloc, walker.store(), out),
-        Order::Form(name) => form_into(walker.store(), name, out),
+        Order::Forms => list_into(alloc, walker.sight().store, out),
+        Order::Form(name) => form_into(walker.sight().store, name, out),
         Order::Help => out.extend_from_slice(HELP),
         _ => Ok(()),
     }

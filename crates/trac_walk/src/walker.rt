@@ -1,7 +1,6 @@
 //! A walker: a session whose way back never stops a walk, and where it stands.
-ghost use Rattle.std.specs.Prelude.{◌≡◌, ◌+◌, ◌^◌, ◌<◌, ◌≤◌, length, IfErr, OnOk};
-ghost use Rattle.trac_rules.specs.Session.{first_kept};
-ghost use Rattle.trac_walk.specs.Talks.{MayRefuseProgram};
+ghost use Rattle.std.specs.Prelude.{◌≤◌, length, IfErr, OnOk};
+ghost use Rattle.trac_window.specs.Refused.{MayRefuseProgram};
 
 use crate::aim::{Aim, goal_for};
 use std::alloc::{AllocError, Allocator};
@@ -10,21 +9,19 @@ use trac_forms::{Form, FormError, Store};
 use trac_rules::byte::LINE_FEED;
 use trac_rules::limit::{JOURNAL_LIMIT, TAPE_LIMIT};
 use trac_rules::width::Width;
-use trac_screen::{Glance, Reach, glance_at, lacks_output_room, store_of};
+use trac_screen::{Glance, Reach, Sight, glance_at, lacks_output_room, sight_of};
 use trac_session::{Goal, Machine, Refusal, Return, Session, Walk};
 use trac_streams::Ending;
+use trac_window::Window;
 
 /// A session over a program, and how far it is from the start. Where the journal is full, and where there is no room for more
 /// output, the walker forgets the older half of the steps, with what they printed, and goes on.
 #[derive(Drop)]
 pub struct Walker<A: Allocator + Copy> {
-    session: Session<A>,
+    // the session, and what of it is forgotten
+    window: Window<A>,
     // how many records the journal may hold
     limit: usize,
-    // how many steps were forgotten
-    forgotten: u64,
-    // how many bytes of the output were forgotten with them
-    released: u64,
     // whether some were forgotten to make room for the output
     has_made_output_room: bool,
     // how wide numbers are
@@ -43,17 +40,10 @@ impl<A: Allocator + Copy> Walker<A> {
         ensures made { OnOk result (length tape.now ≤ TAPE_LIMIT) }
         ensures refused { IfErr result (MayRefuseProgram tape.now) }
     {
-        if tape.len() > TAPE_LIMIT {
-            return Err(Ending::Limit);
-        }
-        let Ok(session) = session_over(alloc, tape, limit, width) else {
-            return Err(Ending::Memory);
-        };
+        let window = Window::over(alloc, tape, limit, width)?;
         Ok(Walker {
-            session,
+            window,
             limit,
-            forgotten: 0,
-            released: 0,
             has_made_output_room: false,
             width,
             fed: tape.len() as u64,
@@ -62,42 +52,44 @@ impl<A: Allocator + Copy> Walker<A> {
 
     /// The machine, which shows the state.
     pub fn machine(&self) -> &Machine<A> {
-        self.session.machine()
+        self.window.session.machine()
     }
 
     /// Where scanning stands.
     pub fn glance(&self) -> Glance {
-        glance_at(self.session.machine())
+        glance_at(self.window.session.machine())
     }
 
-    /// The forms and blocks.
-    pub fn store(&self) -> &Store<A> {
-        store_of(self.session.machine())
+    /// What is seen of the machine around that place.
+    pub fn sight(&self) -> Sight<'_, A> {
+        sight_of(self.window.session.machine())
     }
 
     /// What is printed and not released.
     pub fn pending(&self) -> &[u8] {
-        self.session.pending()
+        self.window.session.pending()
     }
 
     /// How many steps one can go back over.
     pub fn steps_back(&self) -> usize {
-        self.session.len()
+        self.window.session.len()
     }
 
     /// The number of the step that comes next, counted from the start of the program.
     pub fn step(&self) -> u64 {
-        self.forgotten.saturating_add(self.session.len() as u64)
+        self.window
+            .forgotten
+            .saturating_add(self.window.session.len() as u64)
     }
 
     /// The first step that one can go back to.
     pub fn first_step(&self) -> u64 {
-        self.forgotten
+        self.window.forgotten
     }
 
     /// How many bytes of the output were printed before the first step that one can go back to.
     pub fn released(&self) -> u64 {
-        self.released
+        self.window.released
     }
 
     /// Whether steps were forgotten to make room for the output.
@@ -109,11 +101,12 @@ impl<A: Allocator + Copy> Walker<A> {
     pub fn reach(&self) -> Reach {
         Reach {
             step: self.step(),
-            first_step: self.forgotten,
-            unread: self.session.unread().len() as u64,
+            first_step: self.window.forgotten,
+            unread: self.window.session.unread().len() as u64,
             printed: self
+                .window
                 .released
-                .saturating_add(self.session.pending().len() as u64),
+                .saturating_add(self.window.session.pending().len() as u64),
         }
     }
 
@@ -123,27 +116,27 @@ impl<A: Allocator + Copy> Walker<A> {
         let Ok(line) = with_line_feed(alloc, text) else {
             return Err(Refusal::Memory);
         };
-        self.session.feed(line.as_slice())?;
+        self.window.session.feed(line.as_slice())?;
         self.fed = self.fed.saturating_add(line.len() as u64);
         Ok(())
     }
 
     /// Which byte of all input that of this number of the tape is, the first being number 0.
     pub fn input_number(&self, n: usize) -> u64 {
-        let read = self.machine().position() as u64;
-        let there = read.saturating_add(self.session.unread().len() as u64);
+        let read = self.sight().position as u64;
+        let there = read.saturating_add(self.window.session.unread().len() as u64);
         self.fed.saturating_sub(there).saturating_add(n as u64)
     }
 
     /// Goes back as long as steps carried the byte at a place, and to the call that passed it on, where one did.
     pub fn follow<'p>(&mut self, place: Place<'p>) -> Source<'p> {
-        let most = self.session.len() as u64;
-        source_of(&mut self.session, self.width, place, most)
+        let most = self.window.session.len() as u64;
+        source_of(&mut self.window.session, self.width, place, most)
     }
 
     /// Ends the input.
     pub fn end_input(&mut self) {
-        self.session.end();
+        self.window.session.end();
     }
 
     /// Goes forward by so many steps, until one is refused, which is returned.
@@ -165,7 +158,7 @@ impl<A: Allocator + Copy> Walker<A> {
                 break;
             }
             self.make_room();
-            let walk = walk_on(&mut self.session, aim, left);
+            let walk = walk_on(&mut self.window.session, aim, left);
             if !self.goes_on(walk) {
                 return walk.why;
             }
@@ -188,77 +181,46 @@ impl<A: Allocator + Copy> Walker<A> {
 
     /// Goes back over so many steps, or all that there are; the refusal is `AtStart`.
     pub fn back(&mut self, steps: u64) -> Option<Refusal> {
-        self.session.back(steps).why
+        self.window.session.back(steps).why
     }
 
     /// Goes back to a goal, and forward again where it is not met on the way back: then `NotMet` is returned. Where a step was
     /// refused on the way forward again, the walker stands there, and that refusal is returned.
     pub fn return_to(&mut self, aim: Aim<'_>) -> Option<Refusal> {
-        refusal_of(self.session.return_to(goal_for(aim)))
+        refusal_of(self.window.session.return_to(goal_for(aim)))
     }
 
     /// Goes back to the call that changed the form of this name last, as `return_to` does. `Memory` also where there is none
     /// for a copy of the form, and then it does not move.
     pub fn return_to_change(&mut self, name: &[u8]) -> Option<Refusal> {
-        let Ok(form) = form_of(self.store(), name) else {
+        let Ok(form) = form_of(self.sight().store, name) else {
             return Some(Refusal::Memory);
         };
-        refusal_of(self.session.return_to(other_form(name, &form)))
+        refusal_of(self.window.session.return_to(other_form(name, &form)))
     }
 
     // Forgets the older half of the journal where it is full.
     fn make_room(&mut self) {
-        let len = self.session.len();
+        let len = self.window.session.len();
         if len >= self.limit {
-            self.keep_steps(len / 2);
+            self.window.keep_steps(len / 2);
         }
     }
 
     // Forgets the older half of the journal where that is why the next step is refused: what it prints has no room. Whether it
     // did; it may take several times, until the output of the steps that are left is short enough.
     fn make_output_room(&mut self) -> bool {
-        let len = self.session.len();
-        if len == 0 || !lacks_output_room(self.session.machine()) {
+        let len = self.window.session.len();
+        if len == 0 || !lacks_output_room(self.window.session.machine()) {
             return false;
         }
-        self.keep_steps(len / 2);
+        self.window.keep_steps(len / 2);
         self.has_made_output_room = true;
         true
-    }
-
-    // Forgets all steps but the last, so many of them, and counts these, and the bytes of the output that are forgotten with them.
-    fn keep_steps(&mut self, keep: usize)
-        ensures counted { self.old.released + length (first_kept keep self.old.session).output < 2 ^ 64 → self.new.released ≡ self.old.released + length (first_kept keep self.old.session).output }
-    {
-        let steps = self.session.len().saturating_sub(keep);
-        let released = forget_before(&mut self.session, keep);
-        self.released = self.released.saturating_add(released as u64);
-        self.forgotten = self.forgotten.saturating_add(steps as u64);
     }
 }
 
 // The functions over a session here promise nothing of it, so that whoever calls them has none of its clauses in his proof.
-
-// A session over this tape. The error is that memory was refused.
-fn session_over<A: Allocator + Copy>(
-    alloc: A,
-    tape: &[u8],
-    limit: usize,
-    width: Width,
-) -> Result<Session<A>, Refusal>
-    requires some_records { 1 ≤ limit }
-    requires most_records { limit ≤ JOURNAL_LIMIT }
-{
-    fed(Session::new(alloc, limit, width)?, tape)
-}
-
-// A session with this tape.
-fn fed<A: Allocator + Copy>(mut session: Session<A>, tape: &[u8]) -> Result<Session<A>, Refusal> {
-    match session.feed(tape) {
-        Ok(()) => Ok(session),
-        Err(refusal) => Err(refusal),
-    }
-}
 
 // A walk forward by so many steps at most, to a goal where there is one.
 fn walk_on<A: Allocator + Copy>(session: &mut Session<A>, aim: Option<Aim<'_>>, most: u64) -> Walk {
@@ -266,16 +228,6 @@ fn walk_on<A: Allocator + Copy>(session: &mut Session<A>, aim: Option<Aim<'_>>, 
         Some(aim) => session.forward_to(goal_for(aim), most),
         None => session.forward(most),
     }
-}
-
-// Keeps so many steps, and returns how many bytes of the output are forgotten with the others: those of the first state that
-// stays.
-fn forget_before<A: Allocator + Copy>(session: &mut Session<A>, keep: usize) -> usize
-    ensures { result ≡ length (first_kept keep session.old).output }
-{
-    let released = session.pending_before(keep).len();
-    session.commit(keep);
-    released
 }
 
 // Where a byte comes from that is followed back.

@@ -1,27 +1,27 @@
 //! A dialogue with a person: lines from a reader, and what they ask for to a writer.
-ghost use Rattle.std.specs.Prelude.{◌≤◌, ◌<◌, ◌≡◌, ◌↔◌, length, true, IfErr, OnOk};
-ghost use Rattle.std.specs.Io.KnownBytes.{IsAtEnd, Keeps};
-ghost use Rattle.trac_rules.specs.declared.limit.TheConstants.{JOURNAL_LIMIT, TAPE_LIMIT};
-ghost use Rattle.trac_walk.specs.Talks.{Gives, IsFault, IsStop, MayEnd, Takes};
+ghost use Rattle.std.specs.Prelude.{◌≡◌, true, IfErr, OnOk};
+ghost use Rattle.std.specs.Io.KnownBytes.{IsAtEnd};
+ghost use Rattle.trac_dialogue.specs.Talks.{Gives, IsFault, IsStop, Takes};
 
-use crate::replying::{Memo, reply_into};
-use crate::walker::Walker;
 use std::alloc::{AllocError, Allocator};
 use std::io::{Read, Write};
 use trac_orders::NOT_UNDERSTOOD;
-use trac_rules::width::Width;
 use trac_streams::writing::{flush, write_whole};
 use trac_streams::{Ending, LINE_LIMIT, Lines, NextLine, number_into};
 
-/// How a program is walked through.
-#[derive(Clone, Copy, Debug, PartialEq, Eq)]
-pub struct Settings {
-    /// How many steps can be gone back over at most: 1 to 1,048,576.
-    pub journal: usize,
-    /// How wide the program's numbers are.
-    pub decimals: Width,
-    /// Whether the number of the next step is written before each line is read.
-    pub prompt: bool,
+/// Who replies to lines, one after another.
+pub trait Replier<A: Allocator + Copy> {
+    /// The number that stands in the prompt before the next line.
+    fn number(&self) -> u64;
+
+    /// Does what a line asks for, and puts what is to be said of it at the end of a text; whether the dialogue goes on. The
+    /// error is that memory was refused.
+    fn reply_into(
+        &mut self,
+        alloc: A,
+        line: &[u8],
+        out: &mut Vec<u8, A>,
+    ) -> Result<bool, AllocError>;
 }
 
 // How lines are taken.
@@ -32,56 +32,17 @@ struct Taking {
     passing: bool,
 }
 
-/// Walks through a program, forwards and backwards, for a person: it reads lines, does what each asks for, and writes where
-/// it stands then, which is flushed before more is read. A line that is not understood gets one line, and changes nothing.
+/// Reads lines, and writes the reply to each, which is flushed before more is read. A line of more than 4,096 bytes is said not
+/// to be understood, and nobody is asked (this project's profile). Before each line the replier's number is written where a
+/// prompt is wanted.
 ///
-/// It ends with `Ended` at the end of the lines, and where it is asked to; with `Limit`, and nothing written, where the
-/// program has more than 33,554,432 bytes; with `Read` and `Write` where the reader or the writer fails; and with `Memory` where
-/// there is no memory for the session, for a line or for what is to be written.
-#[tactic(auto, using(crate::proofs::Talked::takes_none, crate::proofs::Talked::gives_none, crate::proofs::Talked::stop_may_end, crate::proofs::Talked::stop_is_within, crate::proofs::Talked::refused_may_end, crate::proofs::Talked::refused_too_long))]
-pub fn walk<R: Read, W: Write, A: Allocator + Copy>(
-    alloc: A,
-    tape: &[u8],
-    input: &mut R,
-    output: &mut W,
-    settings: Settings,
-) -> Ending
-    requires some_records { 1 ≤ settings.journal }
-    requires most_records { settings.journal ≤ JOURNAL_LIMIT }
-    ensures took { Takes (R.remaining input.old) (R.remaining input.new) }
-    ensures gave { Gives (W.contents output.old) (W.contents output.new) }
-    ensures ends { MayEnd result }
-    ensures too_long { (result ≡ Ending.Limit) ↔ (TAPE_LIMIT < length tape.now) }
-    ensures unread { result ≡ Ending.Limit → Keeps (W.contents output.old) (W.contents output.new) }
-{
-    match Walker::new(alloc, tape, settings.journal, settings.decimals) {
-        Ok(walker) => walk_from(alloc, walker, tape, settings.prompt, input, output),
-        Err(ending) => ending,
-    }
-}
-
-// Walks from where a walker stands.
-fn walk_from<R: Read, W: Write, A: Allocator + Copy>(
-    alloc: A,
-    mut walker: Walker<A>,
-    program: &[u8],
-    prompt: bool,
-    input: &mut R,
-    output: &mut W,
-) -> Ending
-    ensures took { Takes (R.remaining input.old) (R.remaining input.new) }
-    ensures gave { Gives (W.contents output.old) (W.contents output.new) }
-    ensures ends { IsStop result }
-{
-    take_lines(alloc, &mut walker, program, prompt, input, output)
-}
-
-// Takes line by line, until the dialogue ends.
+/// It ends with `Ended` at the end of the lines, and where the replier ends it; with `Read` and `Write` where the reader or the
+/// writer fails; with `Memory` where there is no memory for a line or for what is to be written; and with `Budget` after as many
+/// lines as a number of 64 bits counts.
 #[tactic(auto, using(crate::proofs::Talked::takes_none, crate::proofs::Talked::gives_none, crate::proofs::Talked::takes_both, crate::proofs::Talked::gives_both))]
-fn take_lines<R: Read, W: Write, A: Allocator + Copy>(
+pub fn converse<R: Read, W: Write, A: Allocator + Copy, T: Replier<A>>(
     alloc: A,
-    walker: &mut Walker<A>,
-    program: &[u8],
+    replier: &mut T,
     prompt: bool,
     input: &mut R,
     output: &mut W,
@@ -90,22 +51,13 @@ fn take_lines<R: Read, W: Write, A: Allocator + Copy>(
     ensures gave { Gives (W.contents output.old) (W.contents output.new) }
     ensures ends { IsStop result }
 {
-    let mut memo = Memo::new(alloc, program);
     let mut lines = Lines::new(alloc);
     let mut taking = Taking {
         prompt,
         passing: false,
     };
     for turn in 0..u64::MAX {
-        match take_line(
-            alloc,
-            walker,
-            &mut memo,
-            &mut taking,
-            &mut lines,
-            input,
-            output,
-        ) {
+        match take_line(alloc, replier, &mut taking, &mut lines, input, output) {
             Ok(()) => {}
             Err(ending) => return ending,
         }
@@ -115,10 +67,9 @@ fn take_lines<R: Read, W: Write, A: Allocator + Copy>(
 
 // Takes a line, or as much as is read of one that is too long.
 #[tactic(auto, using(crate::proofs::Talked::seek_takes, crate::proofs::Talked::failed_takes, crate::proofs::Talked::failed_stops, crate::proofs::Talked::fault_stops, crate::proofs::Talked::faults_stop, crate::proofs::Talked::takes_none, crate::proofs::Talked::gives_both))]
-fn take_line<R: Read, W: Write, A: Allocator + Copy>(
+fn take_line<R: Read, W: Write, A: Allocator + Copy, T: Replier<A>>(
     alloc: A,
-    walker: &mut Walker<A>,
-    memo: &mut Memo<'_, A>,
+    replier: &mut T,
     taking: &mut Taking,
     lines: &mut Lines<A>,
     input: &mut R,
@@ -130,7 +81,7 @@ fn take_line<R: Read, W: Write, A: Allocator + Copy>(
     ensures at_end { OnOk result (lines.new.ended ≡ true → IsAtEnd (R.remaining input.new)) }
     ensures stopped { IfErr result IsStop }
 {
-    if let Err(ending) = ask(alloc, walker.step(), *taking, output) {
+    if let Err(ending) = ask(alloc, replier.number(), *taking, output) {
         return Err(ending);
     }
     match lines.seek(input) {
@@ -141,7 +92,7 @@ fn take_line<R: Read, W: Write, A: Allocator + Copy>(
             pass_part(alloc, taking, output)
         }
         Ok(NextLine::Line { len, whole }) => {
-            let replied = answer(alloc, walker, memo, taking, lines.front(len), output);
+            let replied = answer(alloc, replier, taking, lines.front(len), output);
             lines.pass(whole);
             replied
         }
@@ -149,10 +100,10 @@ fn take_line<R: Read, W: Write, A: Allocator + Copy>(
     }
 }
 
-// Writes the number of the next step as a prompt before a line, where one is wanted.
+// Writes a number as a prompt before a line, where one is wanted.
 fn ask<W: Write, A: Allocator + Copy>(
     alloc: A,
-    step: u64,
+    number: u64,
     taking: Taking,
     output: &mut W,
 ) -> Result<(), Ending>
@@ -160,7 +111,7 @@ fn ask<W: Write, A: Allocator + Copy>(
     ensures fault { IfErr result IsFault }
 {
     if taking.prompt && !taking.passing {
-        return write_text(output, prompt(alloc, step));
+        return write_text(output, prompt(alloc, number));
     }
     Ok(())
 }
@@ -196,20 +147,19 @@ fn write_text<W: Write, A: Allocator>(
     flush(output)
 }
 
-// The number of a step, as a prompt.
-fn prompt<A: Allocator + Copy>(alloc: A, step: u64) -> Result<Vec<u8, A>, AllocError> {
+// A number, as a prompt.
+fn prompt<A: Allocator + Copy>(alloc: A, number: u64) -> Result<Vec<u8, A>, AllocError> {
     let mut text = Vec::new(alloc);
-    number_into(step, &mut text)?;
+    number_into(number, &mut text)?;
     text.extend_from_slice(b"> ")?;
     Ok(text)
 }
 
 // Does what a line asks for, and writes what is to be said of it. The rest of a line that was too long asks for nothing.
 #[tactic(auto, using(crate::proofs::Talked::faults_stop, crate::proofs::Talked::gives_none))]
-fn answer<W: Write, A: Allocator + Copy>(
+fn answer<W: Write, A: Allocator + Copy, T: Replier<A>>(
     alloc: A,
-    walker: &mut Walker<A>,
-    memo: &mut Memo<'_, A>,
+    replier: &mut T,
     taking: &mut Taking,
     line: &[u8],
     output: &mut W,
@@ -221,7 +171,7 @@ fn answer<W: Write, A: Allocator + Copy>(
         taking.passing = false;
         return Ok(());
     }
-    match reply_to(alloc, walker, memo, line) {
+    match reply_to(alloc, replier, line) {
         Ok(Some(text)) => write_text(output, Ok(text)),
         Ok(None) => Err(Ending::Ended),
         Err(AllocError) => Err(Ending::Memory),
@@ -230,10 +180,9 @@ fn answer<W: Write, A: Allocator + Copy>(
 
 // What is to be said of a line, once what it asks for is done; none where it asks for the end. The error is that memory was
 // refused.
-fn reply_to<A: Allocator + Copy>(
+fn reply_to<A: Allocator + Copy, T: Replier<A>>(
     alloc: A,
-    walker: &mut Walker<A>,
-    memo: &mut Memo<'_, A>,
+    replier: &mut T,
     line: &[u8],
 ) -> Result<Option<Vec<u8, A>>, AllocError> {
     let mut text = Vec::new(alloc);
@@ -241,6 +190,6 @@ fn reply_to<A: Allocator + Copy>(
         text.extend_from_slice(NOT_UNDERSTOOD)?;
         return Ok(Some(text));
     }
-    let goes_on = reply_into(alloc, walker, memo, line, &mut text)?;
+    let goes_on = replier.reply_into(alloc, line, &mut text)?;
     Ok(if goes_on { Some(text) } else { None })
 }

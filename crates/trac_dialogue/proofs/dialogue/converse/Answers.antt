@@ -1,5 +1,5 @@
-use Rattle.trac_walk.proofs.Talked.{gives_both, takes_both}
-use Rattle.trac_walk.proofs.dialogue.take_lines.Goals as goal
+use Rattle.trac_dialogue.proofs.Talked.{gives_both, takes_both}
+use Rattle.trac_dialogue.proofs.dialogue.converse.Goals as goal
 
 pub returns-in-Err-clause-took : goal.returns-in-Err-clause-took
 returns-in-Err-clause-took g c = takes_both _ _ _ c.loop-turn.invariant.took c.take_line.ensures.took

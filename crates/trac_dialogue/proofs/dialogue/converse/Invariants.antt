@@ -1,7 +1,7 @@
 use Rattle.std.proofs.Common.{◌≡◌, true}
 use Rattle.std.specs.Io.KnownBytes.{IsAtEnd}
-use Rattle.trac_walk.specs.Talks.{Gives, Takes}
-use Rattle.trac_walk.proofs.dialogue.take_lines.Given as goal
+use Rattle.trac_dialogue.specs.Talks.{Gives, Takes}
+use Rattle.trac_dialogue.proofs.dialogue.converse.Given as goal
 
 -- what was read and written so far
 abbrev pub invariant-loop-turn : goal.invariant-loop-turn

@@ -1,5 +1,5 @@
-use Rattle.trac_walk.proofs.Talked.{gives_both}
-use Rattle.trac_walk.proofs.dialogue.take_line.Goals as goal
+use Rattle.trac_dialogue.proofs.Talked.{gives_both}
+use Rattle.trac_dialogue.proofs.dialogue.take_line.Goals as goal
 
 pub returns-in-Ok-TooLong-clause-gave : goal.returns-in-Ok-TooLong-clause-gave
 returns-in-Ok-TooLong-clause-gave g c = gives_both _ _ _ c.ask.ensures.gave c.pass_part.ensures.gave

@@ -1,7 +1,6 @@
 -- What a dialogue with a person reads and writes, and how it ends.
-use Rattle.std.specs.Prelude.{◌≡◌, ◌⊎◌, ℕ, ◌<◌, ◌≤◌, List, length, Option}
+use Rattle.std.specs.Prelude.{◌≡◌, ◌⊎◌, ℕ, List, Option}
 use Rattle.std.specs.Io.KnownBytes.{Appends, Consumes}
-use Rattle.trac_rules.specs.declared.limit.TheConstants.{TAPE_LIMIT}
 use Rattle.trac_streams.specs.declared.ending.Ending.{Ending}
 use Rattle.trac_streams.specs.declared.ending.Ending.TheVariants.{Ended, Budget, Limit, Memory, Read, Write, NotUnderstood}
 
@@ -28,12 +27,3 @@ IsStop Memory = Unit {0}
 IsStop Read = Unit {0}
 IsStop Write = Unit {0}
 IsStop (NotUnderstood line) = ⊥
-
--- how it may end: also before it is begun, where the program is too long
-abbrev pub MayEnd : Ending → Type 0
-MayEnd (NotUnderstood line) = ⊥
-MayEnd ending = Unit {0}
-
--- why there is no session over a program: memory was refused, or the program is too long
-abbrev pub MayRefuseProgram : List ℕ → Ending → Type 0
-MayRefuseProgram program ending = ((ending ≡ Memory) × (length program ≤ TAPE_LIMIT)) ⊎ ((ending ≡ Limit) × (TAPE_LIMIT < length program))

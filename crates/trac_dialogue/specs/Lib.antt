@@ -1,0 +1,2 @@
+-- What a dialogue with a person reads and writes, and how it ends.
+pub mod Talks

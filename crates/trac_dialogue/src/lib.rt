@@ -1,0 +1,6 @@
+//! A dialogue with a person at a terminal: lines are read, and a reply is written to each, whoever replies.
+#![tactic(auto)]
+
+mod dialogue;
+
+pub use dialogue::{Replier, converse};

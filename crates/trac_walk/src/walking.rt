@@ -1,0 +1,95 @@
+//! A walk through a program.
+ghost use Rattle.std.specs.Prelude.{◌≤◌, ◌<◌, ◌≡◌, ◌↔◌, length};
+ghost use Rattle.std.specs.Io.KnownBytes.{Keeps};
+ghost use Rattle.trac_rules.specs.declared.limit.TheConstants.{JOURNAL_LIMIT, TAPE_LIMIT};
+ghost use Rattle.trac_dialogue.specs.Talks.{Gives, IsStop, Takes};
+ghost use Rattle.trac_walk.specs.Ends.{MayEnd};
+
+use crate::replying::{Memo, reply_into};
+use crate::walker::Walker;
+use std::alloc::{AllocError, Allocator};
+use std::io::{Read, Write};
+use trac_dialogue::{Replier, converse};
+use trac_rules::width::Width;
+use trac_streams::Ending;
+
+/// How a program is walked through.
+#[derive(Clone, Copy, Debug, PartialEq, Eq)]
+pub struct Settings {
+    /// How many steps can be gone back over at most: 1 to 1,048,576.
+    pub journal: usize,
+    /// How wide the program's numbers are.
+    pub decimals: Width,
+    /// Whether the number of the next step is written before each line is read.
+    pub prompt: bool,
+}
+
+// A walker, and what is kept of the lines so far.
+#[derive(Drop)]
+struct Guide<'p, A: Allocator + Copy> {
+    walker: Walker<A>,
+    memo: Memo<'p, A>,
+}
+
+impl<'p, A: Allocator + Copy> Replier<A> for Guide<'p, A> {
+    fn number(&self) -> u64 {
+        self.walker.step()
+    }
+
+    fn reply_into(
+        &mut self,
+        alloc: A,
+        line: &[u8],
+        out: &mut Vec<u8, A>,
+    ) -> Result<bool, AllocError> {
+        reply_into(alloc, &mut self.walker, &mut self.memo, line, out)
+    }
+}
+
+/// Walks through a program, forwards and backwards, for a person: it reads lines, does what each asks for, and writes where
+/// it stands then, which is flushed before more is read. A line that is not understood gets one line, and changes nothing.
+///
+/// It ends with `Ended` at the end of the lines, and where it is asked to; with `Limit`, and nothing written, where the
+/// program has more than 33,554,432 bytes; with `Read` and `Write` where the reader or the writer fails; and with `Memory` where
+/// there is no memory for the session, for a line or for what is to be written.
+#[tactic(auto, using(crate::proofs::Ended::takes_none, crate::proofs::Ended::gives_none, crate::proofs::Ended::stop_may_end, crate::proofs::Ended::stop_is_within, crate::proofs::Ended::refused_may_end, crate::proofs::Ended::refused_too_long))]
+pub fn walk<R: Read, W: Write, A: Allocator + Copy>(
+    alloc: A,
+    tape: &[u8],
+    input: &mut R,
+    output: &mut W,
+    settings: Settings,
+) -> Ending
+    requires some_records { 1 ≤ settings.journal }
+    requires most_records { settings.journal ≤ JOURNAL_LIMIT }
+    ensures took { Takes (R.remaining input.old) (R.remaining input.new) }
+    ensures gave { Gives (W.contents output.old) (W.contents output.new) }
+    ensures ends { MayEnd result }
+    ensures too_long { (result ≡ Ending.Limit) ↔ (TAPE_LIMIT < length tape.now) }
+    ensures unread { result ≡ Ending.Limit → Keeps (W.contents output.old) (W.contents output.new) }
+{
+    match Walker::new(alloc, tape, settings.journal, settings.decimals) {
+        Ok(walker) => walk_from(alloc, walker, tape, settings.prompt, input, output),
+        Err(ending) => ending,
+    }
+}
+
+// Walks from where a walker stands.
+fn walk_from<R: Read, W: Write, A: Allocator + Copy>(
+    alloc: A,
+    walker: Walker<A>,
+    program: &[u8],
+    prompt: bool,
+    input: &mut R,
+    output: &mut W,
+) -> Ending
+    ensures took { Takes (R.remaining input.old) (R.remaining input.new) }
+    ensures gave { Gives (W.contents output.old) (W.contents output.new) }
+    ensures ends { IsStop result }
+{
+    let mut guide = Guide {
+        walker,
+        memo: Memo::new(alloc, program),
+    };
+    converse(alloc, &mut guide, prompt, input, output)
+}

@@ -1,0 +1,2 @@
+-- Why there is no session over a program.
+pub mod Refused

@@ -1,0 +1,89 @@
+//! A session whose last steps are kept, with counts of what is forgotten.
+ghost use Rattle.std.specs.Prelude.{◌≡◌, ◌+◌, ◌^◌, ◌<◌, ◌≤◌, length, IfErr, OnOk};
+ghost use Rattle.trac_rules.specs.Session.{first_kept};
+ghost use Rattle.trac_window.specs.Refused.{MayRefuseProgram};
+
+use std::alloc::Allocator;
+use trac_rules::limit::{JOURNAL_LIMIT, TAPE_LIMIT};
+use trac_rules::width::Width;
+use trac_session::{Refusal, Session};
+use trac_streams::Ending;
+
+/// A session over a program, of which the last steps are kept.
+#[derive(Drop)]
+pub struct Window<A: Allocator + Copy> {
+    /// The session, whose first state is the first that one can go back to.
+    pub session: Session<A>,
+    /// How many steps were forgotten.
+    pub forgotten: u64,
+    /// How many bytes of the output were forgotten with them.
+    pub released: u64,
+}
+
+impl<A: Allocator + Copy> Window<A> {
+    /// At the start of the program, which is the whole input so far. The journal holds so many steps at most, and numbers are so
+    /// wide.
+    ///
+    /// `Ending::Limit`: the program has more than 33,554,432 bytes. `Ending::Memory`: memory was refused.
+    pub fn over(alloc: A, tape: &[u8], limit: usize, width: Width) -> Result<Self, Ending>
+        requires some_records { 1 ≤ limit }
+        requires most_records { limit ≤ JOURNAL_LIMIT }
+        ensures made { OnOk result (length tape.now ≤ TAPE_LIMIT) }
+        ensures refused { IfErr result (MayRefuseProgram tape.now) }
+    {
+        if tape.len() > TAPE_LIMIT {
+            return Err(Ending::Limit);
+        }
+        let Ok(session) = session_over(alloc, tape, limit, width) else {
+            return Err(Ending::Memory);
+        };
+        Ok(Window {
+            session,
+            forgotten: 0,
+            released: 0,
+        })
+    }
+
+    /// Forgets all steps but the last, so many of them, and counts these, and the bytes of the output that are forgotten with
+    /// them.
+    pub fn keep_steps(&mut self, keep: usize)
+        ensures counted { self.old.released + length (first_kept keep self.old.session).output < 2 ^ 64 → self.new.released ≡ self.old.released + length (first_kept keep self.old.session).output }
+    {
+        let steps = self.session.len().saturating_sub(keep);
+        let released = forget_before(&mut self.session, keep);
+        self.released = self.released.saturating_add(released as u64);
+        self.forgotten = self.forgotten.saturating_add(steps as u64);
+    }
+}
+
+// A session over this tape. It promises nothing, so that whoever calls it has no clause of sessions in his proof. The error is
+// that memory was refused.
+fn session_over<A: Allocator + Copy>(
+    alloc: A,
+    tape: &[u8],
+    limit: usize,
+    width: Width,
+) -> Result<Session<A>, Refusal>
+    requires some_records { 1 ≤ limit }
+    requires most_records { limit ≤ JOURNAL_LIMIT }
+{
+    fed(Session::new(alloc, limit, width)?, tape)
+}
+
+// A session with this tape.
+fn fed<A: Allocator + Copy>(mut session: Session<A>, tape: &[u8]) -> Result<Session<A>, Refusal> {
+    match session.feed(tape) {
+        Ok(()) => Ok(session),
+        Err(refusal) => Err(refusal),
+    }
+}
+
+// Keeps so many steps, and returns how many bytes of the output are forgotten with the others: those of the first state that
+// stays.
+fn forget_before<A: Allocator + Copy>(session: &mut Session<A>, keep: usize) -> usize
+    ensures { result ≡ length (first_kept keep session.old).output }
+{
+    let released = session.pending_before(keep).len();
+    session.commit(keep);
+    released
+}
