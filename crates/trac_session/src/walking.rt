@@ -84,7 +84,9 @@ impl<A: Allocator + Copy> Session<A> {
                 };
             }
             done += 1;
-            done += self.pass(direction, n - done);
+            if done < n {
+                done += self.pass(direction, n - done);
+            }
         }
         Walk { done, why: None }
     }
