@@ -18,4 +18,5 @@ pub mod ShownTold
 pub mod FormCalls
 pub mod Staying
 pub mod RunsBack
+pub mod Traces
 pub mod FetchedTold

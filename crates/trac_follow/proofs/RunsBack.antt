@@ -19,7 +19,8 @@ use Rattle.trac_session.proofs.Walked.{repeated-from}
 use Rattle.trac_follow.specs.Offsets.{IsPlaced}
 use Rattle.trac_follow.proofs.Staying.{placed_before}
 use Rattle.trac_follow.specs.Passing.{IsUnpassed}
-use Rattle.trac_follow.proofs.StepsBack.{GoesBack, IsKnown, followed_on}
+use Rattle.trac_follow.specs.Following.{IsKnown}
+use Rattle.trac_follow.proofs.StepsBack.{GoesBack, followed_on}
 use Rattle.trac_follow.proofs.Unpassed.{run_unpassed, unpassed_on}
 
 length-way : (n : ℕ) (s : State) → length (on_the_way n s) ≡ n
@@ -27,7 +28,7 @@ length-way zero s = refl
 length-way (suc n) s = omega (arith, length-way n s)
 
 -- of steps one after another, the last and the first
-last_steps : (environment : Environment) (way rest : List State) (t : State) → AreSteps environment (way ++ rest) t → AreSteps environment way t
+pub last_steps : (environment : Environment) (way rest : List State) (t : State) → AreSteps environment (way ++ rest) t → AreSteps environment way t
 last_steps environment [] rest t all = tt
 last_steps environment (s ∷ way) rest t all = (all.0, last_steps environment way rest s all.1)
 
@@ -57,7 +58,7 @@ same_session zero cur next h none = cc
 same_session (suc n) cur next h none = absurd (omega (arith, none))
 
 module _ (width : Width) (old cur next : PlainSession) (place here there : Place) (steps n : ℕ) (goes : GoesBack width old cur place here steps) (h : repeated Back n cur ≡ Some next)
-    (moved : HasMovedBack n cur next) (bytes : ℕ) (gap : Bool) (placed : IsKnown width old → IsPlaced bytes gap cur.last here) (at : IsBefore n cur next here there bytes gap) where
+    (moved : HasMovedBack n cur next) (bytes : ℕ) (gap : Bool) (placed : IsKnown width old place → IsPlaced bytes gap cur.last here) (at : IsBefore n cur next here there bytes gap) where
   environment : Environment
   environment = over old.width old.tape
 
@@ -79,7 +80,7 @@ module _ (width : Width) (old cur next : PlainSession) (place here there : Place
       ∙ take-append-add (take steps old.earlier) (on_the_way n next.last ++ next.earlier) n
       ∙ ap (λ (states : List State). take steps old.earlier ++ states) (take_at (on_the_way n next.last) next.earlier n (length-way n next.last))
 
-  steps_there : IsKnown width old → AreSteps environment (way ++ next.earlier) (moved_on n next.last)
+  steps_there : IsKnown width old place → AreSteps environment (way ++ next.earlier) (moved_on n next.last)
   unfolding environment way
   steps_there trail =
       subst (λ (u : State). AreSteps (over old.width old.tape) (on_the_way n next.last ++ next.earlier) u) moved.last
@@ -114,7 +115,7 @@ module _ (width : Width) (old cur next : PlainSession) (place here there : Place
         };
   }
 
-  pub run_placed : IsKnown width old → IsPlaced bytes gap next.last there
+  pub run_placed : IsKnown width old place → IsPlaced bytes gap next.last there
   run_placed trail =
       let stood = goes.stood trail in
       let item : Item = stood.stands.0 in

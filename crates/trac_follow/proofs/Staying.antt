@@ -31,12 +31,12 @@ use Rattle.trac_text.proofs.NeutralAgain.{function_bytes}
 use Rattle.trac_follow.specs.Items.{IsMeasured}
 use Rattle.trac_follow.specs.Offsets.{IsPlaced, bytes_left, left_by, neutral_bytes, offset}
 use Rattle.trac_follow.specs.Places.{IsPassed, is_in_text}
-use Rattle.trac_follow.specs.Running.{StaysAt}
-use Rattle.trac_follow.proofs.CallsTold.{given_call, has_done, moves_done, output_carried, text_carried}
+use Rattle.trac_follow.specs.Running.{CameFrom, StaysAt}
+use Rattle.trac_follow.proofs.CallsTold.{active_kept, given_call, has_done, moves_done, output_carried, rest_carried, text_carried}
 use Rattle.trac_follow.proofs.Found.{byte_there}
 use Rattle.trac_follow.proofs.Offsets.{around_offset, called_offset, moved_offset, new_past, offset_before, stands_within}
 use Rattle.trac_follow.proofs.Renewed.{IsNew, around_it, called_new, moved_new}
-use Rattle.trac_follow.proofs.Scanned.{stays_carried}
+use Rattle.trac_follow.proofs.Scanned.{left_carried, left_less, stays_carried}
 use Rattle.trac_follow.proofs.Unpassed.{stays_calling, stays_moving}
 
 -- ---- what stays
@@ -245,3 +245,28 @@ text_before n s p bytes gap item past text stands placed is = ap (λ q. in_activ
         is
         ∙ cond-false (nat_lt bytes (neutral_bytes s)) None (Some (bytes - neutral_bytes s)) (not_less bytes (neutral_bytes s) (omega (arith, past_end)))
         ∙ ap Some (omega (arith, past_end)) ∙ sym found
+
+-- ---- the rest of the active text
+
+-- a byte that is not new is as far from the end as it was
+pub active_came : (s : State) (left i j : ℕ) → j + left ≡ length s.active + i → 0 < j → CameFrom s left (InActive i) (InActive j)
+active_came s left i j index some = λ environment t item h is stands. (
+  go environment t item h is stands (scan s) refl,
+  λ bytes gap. aside bytes gap s (InActive j) refl tt,
+  λ passed. passed,
+)
+  where
+    go : (environment : Environment) (t : State) (item : Item) → step environment s ≡ Ok t → left ≡ length t.active → found_at t (InActive i) ≡ Some item → (x : Scanned) → scan s ≡ x →
+        origin environment s (InActive i) ≡ Carried (InActive j)
+    go environment t item h is stands (Moves u) e =
+        let moves = moves_done environment s t (ap call_asked e) h in
+        let within = byte_within i t.active item stands in
+        let more : 0 < length s.active = omega (arith, index, some, is, within) in
+        left_carried environment s t i item moves more stands
+        ∙ ap (λ n. Carried (InActive n)) (omega (arith, index, is, left_less environment s t i item h moves more stands))
+    go environment t item h is stands (Calls call) e =
+        let within = byte_within i t.active item stands in
+        let kept = active_kept environment s t call item h e environment.width refl in
+        let value = length t.active - (length s.active - 1) in
+        rest_carried environment s t call item h e environment.width refl i value refl kept (omega (arith, index, some, is, within, kept)) (omega (arith, index, some, is, within, kept))
+        ∙ ap (λ n. Carried (InActive n)) (omega (arith, index, some, is, within, kept))

@@ -1,6 +1,6 @@
 -- A byte that is followed back, step by step.
 use Rattle.std.proofs.Common.{◌≡◌, ℕ, suc, ◌+◌, ◌-◌, ◌^◌, ◌<◌, Bool, true, false, List, [], ◌∷◌, ◌++◌, length, take, refl, sym, ap, ap₂, subst, ◌∙◌, ⊎_elim, arith}
-use Rattle.std.specs.Prelude.{◌⊎◌, Option, None, Some, is_some, option_and_then}
+use Rattle.std.specs.Prelude.{◌⊎◌, Option, None, Some, Ok, is_some, option_and_then}
 use Rattle.std.proofs.lemmas.List.{append-nil, append_assoc, length-append}
 use Rattle.std.proofs.Math.Seq.{take-append-add}
 use Rattle.trac_rules.specs.declared.refusal.Refusal.{Refusal}
@@ -11,7 +11,9 @@ use Rattle.trac_rules.specs.Effect.{argument}
 use Rattle.trac_rules.specs.Scanning.{scan}
 use Rattle.trac_rules.specs.Session.{PlainSession, Back, Answers, IsWalk, accepted_by, answer, no_goal, over, repeated}
 use Rattle.trac_rules.specs.State.{Environment, State}
-use Rattle.trac_rules.specs.Trails.{AreSteps, IsTrail}
+use Rattle.trac_rules.specs.Stepping.{step}
+use Rattle.trac_rules.specs.Trails.{AreSteps}
+use Rattle.trac_rules.specs.declared.item.Item.{Item}
 use Rattle.trac_rules.proofs.Replies.{Back_refused, accepted_done, answer_Back_from}
 use Rattle.trac_rules.proofs.TakenAgain.{Back_done}
 use Rattle.trac_origins.specs.Accounts.{Accounts}
@@ -25,17 +27,17 @@ use Rattle.trac_follow.specs.declared.history.Turn as turning
 use Rattle.trac_follow.specs.declared.place.After.{After}
 use Rattle.trac_follow.specs.declared.place.Origin as code_origin
 use Rattle.trac_follow.specs.declared.place.Place as code_place
-use Rattle.trac_follow.specs.Following.{IsFollowed, IsOrigin, IsSource, quiet_steps}
+use Rattle.trac_follow.specs.Following.{IsFollowed, IsKnown, IsOrigin, IsSource, quiet_steps}
 use Rattle.trac_follow.specs.Items.{IsMeasured}
 use Rattle.trac_follow.specs.Offsets.{IsPlaced}
 use Rattle.trac_follow.specs.Passing.{IsUnpassed}
-use Rattle.trac_follow.specs.Running.{IsTurn, StaysAt}
+use Rattle.trac_follow.specs.Running.{IsTurn}
 use Rattle.trac_follow.specs.Places.{AreLengths, IsPassed, Stands, Tells, TellsOf, is_in_form, is_in_storage, place_of}
 use Rattle.trac_follow.proofs.Unpassed.{unpassed_on, unpassed_once}
 
 -- ---- over some states, and then over more
 
-abbrev after_some : ℕ → Followed → Followed
+abbrev pub after_some : ℕ → Followed → Followed
 after_some n f = record { carried = n + f.carried; origin = f.origin }
 
 pub followed_on : (environment : Environment) (pre post : List State) (place q : Place) → (followed environment pre place).origin ≡ Carried q →
@@ -96,10 +98,6 @@ no_way_back cur next steps why refusal walk some =
 
 -- ---- what is known on the way
 
--- a session of numbers of this width, whose states are steps of one another
-abbrev pub IsKnown : Width → PlainSession → Type 0
-IsKnown width old = (width ≡ old.width) × IsTrail old
-
 -- of a session whose states are steps of one another
 pub record Stood (old cur : PlainSession) (place here : Place) (steps : ℕ) : Type 0 where
   pub taken : AreSteps (over old.width old.tape) cur.earlier cur.last
@@ -112,20 +110,20 @@ pub record GoesBack (width : Width) (old cur : PlainSession) (place here : Place
   pub same_width : cur.width ≡ old.width
   pub whole : old.earlier ≡ take steps old.earlier ++ cur.earlier
   pub count : length (take steps old.earlier) ≡ steps
-  pub stood : IsKnown width old → Stood old cur place here steps
+  pub stood : IsKnown width old place → Stood old cur place here steps
 
-pub begins : (width : Width) (old : PlainSession) (place : Place) → Stands old.last place → GoesBack width old old place place 0
-begins width old place stands = record {
+pub begins : (width : Width) (old : PlainSession) (place : Place) → GoesBack width old old place place 0
+begins width old place = record {
   walked = refl;
   same_width = refl;
   whole = refl;
   count = refl;
-  stood = λ trail. record { taken = trail.1.steps; carried = refl; stands = stands; unpassed = tt };
+  stood = λ trail. record { taken = trail.1.steps; carried = refl; stands = trail.2; unpassed = tt };
 }
 
 -- what is known when it goes no further
 pub is_here : (width : Width) (old cur : PlainSession) (place here : Place) (most steps : ℕ) (there : code_place.Place) → here ≡ place_of there → GoesBack width old cur place here steps →
-    (steps ≡ most) ⊎ (cur.earlier ≡ []) → IsKnown width old → IsSource old place most cur steps (code.TheVariants.Here there)
+    (steps ≡ most) ⊎ (cur.earlier ≡ []) → IsKnown width old place → IsSource old place most cur steps (code.TheVariants.Here there)
 is_here width old cur place here most steps there same goes ends trail =
     let stood = goes.stood trail in (
       all_carried (over old.width old.tape) (take steps old.earlier) place here stood.carried
@@ -158,7 +156,7 @@ module _ (width : Width) (old cur next : PlainSession) (place here : Place) (ste
       back_from p q w = ap accepted_by (answer_Back_from p w.before w.rest w.earlier) ∙ ap Some (sym w.next_is)
 
   -- what is told of the step
-  pub tells_step : (trail : IsKnown width old) (after : After) (told : code_origin.Origin) → AreLengths after cur.last here →
+  pub tells_step : (trail : IsKnown width old place) (after : After) (told : code_origin.Origin) → AreLengths after cur.last here →
       TellsOf went.before width after here told → Tells went.before told (origin environment went.before here)
   tells_step trail after told lengths tells =
       let stood = goes.stood trail in
@@ -166,14 +164,14 @@ module _ (width : Width) (old cur next : PlainSession) (place here : Place) (ste
       tells environment cur.last stood.stands.0 (sym trail.0) taken.0 lengths stood.stands.1
 
   -- over one state more
-  followed_one : (trail : IsKnown width old) (o : Origin) → origin environment went.before here ≡ o →
+  followed_one : (trail : IsKnown width old place) (o : Origin) → origin environment went.before here ≡ o →
       followed environment (take (steps + 1) old.earlier) place ≡ after_some steps (going_back o (λ q. followed environment [] q))
   followed_one trail o is =
       ap (λ (states : List State). followed environment states place) one_longer
       ∙ followed_on environment pre (went.before ∷ []) place here (goes.stood trail).carried
       ∙ ap₂ (λ n f. after_some n f) goes.count (ap (λ r. going_back r (λ q. followed environment [] q)) is)
 
-  pub goes_on : (there : Place) → (IsKnown width old → origin environment went.before here ≡ Carried there) → (IsKnown width old → IsPassed went.before here there → ⊥) →
+  pub goes_on : (there : Place) → (IsKnown width old place → origin environment went.before here ≡ Carried there) → (IsKnown width old place → IsPassed went.before here there → ⊥) →
       GoesBack width old next place there (steps + 1)
   goes_on there is not = record {
     walked = walked_on;
@@ -197,15 +195,15 @@ module _ (width : Width) (old cur next : PlainSession) (place here : Place) (ste
   }
 
   -- how it may end there
-  pub ends_made : (most : ℕ) (trail : IsKnown width old) → origin environment went.before here ≡ Made → IsSource old place most next (steps + 1) code.TheVariants.Made
+  pub ends_made : (most : ℕ) (trail : IsKnown width old place) → origin environment went.before here ≡ Made → IsSource old place most next (steps + 1) code.TheVariants.Made
   ends_made most trail is =
       (omega arith, followed_one trail Made is ∙ ap (λ n. record { carried = n; origin = Made }) (omega arith))
 
-  pub ends_read : (most n : ℕ) (trail : IsKnown width old) → origin environment went.before here ≡ Read n → IsSource old place most next (steps + 1) (code.TheVariants.Read n)
+  pub ends_read : (most n : ℕ) (trail : IsKnown width old place) → origin environment went.before here ≡ Read n → IsSource old place most next (steps + 1) (code.TheVariants.Read n)
   ends_read most n trail is =
       (omega arith, followed_one trail (Read n) is ∙ ap (λ m. record { carried = m; origin = Read n }) (omega arith))
 
-  pub ends_form : (most i : ℕ) (trail : IsKnown width old) → Tells went.before (code_origin.TheVariants.OfForm i) (origin environment went.before here) → is_in_storage here ≡ false →
+  pub ends_form : (most i : ℕ) (trail : IsKnown width old place) → Tells went.before (code_origin.TheVariants.OfForm i) (origin environment went.before here) → is_in_storage here ≡ false →
       IsSource old place most next (steps + 1) (code.TheVariants.OfForm i)
   ends_form most i trail tells taken =
       let q = InForm (argument 1 tells.0.arguments) i in (
@@ -235,10 +233,10 @@ some_by_test (Some refusal) some is e = (refusal, refl)
 pub record HasTold (width : Width) (old cur next : PlainSession) (place here : Place) (steps : ℕ) (told : code_origin.Origin) : Type 0 where
   pub goes : GoesBack width old cur place here steps
   pub went : WentBack cur next
-  pub tells : IsKnown width old → Tells went.before told (origin (over old.width old.tape) went.before here)
+  pub tells : IsKnown width old place → Tells went.before told (origin (over old.width old.tape) went.before here)
 
 pub has_told : (old cur next : PlainSession) (place here : Place) (steps done : ℕ) (why : Option Refusal) (some : Bool) (width : Width) (after : After) (u v : State) (told : code_origin.Origin) →
-    GoesBack width old cur place here steps → IsWalk Back no_goal 1 cur done why next → some ≡ is_some why → some ≡ false → u ≡ cur.last → (IsKnown width old → AreLengths after u here) →
+    GoesBack width old cur place here steps → IsWalk Back no_goal 1 cur done why next → some ≡ is_some why → some ≡ false → u ≡ cur.last → (IsKnown width old place → AreLengths after u here) →
     v ≡ next.last → TellsOf v width after here told → HasTold width old cur next place here steps told
 has_told old cur next place here steps done why some width after u v told goes walk test none is_cur lengths is_next tells =
     let went = went_back cur next done why walk (none_by_test why some test none) in
@@ -251,7 +249,7 @@ has_told old cur next place here steps done why some width after u v told goes w
     }
 
 -- so many steps carried it
-carried_so : (width : Width) (old cur : PlainSession) (place here : Place) (steps : ℕ) → GoesBack width old cur place here steps → IsKnown width old → IsOrigin old place steps steps (Carried here)
+carried_so : (width : Width) (old cur : PlainSession) (place here : Place) (steps : ℕ) → GoesBack width old cur place here steps → IsKnown width old place → IsOrigin old place steps steps (Carried here)
 carried_so width old cur place here steps goes trail =
     all_carried (over old.width old.tape) (take steps old.earlier) place here (goes.stood trail).carried
     ∙ ap (λ n. record { carried = n; origin = Carried here }) goes.count
@@ -260,7 +258,7 @@ module _ (old cur next : PlainSession) (place here : Place) (steps : ℕ) (told 
   abbrev before : State
   before = has.went.before
 
-  told_as : (o : code_origin.Origin) → told ≡ o → IsKnown width old → Tells before o (origin (over old.width old.tape) before here)
+  told_as : (o : code_origin.Origin) → told ≡ o → IsKnown width old place → Tells before o (origin (over old.width old.tape) before here)
   told_as o is trail = subst (λ o. Tells before o (origin (over old.width old.tape) before here)) is (has.tells trail)
 
   -- the state before the step
@@ -291,18 +289,18 @@ module _ (old cur next : PlainSession) (place here : Place) (steps : ℕ) (told 
       go other from is = absurd (cc)
 
   -- what was found, in a record
-  found_is : (most : ℕ) (found : Found) (source : code.Source) → found.steps ≡ steps + 1 → found.source ≡ source → quiet_steps (steps + 1) source ≡ steps → Stands old.last place → IsKnown width old →
+  found_is : (most : ℕ) (found : Found) (source : code.Source) → found.steps ≡ steps + 1 → found.source ≡ source → quiet_steps (steps + 1) source ≡ steps → IsKnown width old place →
       IsSource old place most next (steps + 1) source → IsFollowed old place most next found
-  found_is most found source count is quiet stands trail h = record {
+  found_is most found source count is quiet trail h = record {
     source = subst (λ n. IsSource old place most next n found.source) (sym count) (subst (λ s. IsSource old place most next (steps + 1) s) (sym is) h);
     unpassed = subst (λ n. IsUnpassed (over old.width old.tape) (take n old.earlier) place)
         (sym (ap₂ quiet_steps count is ∙ quiet)) (has.goes.stood trail).unpassed;
-    nothing = λ bare. absurd (bare stands.0 stands.1);
+    nothing = λ bare. absurd (bare trail.2.0 trail.2.1);
   }
 
   pub turned_end : (v : State) (most : ℕ) (now : code_place.Place) (turn : turning.Turn) (source : code.Source) (found : Found) → v ≡ next.last → here ≡ place_of now → IsTurn v now told turn →
-      turn ≡ turning.TheVariants.End source → found.steps ≡ steps + 1 → found.source ≡ source → Stands old.last place → IsKnown width old → IsFollowed old place most next found
-  turned_end v most now turn source found last same turned end count is stands trail = go told refl turned
+      turn ≡ turning.TheVariants.End source → found.steps ≡ steps + 1 → found.source ≡ source → IsKnown width old place → IsFollowed old place most next found
+  turned_end v most now turn source found last same turned end count is trail = go told refl turned
     where
       quiet : steps + 1 - 1 ≡ steps
       quiet = omega arith
@@ -314,7 +312,7 @@ module _ (old cur next : PlainSession) (place here : Place) (steps : ℕ) (told 
           (λ (e : (turn ≡ turning.TheVariants.End (code.TheVariants.Passed q)) × IsPassed v (place_of now) (place_of q) × (is_in_form (place_of q) ≡ true → is_in_storage (place_of now) ≡ true)).
           let is_end = e.0 in
           let ends : source ≡ code.TheVariants.Passed q = cc in
-          found_is most found (code.TheVariants.Passed q) count (is ∙ ends) quiet stands trail (
+          found_is most found (code.TheVariants.Passed q) count (is ∙ ends) quiet trail (
             followed_one width old cur next place here steps has.goes has.went trail (Carried (place_of q)) (told_as (code_origin.TheVariants.Carried q) from trail),
             (
               steps,
@@ -331,16 +329,16 @@ module _ (old cur next : PlainSession) (place here : Place) (steps : ℕ) (told 
       go (code_origin.TheVariants.OfForm i) from at =
           let is_end = at.0 in
           let ends : source ≡ code.TheVariants.OfForm i = cc in
-          found_is most found (code.TheVariants.OfForm i) count (is ∙ ends) quiet stands trail
+          found_is most found (code.TheVariants.OfForm i) count (is ∙ ends) quiet trail
           (ends_form width old cur next place here steps has.goes has.went most i trail (told_as (code_origin.TheVariants.OfForm i) from trail)
           (ap is_in_storage same ∙ at.1))
       go (code_origin.TheVariants.Read n) from at =
           let ends : source ≡ code.TheVariants.Read n = cc in
-          found_is most found (code.TheVariants.Read n) count (is ∙ ends) quiet stands trail
+          found_is most found (code.TheVariants.Read n) count (is ∙ ends) quiet trail
           (ends_read width old cur next place here steps has.goes has.went most n trail (told_as (code_origin.TheVariants.Read n) from trail))
       go code_origin.TheVariants.Made from at =
           let ends : source ≡ code.TheVariants.Made = cc in
-          found_is most found code.TheVariants.Made count (is ∙ ends) quiet stands trail
+          found_is most found code.TheVariants.Made count (is ∙ ends) quiet trail
           (ends_made width old cur next place here steps has.goes has.went most trail (told_as code_origin.TheVariants.Made from trail))
       go code_origin.TheVariants.Nothing from at = absurd (told_as code_origin.TheVariants.Nothing from trail)
 
@@ -355,31 +353,33 @@ seen_lengths after u m here bytes gap active output extent is_gap read last plac
       (subst (λ n. IsMeasured n after.is_gap m.last here) (sym extent) (subst (λ g. IsMeasured bytes g m.last here) (sym is_gap) placed.measured));
 }
 
--- a step that leaves what stands there
-pub step_on : (width : Width) (old cur next : PlainSession) (place here : Place) (steps done : ℕ) (why : Option Refusal) (some : Bool) (v : State) (bytes : ℕ) (gap : Bool) →
-    GoesBack width old cur place here steps → (IsKnown width old → IsPlaced bytes gap cur.last here) → IsWalk Back no_goal 1 cur done why next → some ≡ is_some why → some ≡ false →
-    v ≡ next.last → StaysAt v bytes gap here → GoesBack width old next place here (steps + 1) × (IsKnown width old → IsPlaced bytes gap next.last here)
-step_on width old cur next place here steps done why some v bytes gap goes placed walk test none is_next stays =
+-- a step over which it is told where it stood before
+pub step_to : (width : Width) (old cur next : PlainSession) (place here there : Place) (steps done : ℕ) (why : Option Refusal) (some : Bool) (v : State) (bytes : ℕ) (gap : Bool) →
+    GoesBack width old cur place here steps → IsWalk Back no_goal 1 cur done why next → some ≡ is_some why → some ≡ false → v ≡ next.last →
+    (IsKnown width old place → (item : Item) → step (over old.width old.tape) v ≡ Ok cur.last → found_at cur.last here ≡ Some item →
+    (origin (over old.width old.tape) v here ≡ Carried there) × IsPlaced bytes gap v there × (IsPassed v here there → ⊥)) →
+    GoesBack width old next place there (steps + 1) × (IsKnown width old place → IsPlaced bytes gap next.last there)
+step_to width old cur next place here there steps done why some v bytes gap goes walk test none is_next came =
     let went = went_back cur next done why walk (none_by_test why some test none) in
     let before : v ≡ went.before = is_next ∙ ap (λ (p : PlainSession). p.last) went.next_is in
-    let stays_there : StaysAt went.before bytes gap here = subst (λ (u : State). StaysAt u bytes gap here) before stays in
-    let at : (trail : IsKnown width old) →
-    (origin (over old.width old.tape) went.before here ≡ Carried here) × IsPlaced bytes gap went.before here × (IsPassed went.before here here → ⊥) =
+    let at : (trail : IsKnown width old place) →
+    (origin (over old.width old.tape) went.before here ≡ Carried there) × IsPlaced bytes gap went.before there × (IsPassed went.before here there → ⊥) =
     λ trail.
     let stood = goes.stood trail in
     let taken = subst (λ (states : List State). AreSteps (over old.width old.tape) states cur.last) went.earlier stood.taken in
-    stays_there (over old.width old.tape) cur.last stood.stands.0 taken.0 stood.stands.1 (placed trail) in (
-      goes_on width old cur next place here steps goes went here (λ trail. (at trail).0) (λ trail. (at trail).2),
-      λ trail. subst (λ (p : PlainSession). IsPlaced bytes gap p.last here) (sym went.next_is) (at trail).1,
+    subst (λ (u : State). (origin (over old.width old.tape) u here ≡ Carried there) × IsPlaced bytes gap u there × (IsPassed u here there → ⊥)) before
+    (came trail stood.stands.0 (subst (λ (u : State). step (over old.width old.tape) u ≡ Ok cur.last) (sym before) taken.0) stood.stands.1) in (
+      goes_on width old cur next place here steps goes went there (λ trail. (at trail).0) (λ trail. (at trail).2),
+      λ trail. subst (λ (p : PlainSession). IsPlaced bytes gap p.last there) (sym went.next_is) (at trail).1,
     )
 
 -- where it goes no further
 pub stops : (width : Width) (old cur next : PlainSession) (place here : Place) (most steps : ℕ) (there : code_place.Place) (found : Found) → here ≡ place_of there → GoesBack width old cur place here steps →
-    (steps ≡ most) ⊎ (cur.earlier ≡ []) → next ≡ cur → found.steps ≡ steps → found.source ≡ code.TheVariants.Here there → Stands old.last place → IsKnown width old → IsFollowed old place most next found
-stops width old cur next place here most steps there found same goes ends is count source stands trail = record {
+    (steps ≡ most) ⊎ (cur.earlier ≡ []) → next ≡ cur → found.steps ≡ steps → found.source ≡ code.TheVariants.Here there → IsKnown width old place → IsFollowed old place most next found
+stops width old cur next place here most steps there found same goes ends is count source trail = record {
   source = subst (λ p. IsSource old place most p found.steps found.source) (sym is)
       (subst (λ n. IsSource old place most cur n found.source) (sym count)
       (subst (λ s. IsSource old place most cur steps s) (sym source) (is_here width old cur place here most steps there same goes ends trail)));
   unpassed = subst (λ n. IsUnpassed (over old.width old.tape) (take n old.earlier) place) (sym (ap₂ quiet_steps count source)) (goes.stood trail).unpassed;
-  nothing = λ bare. absurd (bare stands.0 stands.1);
+  nothing = λ bare. absurd (bare trail.2.0 trail.2.1);
 }

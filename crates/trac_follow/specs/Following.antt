@@ -2,13 +2,19 @@
 use Rattle.std.specs.Prelude.{◌≡◌, ◌⊎◌, ℕ, ◌+◌, ◌-◌, true, false, ◌<◌, take, []}
 use Rattle.trac_rules.specs.Effect.{argument}
 use Rattle.trac_rules.specs.Scanning.{Call, Calls, scan}
+use Rattle.trac_rules.specs.declared.width.Width.{Width}
 use Rattle.trac_rules.specs.Session.{PlainSession, over}
+use Rattle.trac_rules.specs.Trails.{IsTrail}
 use Rattle.trac_origins.specs.Following.{followed}
 use Rattle.trac_origins.specs.Places.{Place, InForm, Origin, Carried, Read, Made}
 use Rattle.trac_follow.specs.declared.history.Followed.{Followed as Found}
 use Rattle.trac_follow.specs.declared.history.Source as code
 use Rattle.trac_follow.specs.Passing.{IsUnpassed}
-use Rattle.trac_follow.specs.Places.{IsBare, IsPassed, is_in_form, is_in_storage, place_of}
+use Rattle.trac_follow.specs.Places.{IsBare, IsPassed, Stands, is_in_form, is_in_storage, place_of}
+
+-- a session of numbers of this width, whose states are steps of one another, and something stands at a place
+abbrev pub IsKnown : Width → PlainSession → Place → Type 0
+IsKnown width old place = (width ≡ old.width) × IsTrail old × Stands old.last place
 
 -- over the last so many steps of a session a byte was carried by so many, and has this origin
 abbrev pub IsOrigin : PlainSession → Place → ℕ → ℕ → Origin → Type 0

@@ -6,5 +6,7 @@ pub mod Formed
 pub mod Fetched
 pub mod Passing
 pub mod Following
+pub mod Kept
+pub mod Tracing
 pub mod Running
 pub mod Putting

@@ -1,6 +1,6 @@
 //! Following a byte back over many steps.
 ghost use Rattle.std.specs.Prelude.{◌≡◌, ◌+◌, ◌^◌, ◌<◌, ◌≤◌, length, MatchBool, Some};
-ghost use Rattle.trac_follow.specs.Following.{IsFollowed};
+ghost use Rattle.trac_follow.specs.Following.{IsFollowed, IsKnown};
 ghost use Rattle.trac_follow.specs.Items.{IsMeasured};
 ghost use Rattle.trac_follow.specs.Offsets.{IsPlaced};
 ghost use Rattle.trac_follow.specs.Places.{IsCalled, IsPassed, Stands, is_in_form, place_of};
@@ -13,7 +13,7 @@ use crate::items::item_measured;
 use crate::offset::{argument_offset, is_innermost};
 use crate::origin::told_of;
 use crate::place::{After, Origin, Place};
-use crate::running::{before_run, stays};
+use crate::running::{before_in_active, before_run, stays};
 use crate::standing::stands;
 use std::alloc::Allocator;
 use trac_gap::TwoEnds;
@@ -70,6 +70,20 @@ pub fn follow<'a, A: Allocator + Copy>(
             source: Source::Nothing,
         };
     }
+    follow_from(session, width, place, most)
+}
+
+// The same, where something stands at the place.
+pub(crate) fn follow_from<'a, A: Allocator + Copy>(
+    session: &mut Session<A>,
+    width: Width,
+    place: Place<'a>,
+    most: u64,
+) -> Followed<'a>
+    ensures back { repeated Back result.steps session.old ≡ Some session.new }
+    ensures most { result.steps ≤ most }
+    ensures followed { IsKnown width session.old (place_of place.entry) → IsFollowed session.old (place_of place.entry) most session.new result }
+{
     let mut here = place;
     let mut measure = measured(session.machine(), place);
     let mut steps = 0;
@@ -85,6 +99,10 @@ pub fn follow<'a, A: Allocator + Copy>(
             break;
         }
         steps += 1;
+        if let Some(there) = before_in_active(session.machine(), after.active, here) {
+            here = there;
+            continue;
+        }
         if stays(session.machine(), measure, here) {
             continue;
         }

@@ -7,14 +7,17 @@ mod formed;
 mod front;
 pub mod history;
 mod items;
+mod kept;
 mod moving;
 mod offset;
 pub mod origin;
 pub mod place;
 mod running;
 mod standing;
+pub mod tracing;
 mod valued;
 
 pub use history::{Followed, Source, follow};
 pub use origin::origin_of;
 pub use place::{After, Origin, Place};
+pub use tracing::{End, Traced, Witness, trace};

@@ -1,8 +1,8 @@
 //! Steps back over which a byte is followed without a look at where it comes from.
-ghost use Rattle.std.specs.Prelude.{◌≡◌, ◌+◌, ◌-◌, ◌<◌, ◌≤◌, if◌then◌else◌, length, nat_lt, Bool, IsTrue, None, Some, ℕ};
+ghost use Rattle.std.specs.Prelude.{◌≡◌, ◌+◌, ◌-◌, ◌<◌, ◌≤◌, if◌then◌else◌, length, nat_lt, Bool, IfSome, IsTrue, None, Some, ℕ};
 ghost use Rattle.trac_follow.specs.Offsets.{IsPlaced, bytes_left};
 ghost use Rattle.trac_follow.specs.Places.{place_of};
-ghost use Rattle.trac_follow.specs.Running.{StaysAt};
+ghost use Rattle.trac_follow.specs.Running.{CameFrom, StaysAt};
 ghost use Rattle.trac_origins.specs.Lengths.{before_moved, in_active, may_put};
 ghost use Rattle.trac_origins.specs.Places.{InForm, found_at};
 ghost use Rattle.trac_rules.specs.declared.item.Item.{Item};
@@ -73,6 +73,39 @@ fn past_end(len: usize, i: usize) -> Option<usize>
         return None;
     }
     Some(i - len)
+}
+
+// ---- steps that leave the rest of the active text
+
+// Where a byte of the active text stood before the next step of a machine, after which that text is so long: as far from its end,
+// where the step did not put it there.
+pub(crate) fn before_in_active<'a, E: TwoEnds<u8, A>, M: TwoEnds<Mark, A>, A: Allocator + Copy>(
+    before: &Core<E, M, A>,
+    left: usize,
+    place: Place<'a>,
+) -> Option<Place<'a>>
+    ensures { IfSome result (λ there. CameFrom before.now.state left (place_of place.entry) (place_of there)) }
+{
+    let Place::Active(i) = place else {
+        return None;
+    };
+    let byte = as_far_from_end(before.active().len(), left, i)?;
+    Some(Place::Active(byte))
+}
+
+// Which byte of so many is as far from the end as this one of others is from theirs; none where it would be the first, which the
+// step takes, or where there is none.
+fn as_far_from_end(len: usize, other_len: usize, i: usize) -> Option<usize>
+    ensures { IfSome result (λ j. (j + other_len ≡ len + i) × (0 < j)) }
+{
+    if i >= other_len {
+        return None;
+    }
+    let from_end = other_len - i;
+    if from_end >= len {
+        return None;
+    }
+    Some(len - from_end)
 }
 
 // ---- steps that leave what they do not act on

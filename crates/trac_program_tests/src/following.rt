@@ -1,11 +1,12 @@
-//! Following bytes back: one by a way that was worked out by hand, and those of an output with no request for memory.
-use std::alloc::Global;
+//! Following bytes back: one by a way that was worked out by hand, from call to call and in one trace, and those of an output with
+//! no request for memory.
+use std::alloc::{AllocError, Global};
 use std::process::Abort;
 use trac_faults::Refusing;
-use trac_follow::{Followed, Place, Source, follow};
+use trac_follow::{End, Followed, Place, Source, Traced, Witness, follow, trace};
 use trac_rules::refusal::Refusal;
 use trac_rules::width::Width;
-use trac_session::Session;
+use trac_session::{Machine, Session};
 use trac_session_tests::programs::EACH_PRIMITIVE;
 
 type Memory<'a> = &'a Refusing<Global>;
@@ -154,6 +155,72 @@ fn follow_one(rt: &impl Abort, session: &mut Session<Memory<'_>>) {
     expect_way(rt, session);
 }
 
+// How many steps before the end each call on the way was, as a trace tells it; as many as fit.
+#[derive(Clone, Copy)]
+struct Told {
+    steps: [u64; 8],
+    count: usize,
+}
+
+impl<'a> Witness<Memory<'a>> for Told {
+    fn passed(
+        &mut self,
+        _machine: &Machine<Memory<'a>>,
+        steps: u64,
+        _from: Place<'_>,
+    ) -> Result<(), AllocError> {
+        let Some(place) = self.steps.get_mut(self.count) else {
+            return Err(AllocError);
+        };
+        *place = steps;
+        self.count = self.count.saturating_add(1);
+        Ok(())
+    }
+}
+
+fn traced<'a>(memory: Memory<'a>, session: &mut Session<Memory<'a>>, told: &mut Told) -> Traced {
+    trace(
+        memory,
+        session,
+        Width::W128,
+        Place::Output(0),
+        u64::MAX,
+        told,
+    )
+}
+
+// The same way in one trace: the steps of the calls on it are the sums of those above.
+fn trace_one<'a>(rt: &impl Abort, memory: Memory<'a>, session: &mut Session<Memory<'a>>) {
+    let mut told = Told {
+        steps: [0; 8],
+        count: 0,
+    };
+    let found = traced(memory, session, &mut told);
+    assert!(rt; found.steps == 43 && matches!(found.end, End::Read(7)));
+    assert!(rt; told.steps == [10, 11, 21, 27, 35, 0, 0, 0]);
+    // The witness has room for three more: the fourth is refused.
+    assert!(rt; go_on(session) == Some(Refusal::Ended));
+    let again = traced(memory, session, &mut told);
+    assert!(rt; again.steps == 27 && matches!(again.end, End::Memory));
+}
+
+// With no memory it comes to the first call that took the byte out of a form, whose name it cannot keep.
+fn trace_without_memory<'a>(
+    rt: &impl Abort,
+    memory: Memory<'a>,
+    session: &mut Session<Memory<'a>>,
+) {
+    let mut told = Told {
+        steps: [0; 8],
+        count: 0,
+    };
+    memory.refuse_all();
+    let found = traced(memory, session, &mut told);
+    memory.accept_all();
+    assert!(rt; found.steps == 11 && matches!(found.end, End::Memory));
+    assert!(rt; told.steps == [10, 0, 0, 0, 0, 0, 0, 0]);
+}
+
 fn let_go(session: Session<Memory<'_>>) {
     let _last = session;
 }
@@ -171,5 +238,9 @@ fn through_a_form_and_a_block(rt: HostRuntime) {
     let memory = Refusing::new(rt.alloc());
     let mut session = new_session(&memory).expect(&rt, "it was refused");
     follow_one(&rt, &mut session);
+    assert!(&rt; go_on(&mut session) == Some(Refusal::Ended));
+    trace_one(&rt, &memory, &mut session);
+    assert!(&rt; go_on(&mut session) == Some(Refusal::Ended));
+    trace_without_memory(&rt, &memory, &mut session);
     let_go(session);
 }

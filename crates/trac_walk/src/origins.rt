@@ -4,50 +4,75 @@ use crate::standing::stand_into;
 use crate::walker::Walker;
 use memchr::memmem;
 use std::alloc::{AllocError, Allocator};
-use trac_follow::{Place, Source};
+use trac_follow::{End, Place, Witness};
 use trac_orders::Spot;
 use trac_rules::byte::LINE_FEED;
 use trac_screen::{
-    Origin, Stop, Treatment, left_out_into, origin_into, performed_in, step_line, stop_into,
+    Origin, Stop, Treatment, left_out_into, origin_into, sight_of, step_line, stop_into,
     treatment_into,
 };
+use trac_session::Machine;
 
 // So many lines of a way are shown at most: the first of them, how many are left out, and the last.
 const LINE_COUNT: usize = 30;
 
-// Where a byte stands. The name of a form stands beside it.
-#[derive(Clone, Copy)]
-enum Here {
-    Active(usize),
-    Base(usize),
-    Argument(usize, usize, usize),
-    Form(usize),
-    Held(usize, usize),
-    Output(usize),
-}
-
-// A byte that is followed back.
+// What is said of the way of a byte: a line for each call that passed it on.
 #[derive(Drop)]
-struct Trail<A: Allocator + Copy> {
-    here: Here,
-    // of the form
-    name: Vec<u8, A>,
-    // how many lines are shown, and left out
+struct Way<A: Allocator + Copy> {
+    alloc: A,
+    // the step at which it begins
+    step: u64,
+    // its lines
+    lines: Vec<u8, A>,
+    // how many there are, and how many are left out
     shown: usize,
     left_out: usize,
 }
 
-// How far it was followed.
+impl<A: Allocator + Copy> Witness<A> for Way<A> {
+    fn passed(
+        &mut self,
+        machine: &Machine<A>,
+        steps: u64,
+        from: Place<'_>,
+    ) -> Result<(), AllocError> {
+        if self.shown >= LINE_COUNT - 2 {
+            self.left_out = self.left_out.saturating_add(1);
+            return Ok(());
+        }
+        self.shown += 1;
+        treatment_into(
+            self.alloc,
+            self.step.saturating_sub(steps),
+            &sight_of(machine),
+            treatment(from),
+            &mut self.lines,
+        )
+    }
+}
+
+// What a call did to a byte that is here after it.
+fn treatment(from: Place<'_>) -> Treatment {
+    match from {
+        Place::Output(_) => Treatment::Prints,
+        Place::Form(_, _) | Place::Held(_, _, _) => Treatment::Puts,
+        _ => Treatment::Gives,
+    }
+}
+
+// Of the way nothing is said.
 #[derive(Clone, Copy)]
-enum Found {
-    // the call that comes next carried it from here
-    Passed(Here),
-    // the call that comes next has it from this item of the form that it names
-    OfForm(usize),
-    // so it ends
-    End(Origin),
-    // nothing stands there
-    Nothing,
+struct Unsaid;
+
+impl<A: Allocator + Copy> Witness<A> for Unsaid {
+    fn passed(
+        &mut self,
+        _machine: &Machine<A>,
+        _steps: u64,
+        _from: Place<'_>,
+    ) -> Result<(), AllocError> {
+        Ok(())
+    }
 }
 
 /// Goes back to the step that made a byte, or read it, and puts the way there at the end of a text: a line for each call that
@@ -60,19 +85,24 @@ pub fn way_into<A: Allocator + Copy>(
     spot: Spot<'_>,
     out: &mut Vec<u8, A>,
 ) -> Result<(), AllocError> {
-    let (here, name) = match here_of(walker, spot) {
-        Ok(found) => found,
+    let place = match place_of(walker, spot) {
+        Ok(place) => place,
         Err(stop) => return stay(alloc, walker, stop, out),
     };
-    let trail = Trail {
-        here,
-        name: Vec::from_slice(alloc, name)?,
+    let mut way = Way {
+        alloc,
+        step: walker.step(),
+        lines: Vec::new(alloc),
         shown: 0,
         left_out: 0,
     };
-    if !trail_into(alloc, walker, program, trail, out)? {
-        return stay(alloc, walker, absent(walker, spot), out);
-    }
+    let origin = match walker.trace(alloc, place, &mut way) {
+        End::Nothing => return stay(alloc, walker, absent(walker, spot), out),
+        End::Memory => return Err(AllocError),
+        end => origin_of(walker, program, end),
+    };
+    out.extend_from_slice(way.lines.as_slice())?;
+    end_into(alloc, walker, way.left_out, origin, out)?;
     out.extend_from_slice(b"here: ")?;
     stand_into(alloc, walker, out)
 }
@@ -86,20 +116,23 @@ pub fn written_into<A: Allocator + Copy>(
     program: &[u8],
     out: &mut Vec<u8, A>,
 ) -> Result<(), AllocError> {
-    let here = match of_next(walker) {
-        Ok(here) => here,
+    let place = match of_next(walker) {
+        Ok(place) => place,
         Err(stop) => return stay(alloc, walker, stop, out),
     };
     let end = walker.step();
     let mut line = step_line(alloc, end, &walker.sight())?;
-    let found = origin_from(alloc, walker, program, here)?;
+    let found = walker.trace(alloc, place, &mut Unsaid);
+    let origin = origin_of(walker, program, found);
     let source = walker.step();
     if let Some(refusal) = walker.forward(end.saturating_sub(source)) {
         return stay(alloc, walker, Stop::Refused(refusal), out);
     }
-    let Some(origin) = found else {
-        return stay(alloc, walker, Stop::NoName, out);
-    };
+    match found {
+        End::Nothing => return stay(alloc, walker, Stop::NoName, out),
+        End::Memory => return Err(AllocError),
+        _ => {}
+    }
     origin_into(origin, source, &mut line)?;
     line.end_into(out)
 }
@@ -117,18 +150,18 @@ fn stay<A: Allocator + Copy>(
 
 // ---- where a byte stands
 
-// Where the byte stands that is wanted, and the name of its form.
-fn here_of<'s, A: Allocator + Copy>(
+// Where the byte stands that is wanted.
+fn place_of<'s, A: Allocator + Copy>(
     walker: &Walker<A>,
     spot: Spot<'s>,
-) -> Result<(Here, &'s [u8]), Stop> {
+) -> Result<Place<'s>, Stop> {
     match spot {
-        Spot::Printed(number) => Ok((Here::Output(printed(walker, number)?), &[])),
-        Spot::LastPrinted => Ok((Here::Output(last_printed(walker)?), &[])),
-        Spot::PrintedText(text) => Ok((Here::Output(printed_text(walker, text)?), &[])),
-        Spot::OfForm(name, number) => Ok((Here::Form(counted(number)?), name)),
-        Spot::OfArgument(argument, number) => Ok((of_argument(walker, argument, number)?, &[])),
-        Spot::Next => Ok((of_next(walker)?, &[])),
+        Spot::Printed(number) => Ok(Place::Output(printed(walker, number)?)),
+        Spot::LastPrinted => Ok(Place::Output(last_printed(walker)?)),
+        Spot::PrintedText(text) => Ok(Place::Output(printed_text(walker, text)?)),
+        Spot::OfForm(name, number) => Ok(Place::Form(name, counted(number)?)),
+        Spot::OfArgument(argument, number) => of_argument(walker, argument, number),
+        Spot::Next => of_next(walker),
     }
 }
 
@@ -195,88 +228,31 @@ fn printed_text<A: Allocator + Copy>(walker: &Walker<A>, text: &[u8]) -> Result<
 }
 
 // The place of a byte of an argument of the innermost begun function.
-fn of_argument<A: Allocator + Copy>(
+fn of_argument<'p, A: Allocator + Copy>(
     walker: &Walker<A>,
     argument: u64,
     number: u64,
-) -> Result<Here, Stop> {
+) -> Result<Place<'p>, Stop> {
     let depth = walker.glance().depth;
     if depth == 0 {
         return Err(Stop::Outside);
     }
-    Ok(Here::Argument(depth - 1, argument as usize, counted(number)?))
+    Ok(Place::Argument {
+        function: depth - 1,
+        argument: argument as usize,
+        byte: counted(number)?,
+    })
 }
 
 // The place of the first byte of the name of the call that comes next, which begins there or was begun last.
-fn of_next<A: Allocator + Copy>(walker: &Walker<A>) -> Result<Here, Stop> {
+fn of_next<'p, A: Allocator + Copy>(walker: &Walker<A>) -> Result<Place<'p>, Stop> {
     match walker.glance().beginning {
         0 => of_argument(walker, 0, 1),
-        beginning => Ok(Here::Active(beginning)),
+        beginning => Ok(Place::Active(beginning)),
     }
 }
 
-// A place with the name of its form.
-fn place_of<'n>(here: Here, name: &'n [u8]) -> Place<'n> {
-    match here {
-        Here::Active(i) => Place::Active(i),
-        Here::Base(i) => Place::Base(i),
-        Here::Argument(function, argument, byte) => Place::Argument {
-            function,
-            argument,
-            byte,
-        },
-        Here::Form(i) => Place::Form(name, i),
-        Here::Held(number, i) => Place::Held(number, name, i),
-        Here::Output(i) => Place::Output(i),
-    }
-}
-
-// A place without it.
-fn without_name(place: Place<'_>) -> Here {
-    match place {
-        Place::Active(i) => Here::Active(i),
-        Place::Base(i) => Here::Base(i),
-        Place::Argument {
-            function,
-            argument,
-            byte,
-        } => Here::Argument(function, argument, byte),
-        Place::Form(_, i) => Here::Form(i),
-        Place::Held(number, _, i) => Here::Held(number, i),
-        Place::Output(i) => Here::Output(i),
-    }
-}
-
-// ---- the way back
-
-// Goes back to where a byte comes from, with a line for each call that carried it; whether a byte stands there.
-fn trail_into<A: Allocator + Copy>(
-    alloc: A,
-    walker: &mut Walker<A>,
-    program: &[u8],
-    mut trail: Trail<A>,
-    out: &mut Vec<u8, A>,
-) -> Result<bool, AllocError> {
-    for _ in 0..u64::MAX {
-        match found_from(walker, program, &trail) {
-            Found::Passed(there) => {
-                carried_into(alloc, walker, &mut trail, out)?;
-                trail.here = there;
-            }
-            Found::OfForm(i) => {
-                carried_into(alloc, walker, &mut trail, out)?;
-                trail.name = form_called(alloc, walker)?;
-                trail.here = Here::Form(i);
-            }
-            Found::End(origin) => {
-                end_into(alloc, walker, trail.left_out, origin, out)?;
-                return Ok(true);
-            }
-            Found::Nothing => return Ok(false),
-        }
-    }
-    Ok(true)
-}
+// ---- where it comes from
 
 // The last lines of a way: how many are left out before it, and the step at which it ends.
 fn end_into<A: Allocator + Copy>(
@@ -298,46 +274,12 @@ fn end_into<A: Allocator + Copy>(
     )
 }
 
-// Goes back to where a byte comes from that stands in no form; none where no byte stands there.
-fn origin_from<A: Allocator + Copy>(
-    alloc: A,
-    walker: &mut Walker<A>,
-    program: &[u8],
-    here: Here,
-) -> Result<Option<Origin>, AllocError> {
-    let mut trail = Trail {
-        here,
-        name: Vec::new(alloc),
-        shown: 0,
-        left_out: 0,
-    };
-    for _ in 0..u64::MAX {
-        match found_from(walker, program, &trail) {
-            Found::Passed(there) => trail.here = there,
-            Found::OfForm(i) => {
-                trail.name = form_called(alloc, walker)?;
-                trail.here = Here::Form(i);
-            }
-            Found::End(origin) => return Ok(Some(origin)),
-            Found::Nothing => return Ok(None),
-        }
-    }
-    Ok(None)
-}
-
-// Follows a byte back to the next call that carried it, or to where it comes from.
-fn found_from<A: Allocator + Copy>(
-    walker: &mut Walker<A>,
-    program: &[u8],
-    trail: &Trail<A>,
-) -> Found {
-    match walker.follow(place_of(trail.here, trail.name.as_slice())) {
-        Source::Passed(there) => Found::Passed(without_name(there)),
-        Source::OfForm(i) => Found::OfForm(i),
-        Source::Made => Found::End(Origin::Made),
-        Source::Read(n) => Found::End(read_as(walker.input_number(n), program)),
-        Source::Here(_) => Found::End(Origin::There),
-        Source::Nothing => Found::Nothing,
+// What is said of where a byte comes from, to which the walker has gone back.
+fn origin_of<A: Allocator + Copy>(walker: &Walker<A>, program: &[u8], end: End) -> Origin {
+    match end {
+        End::Made => Origin::Made,
+        End::Read(n) => read_as(walker.input_number(n), program),
+        _ => Origin::There,
     }
 }
 
@@ -357,35 +299,4 @@ fn read_as(number: u64, program: &[u8]) -> Origin {
         }
     }
     Origin::Read(line, column)
-}
-
-// A line for the call that comes next, which carried a byte to here.
-fn carried_into<A: Allocator + Copy>(
-    alloc: A,
-    walker: &Walker<A>,
-    trail: &mut Trail<A>,
-    out: &mut Vec<u8, A>,
-) -> Result<(), AllocError> {
-    if trail.shown >= LINE_COUNT - 2 {
-        trail.left_out = trail.left_out.saturating_add(1);
-        return Ok(());
-    }
-    trail.shown += 1;
-    let treatment = match trail.here {
-        Here::Output(_) => Treatment::Prints,
-        Here::Form(_) | Here::Held(_, _) => Treatment::Puts,
-        _ => Treatment::Gives,
-    };
-    treatment_into(alloc, walker.step(), &walker.sight(), treatment, out)
-}
-
-// The name of the form that the call that comes next names.
-fn form_called<A: Allocator + Copy>(
-    alloc: A,
-    walker: &Walker<A>,
-) -> Result<Vec<u8, A>, AllocError> {
-    match performed_in(&walker.sight()) {
-        Some(arguments) => Vec::from_slice(alloc, arguments.get(1)),
-        None => Ok(Vec::new(alloc)),
-    }
 }

@@ -4,7 +4,7 @@ ghost use Rattle.trac_window.specs.Refused.{MayRefuseProgram};
 
 use crate::aim::{Aim, goal_for};
 use std::alloc::{AllocError, Allocator};
-use trac_follow::{Place, Source, follow};
+use trac_follow::{End, Place, Witness, trace};
 use trac_forms::{Form, FormError, Store};
 use trac_rules::byte::LINE_FEED;
 use trac_rules::limit::{JOURNAL_LIMIT, TAPE_LIMIT};
@@ -128,10 +128,17 @@ impl<A: Allocator + Copy> Walker<A> {
         self.fed.saturating_sub(there).saturating_add(n as u64)
     }
 
-    /// Goes back as long as steps carried the byte at a place, and to the call that passed it on, where one did.
-    pub fn follow<'p>(&mut self, place: Place<'p>) -> Source<'p> {
+    /// Goes back to where the byte at a place comes from, or the item of a form, and tells a witness of each call on the way.
+    pub fn trace<W: Witness<A>>(&mut self, alloc: A, place: Place<'_>, witness: &mut W) -> End {
         let most = self.window.session.len() as u64;
-        source_of(&mut self.window.session, self.width, place, most)
+        end_of(
+            alloc,
+            &mut self.window.session,
+            self.width,
+            place,
+            most,
+            witness,
+        )
     }
 
     /// Ends the input.
@@ -231,13 +238,15 @@ fn walk_on<A: Allocator + Copy>(session: &mut Session<A>, aim: Option<Aim<'_>>, 
 }
 
 // Where a byte comes from that is followed back.
-fn source_of<'p, A: Allocator + Copy>(
+fn end_of<A: Allocator + Copy, W: Witness<A>>(
+    alloc: A,
     session: &mut Session<A>,
     width: Width,
-    place: Place<'p>,
+    place: Place<'_>,
     most: u64,
-) -> Source<'p> {
-    follow(session, width, place, most).source
+    witness: &mut W,
+) -> End {
+    trace(alloc, session, width, place, most, witness).end
 }
 
 // A copy of the form of this name, where there is one. The error is that memory was refused.

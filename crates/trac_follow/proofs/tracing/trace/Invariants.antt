@@ -1,0 +1,8 @@
+use Rattle.std.proofs.Common.{◌≤◌}
+use Rattle.trac_follow.specs.Places.{place_of}
+use Rattle.trac_follow.proofs.Traces.{Way}
+use Rattle.trac_follow.proofs.tracing.trace.Given as goal
+
+-- so many legs led here
+abbrev pub invariant-loop-leg : goal.invariant-loop-leg
+invariant-loop-leg g l = (l.steps ≤ l.most) × Way l.width l.fn.session l.session (place_of l.place) l.kept l.steps l._leg
