@@ -268,12 +268,12 @@ class Walk:
             o = w.s().out
             if quoted:
                 i = o.rfind(rest[0].encode("latin1"))
-                if i < 0 or not rest[0]: why = "that was not printed" + (" since the way back begins, at step %d" % w.first if rest[0] and w.gone else "")
+                if i < 0 or not rest[0]: why = "that was not printed" + (" since the way back begins, at step %d" % w.first if rest[0] and w.gone else " up to here")
                 else: k = i + len(rest[0]) - 1; why = w.behind(lambda s: len(s.out) <= k)
             elif rest[0].startswith("#"):
                 k = int(rest[0][1:])
                 if k > 0 and k <= w.gone: why = "that was printed before the way back begins, at step %d" % w.first
-                elif k == 0 or k - w.gone > len(o): why = "that was not printed"
+                elif k == 0 or k - w.gone > len(o): why = "that was not printed up to here"
                 else: why = w.behind(lambda s: len(s.out) <= k - w.gone - 1)
             else:
                 name = rest[0].encode("latin1")

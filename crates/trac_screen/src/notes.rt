@@ -91,7 +91,7 @@ fn reason(stop: Stop) -> &'static [u8] {
         Stop::Outside => b"no call is begun here",
         Stop::NoValue => b"the value of no call ends here",
         Stop::FromOne => b"bytes of the output are counted from 1",
-        Stop::NotPrinted => b"that was not printed",
+        Stop::NotPrinted => b"that was not printed up to here",
         Stop::NotPrintedSince => b"that was not printed since the way back begins, at step ",
         Stop::PrintedEarlier => b"that was printed before the way back begins, at step ",
         Stop::NoByte => b"no byte stands there",
