@@ -18,5 +18,7 @@ pub mod ShownTold
 pub mod FormCalls
 pub mod Staying
 pub mod RunsBack
+pub mod Passings
+pub mod Legs
 pub mod Traces
 pub mod FetchedTold

@@ -283,7 +283,7 @@ module _ (old cur next : PlainSession) (place here : Place) (steps : ℕ) (told 
                 (subst (λ u. IsPassed u (place_of now) (place_of q)) (sym (before_is v last))
                 (subst (λ p. IsPassed before p (place_of q)) same (subst (λ p. IsPassed before here (place_of p)) (sym one) passed))),
           ))
-          (λ (e : (turn ≡ turning.TheVariants.End (code.TheVariants.Passed q)) × IsPassed v (place_of now) (place_of q) × (is_in_form (place_of q) ≡ true → is_in_storage (place_of now) ≡ true)).
+          (λ (e : (turn ≡ turning.TheVariants.Found (code.TheVariants.Passed q)) × IsPassed v (place_of now) (place_of q) × (is_in_form (place_of q) ≡ true → is_in_storage (place_of now) ≡ true)).
           let ends = e.0 in absurd (cc)) is
       go (code_origin.TheVariants.OfForm i) from is = absurd (let ends = is.0 in cc)
       go other from is = absurd (cc)
@@ -299,7 +299,7 @@ module _ (old cur next : PlainSession) (place here : Place) (steps : ℕ) (told 
   }
 
   pub turned_end : (v : State) (most : ℕ) (now : code_place.Place) (turn : turning.Turn) (source : code.Source) (found : Found) → v ≡ next.last → here ≡ place_of now → IsTurn v now told turn →
-      turn ≡ turning.TheVariants.End source → found.steps ≡ steps + 1 → found.source ≡ source → IsKnown width old place → IsFollowed old place most next found
+      turn ≡ turning.TheVariants.Found source → found.steps ≡ steps + 1 → found.source ≡ source → IsKnown width old place → IsFollowed old place most next found
   turned_end v most now turn source found last same turned end count is trail = go told refl turned
     where
       quiet : steps + 1 - 1 ≡ steps
@@ -309,7 +309,7 @@ module _ (old cur next : PlainSession) (place here : Place) (steps : ℕ) (told 
       go (code_origin.TheVariants.Carried q) from at =
           ⊎_elim
           (λ (e : (turn ≡ turning.TheVariants.On q) × (IsPassed v (place_of now) (place_of q) → ⊥)). let on = e.0 in absurd (cc))
-          (λ (e : (turn ≡ turning.TheVariants.End (code.TheVariants.Passed q)) × IsPassed v (place_of now) (place_of q) × (is_in_form (place_of q) ≡ true → is_in_storage (place_of now) ≡ true)).
+          (λ (e : (turn ≡ turning.TheVariants.Found (code.TheVariants.Passed q)) × IsPassed v (place_of now) (place_of q) × (is_in_form (place_of q) ≡ true → is_in_storage (place_of now) ≡ true)).
           let is_end = e.0 in
           let ends : source ≡ code.TheVariants.Passed q = cc in
           found_is most found (code.TheVariants.Passed q) count (is ∙ ends) quiet trail (

@@ -1,17 +1,15 @@
 -- A byte that is followed back leg by leg.
-use Rattle.std.proofs.Common.{◌≡◌, ℕ, zero, suc, ◌+◌, ◌-◌, ◌<◌, ◌≤◌, List, [], ◌∷◌, ◌++◌, length, take, refl, sym, ap, ap₂, subst, ◌∙◌, arith, inl, inr, ⊎_elim}
+use Rattle.std.proofs.Common.{◌≡◌, ℕ, ◌+◌, ◌-◌, ◌<◌, ◌≤◌, List, [], ◌∷◌, ◌++◌, length, take, refl, sym, ap, ap₂, subst, ◌∙◌, arith, inl, inr, ⊎_elim}
 use Rattle.std.specs.Prelude.{Some}
-use Rattle.std.proofs.lemmas.List.{append_assoc, length-append}
-use Rattle.std.proofs.lemmas.Option.{option_and_then_some}
+use Rattle.std.proofs.lemmas.List.{append-nil, append_assoc}
 use Rattle.std.proofs.Math.Seq.{take-append-add}
 use Rattle.trac_rules.specs.declared.width.Width.{Width}
 use Rattle.trac_rules.specs.Effect.{argument}
-use Rattle.trac_rules.specs.Scanning.{scan}
-use Rattle.trac_rules.specs.Session.{PlainSession, Back, accepted_by, answer, over, repeated}
+use Rattle.trac_rules.specs.Scanning.{Call, Calls, scan}
+use Rattle.trac_rules.specs.Session.{PlainSession, Back, over, repeated}
 use Rattle.trac_rules.specs.State.{Environment, State}
-use Rattle.trac_rules.specs.Trails.{AreSteps}
-use Rattle.trac_rules.proofs.Replies.{accepted_done}
-use Rattle.trac_rules.proofs.TakenAgain.{Back_done, repeated_trail}
+use Rattle.trac_rules.specs.Trails.{AreSteps, IsTrail}
+use Rattle.trac_rules.proofs.TakenAgain.{repeated_trail}
 use Rattle.trac_origins.specs.Accounts.{IsSource as IsOriginOf}
 use Rattle.trac_origins.specs.Following.{Followed, followed, state_back}
 use Rattle.trac_origins.specs.Places.{Place, InForm, Origin, Carried, Read, Made, found_at}
@@ -20,78 +18,37 @@ use Rattle.trac_session.proofs.Walked.{repeated-from}
 use Rattle.trac_follow.specs.declared.history.Followed.{Followed as Found}
 use Rattle.trac_follow.specs.declared.history.Source as code
 use Rattle.trac_follow.specs.declared.tracing.End as ends
+use Rattle.trac_follow.specs.declared.tracing.Onward as onwards
 use Rattle.trac_follow.specs.declared.tracing.Traced.{Traced}
 use Rattle.trac_follow.specs.Following.{IsFollowed, IsKnown, IsOrigin, IsSource}
-use Rattle.trac_follow.specs.Places.{place_of}
-use Rattle.trac_follow.specs.Tracing.{AllCarried, EndsAs, IsEnd, IsTraced, LeadsTo}
+use Rattle.trac_follow.specs.Kept.{IsLong}
+use Rattle.trac_follow.specs.Passing.{Passing, passings}
+use Rattle.trac_follow.specs.Places.{Stands, place_of}
+use Rattle.trac_follow.specs.Tracing.{AllCarried, EndsAs, IsEnd, IsTold, IsTraced, LeadsTo, LeadsToLong, ToldAll, source_of, way_of}
+use Rattle.trac_follow.proofs.Legs.{WentSo, call_of_leg, no_call_of_leg, went_so}
+use Rattle.trac_follow.proofs.Passings.{told_more}
 use Rattle.trac_follow.proofs.RunsBack.{last_steps}
 use Rattle.trac_follow.proofs.StepsBack.{after_some, all_carried, followed_on}
 
--- ---- a session that went back
-
--- the last of so many states before one
-back_to_last : (pre : List State) (n : ℕ) → length pre ≡ n → (t s : State) → state_back (suc n) t (pre ++ s ∷ []) ≡ s
-back_to_last [] zero e t s = refl
-back_to_last [] (suc n) e t s = absurd (omega (arith, e))
-back_to_last (u ∷ pre) zero e t s = absurd (omega (arith, e))
-back_to_last (u ∷ pre) (suc n) e t s = back_to_last pre n (omega (arith, e)) u s
-
--- by so many steps
-pub record WentSo (n : ℕ) (old new : PlainSession) : Type 0 where
-  pub whole : old.earlier ≡ take n old.earlier ++ new.earlier
-  pub count : length (take n old.earlier) ≡ n
-  pub last : state_back n old.last (take n old.earlier) ≡ new.last
-  pub same_width : new.width ≡ old.width
-  pub same_tape : new.tape ≡ old.tape
-
-one_more_back : (n : ℕ) (old m new : PlainSession) → WentSo n old m → (s : State) (rest : List State) → m.earlier ≡ s ∷ rest → new ≡ record m { earlier = rest; last = s } → WentSo (suc n) old new
-one_more_back n old m new so s rest earlier is =
-    let pre = take n old.earlier in
-    let split : old.earlier ≡ pre ++ s ∷ rest = so.whole ∙ ap (λ (states : List State). pre ++ states) earlier in
-    let one : suc n ≡ n + 1 = omega arith in
-    let longer : take (suc n) old.earlier ≡ pre ++ s ∷ [] =
-    ap (λ k. take k old.earlier) one ∙ ap (take (n + 1)) split ∙ ap (λ k. take (k + 1) (pre ++ s ∷ rest)) (sym so.count) ∙ take-append-add pre (s ∷ rest) 1 in
-    record {
-      whole = split ∙ sym (append_assoc pre (s ∷ []) rest)
-          ∙ ap₂ (λ (front back : List State). front ++ back) (sym longer) (sym (ap (λ (p : PlainSession). p.earlier) is));
-      count = ap (λ (states : List State). length states) longer ∙ length-append pre (s ∷ []) ∙ ap (λ k. k + 1) so.count ∙ sym one;
-      last = ap (λ (states : List State). state_back (suc n) old.last states) longer ∙ back_to_last pre n so.count old.last s ∙ sym (ap (λ (p : PlainSession). p.last) is);
-      same_width = ap (λ (p : PlainSession). p.width) is ∙ so.same_width;
-      same_tape = ap (λ (p : PlainSession). p.tape) is ∙ so.same_tape;
-    }
-
-pub went_so : (n : ℕ) (old new : PlainSession) → repeated Back n old ≡ Some new → WentSo n old new
-went_so zero old new h =
-    let same : old ≡ new = cc in
-    subst (λ (p : PlainSession). WentSo 0 old p) same (record { whole = refl; count = refl; last = refl; same_width = refl; same_tape = refl })
-went_so (suc n) old new h =
-    option_and_then_some (λ (m : PlainSession). accepted_by (answer Back m)) (repeated Back n old) new h
-    (λ m there next.
-    let at = Back_done m new (accepted_done (answer Back m) new next) in
-    one_more_back n old m new (went_so n old m there) at.0 at.1 at.2 at.3)
-
 -- ---- two ways are one
+
+-- the steps of both
+longer : (old cur : PlainSession) (steps n : ℕ) → WentSo steps old cur → take (steps + n) old.earlier ≡ take steps old.earlier ++ take n cur.earlier
+longer old cur steps n went =
+    ap (take (steps + n)) went.whole
+    ∙ ap (λ k. take (k + n) (take steps old.earlier ++ cur.earlier)) (sym went.count)
+    ∙ take-append-add (take steps old.earlier) cur.earlier n
 
 module _ (old cur next : PlainSession) (place here : Place) (steps n : ℕ) (went : WentSo steps old cur)
     (carried : (followed (over old.width old.tape) (take steps old.earlier) place).origin ≡ Carried here) where
   environment : Environment
   environment = over old.width old.tape
 
-  pre : List State
-  pre = take steps old.earlier
-
-  longer : take (steps + n) old.earlier ≡ pre ++ take n cur.earlier
-  unfolding pre
-  longer =
-      ap (take (steps + n)) went.whole
-      ∙ ap (λ k. take (k + n) (take steps old.earlier ++ cur.earlier)) (sym went.count)
-      ∙ take-append-add (take steps old.earlier) cur.earlier n
-
   one_way : followed environment (take (steps + n) old.earlier) place ≡ after_some steps (followed (over cur.width cur.tape) (take n cur.earlier) here)
-  unfolding environment pre
+  unfolding environment
   one_way =
-      ap (λ (states : List State). followed environment states place) longer
-      ∙ followed_on environment pre (take n cur.earlier) place here carried
+      ap (λ (states : List State). followed environment states place) (longer old cur steps n went)
+      ∙ followed_on environment (take steps old.earlier) (take n cur.earlier) place here carried
       ∙ ap₂ after_some went.count (ap (λ e. followed e (take n cur.earlier) here) (sym (ap₂ over went.same_width went.same_tape)))
 
   pub way_to : (so : ℕ) (o : Origin) → IsOrigin cur here n so o → IsOrigin old place (steps + n) (steps + so) o
@@ -104,9 +61,12 @@ module _ (old cur next : PlainSession) (place here : Place) (steps n : ℕ) (wen
 pub record Way (width : Width) (old cur : PlainSession) (place here : Place) (steps legs : ℕ) : Type 0 where
   pub walked : repeated Back steps old ≡ Some cur
   pub known : IsKnown width old place → (legs ≤ steps) × ((followed (over old.width old.tape) (take steps old.earlier) place).origin ≡ Carried here)
+  -- the calls on it, and after them those that are on the way further back
+  pub calls : IsKnown width old place → (post : List State) →
+      passings (over old.width old.tape) (take steps old.earlier ++ post) 0 place place ≡ way_of old place steps ++ passings (over old.width old.tape) post steps here here
 
 pub way_begins : (width : Width) (old : PlainSession) (place : Place) → Way width old old place place 0 0
-way_begins width old place = record { walked = refl; known = λ known. (omega arith, refl) }
+way_begins width old place = record { walked = refl; known = λ known. (omega arith, refl); calls = λ known post. refl }
 
 module _ (width : Width) (old cur : PlainSession) (place here : Place) (steps legs : ℕ) (way : Way width old cur place here steps legs) where
   went : WentSo steps old cur
@@ -136,26 +96,61 @@ module _ (width : Width) (old cur : PlainSession) (place here : Place) (steps le
     pub way_walked : repeated Back (steps + found.steps) old ≡ Some next
     way_walked = repeated-from Back steps found.steps old cur way.walked ∙ h
 
-    pub way_goes_on : (s : State) (q : Place) → s ≡ next.last → LeadsTo s found.source q → Way width old next place q (steps + found.steps) (legs + 1)
-    way_goes_on s q is leads = record {
+    -- the calls on the way after one leg more
+    longer_way : IsKnown width old place → (post : List State) →
+        passings (over old.width old.tape) (take (steps + found.steps) old.earlier ++ post) 0 place place
+        ≡ way_of old place steps ++ passings (over cur.width cur.tape) (take found.steps cur.earlier ++ post) steps here here
+    longer_way known post =
+        let environment = over old.width old.tape in
+        let legs : List State = take found.steps cur.earlier in
+        ap (λ (states : List State). passings environment (states ++ post) 0 place place) (longer old cur steps found.steps went)
+        ∙ ap (λ (states : List State). passings environment states 0 place place) (append_assoc (take steps old.earlier) legs post)
+        ∙ way.calls known (legs ++ post)
+        ∙ ap (λ e. way_of old place steps ++ passings e (legs ++ post) steps here here) (sym (ap₂ over went.same_width went.same_tape))
+
+    -- they are these
+    pub one_more_call : (s : State) (from : onwards.Onward) (q : Place) → s ≡ next.last → found.source ≡ source_of from → LeadsTo s from q → IsKnown width old place →
+        way_of old place (steps + found.steps) ≡ way_of old place steps ++ record { state = s; steps = steps + found.steps; from = here } ∷ []
+    one_more_call s from q is passed leads known =
+        ap (λ (states : List State). passings (over old.width old.tape) states 0 place place) (sym (append-nil (take (steps + found.steps) old.earlier)))
+        ∙ longer_way known []
+        ∙ ap (λ (later : List Passing). way_of old place steps ++ later) (call_of_leg cur next here most found h (leg (known_there known)) s from q is passed leads steps [])
+        ∙ ap (λ (t : State). way_of old place steps ++ record { state = t; steps = steps + found.steps; from = here } ∷ []) (sym is)
+
+    -- and no more where it ends
+    pub no_more_calls : (end : ends.End) → EndsAs found.source end → IsKnown width old place → way_of old place (steps + found.steps) ≡ way_of old place steps
+    no_more_calls end ends_as known =
+        ap (λ (states : List State). passings (over old.width old.tape) states 0 place place) (sym (append-nil (take (steps + found.steps) old.earlier)))
+        ∙ longer_way known []
+        ∙ ap (λ (states : List State). way_of old place steps ++ passings (over cur.width cur.tape) states steps here here) (append-nil (take found.steps cur.earlier))
+        ∙ ap (λ (later : List Passing). way_of old place steps ++ later) (no_call_of_leg cur next here most found h (leg (known_there known)) end ends_as steps)
+        ∙ append-nil (way_of old place steps)
+
+    pub way_goes_on : (s : State) (from : onwards.Onward) (q : Place) → s ≡ next.last → found.source ≡ source_of from → LeadsTo s from q → Way width old next place q (steps + found.steps) (legs + 1)
+    way_goes_on s from q is passed leads = record {
       walked = way_walked;
       known = λ known.
-          let at = go found.source leads (leg (known_there known)).source in (
+          let at = go from leads (subst (λ source. IsSource cur here most next found.steps source) passed (leg (known_there known)).source) in (
             omega (arith, at.0, (way.known known).0),
             ap (λ (f : Followed). f.origin) (way_to old cur next place here steps found.steps went (way.known known).1 found.steps (Carried q) at.1),
           );
+      calls = λ known post.
+          longer_way known post
+          ∙ ap (λ (later : List Passing). way_of old place steps ++ later) (call_of_leg cur next here most found h (leg (known_there known)) s from q is passed leads steps post)
+          ∙ sym (append_assoc (way_of old place steps) (record { state = next.last; steps = steps + found.steps; from = here } ∷ []) (passings (over cur.width cur.tape) post (steps + found.steps) q q))
+          ∙ ap (λ (t : State). (way_of old place steps ++ record { state = t; steps = steps + found.steps; from = here } ∷ []) ++ passings (over cur.width cur.tape) post (steps + found.steps) q q) (sym is)
+          ∙ ap₂ (λ (way : List Passing) e. way ++ passings e post (steps + found.steps) q q) (sym (one_more_call s from q is passed leads known)) (ap₂ over went.same_width went.same_tape);
     }
       where
-        go : (source : code.Source) → LeadsTo s source q → IsSource cur here most next found.steps source → (1 ≤ found.steps) × IsOrigin cur here found.steps found.steps (Carried q)
-        go (code.TheVariants.Passed there) at told = (
+        go : (o : onwards.Onward) → LeadsTo s o q → IsSource cur here most next found.steps (source_of o) → (1 ≤ found.steps) × IsOrigin cur here found.steps found.steps (Carried q)
+        go (onwards.TheVariants.At there) at told = (
           omega (arith, told.1.1.1),
           told.0 ∙ ap (λ p. record { carried = found.steps; origin = Carried p }) (sym at),
         )
-        go (code.TheVariants.OfForm i) at told = (
+        go (onwards.TheVariants.OfForm i) at told = (
           omega (arith, told.1.1.1),
           told.0.2 ∙ ap (λ p. record { carried = found.steps; origin = Carried p }) (sym (at told.0.0 (ap scan is ∙ told.0.1))),
         )
-        go other at told = absurd at
 
     -- how it may end
     pub way_ends : (all : ℕ) (end : ends.End) → steps ≤ all → most ≡ all - steps → EndsAs found.source end → IsKnown width old place → IsEnd old place all next (steps + found.steps) end
@@ -180,11 +175,82 @@ module _ (width : Width) (old cur : PlainSession) (place here : Place) (steps le
               (place_of q, on found.steps (Carried (place_of q)) told.0),
               ⊎_elim (λ (n : found.steps ≡ most). inl (omega (arith, n, is, within))) (λ (none : next.earlier ≡ []). inr none) told.1,
             )
-        go (code.TheVariants.Passed q) e told = said ends.TheVariants.Memory e (place_of q, on found.steps (Carried (place_of q)) told.0)
-        go (code.TheVariants.OfForm i) e told =
-            let q = InForm (argument 1 told.0.0.arguments) i in said ends.TheVariants.Memory e (q, on found.steps (Carried q) told.0.2)
         go (code.TheVariants.Read n) e told = said (ends.TheVariants.Read n) e (omega (arith, told.0), one_less told.0 (Read n) told.1)
         go code.TheVariants.Made e told = said ends.TheVariants.Made e (omega (arith, told.0), one_less told.0 Made told.1)
+        go other e told = absurd e
+
+    -- a call passed it on from some place
+    had_somewhere : (s : State) (from : onwards.Onward) → s ≡ next.last → found.source ≡ source_of from → IsKnown width cur here →
+        (q : Place) × LeadsTo s from q × IsOrigin cur here found.steps found.steps (Carried q) × (LeadsToLong s from → IsLong q)
+    had_somewhere s from is passed there = go from (subst (λ source. IsSource cur here most next found.steps source) passed (leg there).source)
+      where
+        go : (o : onwards.Onward) → IsSource cur here most next found.steps (source_of o) →
+            (q : Place) × LeadsTo s o q × IsOrigin cur here found.steps found.steps (Carried q) × (LeadsToLong s o → IsLong q)
+        go (onwards.TheVariants.At p) told = (place_of p, refl, told.0, λ long. long)
+        go (onwards.TheVariants.OfForm i) told =
+            let call : Call = told.0.0 in
+            let asked : scan s ≡ Calls call = ap scan is ∙ told.0.1 in (
+              InForm (argument 1 call.arguments) i,
+              λ other asked_too.
+                  let both : Calls call ≡ Calls other = sym asked ∙ asked_too in
+                  let same : call ≡ other = cc in
+                  ap (λ (c : Call). InForm (argument 1 c.arguments) i) same,
+              told.0.2,
+              λ long. long call asked,
+            )
+
+    -- where memory is refused for its name, or the witness refuses to be told
+    module _ (s : State) (from : onwards.Onward) (is : s ≡ next.last) (passed : found.source ≡ source_of from) (known : IsKnown width old place) where
+      pub ends_without_memory : (all : ℕ) → LeadsToLong s from → IsEnd old place all next (steps + found.steps) ends.TheVariants.Memory
+      ends_without_memory all long =
+          let had = had_somewhere s from is passed (known_there known) in
+          (had.0, way_to old cur next place here steps found.steps went (way.known known).1 found.steps (Carried had.0) had.2, had.3 long)
+
+      pub ends_untold : AllCarried old place (steps + found.steps)
+      ends_untold =
+          let had = had_somewhere s from is passed (known_there known) in
+          (had.0, way_to old cur next place here steps found.steps went (way.known known).1 found.steps (Carried had.0) had.2)
+
+      -- the call at the end of the leg
+      one_call_more : way_of old place (steps + found.steps) ≡ way_of old place steps ++ record { state = s; steps = steps + found.steps; from = here } ∷ []
+      one_call_more =
+          let had = had_somewhere s from is passed (known_there known) in
+          one_more_call s from had.0 is passed had.1 known
+
+      module _ {W : Type 0} (passes : W → Passing → W → Type 0) (first before after : W) (told : ToldAll passes first (way_of old place steps) before) (there : Place) (same : there ≡ here) where
+        -- the witness is told of it
+        pub told_of_call : passes before (record { state = s; steps = steps + found.steps; from = there }) after → ToldAll passes first (way_of old place (steps + found.steps)) after
+        told_of_call one =
+            subst (λ way. ToldAll passes first way after) (sym one_call_more)
+            (told_more passes (way_of old place steps) (record { state = s; steps = steps + found.steps; from = here }) first before after told
+            (subst (λ p. passes before (record { state = s; steps = steps + found.steps; from = p }) after) same one))
+
+        -- or it refuses that
+        pub told_before_call : (refuses : W → Passing → W → Type 0) → refuses before (record { state = s; steps = steps + found.steps; from = there }) after →
+            IsTold passes refuses (way_of old place (steps + found.steps)) (steps + found.steps) ends.TheVariants.Untold first after
+        told_before_call refuses one = (
+          way_of old place steps,
+          (
+            record { state = s; steps = steps + found.steps; from = here },
+            (before, one_call_more, refl, told, subst (λ p. refuses before (record { state = s; steps = steps + found.steps; from = p }) after) same one),
+          ),
+        )
+
+    -- where no call passed it on, it is told of no more
+    pub told_to_the_end : {W : Type 0} (passes refuses : W → Passing → W → Type 0) (first last : W) (end : ends.End) → EndsAs found.source end → IsKnown width old place →
+        ToldAll passes first (way_of old place steps) last → IsTold passes refuses (way_of old place (steps + found.steps)) (steps + found.steps) end first last
+    told_to_the_end {W} passes refuses first last end ends_as known told =
+        subst (λ way. IsTold passes refuses way (steps + found.steps) end first last) (sym (no_more_calls end ends_as known)) (go found.source ends_as)
+      where
+        said : (x : ends.End) → end ≡ x → IsTold passes refuses (way_of old place steps) (steps + found.steps) x first last → IsTold passes refuses (way_of old place steps) (steps + found.steps) end first last
+        said x e h = subst (λ y. IsTold passes refuses (way_of old place steps) (steps + found.steps) y first last) (sym e) h
+
+        go : (source : code.Source) → EndsAs source end → IsTold passes refuses (way_of old place steps) (steps + found.steps) end first last
+        go code.TheVariants.Nothing e = said ends.TheVariants.Nothing e told
+        go (code.TheVariants.Here q) e = said ends.TheVariants.Earlier e told
+        go (code.TheVariants.Read n) e = said (ends.TheVariants.Read n) e told
+        go code.TheVariants.Made e = said ends.TheVariants.Made e told
+        go other e = absurd e
 
 -- what was found, in a record
 pub traced_so : (width : Width) (old new : PlainSession) (place : Place) (most steps : ℕ) (end : ends.End) (found : Traced) → found.steps ≡ steps → found.end ≡ end → IsKnown width old place →
@@ -194,7 +260,16 @@ traced_so width old new place most steps end found count is known h = record {
   nothing = λ bare. absurd (bare known.2.0 known.2.1);
 }
 
+-- who was told, in a record
+pub told_so : {W : Type 0} (passes refuses : W → Passing → W → Type 0) (old : PlainSession) (place : Place) (steps : ℕ) (end : ends.End) (first last : W) (found : Traced) → found.steps ≡ steps → found.end ≡ end →
+    IsTold passes refuses (way_of old place steps) steps end first last → IsTold passes refuses (way_of old place found.steps) found.steps found.end first last
+told_so passes refuses old place steps end first last found count is h =
+    subst (λ n. IsTold passes refuses (way_of old place n) n found.end first last) (sym count) (subst (λ e. IsTold passes refuses (way_of old place steps) steps e first last) (sym is) h)
+
 -- ---- as the code finds it
+
+pub known_so : (width : Width) (old : PlainSession) (place : Place) (s : State) → s ≡ old.last → Stands s place → width ≡ old.width → IsTrail old → IsKnown width old place
+known_so width old place s last stands wide trail = (wide, trail, subst (λ (t : State). Stands t place) last stands)
 
 -- after as many legs as steps were wanted
 pub way_is_long : (width : Width) (old cur : PlainSession) (place here : Place) (steps most : ℕ) → Way width old cur place here steps most → steps ≤ most → IsKnown width old place →

@@ -32,12 +32,12 @@ CameFrom s left here there =
 abbrev pub IsTurn : State → code_place.Place → told.Origin → turning.Turn → Type 0
 IsTurn s here (told.TheVariants.Carried there) turn =
     ((turn ≡ turning.TheVariants.On there) × (IsPassed s (place_of here) (place_of there) → ⊥))
-    ⊎ ((turn ≡ turning.TheVariants.End (code.TheVariants.Passed there)) × IsPassed s (place_of here) (place_of there)
+    ⊎ ((turn ≡ turning.TheVariants.Found (code.TheVariants.Passed there)) × IsPassed s (place_of here) (place_of there)
     × (is_in_form (place_of there) ≡ true → is_in_storage (place_of here) ≡ true))
-IsTurn s here (told.TheVariants.OfForm i) turn = (turn ≡ turning.TheVariants.End (code.TheVariants.OfForm i)) × (is_in_storage (place_of here) ≡ false)
-IsTurn s here (told.TheVariants.Read n) turn = turn ≡ turning.TheVariants.End (code.TheVariants.Read n)
-IsTurn s here told.TheVariants.Made turn = turn ≡ turning.TheVariants.End code.TheVariants.Made
-IsTurn s here told.TheVariants.Nothing turn = turn ≡ turning.TheVariants.End code.TheVariants.Nothing
+IsTurn s here (told.TheVariants.OfForm i) turn = (turn ≡ turning.TheVariants.Found (code.TheVariants.OfForm i)) × (is_in_storage (place_of here) ≡ false)
+IsTurn s here (told.TheVariants.Read n) turn = turn ≡ turning.TheVariants.Found (code.TheVariants.Read n)
+IsTurn s here told.TheVariants.Made turn = turn ≡ turning.TheVariants.Found code.TheVariants.Made
+IsTurn s here told.TheVariants.Nothing turn = turn ≡ turning.TheVariants.Found code.TheVariants.Nothing
 
 abbrev pub HasTurned : State → Width → After → code_place.Place → turning.Turn → Type 0
 HasTurned s width after here turn = (o : told.Origin) × TellsOf s width after (place_of here) o × IsTurn s here o turn

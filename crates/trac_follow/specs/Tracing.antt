@@ -1,43 +1,75 @@
 -- A byte that was followed back to where it comes from, in the words of `trac_origins`.
-use Rattle.std.specs.Prelude.{◌≡◌, ◌⊎◌, ℕ, ◌-◌, ◌<◌, []}
+use Rattle.std.specs.Prelude.{◌≡◌, ◌⊎◌, ℕ, ◌-◌, ◌<◌, List, [], ◌∷◌, ◌++◌, take}
 use Rattle.trac_rules.specs.Effect.{argument}
 use Rattle.trac_rules.specs.Scanning.{Call, Calls, scan}
-use Rattle.trac_rules.specs.Session.{PlainSession}
+use Rattle.trac_rules.specs.Session.{PlainSession, over}
 use Rattle.trac_rules.specs.State.{State}
 use Rattle.trac_origins.specs.Places.{Place, InForm, Carried, Read, Made}
 use Rattle.trac_follow.specs.declared.history.Source as code
 use Rattle.trac_follow.specs.declared.tracing.End as ends
+use Rattle.trac_follow.specs.declared.tracing.Onward as onwards
 use Rattle.trac_follow.specs.declared.tracing.Traced.{Traced}
 use Rattle.trac_follow.specs.Following.{IsOrigin}
+use Rattle.trac_follow.specs.Kept.{IsLong}
+use Rattle.trac_follow.specs.Passing.{Passing, passings}
 use Rattle.trac_follow.specs.Places.{IsBare, place_of}
 
 -- all of the last so many steps carried a byte
 abbrev pub AllCarried : PlainSession → Place → ℕ → Type 0
 AllCarried old place steps = (q : Place) × IsOrigin old place steps steps (Carried q)
 
--- where it comes from: nothing stood there; all steps carried it; or the last of them read or made it, and the others carried it
+-- where it comes from: nothing stood there; all steps carried it; or the last of them read or made it, and the others carried it. Memory is
+-- refused only for the name of a form that has more than 256 bytes
 abbrev pub IsEnd : PlainSession → Place → ℕ → PlainSession → ℕ → ends.End → Type 0
 IsEnd old place most new steps ends.TheVariants.Nothing = (steps ≡ 0) × IsBare old.last place
 IsEnd old place most new steps ends.TheVariants.Earlier = AllCarried old place steps × ((steps ≡ most) ⊎ (new.earlier ≡ []))
 IsEnd old place most new steps (ends.TheVariants.Read n) = (0 < steps) × IsOrigin old place steps (steps - 1) (Read n)
 IsEnd old place most new steps ends.TheVariants.Made = (0 < steps) × IsOrigin old place steps (steps - 1) Made
-IsEnd old place most new steps ends.TheVariants.Memory = AllCarried old place steps
+IsEnd old place most new steps ends.TheVariants.Memory = (q : Place) × IsOrigin old place steps steps (Carried q) × IsLong q
+IsEnd old place most new steps ends.TheVariants.Untold = AllCarried old place steps
 
 pub record IsTraced (old : PlainSession) (place : Place) (most : ℕ) (new : PlainSession) (found : Traced) : Type 0 where
   pub end : IsEnd old place most new found.steps found.end
   -- where nothing stands, that is said
   pub nothing : IsBare old.last place → found.end ≡ ends.TheVariants.Nothing
 
--- from where a byte is followed further that the call which comes next passed on
-abbrev pub LeadsTo : State → code.Source → Place → Type 0
-LeadsTo s (code.TheVariants.Passed there) q = q ≡ place_of there
-LeadsTo s (code.TheVariants.OfForm i) q = (call : Call) → scan s ≡ Calls call → q ≡ InForm (argument 1 call.arguments) i
-LeadsTo s source q = ⊥
+-- ---- who is told of the calls on the way
 
--- and where it comes from else; of a call that passed it on, memory was refused
+-- a witness was told of all these calls, one after another, and of nothing else
+abbrev pub ToldAll : {W : Type 0} → (W → Passing → W → Type 0) → W → List Passing → W → Type 0
+ToldAll passes old [] new = new ≡ old
+ToldAll {W} passes old (p ∷ later) new = (m : W) × passes old p m × ToldAll passes m later new
+
+-- it was told of all these over so many steps; where it could not be told, of all but the last, to which they lead and which it refused
+abbrev pub IsTold : {W : Type 0} → (W → Passing → W → Type 0) → (W → Passing → W → Type 0) → List Passing → ℕ → ends.End → W → W → Type 0
+IsTold {W} passes refuses way steps ends.TheVariants.Untold old new =
+    (before : List Passing) × ((p : Passing) × ((m : W) × (way ≡ before ++ p ∷ []) × (p.steps ≡ steps) × ToldAll passes old before m × refuses m p new))
+IsTold passes refuses way steps end old new = ToldAll passes old way new
+
+-- the calls on the way of a byte over the last so many steps
+abbrev pub way_of : PlainSession → Place → ℕ → List Passing
+way_of old place steps = passings (over old.width old.tape) (take steps old.earlier) 0 place place
+
+-- ---- leg after leg
+
+-- what was found of a byte that the call which comes next had from there
+abbrev pub source_of : onwards.Onward → code.Source
+source_of (onwards.TheVariants.At there) = code.TheVariants.Passed there
+source_of (onwards.TheVariants.OfForm i) = code.TheVariants.OfForm i
+
+-- the place from which it is followed further, and a form there that has a name of more than 256 bytes
+abbrev pub LeadsTo : State → onwards.Onward → Place → Type 0
+LeadsTo s (onwards.TheVariants.At there) q = q ≡ place_of there
+LeadsTo s (onwards.TheVariants.OfForm i) q = (call : Call) → scan s ≡ Calls call → q ≡ InForm (argument 1 call.arguments) i
+
+abbrev pub LeadsToLong : State → onwards.Onward → Type 0
+LeadsToLong s (onwards.TheVariants.At there) = IsLong (place_of there)
+LeadsToLong s (onwards.TheVariants.OfForm i) = (call : Call) → scan s ≡ Calls call → IsLong (InForm (argument 1 call.arguments) i)
+
+-- where a byte comes from that no call passed on, of which this was found
 abbrev pub EndsAs : code.Source → ends.End → Type 0
 EndsAs code.TheVariants.Nothing end = end ≡ ends.TheVariants.Nothing
 EndsAs (code.TheVariants.Here there) end = end ≡ ends.TheVariants.Earlier
 EndsAs (code.TheVariants.Read n) end = end ≡ ends.TheVariants.Read n
 EndsAs code.TheVariants.Made end = end ≡ ends.TheVariants.Made
-EndsAs source end = end ≡ ends.TheVariants.Memory
+EndsAs source end = ⊥

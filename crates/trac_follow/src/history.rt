@@ -111,7 +111,7 @@ pub(crate) fn follow_from<'a, A: Allocator + Copy>(
                 measure = measured(session.machine(), there);
                 here = there;
             }
-            Turn::End(source) => return found(steps, source),
+            Turn::Found(source) => return found(steps, source),
         }
     }
     found(steps, Source::Here(here))
@@ -143,8 +143,8 @@ fn seen_after<E: TwoEnds<u8, A>, M: TwoEnds<Mark, A>, A: Allocator + Copy>(
 pub(crate) enum Turn<'a> {
     // On from this place.
     On(Place<'a>),
-    // No further.
-    End(Source<'a>),
+    // No further: this was found.
+    Found(Source<'a>),
 }
 
 // How what stands here after the next step of a machine is followed further back, where that step leaves texts of these
@@ -160,14 +160,14 @@ fn turned<'a, E: TwoEnds<u8, A>, M: TwoEnds<Mark, A>, A: Allocator + Copy>(
     match told_of(before, width, after, here) {
         Origin::Carried(there) => {
             if is_passed(before, here, there) {
-                return Turn::End(Source::Passed(there));
+                return Turn::Found(Source::Passed(there));
             }
             Turn::On(there)
         }
-        Origin::OfForm(i) => Turn::End(Source::OfForm(i)),
-        Origin::Read(n) => Turn::End(Source::Read(n)),
-        Origin::Made => Turn::End(Source::Made),
-        Origin::Nothing => Turn::End(Source::Nothing),
+        Origin::OfForm(i) => Turn::Found(Source::OfForm(i)),
+        Origin::Read(n) => Turn::Found(Source::Read(n)),
+        Origin::Made => Turn::Found(Source::Made),
+        Origin::Nothing => Turn::Found(Source::Nothing),
     }
 }
 

@@ -1,15 +1,16 @@
 //! A place that keeps the name of its form.
-ghost use Rattle.std.specs.Prelude.{◌≡◌, IfOk};
-ghost use Rattle.trac_follow.specs.Kept.{named};
+ghost use Rattle.std.specs.Prelude.{◌≡◌, ◌<◌, length, IfErr, IfOk};
+ghost use Rattle.trac_follow.specs.Kept.{IsLong, name_in, named};
 ghost use Rattle.trac_follow.specs.Places.{place_of};
 
 use crate::place::Place;
+use arrayvec::ArrayVec;
 use std::alloc::{AllocError, Allocator};
 use std::marker::Model;
 
 /// A place without the name of its form.
 #[derive(Clone, Copy)]
-pub(crate) enum Spot {
+pub(crate) enum Nameless {
     Active(usize),
     Base(usize),
     Argument(usize, usize, usize),
@@ -18,31 +19,63 @@ pub(crate) enum Spot {
     Output(usize),
 }
 
+/// A name of a form: one of up to 256 bytes takes no memory.
+#[derive(Drop)]
+pub(crate) enum Name<A: Allocator + Copy> {
+    Short(ArrayVec<u8, 256>),
+    Long(Vec<u8, A>),
+}
+
 /// A place in a state that keeps the name of its form, where it is in one: it lends nothing from the machine. It is seen as the
 /// place.
 #[derive(Drop)]
 pub(crate) struct Kept<A: Allocator + Copy> {
-    pub(crate) spot: Spot,
+    pub(crate) spot: Nameless,
     // empty where it is in no form
-    pub(crate) name: Vec<u8, A>,
+    pub(crate) name: Name<A>,
 }
 
 impl<A: Allocator + Copy> Model for Kept<A> {
     ghost use Rattle.trac_origins.specs.Places.{Place};
-    ghost use Rattle.trac_follow.specs.Kept.{named};
+    ghost use Rattle.trac_follow.specs.Kept.{name_in, named};
 
     ghost Value = { Place };
 
-    ghost view = { λ k. named k.spot k.name.items };
+    ghost view = { λ k. named k.spot (name_in k.name) };
+}
+
+impl<A: Allocator + Copy> Name<A> {
+    // A copy of this name. The error is that memory for one of more than 256 bytes was refused.
+    fn of(alloc: A, name: &[u8]) -> Result<Self, AllocError>
+        ensures ok { IfOk result (λ copy. name_in copy ≡ name.now) }
+        ensures err { IfErr result (λ _. 256 < length name.now) }
+    {
+        let mut short = ArrayVec::new();
+        match short.try_extend_from_slice(name) {
+            Ok(()) => Ok(Name::Short(short)),
+            Err(_too_long) => Ok(Name::Long(Vec::from_slice(alloc, name)?)),
+        }
+    }
+
+    // Its bytes.
+    fn as_slice(&self) -> &[u8]
+        ensures { result.now ≡ name_in self.now }
+    {
+        match self {
+            Name::Short(name) => name.as_slice(),
+            Name::Long(name) => name.as_slice(),
+        }
+    }
 }
 
 impl<A: Allocator + Copy> Kept<A> {
-    /// This place. The error is that memory for the name was refused.
+    /// This place. The error is that memory for a name of more than 256 bytes was refused.
     pub(crate) fn of(alloc: A, place: Place<'_>) -> Result<Self, AllocError>
-        ensures { IfOk result (λ kept. kept ≡ place_of place.entry) }
+        ensures ok { IfOk result (λ kept. kept ≡ place_of place.entry) }
+        ensures err { IfErr result (λ _. IsLong (place_of place.entry)) }
     {
         let (spot, name) = parts(place);
-        let name = Vec::from_slice(alloc, name)?;
+        let name = Name::of(alloc, name)?;
         Ok(Kept { spot, name })
     }
 
@@ -55,37 +88,38 @@ impl<A: Allocator + Copy> Kept<A> {
 }
 
 // A place without its name, and that.
-fn parts<'a>(place: Place<'a>) -> (Spot, &'a [u8])
-    ensures { named result.0 result.1.now ≡ place_of place.entry }
+fn parts<'a>(place: Place<'a>) -> (Nameless, &'a [u8])
+    ensures parts { named result.0 result.1.now ≡ place_of place.entry }
+    ensures long { 256 < length result.1.now → IsLong (place_of place.entry) }
 {
     match place {
-        Place::Active(i) => (Spot::Active(i), &[]),
-        Place::Base(i) => (Spot::Base(i), &[]),
+        Place::Active(i) => (Nameless::Active(i), &[]),
+        Place::Base(i) => (Nameless::Base(i), &[]),
         Place::Argument {
             function,
             argument,
             byte,
-        } => (Spot::Argument(function, argument, byte), &[]),
-        Place::Form(name, i) => (Spot::Form(i), name),
-        Place::Held(number, name, i) => (Spot::Held(number, i), name),
-        Place::Output(i) => (Spot::Output(i), &[]),
+        } => (Nameless::Argument(function, argument, byte), &[]),
+        Place::Form(name, i) => (Nameless::Form(i), name),
+        Place::Held(number, name, i) => (Nameless::Held(number, i), name),
+        Place::Output(i) => (Nameless::Output(i), &[]),
     }
 }
 
 // A place with the name of its form.
-fn lent<'a>(spot: Spot, name: &'a [u8]) -> Place<'a>
+fn lent<'a>(spot: Nameless, name: &'a [u8]) -> Place<'a>
     ensures { place_of result ≡ named spot name.now }
 {
     match spot {
-        Spot::Active(i) => Place::Active(i),
-        Spot::Base(i) => Place::Base(i),
-        Spot::Argument(function, argument, byte) => Place::Argument {
+        Nameless::Active(i) => Place::Active(i),
+        Nameless::Base(i) => Place::Base(i),
+        Nameless::Argument(function, argument, byte) => Place::Argument {
             function,
             argument,
             byte,
         },
-        Spot::Form(i) => Place::Form(name, i),
-        Spot::Held(number, i) => Place::Held(number, name, i),
-        Spot::Output(i) => Place::Output(i),
+        Nameless::Form(i) => Place::Form(name, i),
+        Nameless::Held(number, i) => Place::Held(number, name, i),
+        Nameless::Output(i) => Place::Output(i),
     }
 }

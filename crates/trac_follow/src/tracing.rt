@@ -1,12 +1,14 @@
 //! Following a byte back to where it comes from, past all calls that passed it on.
-ghost use Rattle.std.specs.Prelude.{◌≡◌, ◌≤◌, IfErr, IfOk, Some};
-ghost use Rattle.trac_follow.specs.declared.history.Source.TheVariants.{OfForm};
+ghost use Rattle.std.specs.Prelude.{◌≡◌, ◌≤◌, ⊤, IfErr, IfOk, OnErr, OnOk, Some};
+ghost use Rattle.trac_follow.specs.declared.tracing.Onward.TheVariants.{OfForm};
+ghost use Rattle.trac_follow.specs.Following.{IsFollowed, IsKnown};
+ghost use Rattle.trac_follow.specs.Passing.{Passing};
 ghost use Rattle.trac_follow.specs.Places.{place_of};
-ghost use Rattle.trac_follow.specs.Tracing.{EndsAs, IsTraced, LeadsTo};
+ghost use Rattle.trac_follow.specs.Tracing.{EndsAs, IsTold, IsTraced, LeadsTo, LeadsToLong, source_of, way_of};
 ghost use Rattle.trac_rules.specs.Session.{Back, repeated};
 ghost use Rattle.trac_rules.specs.Trails.{IsTrail};
 
-use crate::history::{Source, follow_from};
+use crate::history::{Followed, Source, follow_from};
 use crate::kept::Kept;
 use crate::place::Place;
 use crate::standing::stands;
@@ -16,6 +18,12 @@ use trac_session::{Machine, Session};
 
 /// Who is told of the calls on the way of a byte.
 pub trait Witness<A: Allocator + Copy> {
+    // From the first state it is told of the call, and is in the second one then; or it refuses, and is in that one. Of a witness
+    // that does not say when, anything may be.
+    ghost passes: { Self → Passing → Self → Type 0 } = { λ _ _ _. ⊤ };
+
+    ghost refuses: { Self → Passing → Self → Type 0 } = { λ _ _ _. ⊤ };
+
     /// Told of a call that passed the byte on, the latest first: the machine performs it next, so many steps before the state in
     /// which it is traced. The byte is followed back there from this place: the one that is asked for, and later the one from
     /// which the call that was told of last had it. The error is that memory was refused, which ends the trace.
@@ -24,7 +32,9 @@ pub trait Witness<A: Allocator + Copy> {
         machine: &Machine<A>,
         steps: u64,
         from: Place<'_>,
-    ) -> Result<(), AllocError>;
+    ) -> Result<(), AllocError>
+        ensures ok { OnOk result (passes self.old (record { state = machine.now.state; steps = steps; from = place_of from.entry }) self.new) }
+        ensures err { OnErr result (refuses self.old (record { state = machine.now.state; steps = steps; from = place_of from.entry }) self.new) };
 }
 
 /// Where a byte comes from.
@@ -38,8 +48,11 @@ pub enum End {
     Read(usize),
     /// The step that comes next made it.
     Made,
-    /// Memory was refused: for the name of a form, or to the witness. All steps that were gone back over carried it.
+    /// All steps that were gone back over carried it, from a form that has a name of more than 256 bytes, for which memory was
+    /// refused.
     Memory,
+    /// All steps that were gone back over carried it, and the witness refused to be told of the call that comes next.
+    Untold,
 }
 
 /// How a byte was followed back to where it comes from.
@@ -53,9 +66,9 @@ pub struct Traced {
 
 /// Goes back over up to `most` steps, as long as these carried the byte at a place, or the item of a form, however they did:
 /// until one made or read it. The width of the session's numbers has to be given. A witness is told of each call that passed it
-/// on, as `follow` stops at it. It takes memory for names of forms, two at a time at most, and what the witness takes; where it is
-/// refused, that is returned, and the session stays where it has come to. It says that nothing is there only where nothing stands
-/// at the place (this project's profile).
+/// on, as `follow` stops at it, and of no other. It takes no memory but for the name of a form that has more than 256 bytes, two
+/// of these at a time; where that is refused, or the witness refuses, that is returned, and the session stays where it has come
+/// to. It says that nothing is there only where nothing stands at the place (this project's profile).
 pub fn trace<A: Allocator + Copy, W: Witness<A>>(
     alloc: A,
     session: &mut Session<A>,
@@ -67,36 +80,45 @@ pub fn trace<A: Allocator + Copy, W: Witness<A>>(
     ensures back { repeated Back result.steps session.old ≡ Some session.new }
     ensures most { result.steps ≤ most }
     ensures traced { width ≡ session.old.width → IsTrail session.old → IsTraced session.old (place_of place.entry) most session.new result }
+    ensures told { width ≡ session.old.width → IsTrail session.old → IsTold W.passes W.refuses (way_of session.old (place_of place.entry) result.steps) result.steps result.end witness.old witness.new }
 {
     if !stands(session.machine(), place) {
-        return Traced {
-            steps: 0,
-            end: End::Nothing,
-        };
+        return ended(0, End::Nothing);
     }
     let Ok(mut kept) = Kept::of(alloc, place) else {
-        return Traced {
-            steps: 0,
-            end: End::Memory,
-        };
+        return ended(0, End::Memory);
     };
     let mut steps = 0;
     for _leg in 0..most {
-        let leg = follow_from(session, width, kept.place(), most - steps);
+        let leg = follow_kept(session, width, &kept, most - steps);
         steps += leg.steps;
-        let next = match further(alloc, session.machine(), leg.source) {
-            Ok(next) => next,
+        let from = match had_from(leg.source) {
+            Ok(from) => from,
             Err(end) => return ended(steps, end),
         };
-        if witness
-            .passed(session.machine(), steps, kept.place())
-            .is_err()
-        {
+        let Ok(()) = witness.passed(session.machine(), steps, kept.place()) else {
+            return ended(steps, End::Untold);
+        };
+        let Ok(next) = further(alloc, session.machine(), from) else {
             return ended(steps, End::Memory);
-        }
+        };
         kept = next;
     }
     ended(steps, End::Earlier)
+}
+
+// Follows a byte that stands at a place, as `follow` does.
+fn follow_kept<'a, A: Allocator + Copy>(
+    session: &mut Session<A>,
+    width: Width,
+    place: &'a Kept<A>,
+    most: u64,
+) -> Followed<'a>
+    ensures back { repeated Back result.steps session.old ≡ Some session.new }
+    ensures most { result.steps ≤ most }
+    ensures followed { IsKnown width session.old place.now → IsFollowed session.old place.now most session.new result }
+{
+    follow_from(session, width, place.place(), most)
 }
 
 fn ended(steps: u64, end: End) -> Traced
@@ -106,14 +128,18 @@ fn ended(steps: u64, end: End) -> Traced
     Traced { steps, end }
 }
 
-// From where a byte is followed further, of which this was found: from where the call that comes next had it. Else where it
-// comes from.
-fn further<A: Allocator + Copy>(
-    alloc: A,
-    machine: &Machine<A>,
-    source: Source<'_>,
-) -> Result<Kept<A>, End>
-    ensures on { IfOk result (λ kept. LeadsTo machine.now.state source.entry kept) }
+// From where the call that comes next had a byte that it passed on.
+#[derive(Clone, Copy)]
+pub(crate) enum Onward<'a> {
+    // From this place.
+    At(Place<'a>),
+    // From this item of the form that its argument 1 names.
+    OfForm(usize),
+}
+
+// From where a byte is followed further, of which this was found. Else where it comes from.
+fn had_from<'a>(source: Source<'a>) -> Result<Onward<'a>, End>
+    ensures on { IfOk result (λ from. source.entry ≡ source_of from) }
     ensures ends { IfErr result (λ end. EndsAs source.entry end) }
 {
     match source {
@@ -121,18 +147,35 @@ fn further<A: Allocator + Copy>(
         Source::Here(_) => Err(End::Earlier),
         Source::Read(n) => Err(End::Read(n)),
         Source::Made => Err(End::Made),
-        Source::Passed(there) => Kept::of(alloc, there).map_err(|_| End::Memory),
-        Source::OfForm(item) => item_called(alloc, machine, item).map_err(|_| End::Memory),
+        Source::Passed(there) => Ok(Onward::At(there)),
+        Source::OfForm(item) => Ok(Onward::OfForm(item)),
     }
 }
 
-// This item of the form that the call which comes next names. The error is that memory for the name was refused.
+// The place from which the call that comes next had a byte. The error is that memory for the name of its form was refused, which
+// has more than 256 bytes.
+fn further<A: Allocator + Copy>(
+    alloc: A,
+    machine: &Machine<A>,
+    from: Onward<'_>,
+) -> Result<Kept<A>, AllocError>
+    ensures ok { IfOk result (λ kept. LeadsTo machine.now.state from.entry kept) }
+    ensures err { IfErr result (λ _. LeadsToLong machine.now.state from.entry) }
+{
+    match from {
+        Onward::At(there) => Kept::of(alloc, there),
+        Onward::OfForm(item) => item_called(alloc, machine, item),
+    }
+}
+
+// This item of the form that the call which comes next names.
 fn item_called<A: Allocator + Copy>(
     alloc: A,
     machine: &Machine<A>,
     item: usize,
 ) -> Result<Kept<A>, AllocError>
-    ensures { IfOk result (λ kept. LeadsTo machine.now.state (OfForm item) kept) }
+    ensures ok { IfOk result (λ kept. LeadsTo machine.now.state (OfForm item) kept) }
+    ensures err { IfErr result (λ _. LeadsToLong machine.now.state (OfForm item)) }
 {
     match machine.next_call() {
         Some((_, arguments)) => Kept::of(alloc, Place::Form(arguments.get(1), item)),

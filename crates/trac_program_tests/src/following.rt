@@ -201,10 +201,10 @@ fn trace_one<'a>(rt: &impl Abort, memory: Memory<'a>, session: &mut Session<Memo
     // The witness has room for three more: the fourth is refused.
     assert!(rt; go_on(session) == Some(Refusal::Ended));
     let again = traced(memory, session, &mut told);
-    assert!(rt; again.steps == 27 && matches!(again.end, End::Memory));
+    assert!(rt; again.steps == 27 && matches!(again.end, End::Untold));
 }
 
-// With no memory it comes to the first call that took the byte out of a form, whose name it cannot keep.
+// With no memory it comes as far, and asks for none.
 fn trace_without_memory<'a>(
     rt: &impl Abort,
     memory: Memory<'a>,
@@ -214,11 +214,61 @@ fn trace_without_memory<'a>(
         steps: [0; 8],
         count: 0,
     };
+    let requests = memory.requests();
     memory.refuse_all();
     let found = traced(memory, session, &mut told);
+    assert!(rt; memory.requests() == requests);
     memory.accept_all();
-    assert!(rt; found.steps == 11 && matches!(found.end, End::Memory));
-    assert!(rt; told.steps == [10, 0, 0, 0, 0, 0, 0, 0]);
+    assert!(rt; found.steps == 43 && matches!(found.end, End::Read(7)));
+    assert!(rt; told.steps == [10, 11, 21, 27, 35, 0, 0, 0]);
+}
+
+// Feeds a program that puts the byte `x` into a form of this name, calls it and prints it.
+fn feed_form(session: &mut Session<Memory<'_>>, name: &[u8]) -> Result<(), Refusal> {
+    feed(session, b"#(ds,")?;
+    feed(session, name)?;
+    feed(session, b",x)#(ps,##(cl,")?;
+    feed(session, name)?;
+    feed(session, b"))'")
+}
+
+// Goes to the end of the program over a form of this name.
+fn run_form(rt: &impl Abort, session: &mut Session<Memory<'_>>, name: &[u8]) {
+    feed_form(session, name).expect(rt, "it was refused");
+    session.end();
+    assert!(rt; go_on(session) == Some(Refusal::Ended));
+}
+
+// Where the byte comes from that is printed, and how many requests for memory that took.
+fn end_of<'a>(memory: Memory<'a>, session: &mut Session<Memory<'a>>) -> (End, u64) {
+    let mut told = Told {
+        steps: [0; 8],
+        count: 0,
+    };
+    let requests = memory.requests();
+    let found = traced(memory, session, &mut told);
+    (found.end, memory.requests().saturating_sub(requests))
+}
+
+// With no memory it comes as far, and asks for none.
+fn trace_short_name<'a>(rt: &impl Abort, memory: Memory<'a>, session: &mut Session<Memory<'a>>) {
+    run_form(rt, session, &[b'N'; 256]);
+    memory.refuse_all();
+    let (end, requests) = end_of(memory, session);
+    memory.accept_all();
+    assert!(rt; matches!(end, End::Read(262)) && requests == 0);
+}
+
+// With no memory it comes to the call, and with memory as far.
+fn trace_long_name<'a>(rt: &impl Abort, memory: Memory<'a>, session: &mut Session<Memory<'a>>) {
+    run_form(rt, session, &[b'N'; 257]);
+    memory.refuse_all();
+    let (end, requests) = end_of(memory, session);
+    memory.accept_all();
+    assert!(rt; matches!(end, End::Memory) && requests == 1);
+    assert!(rt; go_on(session) == Some(Refusal::Ended));
+    let (end, requests) = end_of(memory, session);
+    assert!(rt; matches!(end, End::Read(263)) && requests == 1);
 }
 
 fn let_go(session: Session<Memory<'_>>) {
@@ -242,5 +292,22 @@ fn through_a_form_and_a_block(rt: HostRuntime) {
     trace_one(&rt, &memory, &mut session);
     assert!(&rt; go_on(&mut session) == Some(Refusal::Ended));
     trace_without_memory(&rt, &memory, &mut session);
+    let_go(session);
+}
+
+// The `x` comes right after `#(ds,`, the name and a comma.
+#[test]
+fn a_name_of_256_bytes(rt: HostRuntime) {
+    let memory = Refusing::new(rt.alloc());
+    let mut session = new_session(&memory).expect(&rt, "it was refused");
+    trace_short_name(&rt, &memory, &mut session);
+    let_go(session);
+}
+
+#[test]
+fn a_name_of_257_bytes(rt: HostRuntime) {
+    let memory = Refusing::new(rt.alloc());
+    let mut session = new_session(&memory).expect(&rt, "it was refused");
+    trace_long_name(&rt, &memory, &mut session);
     let_go(session);
 }

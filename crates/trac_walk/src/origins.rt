@@ -18,18 +18,18 @@ const LINE_COUNT: usize = 30;
 
 // What is said of the way of a byte: a line for each call that passed it on.
 #[derive(Drop)]
-struct Way<A: Allocator + Copy> {
+struct Way<'o, A: Allocator + Copy> {
     alloc: A,
     // the step at which it begins
     step: u64,
-    // its lines
-    lines: Vec<u8, A>,
+    // where its lines go
+    out: &'o mut Vec<u8, A>,
     // how many there are, and how many are left out
     shown: usize,
     left_out: usize,
 }
 
-impl<A: Allocator + Copy> Witness<A> for Way<A> {
+impl<'o, A: Allocator + Copy> Witness<A> for Way<'o, A> {
     fn passed(
         &mut self,
         machine: &Machine<A>,
@@ -46,7 +46,7 @@ impl<A: Allocator + Copy> Witness<A> for Way<A> {
             self.step.saturating_sub(steps),
             &sight_of(machine),
             treatment(from),
-            &mut self.lines,
+            self.out,
         )
     }
 }
@@ -77,7 +77,7 @@ impl<A: Allocator + Copy> Witness<A> for Unsaid {
 
 /// Goes back to the step that made a byte, or read it, and puts the way there at the end of a text: a line for each call that
 /// carried it, the latest first, and then where it stands. Of a byte of the program it says the line and the column. It takes
-/// memory for names and lines alone. The error is that memory was refused, here and below.
+/// memory for the lines, and for a name of more than 256 bytes. The error is that memory was refused, here and below.
 pub fn way_into<A: Allocator + Copy>(
     alloc: A,
     walker: &mut Walker<A>,
@@ -92,17 +92,18 @@ pub fn way_into<A: Allocator + Copy>(
     let mut way = Way {
         alloc,
         step: walker.step(),
-        lines: Vec::new(alloc),
+        out,
         shown: 0,
         left_out: 0,
     };
-    let origin = match walker.trace(alloc, place, &mut way) {
+    let end = walker.trace(alloc, place, &mut way);
+    let left_out = way.left_out;
+    let origin = match end {
         End::Nothing => return stay(alloc, walker, absent(walker, spot), out),
-        End::Memory => return Err(AllocError),
+        End::Memory | End::Untold => return Err(AllocError),
         end => origin_of(walker, program, end),
     };
-    out.extend_from_slice(way.lines.as_slice())?;
-    end_into(alloc, walker, way.left_out, origin, out)?;
+    end_into(alloc, walker, left_out, origin, out)?;
     out.extend_from_slice(b"here: ")?;
     stand_into(alloc, walker, out)
 }
@@ -130,7 +131,7 @@ pub fn written_into<A: Allocator + Copy>(
     }
     match found {
         End::Nothing => return stay(alloc, walker, Stop::NoName, out),
-        End::Memory => return Err(AllocError),
+        End::Memory | End::Untold => return Err(AllocError),
         _ => {}
     }
     origin_into(origin, source, &mut line)?;

@@ -82,8 +82,8 @@ loop-steps-preserved g c =
           (c.measured-measure-in-On.ensures (subst (λ (s : State). Stands s (place_of c.in-On.there)) (sym c.machine-in-On.ensures.last) (on.stood trail).stands)),
     )
 
-pub returns-in-End-clause-followed : goal.returns-in-End-clause-followed
-returns-in-End-clause-followed g c = λ known.
+pub returns-in-Found-clause-followed : goal.returns-in-Found-clause-followed
+returns-in-Found-clause-followed g c = λ known.
     let same = same_session c.pass_back-count.result c.loop-steps.session c.pass_back-count.new.self c.pass_back-count.ensures.passed c.if-count-gt0.false in
     let goes = subst (λ (p : PlainSession). GoesBack c.args.width c.args.session.now p (place_of c.args.place) (place_of c.loop-steps.here) c.loop-steps.steps) same c.loop-steps.invariant.1 in
     let placed = subst (λ (p : PlainSession). IsKnown c.args.width c.args.session.now (place_of c.args.place) → IsPlaced c.loop-steps.measure.0 c.loop-steps.measure.1 p.last (place_of c.loop-steps.here)) same c.loop-steps.invariant.2 in
@@ -95,7 +95,7 @@ returns-in-End-clause-followed g c = λ known.
     c.seen_after-after.ensures.active c.seen_after-after.ensures.output c.seen_after-after.ensures.extent c.seen_after-after.ensures.gap c.seen_after-after.ensures.read c.machine-in-loop-steps.ensures.last (placed trail))
     c.machine-in-loop-steps-4.ensures.last c.turned.ensures.1) in
     turned_end c.args.session.now c.pass_back-count.new.self c.back.new.self (place_of c.args.place) (place_of c.loop-steps.here) c.loop-steps.steps c.turned.ensures.0 c.args.width has
-    c.machine-in-loop-steps-4.result.now.state c.args.most c.loop-steps.here c.turned.result c.in-End.source c.found.result c.machine-in-loop-steps-4.ensures.last refl c.turned.ensures.2 c.in-End.is
+    c.machine-in-loop-steps-4.result.now.state c.args.most c.loop-steps.here c.turned.result c.in-Found.source c.found.result c.machine-in-loop-steps-4.ensures.last refl c.turned.ensures.2 c.in-Found.is
     c.found.ensures.steps c.found.ensures.source known
 
 pub returns-clause-followed : goal.returns-clause-followed
@@ -113,8 +113,8 @@ returns-clause-followed g c = λ known.
           c.found-2.ensures.steps c.found-2.ensures.source known
     ]
 
-pub returns-in-End-clause-back : goal.returns-in-End-clause-back
-returns-in-End-clause-back g c =
+pub returns-in-Found-clause-back : goal.returns-in-Found-clause-back
+returns-in-Found-clause-back g c =
     let same = same_session c.pass_back-count.result c.loop-steps.session c.pass_back-count.new.self c.pass_back-count.ensures.passed c.if-count-gt0.false in
     let goes = subst (λ (p : PlainSession). GoesBack c.args.width c.args.session.now p (place_of c.args.place) (place_of c.loop-steps.here) c.loop-steps.steps) same c.loop-steps.invariant.1 in
     let went = went_back c.pass_back-count.new.self c.back.new.self c.back.result.done c.back.result.why c.back.ensures (none_by_test c.back.result.why c.is_some.result c.is_some.ensures c.if-is_some.false) in

@@ -14,7 +14,7 @@ returns-then-is_passed g c =
     let passed = subst (λ b. MatchBool b (IsPassed s here there) (IsPassed s here there → ⊥)) c.if-is_passed.true c.is_passed.ensures in (
       c.told_of.result,
       c.told_of.ensures.tells,
-      subst (λ o. IsTurn s c.args.here o (turning.TheVariants.End (code.TheVariants.Passed c.in-Carried.there))) (sym c.in-Carried.is)
+      subst (λ o. IsTurn s c.args.here o (turning.TheVariants.Found (code.TheVariants.Passed c.in-Carried.there))) (sym c.in-Carried.is)
           (inr (refl, passed, λ form. c.told_of.ensures.taken.1 (ap is_from_form c.in-Carried.is ∙ form))),
     )
 
@@ -33,7 +33,7 @@ pub returns-in-OfForm : goal.returns-in-OfForm
 returns-in-OfForm g c = (
   c.told_of.result,
   c.told_of.ensures.tells,
-  subst (λ o. IsTurn c.args.before.now.state c.args.here o (turning.TheVariants.End (code.TheVariants.OfForm c.in-OfForm.i))) (sym c.in-OfForm.is)
+  subst (λ o. IsTurn c.args.before.now.state c.args.here o (turning.TheVariants.Found (code.TheVariants.OfForm c.in-OfForm.i))) (sym c.in-OfForm.is)
       (refl, c.told_of.ensures.taken.0 (ap is_of_form c.in-OfForm.is)),
 )
 
@@ -41,19 +41,19 @@ pub returns-in-Read : goal.returns-in-Read
 returns-in-Read g c = (
   c.told_of.result,
   c.told_of.ensures.tells,
-  subst (λ o. IsTurn c.args.before.now.state c.args.here o (turning.TheVariants.End (code.TheVariants.Read c.in-Read.n))) (sym c.in-Read.is) refl,
+  subst (λ o. IsTurn c.args.before.now.state c.args.here o (turning.TheVariants.Found (code.TheVariants.Read c.in-Read.n))) (sym c.in-Read.is) refl,
 )
 
 pub returns-in-Made : goal.returns-in-Made
 returns-in-Made g c = (
   c.told_of.result,
   c.told_of.ensures.tells,
-  subst (λ o. IsTurn c.args.before.now.state c.args.here o (turning.TheVariants.End code.TheVariants.Made)) (sym c.in-Made.is) refl,
+  subst (λ o. IsTurn c.args.before.now.state c.args.here o (turning.TheVariants.Found code.TheVariants.Made)) (sym c.in-Made.is) refl,
 )
 
 pub returns-in-Nothing : goal.returns-in-Nothing
 returns-in-Nothing g c = (
   c.told_of.result,
   c.told_of.ensures.tells,
-  subst (λ o. IsTurn c.args.before.now.state c.args.here o (turning.TheVariants.End code.TheVariants.Nothing)) (sym c.in-Nothing.is) refl,
+  subst (λ o. IsTurn c.args.before.now.state c.args.here o (turning.TheVariants.Found code.TheVariants.Nothing)) (sym c.in-Nothing.is) refl,
 )

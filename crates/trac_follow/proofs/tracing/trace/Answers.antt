@@ -1,111 +1,90 @@
-use Rattle.std.proofs.Common.{◌+◌, ◌-◌, refl, sym, ap, subst, ◌∙◌, arith}
+use Rattle.std.proofs.Common.{refl, sym, ap, subst, ◌∙◌, arith}
 use Rattle.trac_rules.specs.Session.{Back, repeated}
-use Rattle.trac_rules.specs.State.{State}
 use Rattle.trac_follow.specs.declared.tracing.End as ends
-use Rattle.trac_follow.specs.Following.{IsFollowed, IsKnown}
-use Rattle.trac_follow.specs.Places.{Stands, place_of}
-use Rattle.trac_follow.proofs.Traces.{Way, all_so_far, traced_so, way_begins, way_ends, way_goes_on, way_is_long, way_walked}
+use Rattle.trac_follow.specs.Places.{place_of}
+use Rattle.trac_follow.proofs.Traces.{Way, ends_untold, ends_without_memory, known_so, told_before_call, told_of_call, told_so, told_to_the_end, traced_so, way_begins, way_ends, way_goes_on, way_is_long, way_walked}
 use Rattle.trac_follow.proofs.tracing.trace.Goals as goal
 
 pub loop-leg-init : goal.loop-leg-init
-loop-leg-init g c = (omega arith, subst (λ p. Way c.args.width c.args.session.now c.args.session.now (place_of c.args.place) p 0 0) (sym c.in-Ok.ensures) (way_begins c.args.width c.args.session.now (place_of c.args.place)))
+loop-leg-init g c = (
+  omega arith,
+  subst (λ p. Way c.args.width c.args.session.now c.args.session.now (place_of c.args.place) p 0 0) (sym c.in-Ok.ensures.ok) (way_begins c.args.width c.args.session.now (place_of c.args.place)),
+  λ known. refl,
+)
 
 pub loop-leg-preserved : goal.loop-leg-preserved
-loop-leg-preserved g c =
-    let old = c.args.session.now in
-    let cur = c.loop-leg.session in
-    let next = c.follow_from-leg.new.session in
-    let place = place_of c.args.place in
-    let here = c.loop-leg.kept in
-    let steps = c.loop-leg.steps in
-    let way = c.loop-leg.invariant.1 in
-    let found = c.follow_from-leg.result in
-    let leg = subst (λ p. IsKnown c.args.width cur p → IsFollowed cur p (c.args.most - steps) next found) c.place.ensures c.follow_from-leg.ensures.followed in (
-      omega (arith, c.follow_from-leg.ensures.most, c.loop-leg.invariant.0),
-      way_goes_on c.args.width old cur place here steps c.loop-leg._leg way next (c.args.most - steps) found c.follow_from-leg.ensures.back leg
-          c.machine-in-loop-leg.result.now.state c.in-Ok-further.next c.machine-in-loop-leg.ensures.last c.in-Ok-further.ensures.on,
-    )
+loop-leg-preserved g c = (
+  omega (arith, c.follow_kept-leg.ensures.most, c.loop-leg.invariant.0),
+  way_goes_on _ _ _ _ _ _ _ c.loop-leg.invariant.1 _ _ _ c.follow_kept-leg.ensures.back c.follow_kept-leg.ensures.followed
+      c.machine-in-loop-leg-2.result.now.state c.in-Ok-had_from.from c.in-Ok-further.next c.machine-in-loop-leg-2.ensures.last c.in-Ok-had_from.ensures.on c.in-Ok-further.ensures.ok,
+  λ known.
+      told_of_call _ _ _ _ _ _ _ c.loop-leg.invariant.1 _ _ _ c.follow_kept-leg.ensures.back c.follow_kept-leg.ensures.followed
+      c.machine-in-loop-leg.result.now.state c.in-Ok-had_from.from c.machine-in-loop-leg.ensures.last c.in-Ok-had_from.ensures.on known
+      g.W.Witness.passes c.args.witness.now c.loop-leg.witness c.passed.new.self (c.loop-leg.invariant.2 known) (place_of c.place.result) c.place.ensures c.in-Ok-passed.ensures.ok,
+)
 
 pub returns-in-Err-clause-back : goal.returns-in-Err-clause-back
 returns-in-Err-clause-back g c =
-    let old = c.args.session.now in
-    let cur = c.loop-leg.session in
-    let next = c.follow_from-leg.new.session in
-    let place = place_of c.args.place in
-    let here = c.loop-leg.kept in
-    let steps = c.loop-leg.steps in
-    let way = c.loop-leg.invariant.1 in
-    let found = c.follow_from-leg.result in
-    let leg = subst (λ p. IsKnown c.args.width cur p → IsFollowed cur p (c.args.most - steps) next found) c.place.ensures c.follow_from-leg.ensures.followed in
-    ap (λ n. repeated Back n old) c.ended.ensures.steps
-    ∙ way_walked c.args.width old cur place here steps c.loop-leg._leg way next (c.args.most - steps) found c.follow_from-leg.ensures.back leg
+    ap (λ n. repeated Back n c.args.session.now) c.ended-in-Err.ensures.steps ∙ way_walked _ _ _ _ _ _ _ c.loop-leg.invariant.1 _ _ _ c.follow_kept-leg.ensures.back c.follow_kept-leg.ensures.followed
 
 pub returns-in-Err-clause-traced : goal.returns-in-Err-clause-traced
 returns-in-Err-clause-traced g c = λ wide trail.
-    let old = c.args.session.now in
-    let cur = c.loop-leg.session in
-    let next = c.follow_from-leg.new.session in
-    let place = place_of c.args.place in
-    let here = c.loop-leg.kept in
-    let steps = c.loop-leg.steps in
-    let way = c.loop-leg.invariant.1 in
-    let found = c.follow_from-leg.result in
-    let leg = subst (λ p. IsKnown c.args.width cur p → IsFollowed cur p (c.args.most - steps) next found) c.place.ensures c.follow_from-leg.ensures.followed in
-    let stands = subst (λ (s : State). Stands s (place_of c.args.place)) c.machine.ensures.last (c.stands.ensures.there c.if-not-stands.false) in
-    let known : IsKnown c.args.width c.args.session.now (place_of c.args.place) = (wide, trail, stands) in
-    traced_so c.args.width old next place c.args.most (steps + found.steps) c.in-Err.end c.ended.result c.ended.ensures.steps c.ended.ensures.end known
-    (way_ends c.args.width old cur place here steps c.loop-leg._leg way next (c.args.most - steps) found c.follow_from-leg.ensures.back leg c.args.most c.in-Err.end c.loop-leg.invariant.0 refl
+    let known = known_so c.args.width c.args.session.now (place_of c.args.place) c.machine.result.now.state c.machine.ensures.last (c.stands.ensures.there c.if-not-stands.false) wide trail in
+    traced_so _ _ _ _ _ _ _ _ c.ended-in-Err.ensures.steps c.ended-in-Err.ensures.end known
+    (way_ends _ _ _ _ _ _ _ c.loop-leg.invariant.1 _ _ _ c.follow_kept-leg.ensures.back c.follow_kept-leg.ensures.followed c.args.most c.in-Err.end c.loop-leg.invariant.0 refl
     c.in-Err.ensures.ends known)
 
-pub returns-then-is_err-clause-back : goal.returns-then-is_err-clause-back
-returns-then-is_err-clause-back g c =
-    let old = c.args.session.now in
-    let cur = c.loop-leg.session in
-    let next = c.follow_from-leg.new.session in
-    let place = place_of c.args.place in
-    let here = c.loop-leg.kept in
-    let steps = c.loop-leg.steps in
-    let way = c.loop-leg.invariant.1 in
-    let found = c.follow_from-leg.result in
-    let leg = subst (λ p. IsKnown c.args.width cur p → IsFollowed cur p (c.args.most - steps) next found) c.place.ensures c.follow_from-leg.ensures.followed in
-    ap (λ n. repeated Back n old) c.ended-then-is_err.ensures.steps
-    ∙ way_walked c.args.width old cur place here steps c.loop-leg._leg way next (c.args.most - steps) found c.follow_from-leg.ensures.back leg
+pub returns-in-Err-clause-told : goal.returns-in-Err-clause-told
+returns-in-Err-clause-told g c = λ wide trail.
+    let known = known_so c.args.width c.args.session.now (place_of c.args.place) c.machine.result.now.state c.machine.ensures.last (c.stands.ensures.there c.if-not-stands.false) wide trail in
+    told_so g.W.Witness.passes g.W.Witness.refuses c.args.session.now _ _ _ _ _ _ c.ended-in-Err.ensures.steps c.ended-in-Err.ensures.end
+    (told_to_the_end _ _ _ _ _ _ _ c.loop-leg.invariant.1 _ _ _ c.follow_kept-leg.ensures.back c.follow_kept-leg.ensures.followed g.W.Witness.passes g.W.Witness.refuses _ _
+    c.in-Err.end c.in-Err.ensures.ends known (c.loop-leg.invariant.2 known))
 
-pub returns-then-is_err-clause-traced : goal.returns-then-is_err-clause-traced
-returns-then-is_err-clause-traced g c = λ wide trail.
-    let old = c.args.session.now in
-    let cur = c.loop-leg.session in
-    let next = c.follow_from-leg.new.session in
-    let place = place_of c.args.place in
-    let here = c.loop-leg.kept in
-    let steps = c.loop-leg.steps in
-    let way = c.loop-leg.invariant.1 in
-    let found = c.follow_from-leg.result in
-    let leg = subst (λ p. IsKnown c.args.width cur p → IsFollowed cur p (c.args.most - steps) next found) c.place.ensures c.follow_from-leg.ensures.followed in
-    let stands = subst (λ (s : State). Stands s (place_of c.args.place)) c.machine.ensures.last (c.stands.ensures.there c.if-not-stands.false) in
-    let known : IsKnown c.args.width c.args.session.now (place_of c.args.place) = (wide, trail, stands) in
-    traced_so c.args.width old next place c.args.most (steps + found.steps) ends.TheVariants.Memory c.ended-then-is_err.result c.ended-then-is_err.ensures.steps c.ended-then-is_err.ensures.end known
-    (all_so_far c.args.width old next place c.in-Ok-further.next (steps + found.steps) (c.loop-leg._leg + 1)
-    (way_goes_on c.args.width old cur place here steps c.loop-leg._leg way next (c.args.most - steps) found c.follow_from-leg.ensures.back leg
-    c.machine-in-loop-leg.result.now.state c.in-Ok-further.next c.machine-in-loop-leg.ensures.last c.in-Ok-further.ensures.on) known)
+pub returns-in_default-passed-clause-back : goal.returns-in_default-passed-clause-back
+returns-in_default-passed-clause-back g c =
+    ap (λ n. repeated Back n c.args.session.now) c.ended-in_default-passed.ensures.steps ∙ way_walked _ _ _ _ _ _ _ c.loop-leg.invariant.1 _ _ _ c.follow_kept-leg.ensures.back c.follow_kept-leg.ensures.followed
+
+pub returns-in_default-passed-clause-traced : goal.returns-in_default-passed-clause-traced
+returns-in_default-passed-clause-traced g c = λ wide trail.
+    let known = known_so c.args.width c.args.session.now (place_of c.args.place) c.machine.result.now.state c.machine.ensures.last (c.stands.ensures.there c.if-not-stands.false) wide trail in
+    traced_so _ _ _ _ _ _ ends.TheVariants.Untold _ c.ended-in_default-passed.ensures.steps c.ended-in_default-passed.ensures.end known
+    (ends_untold _ _ _ _ _ _ _ c.loop-leg.invariant.1 _ _ _ c.follow_kept-leg.ensures.back c.follow_kept-leg.ensures.followed
+    c.machine-in-loop-leg.result.now.state c.in-Ok-had_from.from c.machine-in-loop-leg.ensures.last c.in-Ok-had_from.ensures.on known)
+
+pub returns-in_default-passed-clause-told : goal.returns-in_default-passed-clause-told
+returns-in_default-passed-clause-told g c = λ wide trail.
+    let known = known_so c.args.width c.args.session.now (place_of c.args.place) c.machine.result.now.state c.machine.ensures.last (c.stands.ensures.there c.if-not-stands.false) wide trail in
+    told_so g.W.Witness.passes g.W.Witness.refuses c.args.session.now _ _ ends.TheVariants.Untold _ _ _ c.ended-in_default-passed.ensures.steps c.ended-in_default-passed.ensures.end
+    (told_before_call _ _ _ _ _ _ _ c.loop-leg.invariant.1 _ _ _ c.follow_kept-leg.ensures.back c.follow_kept-leg.ensures.followed
+    c.machine-in-loop-leg.result.now.state c.in-Ok-had_from.from c.machine-in-loop-leg.ensures.last c.in-Ok-had_from.ensures.on known
+    g.W.Witness.passes c.args.witness.now c.loop-leg.witness c.passed.new.self (c.loop-leg.invariant.2 known) (place_of c.place.result) c.place.ensures g.W.Witness.refuses c.in_default-passed.ensures.err)
+
+pub returns-in_default-further-clause-back : goal.returns-in_default-further-clause-back
+returns-in_default-further-clause-back g c =
+    ap (λ n. repeated Back n c.args.session.now) c.ended-in_default-further.ensures.steps ∙ way_walked _ _ _ _ _ _ _ c.loop-leg.invariant.1 _ _ _ c.follow_kept-leg.ensures.back c.follow_kept-leg.ensures.followed
+
+pub returns-in_default-further-clause-traced : goal.returns-in_default-further-clause-traced
+returns-in_default-further-clause-traced g c = λ wide trail.
+    let known = known_so c.args.width c.args.session.now (place_of c.args.place) c.machine.result.now.state c.machine.ensures.last (c.stands.ensures.there c.if-not-stands.false) wide trail in
+    traced_so _ _ _ _ _ _ ends.TheVariants.Memory _ c.ended-in_default-further.ensures.steps c.ended-in_default-further.ensures.end known
+    (ends_without_memory _ _ _ _ _ _ _ c.loop-leg.invariant.1 _ _ _ c.follow_kept-leg.ensures.back c.follow_kept-leg.ensures.followed
+    c.machine-in-loop-leg-2.result.now.state c.in-Ok-had_from.from c.machine-in-loop-leg-2.ensures.last c.in-Ok-had_from.ensures.on known c.args.most c.in_default-further.ensures.err)
+
+pub returns-in_default-further-clause-told : goal.returns-in_default-further-clause-told
+returns-in_default-further-clause-told g c = λ wide trail.
+    let known = known_so c.args.width c.args.session.now (place_of c.args.place) c.machine.result.now.state c.machine.ensures.last (c.stands.ensures.there c.if-not-stands.false) wide trail in
+    told_so g.W.Witness.passes g.W.Witness.refuses c.args.session.now _ _ ends.TheVariants.Memory _ _ _ c.ended-in_default-further.ensures.steps c.ended-in_default-further.ensures.end
+    (told_of_call _ _ _ _ _ _ _ c.loop-leg.invariant.1 _ _ _ c.follow_kept-leg.ensures.back c.follow_kept-leg.ensures.followed
+    c.machine-in-loop-leg.result.now.state c.in-Ok-had_from.from c.machine-in-loop-leg.ensures.last c.in-Ok-had_from.ensures.on known
+    g.W.Witness.passes c.args.witness.now c.loop-leg.witness c.passed.new.self (c.loop-leg.invariant.2 known) (place_of c.place.result) c.place.ensures c.in-Ok-passed.ensures.ok)
 
 pub returns-clause-traced : goal.returns-clause-traced
 returns-clause-traced g c = λ wide trail.
-    let stands = subst (λ (s : State). Stands s (place_of c.args.place)) c.machine.ensures.last (c.stands.ensures.there c.if-not-stands.false) in
-    let known : IsKnown c.args.width c.args.session.now (place_of c.args.place) = (wide, trail, stands) in
+    let known = known_so c.args.width c.args.session.now (place_of c.args.place) c.machine.result.now.state c.machine.ensures.last (c.stands.ensures.there c.if-not-stands.false) wide trail in
     let old = c.args.session.now in
     let cur = c.loop-leg.session in
-    let place = place_of c.args.place in
-    let here = c.loop-leg.kept in
     let steps = c.loop-leg.steps in
-    let all = subst (λ n. Way c.args.width old cur place here steps n) (omega (arith, c.loop-leg-test.false, c.loop-leg.auto)) c.loop-leg.invariant.1 in
-    traced_so c.args.width old cur place c.args.most steps ends.TheVariants.Earlier c.ended-2.result c.ended-2.ensures.steps c.ended-2.ensures.end known
-    (way_is_long c.args.width old cur place here steps c.args.most all c.loop-leg.invariant.0 known)
-
-pub returns-in_default-clause-traced : goal.returns-in_default-clause-traced
-returns-in_default-clause-traced g c = λ wide trail.
-    let stands = subst (λ (s : State). Stands s (place_of c.args.place)) c.machine.ensures.last (c.stands.ensures.there c.if-not-stands.false) in
-    record {
-      end = (place_of c.args.place, refl);
-      nothing = λ bare. absurd (bare stands.0 stands.1);
-    }
+    let all = subst (λ n. Way c.args.width old cur (place_of c.args.place) c.loop-leg.kept steps n) (omega (arith, c.loop-leg-test.false, c.loop-leg.auto)) c.loop-leg.invariant.1 in
+    traced_so _ _ _ _ _ _ ends.TheVariants.Earlier _ c.ended-2.ensures.steps c.ended-2.ensures.end known
+    (way_is_long c.args.width old cur (place_of c.args.place) c.loop-leg.kept steps c.args.most all c.loop-leg.invariant.0 known)
