@@ -7,12 +7,14 @@ while a loop called itself last, or while functions were begun within one anothe
 a third each level of a recursion hands a byte to the next as an argument, and the innermost prints it.
 Walks are made with a journal of 1,048,576 records, the most that there may be: the time of a session that goes forward and then
 back, or follows a byte, less that of one that only goes forward. Each is the least processor time of all rounds: other work on
-the machine can only add to it.
+the machine can only add to it. With `--count` the instructions of one run are counted instead, by valgrind, so that other work
+changes nothing.
 
-    python3 bench/origins/run.py [--program TRAC_WALK] [ROUNDS]
+    python3 bench/origins/run.py [--count] [--program TRAC_WALK] [ROUNDS]
 """
 import importlib.util
 import pathlib
+import re
 import resource
 import subprocess
 import sys
@@ -47,9 +49,18 @@ def seconds(program, path, commands):
     return spent() - before, done.stdout
 
 
+def counted(program, path, commands):
+    """The million instructions of one session with these commands."""
+    words = ["valgrind", "--tool=callgrind", "--callgrind-out-file=/dev/null", program, "--journal", "1048576", path]
+    done = subprocess.run(words, input=commands.encode(), capture_output=True, check=True)
+    return int(re.search(rb"Collected : (\d+)", done.stderr).group(1)) / 1e6
+
+
 def least(program, path, commands, rounds):
-    """The least time of all rounds."""
-    return min(seconds(program, path, commands)[0] for _ in range(rounds))
+    """The least milliseconds of all rounds; with none, the million instructions of one run."""
+    if rounds == 0:
+        return counted(program, path, commands)
+    return 1000 * min(seconds(program, path, commands)[0] for _ in range(rounds))
 
 
 def row(program, text, forward, ways, rounds):
@@ -68,16 +79,18 @@ def table(program, heads, rows, rounds):
     print("|---|---|---|---|---|---|")
     for name, text, forward, ways in rows:
         steps, (back, *times) = row(program, text, forward, ways, rounds)
-        spent_on = " | ".join(f"{1000 * time:.1f} ms" for time in (back, *times))
+        spent_on = " | ".join(f"{time:.1f}{' ms' if rounds else ''}" for time in (back, *times))
         print(f"| {name} | {steps:,} | {spent_on} | {', '.join(f'{time / back:.1f}' for time in times)} |")
 
 
 def main():
     words = sys.argv[1:]
     program = ROOT / "out" / "trac-walk"
+    counts = words[:1] == ["--count"]
+    words = words[1:] if counts else words
     if words[:1] == ["--program"]:
         program, words = pathlib.Path(words[1]).resolve(), words[2:]
-    rounds = int(words[0]) if words else 9
+    rounds = 0 if counts else int(words[0]) if words else 9
     made = calls()
     forward = f"s {STEPS}\n"
     printed = ["y #1", "y keep 1"]
