@@ -1,5 +1,5 @@
 -- A session that went back over a leg, and the calls on the way of a byte there.
-use Rattle.std.proofs.Common.{◌≡◌, ℕ, zero, suc, ◌+◌, ◌-◌, ◌<◌, false, List, [], ◌∷◌, ◌++◌, length, take, refl, sym, ap, ap₂, subst, ◌∙◌, arith}
+use Rattle.std.proofs.Common.{◌≡◌, ℕ, zero, suc, ◌+◌, ◌-◌, ◌<◌, false, not, List, [], ◌∷◌, ◌++◌, length, take, refl, sym, ap, ap₂, subst, ◌∙◌, arith}
 use Rattle.std.specs.Prelude.{Some}
 use Rattle.std.proofs.lemmas.List.{append-nil, append_assoc, length-append}
 use Rattle.std.proofs.lemmas.Option.{option_and_then_some}
@@ -125,7 +125,7 @@ module _ (cur next : PlainSession) (here : Place) (most : ℕ) (found : Found) (
           let item = InForm (argument 1 told.0.0.arguments) i in
           subst (λ p. passings environment (take found.steps cur.earlier ++ post) k here here ≡ record { state = next.last; steps = k + found.steps; from = here } ∷ passings environment post (k + found.steps) p p)
           (sym (at told.0.0 (ap scan is ∙ told.0.1)))
-          (by_call k told.1.0 told.1.1.0 item post (omega (arith, told.1.1.1)) told.1.1.2 told.0.2 (in_neither told.1.1.0 told.1.1.3) unpassed)
+          (by_call k told.1.0 told.1.1.0 item post (omega (arith, told.1.1.1)) told.1.1.2 told.0.2 (ap not (in_neither told.1.1.0 told.1.1.3)) unpassed)
 
   from_there : (k so : ℕ) (o : Origin) → 0 < found.steps → so ≡ found.steps - 1 → IsOrigin cur here found.steps so o → IsUnpassed environment (take (found.steps - 1) cur.earlier) here →
       passings environment (take found.steps cur.earlier) k here here ≡ []

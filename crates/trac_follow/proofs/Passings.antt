@@ -1,53 +1,19 @@
 -- The calls on the way of a byte, over the steps of a leg.
-use Rattle.std.proofs.Common.{◌≡◌, ℕ, zero, suc, ◌+◌, Bool, true, false, not, eqb, List, [], ◌∷◌, ◌++◌, length, take, refl, sym, ap, ap₂, subst, ◌∙◌, arith}
+use Rattle.std.proofs.Common.{◌≡◌, ℕ, zero, suc, ◌+◌, Bool, true, false, List, [], ◌∷◌, ◌++◌, length, take, refl, sym, ap, ap₂, subst, ◌∙◌, arith}
 use Rattle.std.proofs.lemmas.Bool.{cond-true, cond-false}
-use Rattle.std.proofs.lemmas.Bool.Decides.{nat_tests}
-use Rattle.trac_rules.specs.Scanning.{Calls, Moves, Scanned, scan}
 use Rattle.trac_rules.specs.State.{Environment, State}
 use Rattle.trac_origins.specs.Following.{Followed, followed, going_back, state_back}
-use Rattle.trac_origins.specs.Places.{Place, InArgument, InForm, InHeld, Origin, Carried, Read, Made}
+use Rattle.trac_origins.specs.Places.{Place, Origin, Carried, Read, Made}
 use Rattle.trac_origins.specs.Stepping.{origin}
-use Rattle.trac_follow.specs.Passing.{IsUnpassed, Passing, UnpassedBy, calls, is_passed, passed_by, passings}
-use Rattle.trac_follow.specs.Places.{IsCalled, IsPassed, is_in_form}
+use Rattle.trac_follow.specs.Passing.{IsUnpassed, Passing, UnpassedBy, passed_by, passings}
+use Rattle.trac_follow.specs.Places.{IsPassed, is_passed}
 use Rattle.trac_follow.specs.Tracing.{ToldAll}
 use Rattle.trac_follow.proofs.StepsBack.{followed_on}
 
--- ---- whether a step passes a byte on
-
-is_called : (s : State) (function : ℕ) → IsCalled s function → calls function (length s.frames) (scan s) ≡ true
-is_called s function called =
-    ap (calls function (length s.frames)) called.1 ∙ (let e : function + 1 ≡ length s.frames = called.2 in grind (arith, nat_tests))
-
-is_uncalled : (s : State) (function : ℕ) → (IsCalled s function → ⊥) → calls function (length s.frames) (scan s) ≡ false
-is_uncalled s function not = of (scan s) refl
-  where
-    of : (r : Scanned) → scan s ≡ r → calls function (length s.frames) r ≡ false
-    of (Calls call) is =
-        elim (eqb (function + 1) (length s.frames)) as (λ b. eqb (function + 1) (length s.frames) ≡ b → b ≡ false) [
-          | true ↦ λ e. absurd (not (call, is, grind (arith, nat_tests, e)))
-          | false ↦ λ e. refl
-        ] refl
-    of (Moves t) is = refl
-
-pub passes_on : (s : State) (here there : Place) → IsPassed s here there → is_passed s here there ≡ true
-passes_on s here (InArgument function argument byte) passed = is_called s function passed
-passes_on s here (InHeld number name i) passed = passed
-passes_on s here (InForm name i) passed = ap not passed
-passes_on s here other passed = absurd passed
-
-keeps : (s : State) (here there : Place) → (IsPassed s here there → ⊥) → is_passed s here there ≡ false
-keeps s here (InArgument function argument byte) unpassed = is_uncalled s function unpassed
-keeps s here (InHeld number name i) unpassed = of (is_in_form here) unpassed
-  where
-    of : (b : Bool) → (b ≡ true → ⊥) → b ≡ false
-    of true unset = absurd (unset refl)
-    of false unset = refl
-keeps s here (InForm name i) unpassed = of (is_in_form here) unpassed
-  where
-    of : (b : Bool) → (b ≡ false → ⊥) → not b ≡ false
-    of true unset = refl
-    of false unset = absurd (unset refl)
-keeps s here other unpassed = refl
+-- a test that is not passed fails
+keeps : (b : Bool) → (b ≡ true → ⊥) → b ≡ false
+keeps true unset = absurd (unset refl)
+keeps false unset = refl
 
 -- ---- steps that pass nothing on
 
@@ -64,7 +30,7 @@ quiet environment (s ∷ pre) post k from place here e unpassed = go (origin env
         passings environment (pre ++ post) (k + 1) from r ≡ passings environment post (k + 1 + length pre) from here) →
         passed_by s (k + 1) from place o (λ next r. passings environment (pre ++ post) (k + 1) next r) ≡ passings environment post (k + length (s ∷ pre)) from here
     go (Carried r) h less further =
-        cond-false (is_passed s place r) (record { state = s; steps = k + 1; from = from } ∷ passings environment (pre ++ post) (k + 1) r r) (passings environment (pre ++ post) (k + 1) from r) (keeps s place r less.0)
+        cond-false (is_passed s place r) (record { state = s; steps = k + 1; from = from } ∷ passings environment (pre ++ post) (k + 1) r r) (passings environment (pre ++ post) (k + 1) from r) (keeps (is_passed s place r) less.0)
         ∙ further r h less.1
         ∙ ap (λ n. passings environment post n from here) (omega arith)
     go other h less further = absurd (cc)
@@ -88,7 +54,7 @@ silent environment (u ∷ pre) s k from place o e unpassed = go (origin environm
         let count : suc (followed environment (pre ++ s ∷ []) r).carried ≡ suc (length pre) = ap (λ (f : Followed). f.carried) h in
         let here : (followed environment (pre ++ s ∷ []) r).origin ≡ o = ap (λ (f : Followed). f.origin) h in
         let same : followed environment (pre ++ s ∷ []) r ≡ record { carried = length pre; origin = o } = ap₂ (λ n p. let f : Followed = record { carried = n; origin = p } in f) (omega (arith, count)) here in
-        cond-false (is_passed u place r) (record { state = u; steps = k + 1; from = from } ∷ passings environment (pre ++ s ∷ []) (k + 1) r r) (passings environment (pre ++ s ∷ []) (k + 1) from r) (keeps u place r less.0)
+        cond-false (is_passed u place r) (record { state = u; steps = k + 1; from = from } ∷ passings environment (pre ++ s ∷ []) (k + 1) r r) (passings environment (pre ++ s ∷ []) (k + 1) from r) (keeps (is_passed u place r) less.0)
         ∙ further r same less.1
     go other h less further = absurd (let n : 0 ≡ suc (length pre) = ap (λ (f : Followed). f.carried) h in omega (arith, n))
 
@@ -110,7 +76,7 @@ one_call environment pre post s k from place here there e unpassed all passed =
     let steps = k + length pre + 1 in
     quiet environment pre (s ∷ post) k from place here e unpassed
     ∙ ap (λ o. passed_by s steps from here o (λ next r. passings environment post steps next r)) step
-    ∙ cond-true (is_passed s here there) (record { state = s; steps = steps; from = from } ∷ passings environment post steps there there) (passings environment post steps from there) (passes_on s here there passed)
+    ∙ cond-true (is_passed s here there) (record { state = s; steps = steps; from = from } ∷ passings environment post steps there there) (passings environment post steps from there) passed
 
 -- ---- the last of so many steps
 

@@ -66,7 +66,7 @@ output_stays s bytes gap i l environment t item h stands placed = (
       (λ (calls : (call : Call) × (scan s ≡ Calls call)). output_carried environment s t calls.0 item h calls.1 environment.width refl i l)
       (step_scans environment s t h),
   aside bytes gap s (InOutput i) refl tt,
-  λ passed. passed,
+  λ passed. absurd (cc),
 )
 
 measured_alike : (bytes : ℕ) (gap : Bool) (s t : State) (name : List ℕ) (i : ℕ) → items_of (finite.get t.forms name) ≡ items_of (finite.get s.forms name) →
@@ -253,7 +253,7 @@ pub active_came : (s : State) (left i j : ℕ) → j + left ≡ length s.active 
 active_came s left i j index some = λ environment t item h is stands. (
   go environment t item h is stands (scan s) refl,
   λ bytes gap. aside bytes gap s (InActive j) refl tt,
-  λ passed. passed,
+  λ passed. absurd (cc),
 )
   where
     go : (environment : Environment) (t : State) (item : Item) → step environment s ≡ Ok t → left ≡ length t.active → found_at t (InActive i) ≡ Some item → (x : Scanned) → scan s ≡ x →

@@ -199,10 +199,10 @@ module _ (width : Width) (old cur : PlainSession) (place here : Place) (steps le
               λ long. long call asked,
             )
 
-    -- where memory is refused for its name, or the witness refuses to be told
+    -- where its name cannot be kept, or the witness refuses to be told
     module _ (s : State) (from : onwards.Onward) (is : s ≡ next.last) (passed : found.source ≡ source_of from) (known : IsKnown width old place) where
-      pub ends_without_memory : (all : ℕ) → LeadsToLong s from → IsEnd old place all next (steps + found.steps) ends.TheVariants.Memory
-      ends_without_memory all long =
+      pub ends_unkept : (all : ℕ) → LeadsToLong s from → IsEnd old place all next (steps + found.steps) ends.TheVariants.Unkept
+      ends_unkept all long =
           let had = had_somewhere s from is passed (known_there known) in
           (had.0, way_to old cur next place here steps found.steps went (way.known known).1 found.steps (Carried had.0) had.2, had.3 long)
 

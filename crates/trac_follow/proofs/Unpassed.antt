@@ -1,23 +1,24 @@
 -- A byte that no step passes on.
-use Rattle.std.proofs.Common.{◌≡◌, ℕ, zero, suc, ◌+◌, ◌-◌, ◌<◌, ◌≤◌, Bool, true, false, List, [], ◌∷◌, ◌++◌, length, take, refl, sym, ap, subst, ◌∙◌, arith}
-use Rattle.std.specs.Prelude.{Option, None, Some, MatchBool, not}
+use Rattle.std.proofs.Common.{◌≡◌, ℕ, zero, suc, ◌+◌, ◌-◌, ◌<◌, ◌≤◌, eqb, Bool, true, false, List, [], ◌∷◌, ◌++◌, length, take, refl, sym, ap, subst, ◌∙◌, arith}
+use Rattle.std.specs.Prelude.{Option, None, Some, MatchBool}
+use Rattle.std.proofs.lemmas.Bool.Decides.{nat_tests}
 use Rattle.std.proofs.lemmas.List.{length-drop}
 use Rattle.trac_rules.specs.declared.item.Item.{Item}
 use Rattle.trac_rules.specs.Goals.{call_asked, next_call}
 use Rattle.trac_rules.specs.PlainRuns.{moved_on, on_the_way}
-use Rattle.trac_rules.specs.Scanning.{Call, Calls, Moves, deleted, scan}
+use Rattle.trac_rules.specs.Scanning.{Call, Calls, Moves, Scanned, deleted, scan}
 use Rattle.trac_rules.specs.State.{Environment, State}
 use Rattle.trac_rules.specs.Trails.{AreSteps}
 use Rattle.trac_rules.proofs.MovedOn.{active-gathered, moved_on-suc}
 use Rattle.trac_origins.specs.Accounts.{Accounts}
 use Rattle.trac_origins.specs.Following.{followed, going_back}
 use Rattle.trac_origins.specs.Lengths.{before_moved, in_active, past_in}
-use Rattle.trac_origins.specs.Places.{Place, InActive, InArgument, InForm, InHeld, Origin, Carried, found_at}
+use Rattle.trac_origins.specs.Places.{Place, InActive, InArgument, Origin, Carried, found_at}
 use Rattle.trac_origins.specs.Stepping.{origin}
 use Rattle.trac_origins.proofs.Accounted.{accounted}
 use Rattle.trac_origins.proofs.Moved.{one_before, plain}
 use Rattle.trac_follow.specs.Passing.{IsUnpassed, UnpassedBy}
-use Rattle.trac_follow.specs.Places.{IsCalled, IsOutside, IsPassed, place_of}
+use Rattle.trac_follow.specs.Places.{IsOutside, IsPassed, calls, is_passed, place_of}
 use Rattle.trac_follow.specs.declared.place.Place as code_place
 use Rattle.trac_follow.proofs.CallsTold.{functions_left}
 
@@ -43,16 +44,15 @@ unpassed_once environment s place q is not = subst (λ o. UnpassedBy s place o (
 -- ---- what stays is passed on by no step
 
 pub stays_moving : (s t : State) (p : Place) → scan s ≡ Moves t → IsPassed s p p → ⊥
-stays_moving s t (InArgument n k i) is passed = absurd (let call : Calls passed.0 ≡ Moves t = sym passed.1 ∙ is in cc)
-stays_moving s t (InForm name i) is passed = absurd (cc)
-stays_moving s t (InHeld number name i) is passed = absurd (cc)
-stays_moving s t p is passed = passed
+stays_moving s t (InArgument n k i) is passed = absurd (let unset : false ≡ true = ap (calls n (length s.frames)) (sym is) ∙ passed in cc)
+stays_moving s t p is passed = absurd (cc)
 
 pub stays_calling : (s : State) (call : Call) (p : Place) → scan s ≡ Calls call → IsOutside (length call.state.frames) p → IsPassed s p p → ⊥
-stays_calling s call (InArgument n k i) is outside passed = omega (arith, functions_left s call is, outside, passed.2)
-stays_calling s call (InForm name i) is outside passed = absurd (cc)
-stays_calling s call (InHeld number name i) is outside passed = absurd (cc)
-stays_calling s call p is outside passed = passed
+stays_calling s call (InArgument n k i) is outside passed =
+    let e : eqb (n + 1) (length s.frames) ≡ true = ap (calls n (length s.frames)) (sym is) ∙ passed in
+    let last : n + 1 ≡ length s.frames = grind (arith, nat_tests, e) in
+    omega (arith, functions_left s call is, outside, last)
+stays_calling s call p is outside passed = absurd (cc)
 
 -- ---- runs of bytes
 
@@ -61,10 +61,10 @@ moves_quietly s t p is passed = at p passed
   where
     of : (q : Place) (past : Option ℕ) → (IsPassed s q q → ⊥) → IsPassed s q (in_active past q) → ⊥
     of q None stays passed = stays passed
-    of q (Some j) stays passed = passed
+    of q (Some j) stays passed = absurd (cc)
 
     at : (q : Place) → IsPassed s q (before_moved 1 s q) → ⊥
-    at (InActive i) passed = passed
+    at (InActive i) passed = absurd (cc)
     at p passed = of p (past_in s.frames s p) (stays_moving s t p is) passed
 
 pub run_unpassed : (environment : Environment) (s : State) (n : ℕ) (place : Place) (item : Item) → AreSteps environment (on_the_way n s) (moved_on n s) → n ≤ length s.active →
@@ -86,26 +86,28 @@ run_unpassed environment s (suc n) place item all within e =
 
 -- the function of this number is called where a call comes next and it is the last of all
 pub called_if : (b : Bool) (s : State) (function depth : ℕ) (call : Call) → scan s ≡ Calls call → depth ≡ length s.frames → MatchBool b (function + 1 ≡ depth) (function + 1 ≡ depth → ⊥) →
-    MatchBool b (IsCalled s function) (IsCalled s function → ⊥)
-called_if true s function depth call is all last = (call, is, last ∙ all)
-called_if false s function depth call is all last = λ called. last (called.2 ∙ sym all)
+    b ≡ calls function (length s.frames) (scan s)
+called_if b s function depth call is all last = of b last ∙ sym (ap (calls function (length s.frames)) is)
+  where
+    of : (c : Bool) → MatchBool c (function + 1 ≡ depth) (function + 1 ≡ depth → ⊥) → c ≡ eqb (function + 1) (length s.frames)
+    of true last = grind (arith, nat_tests, last, all)
+    of false last =
+        elim (eqb (function + 1) (length s.frames)) as (λ b. eqb (function + 1) (length s.frames) ≡ b → false ≡ b) [
+          | true ↦ λ e. absurd (last (grind (arith, nat_tests, e, all)))
+          | false ↦ λ e. refl
+        ] refl
 
-pub none_called : (s : State) (function : ℕ) → next_call s ≡ None → IsCalled s function → ⊥
-none_called s function none called = absurd (let asked : call_asked (Calls called.0) ≡ None = ap call_asked (sym called.1) ∙ none in cc)
-
--- a test is one of what it says
-pub by_test : (b c : Bool) → b ≡ c → MatchBool b (c ≡ true) (c ≡ true → ⊥)
-by_test true c is = sym is
-by_test false c is = λ e. absurd (let unset : false ≡ true = is ∙ e in cc)
-
-pub by_other : (b c : Bool) → b ≡ c → MatchBool (not b) (c ≡ false) (c ≡ false → ⊥)
-by_other true c is = λ e. absurd (let set : true ≡ false = is ∙ e in cc)
-by_other false c is = sym is
+pub none_called : (s : State) (function : ℕ) → next_call s ≡ None → false ≡ calls function (length s.frames) (scan s)
+none_called s function none = of (scan s) none
+  where
+    of : (r : Scanned) → call_asked r ≡ None → false ≡ calls function (length s.frames) r
+    of (Moves t) none = refl
+    of (Calls call) none = absurd (cc)
 
 pub elsewhere : (s : State) (here : Place) (there : code_place.Place) → ((f k i : ℕ) → there ≡ code_place.TheVariants.Argument f k i → ⊥) →
     ((number : ℕ) (name : _) (i : ℕ) → there ≡ code_place.TheVariants.Held number name i → ⊥) → ((name : _) (i : ℕ) → there ≡ code_place.TheVariants.Form name i → ⊥) →
-    IsPassed s here (place_of there) → ⊥
-elsewhere s here (code_place.TheVariants.Argument f k i) argument held form passed = argument f k i refl
-elsewhere s here (code_place.TheVariants.Form name i) argument held form passed = form name i refl
-elsewhere s here (code_place.TheVariants.Held number name i) argument held form passed = held number name i refl
-elsewhere s here p argument held form passed = passed
+    false ≡ is_passed s here (place_of there)
+elsewhere s here (code_place.TheVariants.Argument f k i) argument held form = absurd (argument f k i refl)
+elsewhere s here (code_place.TheVariants.Form name i) argument held form = absurd (form name i refl)
+elsewhere s here (code_place.TheVariants.Held number name i) argument held form = absurd (held number name i refl)
+elsewhere s here p argument held form = refl

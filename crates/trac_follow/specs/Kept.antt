@@ -1,15 +1,17 @@
 -- Places without the names of their forms, and names.
 use Rattle.std.specs.Prelude.{ℕ, ◌<◌, List, length}
+use Rattle.std.specs.Arc.{arc_slice_items}
 use Rattle.trac_origins.specs.Places.{Place, InActive, InBase, InArgument, InForm, InHeld, InOutput}
-use Rattle.trac_follow.specs.declared.kept.Name as names
+use Rattle.trac_follow.specs.declared.kept.KeptName as names
 use Rattle.trac_follow.specs.declared.kept.Nameless as kept
 
 -- the bytes of a name
-abbrev pub name_in : {A : Type 0} → names.Name A → List ℕ
+abbrev pub name_in : {A : Type 0} → names.KeptName A → List ℕ
+name_in (names.TheVariants.Lent name) = name.now
 name_in (names.TheVariants.Short name) = name.items
-name_in (names.TheVariants.Long name) = name.items
+name_in (names.TheVariants.Shared name) = arc_slice_items name
 
--- with the name
+-- a place without its name, with this one
 abbrev pub named : kept.Nameless → List ℕ → Place
 named (kept.TheVariants.Active i) name = InActive i
 named (kept.TheVariants.Base i) name = InBase i

@@ -1,10 +1,9 @@
 -- Steps that pass a byte on, and such as do not.
-use Rattle.std.specs.Prelude.{ℕ, ◌+◌, ◌==◌, List, [], ◌∷◌, length, Bool, false, if◌then◌else◌, not}
-use Rattle.trac_rules.specs.Scanning.{Scanned, Calls, scan}
+use Rattle.std.specs.Prelude.{ℕ, ◌+◌, List, [], ◌∷◌, if◌then◌else◌}
 use Rattle.trac_rules.specs.State.{Environment, State}
-use Rattle.trac_origins.specs.Places.{Place, InArgument, InForm, InHeld, Origin, Carried}
+use Rattle.trac_origins.specs.Places.{Place, Origin, Carried}
 use Rattle.trac_origins.specs.Stepping.{origin}
-use Rattle.trac_follow.specs.Places.{IsPassed, is_in_form}
+use Rattle.trac_follow.specs.Places.{IsPassed, is_passed}
 
 -- the step from a state, by which what stands at a place has this origin, does not pass it on; if it carried it, more holds of where from
 abbrev pub UnpassedBy : State → Place → Origin → (Place → Type 0) → Type 0
@@ -17,18 +16,6 @@ IsUnpassed environment [] place = Unit {0}
 IsUnpassed environment (s ∷ earlier) place = UnpassedBy s place (origin environment s place) (λ q. IsUnpassed environment earlier q)
 
 -- ---- the calls that passed a byte on, one after another
-
--- where so many functions are begun, the step calls the one of this number
-abbrev pub calls : ℕ → ℕ → Scanned → Bool
-calls function depth (Calls call) = function + 1 == depth
-calls function depth other = false
-
--- whether the step from a state passed a byte on that is here after it, from there
-abbrev pub is_passed : State → Place → Place → Bool
-is_passed s here (InArgument function argument byte) = calls function (length s.frames) (scan s)
-is_passed s here (InHeld number name i) = is_in_form here
-is_passed s here (InForm name i) = not (is_in_form here)
-is_passed s here there = false
 
 -- a call on the way of a byte: the state that performs it next, over how many steps that is reached, and the place from which the byte is
 -- followed to it: the one that is asked for, and later the one from which the call before had it

@@ -1,5 +1,5 @@
 -- Places and origins as the definitions see them.
-use Rattle.std.specs.Prelude.{◌≡◌, ◌⊎◌, ℕ, ◌+◌, ◌^◌, ◌<◌, ◌≤◌, List, length, Bool, true, false, Option, None, Some, Ok}
+use Rattle.std.specs.Prelude.{◌≡◌, ◌⊎◌, ℕ, ◌+◌, ◌^◌, ◌<◌, ◌≤◌, ◌==◌, List, length, Bool, true, false, not, Option, None, Some, Ok}
 use Rattle.trac_rules.specs.declared.item.Item.{Item}
 use Rattle.trac_rules.specs.declared.primitive.Computation.{Computation}
 use Rattle.trac_rules.specs.declared.primitive.Primitive.{Primitive}
@@ -7,7 +7,7 @@ use Rattle.trac_rules.specs.declared.primitive.Primitive.TheVariants.{ReadString
 use Rattle.trac_rules.specs.declared.width.Width.{Width}
 use Rattle.trac_rules.specs.Effect.{Effect, argument}
 use Rattle.trac_rules.specs.Performing.{performed}
-use Rattle.trac_rules.specs.Scanning.{Call, Calls, scan}
+use Rattle.trac_rules.specs.Scanning.{Call, Calls, Scanned, scan}
 use Rattle.trac_rules.specs.State.{Environment, State}
 use Rattle.trac_rules.specs.Stepping.{step}
 use Rattle.trac_origins.specs.Places.{Place, InActive, InBase, InArgument, InForm, InHeld, InOutput, Origin, Carried, Read, Made, found_at}
@@ -26,9 +26,10 @@ place_of (code_place.TheVariants.Form name i) = InForm name.now i
 place_of (code_place.TheVariants.Held number name i) = InHeld number name.now i
 place_of (code_place.TheVariants.Output i) = InOutput i
 
--- the step from a state performs the function of this number, the innermost
-abbrev pub IsCalled : State → ℕ → Type 0
-IsCalled s function = (call : Call) × (scan s ≡ Calls call) × (function + 1 ≡ length s.frames)
+-- whether a step calls the function of this number, the innermost, where so many are begun
+abbrev pub calls : ℕ → ℕ → Scanned → Bool
+calls function depth (Calls call) = function + 1 == depth
+calls function depth other = false
 
 -- whether a place is in a form; and whether it is in a form or in a block
 abbrev pub is_in_form : Place → Bool
@@ -39,13 +40,17 @@ abbrev pub is_in_storage : Place → Bool
 is_in_storage (InHeld number name i) = true
 is_in_storage place = is_in_form place
 
--- the step from a state carried a byte to one place from another that a reader of the call wants to see: from an argument of its own, into
--- a form from a block, or out of a form
+-- of a byte that the step from a state carried here from there, whether a reader of the call wants to see that: it was from an argument of
+-- the call, into a form from a block, or out of a form
+abbrev pub is_passed : State → Place → Place → Bool
+is_passed s here (InArgument function argument byte) = calls function (length s.frames) (scan s)
+is_passed s here (InHeld number name i) = is_in_form here
+is_passed s here (InForm name i) = not (is_in_form here)
+is_passed s here there = false
+
+-- that is so: the step passed the byte on
 abbrev pub IsPassed : State → Place → Place → Type 0
-IsPassed s here (InArgument function argument byte) = IsCalled s function
-IsPassed s here (InHeld number name i) = is_in_form here ≡ true
-IsPassed s here (InForm name i) = is_in_form here ≡ false
-IsPassed s here there = ⊥
+IsPassed s here there = is_passed s here there ≡ true
 
 -- what is told in a state is this origin of what stands somewhere after the step from it
 abbrev pub Tells : State → code_origin.Origin → Origin → Type 0

@@ -18,14 +18,15 @@ use Rattle.trac_follow.specs.Places.{IsBare, place_of}
 abbrev pub AllCarried : PlainSession → Place → ℕ → Type 0
 AllCarried old place steps = (q : Place) × IsOrigin old place steps steps (Carried q)
 
--- where it comes from: nothing stood there; all steps carried it; or the last of them read or made it, and the others carried it. Memory is
--- refused only for the name of a form that has more than 256 bytes
+-- where it comes from: nothing stood there; all steps carried it, and there are no more, or as many were wanted; the last of them read or
+-- made it, and the others carried it; or all carried it, from a form whose name of more than 256 bytes could not be kept, or to a call of
+-- which the witness refused to be told
 abbrev pub IsEnd : PlainSession → Place → ℕ → PlainSession → ℕ → ends.End → Type 0
 IsEnd old place most new steps ends.TheVariants.Nothing = (steps ≡ 0) × IsBare old.last place
 IsEnd old place most new steps ends.TheVariants.Earlier = AllCarried old place steps × ((steps ≡ most) ⊎ (new.earlier ≡ []))
 IsEnd old place most new steps (ends.TheVariants.Read n) = (0 < steps) × IsOrigin old place steps (steps - 1) (Read n)
 IsEnd old place most new steps ends.TheVariants.Made = (0 < steps) × IsOrigin old place steps (steps - 1) Made
-IsEnd old place most new steps ends.TheVariants.Memory = (q : Place) × IsOrigin old place steps steps (Carried q) × IsLong q
+IsEnd old place most new steps ends.TheVariants.Unkept = (q : Place) × IsOrigin old place steps steps (Carried q) × IsLong q
 IsEnd old place most new steps ends.TheVariants.Untold = AllCarried old place steps
 
 pub record IsTraced (old : PlainSession) (place : Place) (most : ℕ) (new : PlainSession) (found : Traced) : Type 0 where
@@ -40,7 +41,7 @@ abbrev pub ToldAll : {W : Type 0} → (W → Passing → W → Type 0) → W →
 ToldAll passes old [] new = new ≡ old
 ToldAll {W} passes old (p ∷ later) new = (m : W) × passes old p m × ToldAll passes m later new
 
--- it was told of all these over so many steps; where it could not be told, of all but the last, to which they lead and which it refused
+-- it was told of all these over so many steps; where it refused one, of all but the last, to which they lead and which it refused
 abbrev pub IsTold : {W : Type 0} → (W → Passing → W → Type 0) → (W → Passing → W → Type 0) → List Passing → ℕ → ends.End → W → W → Type 0
 IsTold {W} passes refuses way steps ends.TheVariants.Untold old new =
     (before : List Passing) × ((p : Passing) × ((m : W) × (way ≡ before ++ p ∷ []) × (p.steps ≡ steps) × ToldAll passes old before m × refuses m p new))

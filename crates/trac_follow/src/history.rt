@@ -1,11 +1,12 @@
 //! Following a byte back over many steps.
-ghost use Rattle.std.specs.Prelude.{◌≡◌, ◌+◌, ◌^◌, ◌<◌, ◌≤◌, length, MatchBool, Some};
+ghost use Rattle.std.specs.Prelude.{◌≡◌, ◌+◌, ◌^◌, ◌<◌, ◌≤◌, length, Some};
 ghost use Rattle.trac_follow.specs.Following.{IsFollowed, IsKnown};
 ghost use Rattle.trac_follow.specs.Items.{IsMeasured};
 ghost use Rattle.trac_follow.specs.Offsets.{IsPlaced};
-ghost use Rattle.trac_follow.specs.Places.{IsCalled, IsPassed, Stands, is_in_form, place_of};
+ghost use Rattle.trac_follow.specs.Places.{Stands, calls, is_in_form, is_passed, place_of};
 ghost use Rattle.trac_follow.specs.Running.{HasTurned};
 ghost use Rattle.trac_origins.specs.Places.{InForm};
+ghost use Rattle.trac_rules.specs.Scanning.{scan};
 ghost use Rattle.trac_rules.specs.Session.{Back, repeated};
 ghost use Rattle.trac_rules.specs.Trails.{IsTrail};
 
@@ -205,14 +206,14 @@ fn measured_in<E: TwoEnds<u8, A>, M: TwoEnds<Mark, A>, A: Allocator + Copy>(
     }
 }
 
-// Whether the call that comes next carried a byte that is here after it from there: from an argument of its own, into a form
-// from a block, or out of a form.
+// Of a byte that the call which comes next carried here from there: whether it was from an argument of its own, into a form from
+// a block, or out of a form.
 fn is_passed<E: TwoEnds<u8, A>, M: TwoEnds<Mark, A>, A: Allocator + Copy>(
     machine: &Core<E, M, A>,
     here: Place<'_>,
     there: Place<'_>,
 ) -> bool
-    ensures { MatchBool result (IsPassed machine.now.state (place_of here.entry) (place_of there.entry)) (IsPassed machine.now.state (place_of here.entry) (place_of there.entry) → ⊥) }
+    ensures { result ≡ is_passed machine.now.state (place_of here.entry) (place_of there.entry) }
 {
     match there {
         Place::Argument { function, .. } => is_called(machine, function),
@@ -234,7 +235,7 @@ fn is_called<E: TwoEnds<u8, A>, M: TwoEnds<Mark, A>, A: Allocator + Copy>(
     machine: &Core<E, M, A>,
     function: usize,
 ) -> bool
-    ensures { MatchBool result (IsCalled machine.now.state function) (IsCalled machine.now.state function → ⊥) }
+    ensures { result ≡ calls function (length machine.now.state.frames) (scan machine.now.state) }
 {
     match machine.next_call() {
         Some(_call) => is_innermost(function, machine.depth()),

@@ -1,12 +1,14 @@
 //! A place that keeps the name of its form.
-ghost use Rattle.std.specs.Prelude.{◌≡◌, ◌<◌, length, IfErr, IfOk};
+ghost use Rattle.std.specs.Prelude.{◌≡◌, ◌<◌, length, IfNone, IfSome};
 ghost use Rattle.trac_follow.specs.Kept.{IsLong, name_in, named};
 ghost use Rattle.trac_follow.specs.Places.{place_of};
 
 use crate::place::Place;
 use arrayvec::ArrayVec;
-use std::alloc::{AllocError, Allocator};
+use std::alloc::Allocator;
 use std::marker::Model;
+use std::sync::ArcSlice;
+use trac_forms::Store;
 
 /// A place without the name of its form.
 #[derive(Clone, Copy)]
@@ -19,23 +21,25 @@ pub(crate) enum Nameless {
     Output(usize),
 }
 
-/// A name of a form: one of up to 256 bytes takes no memory.
+/// A name of a form, which takes no memory: it is lent for as long as a byte is followed, or stands here where it has up to 256
+/// bytes, or is owned together with the store.
 #[derive(Drop)]
-pub(crate) enum Name<A: Allocator + Copy> {
+pub(crate) enum KeptName<'n, A: Allocator + Copy> {
+    Lent(&'n [u8]),
     Short(ArrayVec<u8, 256>),
-    Long(Vec<u8, A>),
+    Shared(ArcSlice<u8, A>),
 }
 
-/// A place in a state that keeps the name of its form, where it is in one: it lends nothing from the machine. It is seen as the
-/// place.
+/// A place in a state that keeps the name of its form, where it is in one, or is lent it: it borrows nothing from the machine. It
+/// is seen as the place.
 #[derive(Drop)]
-pub(crate) struct Kept<A: Allocator + Copy> {
+pub(crate) struct Kept<'n, A: Allocator + Copy> {
     pub(crate) spot: Nameless,
     // empty where it is in no form
-    pub(crate) name: Name<A>,
+    pub(crate) name: KeptName<'n, A>,
 }
 
-impl<A: Allocator + Copy> Model for Kept<A> {
+impl<'n, A: Allocator + Copy> Model for Kept<'n, A> {
     ghost use Rattle.trac_origins.specs.Places.{Place};
     ghost use Rattle.trac_follow.specs.Kept.{name_in, named};
 
@@ -44,16 +48,19 @@ impl<A: Allocator + Copy> Model for Kept<A> {
     ghost view = { λ k. named k.spot (name_in k.name) };
 }
 
-impl<A: Allocator + Copy> Name<A> {
-    // A copy of this name. The error is that memory for one of more than 256 bytes was refused.
-    fn of(alloc: A, name: &[u8]) -> Result<Self, AllocError>
-        ensures ok { IfOk result (λ copy. name_in copy ≡ name.now) }
-        ensures err { IfErr result (λ _. 256 < length name.now) }
+impl<'n, A: Allocator + Copy> KeptName<'n, A> {
+    // This name. `None` where it has more than 256 bytes, and the store does not know it or no more owners of it can be counted.
+    fn of(store: &Store<A>, name: &[u8]) -> Option<Self>
+        ensures same { IfSome result (λ kept. name_in kept ≡ name.now) }
+        ensures long { IfNone result (256 < length name.now) }
     {
         let mut short = ArrayVec::new();
         match short.try_extend_from_slice(name) {
-            Ok(()) => Ok(Name::Short(short)),
-            Err(_too_long) => Ok(Name::Long(Vec::from_slice(alloc, name)?)),
+            Ok(()) => Some(KeptName::Short(short)),
+            Err(_too_long) => {
+                let shared = store.shared_name(name)?.clone().ok()?;
+                Some(KeptName::Shared(shared))
+            }
         }
     }
 
@@ -62,28 +69,39 @@ impl<A: Allocator + Copy> Name<A> {
         ensures { result.now ≡ name_in self.now }
     {
         match self {
-            Name::Short(name) => name.as_slice(),
-            Name::Long(name) => name.as_slice(),
+            KeptName::Lent(name) => *name,
+            KeptName::Short(name) => name.as_slice(),
+            KeptName::Shared(name) => name.as_slice(),
         }
     }
 }
 
-impl<A: Allocator + Copy> Kept<A> {
-    /// This place. The error is that memory for a name of more than 256 bytes was refused.
-    pub(crate) fn of(alloc: A, place: Place<'_>) -> Result<Self, AllocError>
-        ensures ok { IfOk result (λ kept. kept ≡ place_of place.entry) }
-        ensures err { IfErr result (λ _. IsLong (place_of place.entry)) }
+impl<'n, A: Allocator + Copy> Kept<'n, A> {
+    /// This place, of which the name is lent.
+    pub(crate) fn lent(place: Place<'n>) -> Self
+        ensures { result ≡ place_of place.entry }
     {
         let (spot, name) = parts(place);
-        let name = Name::of(alloc, name)?;
-        Ok(Kept { spot, name })
+        let name = KeptName::Lent(name);
+        Kept { spot, name }
+    }
+
+    /// This place in a state with this store. `None` where the name of its form cannot be kept, which has more than 256 bytes:
+    /// the store does not know it, or no more owners of it can be counted.
+    pub(crate) fn of(store: &Store<A>, place: Place<'_>) -> Option<Self>
+        ensures same { IfSome result (λ kept. kept ≡ place_of place.entry) }
+        ensures long { IfNone result (IsLong (place_of place.entry)) }
+    {
+        let (spot, name) = parts(place);
+        let name = KeptName::of(store, name)?;
+        Some(Kept { spot, name })
     }
 
     /// The place, which is lent the name.
     pub(crate) fn place(&self) -> Place<'_>
         ensures { place_of result ≡ self.now }
     {
-        lent(self.spot, self.name.as_slice())
+        with_name(self.spot, self.name.as_slice())
     }
 }
 
@@ -107,7 +125,7 @@ fn parts<'a>(place: Place<'a>) -> (Nameless, &'a [u8])
 }
 
 // A place with the name of its form.
-fn lent<'a>(spot: Nameless, name: &'a [u8]) -> Place<'a>
+fn with_name<'a>(spot: Nameless, name: &'a [u8]) -> Place<'a>
     ensures { place_of result ≡ named spot name.now }
 {
     match spot {

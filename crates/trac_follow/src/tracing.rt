@@ -1,5 +1,5 @@
 //! Following a byte back to where it comes from, past all calls that passed it on.
-ghost use Rattle.std.specs.Prelude.{◌≡◌, ◌≤◌, ⊤, IfErr, IfOk, OnErr, OnOk, Some};
+ghost use Rattle.std.specs.Prelude.{◌≡◌, ◌≤◌, ⊤, IfErr, IfNone, IfOk, IfSome, OnErr, OnOk, Some};
 ghost use Rattle.trac_follow.specs.declared.tracing.Onward.TheVariants.{OfForm};
 ghost use Rattle.trac_follow.specs.Following.{IsFollowed, IsKnown};
 ghost use Rattle.trac_follow.specs.Passing.{Passing};
@@ -48,9 +48,8 @@ pub enum End {
     Read(usize),
     /// The step that comes next made it.
     Made,
-    /// All steps that were gone back over carried it, from a form that has a name of more than 256 bytes, for which memory was
-    /// refused.
-    Memory,
+    /// All steps that were gone back over carried it, from a form that has a name of more than 256 bytes, which could not be kept.
+    Unkept,
     /// All steps that were gone back over carried it, and the witness refused to be told of the call that comes next.
     Untold,
 }
@@ -66,11 +65,11 @@ pub struct Traced {
 
 /// Goes back over up to `most` steps, as long as these carried the byte at a place, or the item of a form, however they did:
 /// until one made or read it. The width of the session's numbers has to be given. A witness is told of each call that passed it
-/// on, as `follow` stops at it, and of no other. It takes no memory but for the name of a form that has more than 256 bytes, two
-/// of these at a time; where that is refused, or the witness refuses, that is returned, and the session stays where it has come
-/// to. It says that nothing is there only where nothing stands at the place (this project's profile).
+/// on, as `follow` stops at it, and of no other. It takes no memory but what the witness takes: a name of a form is kept in the frame
+/// of `trace`, or, where it has more than 256 bytes, owned together with the store. Where it cannot be kept, or the witness refuses,
+/// that is returned, and the session stays where it has come to. It says that nothing is there only where nothing stands at the
+/// place (this project's profile).
 pub fn trace<A: Allocator + Copy, W: Witness<A>>(
-    alloc: A,
     session: &mut Session<A>,
     width: Width,
     place: Place<'_>,
@@ -85,9 +84,7 @@ pub fn trace<A: Allocator + Copy, W: Witness<A>>(
     if !stands(session.machine(), place) {
         return ended(0, End::Nothing);
     }
-    let Ok(mut kept) = Kept::of(alloc, place) else {
-        return ended(0, End::Memory);
-    };
+    let mut kept = Kept::lent(place);
     let mut steps = 0;
     for _leg in 0..most {
         let leg = follow_kept(session, width, &kept, most - steps);
@@ -99,8 +96,8 @@ pub fn trace<A: Allocator + Copy, W: Witness<A>>(
         let Ok(()) = witness.passed(session.machine(), steps, kept.place()) else {
             return ended(steps, End::Untold);
         };
-        let Ok(next) = further(alloc, session.machine(), from) else {
-            return ended(steps, End::Memory);
+        let Some(next) = further(session.machine(), from) else {
+            return ended(steps, End::Unkept);
         };
         kept = next;
     }
@@ -111,7 +108,7 @@ pub fn trace<A: Allocator + Copy, W: Witness<A>>(
 fn follow_kept<'a, A: Allocator + Copy>(
     session: &mut Session<A>,
     width: Width,
-    place: &'a Kept<A>,
+    place: &'a Kept<'_, A>,
     most: u64,
 ) -> Followed<'a>
     ensures back { repeated Back result.steps session.old ≡ Some session.new }
@@ -152,33 +149,26 @@ fn had_from<'a>(source: Source<'a>) -> Result<Onward<'a>, End>
     }
 }
 
-// The place from which the call that comes next had a byte. The error is that memory for the name of its form was refused, which
-// has more than 256 bytes.
-fn further<A: Allocator + Copy>(
-    alloc: A,
-    machine: &Machine<A>,
-    from: Onward<'_>,
-) -> Result<Kept<A>, AllocError>
-    ensures ok { IfOk result (λ kept. LeadsTo machine.now.state from.entry kept) }
-    ensures err { IfErr result (λ _. LeadsToLong machine.now.state from.entry) }
+// The place from which the call that comes next had a byte. `None` where the name of its form cannot be kept, which has more than
+// 256 bytes.
+fn further<'n, A: Allocator + Copy>(machine: &Machine<A>, from: Onward<'_>) -> Option<Kept<'n, A>>
+    ensures leads { IfSome result (λ kept. LeadsTo machine.now.state from.entry kept) }
+    ensures long { IfNone result (LeadsToLong machine.now.state from.entry) }
 {
     match from {
-        Onward::At(there) => Kept::of(alloc, there),
-        Onward::OfForm(item) => item_called(alloc, machine, item),
+        Onward::At(there) => Kept::of(machine.store(), there),
+        Onward::OfForm(item) => item_called(machine, item),
     }
 }
 
 // This item of the form that the call which comes next names.
-fn item_called<A: Allocator + Copy>(
-    alloc: A,
-    machine: &Machine<A>,
-    item: usize,
-) -> Result<Kept<A>, AllocError>
-    ensures ok { IfOk result (λ kept. LeadsTo machine.now.state (OfForm item) kept) }
-    ensures err { IfErr result (λ _. LeadsToLong machine.now.state (OfForm item)) }
+fn item_called<'n, A: Allocator + Copy>(machine: &Machine<A>, item: usize) -> Option<Kept<'n, A>>
+    ensures leads { IfSome result (λ kept. LeadsTo machine.now.state (OfForm item) kept) }
+    ensures long { IfNone result (LeadsToLong machine.now.state (OfForm item)) }
 {
     match machine.next_call() {
-        Some((_, arguments)) => Kept::of(alloc, Place::Form(arguments.get(1), item)),
-        None => Kept::of(alloc, Place::Output(0)),
+        Some((_, arguments)) => Kept::of(machine.store(), Place::Form(arguments.get(1), item)),
+        // A call took the item out of a form: so one comes next.
+        None => Some(Kept::lent(Place::Output(0))),
     }
 }

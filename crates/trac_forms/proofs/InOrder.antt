@@ -205,6 +205,9 @@ pub record AreTried (text i : ℕ) (names left : List (List ℕ)) : Type 0 where
   pub among : (name : List ℕ) → list_any (bytes_eq name) left ≡ true → list_any (bytes_eq name) names ≡ true
   pub tried : (byte : ℕ) (hit : IsHit text i names byte) → list_any (bytes_eq hit.name) left ≡ true
 
+pub none_tried : (text i : ℕ) (names : List (List ℕ)) → AreTried text i names names
+none_tried text i names = record { among = λ name e. e; tried = λ byte hit. hit.there }
+
 pub all_tried : (text i : ℕ) (names : List (List ℕ)) → AreTried text i names [] → AreMissed text i names
 all_tried text i names tried byte hit = let none = tried.tried byte hit in absurd (cc)
 

@@ -8,3 +8,4 @@ pub mod Listed
 pub mod Layout
 pub mod Packed
 pub mod Table
+pub mod Names

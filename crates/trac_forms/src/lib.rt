@@ -10,6 +10,7 @@ mod cutting;
 pub mod error;
 mod filling;
 pub mod form;
+mod name;
 mod packed;
 pub mod piece;
 mod showing;

@@ -1,11 +1,12 @@
 //! The forms by their names, and the blocks.
-ghost use Rattle.std.specs.Prelude.{◌≡◌, ◌+◌, ◌-◌, ◌^◌, ◌<◌, ◌≤◌, ◌++◌, ◌∷◌, [], filter, is_some, length, map, nat_lt, option_map, slice_get, slice_set, take, true, vec_capacity, vec_len, IfOk, IfSome, IsOk, IsOkUnless, IsTrue, MatchOption, None, OnErr, OnOk, Some};
+ghost use Rattle.std.specs.Prelude.{◌≡◌, ◌+◌, ◌-◌, ◌^◌, ◌<◌, ◌≤◌, ◌++◌, ◌∷◌, [], filter, is_some, length, map, nat_lt, option_map, slice_get, slice_set, take, true, vec_capacity, vec_len, IfNone, IfOk, IfSome, IsOk, IsOkUnless, IsTrue, MatchOption, None, OnErr, OnOk, Some};
 ghost use Rattle.std.specs.FinMap as finite;
 ghost use Rattle.std.specs.FinSet as set;
 ghost use Rattle.std.specs.List.Sorted.{IsPermutation};
 ghost use Rattle.std.specs.Option.{option_copied, option_flatten};
 ghost use Rattle.std.specs.Cmp.Lexicographic.{slice_cmp};
 ghost use Rattle.std.specs.Ordering.{is_lt, nat_cmp};
+ghost use Rattle.std.specs.Arc.{arc_slice_items};
 ghost use Rattle.std.specs.Str.{bytes_eq};
 ghost use Rattle.indexmap.specs.IndexMap.{get_by, index_map_len, set_value_at, values, IsUnique};
 ghost use Rattle.trac_rules.specs.Blocks.{block_at};
@@ -22,16 +23,18 @@ use crate::block::Block;
 use crate::cut::Cut;
 use crate::error::FormError;
 use crate::form::Form;
+use crate::name::Name;
 use crate::text_lists::Texts;
 use indexmap::IndexMap;
 use std::alloc::{Allocator, Global};
 use std::cmp::Ordering;
 use std::hash::{BuildHasher, BuildHasherDefault, FoldHasher, Hash};
 use std::marker::Model;
+use std::sync::ArcSlice;
 
 /// The table of a store: a name has an entry from the call of `know` on until
 /// `sweep`, and a form in it while it names one. The entries with a form come first.
-pub(crate) type Table<A> = IndexMap<Vec<u8, A>, Option<Form<A>>, BuildHasherDefault<FoldHasher>, A>;
+pub(crate) type Table<A> = IndexMap<Name<A>, Option<Form<A>>, BuildHasherDefault<FoldHasher>, A>;
 
 /// Forms by their names, which are any bytes, and blocks by their numbers, an erased one having none. It is seen
 /// as the map of its forms, the list of its blocks and the set of the names that it knows, with the number of
@@ -54,7 +57,7 @@ impl<A: Allocator + Copy> Model for Store<A> {
 
     ghost coded = { stored_code };
 
-    ghost view = { λ s. stored (named (λ k. k.items) s.table.entries) (kept_in s.blocks) };
+    ghost view = { λ s. stored (named (λ k. k) s.table.entries) (kept_in s.blocks) };
 
     ghost invariant = { λ s. IsParted s.table.entries s.live };
 }
@@ -112,6 +115,18 @@ impl<A: Allocator + Copy> Store<A> {
         Some(form)
     }
 
+    /// The bytes of this name, if it is known and has more than 256: they can be owned together with the store, and so be kept
+    /// while it changes. It takes no memory (this project's profile).
+    pub fn shared_name(&self, name: &[u8]) -> Option<&ArcSlice<u8, A>>
+        ensures none { IfNone result (IsTrue (set.contains self.now.known name.now) → length name.now ≤ 256) }
+        ensures bytes { IfSome result (λ shared. arc_slice_items shared.now ≡ name.now) }
+        ensures long { IfSome result (λ _. 256 < length name.now) }
+        ensures known { IfSome result (λ _. IsTrue (set.contains self.now.known name.now)) }
+    {
+        let (key, _form) = self.table.get_key_value(name)?;
+        key.shared()
+    }
+
     /// The names of the forms, rising by their bytes (this project's profile). Names without a form are not among them.
     /// Refused with `Memory` where the allocator refuses.
     pub fn names(&self) -> Result<Vec<&[u8], A>, FormError>
@@ -137,7 +152,7 @@ impl<A: Allocator + Copy> Store<A> {
         if self.table.contains_key(name) {
             return Ok(());
         }
-        let key = Vec::from_slice(*self.table.allocator(), name)?;
+        let key = Name::new(*self.table.allocator(), name)?;
         add_entry(&mut self.table, key, None)
     }
 
@@ -292,10 +307,10 @@ impl<A: Allocator + Copy> Store<A> {
 // Puts an entry after all others.
 pub(crate) fn add_entry<A: Allocator + Copy>(
     table: &mut Table<A>,
-    name: Vec<u8, A>,
+    name: Name<A>,
     form: Option<Form<A>>,
 ) -> Result<(), FormError>
-    requires { get_by (λ k. bytes_eq name.items k.items) table.old ≡ None }
+    requires { get_by (λ k. bytes_eq name k) table.old ≡ None }
     ensures added { OnOk result (table.new.entries ≡ table.old.entries ++ (name, form) ∷ []) }
     ensures unchanged { OnErr result (table.new.entries ≡ table.old.entries) }
     ensures err { IsOkUnless result FormError.Memory }
@@ -435,9 +450,9 @@ fn drop_empty<K: Eq + Hash + Drop, V: Drop, S: BuildHasher, A: Allocator>(
 
 // The names of the entries that have a form, in the order of the table.
 fn full_names<A: Allocator + Copy>(table: &Table<A>) -> Result<Vec<&[u8], A>, FormError>
-    ensures names { IfOk result (λ names. map (λ name. name.now) names.items ≡ full_keys (named (λ k. k.items) table.now.entries)) }
+    ensures names { IfOk result (λ names. map (λ name. name.now) names.items ≡ full_keys (named (λ k. k) table.now.entries)) }
     ensures err { IsOkUnless result FormError.Memory }
-    ensures unique { IsUnique (λ x y. bytes_eq x.items y.items) table.now }
+    ensures unique { IsUnique (λ x y. bytes_eq x y) table.now }
 {
     let mut names = Vec::new(*table.allocator());
     for (name, form) in table.iter() {
@@ -466,13 +481,13 @@ impl<A: Allocator + Copy> Store<A> {
 
 // The same, of the entries that have a form.
 fn byte_in_list<A: Allocator + Copy>(table: &Table<A>, text: usize, i: usize) -> Option<usize>
-    ensures { MatchOption result (AreMissed text i (full_keys (named (λ k. k.items) table.now.entries))) (IsHit text i (full_keys (named (λ k. k.items) table.now.entries))) }
+    ensures { MatchOption result (AreMissed text i (full_keys (named (λ k. k) table.now.entries))) (IsHit text i (full_keys (named (λ k. k) table.now.entries))) }
 {
     for (name, held) in table.iter() {
         if held.is_none() {
             continue;
         }
-        let Some(byte) = past_lesser(table, name, text, i) else {
+        let Some(byte) = past_lesser(table, name.as_slice(), text, i) else {
             continue;
         };
         if is_within(byte, text, name.len()) {
@@ -489,15 +504,15 @@ fn past_lesser<A: Allocator + Copy>(
     text: usize,
     i: usize,
 ) -> Option<usize>
-    ensures { MatchOption result (i < lesser_len text name.now (full_keys (named (λ k. k.items) table.now.entries)))
-        (λ byte. lesser_len text name.now (full_keys (named (λ k. k.items) table.now.entries)) + byte ≡ i) }
+    ensures { MatchOption result (i < lesser_len text name.now (full_keys (named (λ k. k) table.now.entries)))
+        (λ byte. lesser_len text name.now (full_keys (named (λ k. k) table.now.entries)) + byte ≡ i) }
 {
     let mut left = i;
     for (other, held) in table.iter() {
         if held.is_none() {
             continue;
         }
-        if !is_less(other, name) {
+        if !is_less(other.as_slice(), name) {
             continue;
         }
         if is_within(left, text, other.len()) {

@@ -178,33 +178,23 @@ impl<'a> Witness<Memory<'a>> for Told {
     }
 }
 
-fn traced<'a>(memory: Memory<'a>, session: &mut Session<Memory<'a>>, told: &mut Told) -> Traced {
-    trace(
-        memory,
-        session,
-        Width::W128,
-        Place::Output(0),
-        u64::MAX,
-        told,
-    )
+fn traced(session: &mut Session<Memory<'_>>, told: &mut Told) -> Traced {
+    trace(session, Width::W128, Place::Output(0), u64::MAX, told)
 }
 
-// The same way in one trace: the steps of the calls on it are the sums of those above.
-fn trace_one<'a>(rt: &impl Abort, memory: Memory<'a>, session: &mut Session<Memory<'a>>) {
+// A witness that has room for three calls refuses the fourth.
+fn trace_untold(rt: &impl Abort, session: &mut Session<Memory<'_>>) {
     let mut told = Told {
         steps: [0; 8],
-        count: 0,
+        count: 5,
     };
-    let found = traced(memory, session, &mut told);
-    assert!(rt; found.steps == 43 && matches!(found.end, End::Read(7)));
-    assert!(rt; told.steps == [10, 11, 21, 27, 35, 0, 0, 0]);
-    // The witness has room for three more: the fourth is refused.
-    assert!(rt; go_on(session) == Some(Refusal::Ended));
-    let again = traced(memory, session, &mut told);
-    assert!(rt; again.steps == 27 && matches!(again.end, End::Untold));
+    let found = traced(session, &mut told);
+    assert!(rt; found.steps == 27 && matches!(found.end, End::Untold));
+    assert!(rt; told.steps == [0, 0, 0, 0, 0, 10, 11, 21]);
 }
 
-// With no memory it comes as far, and asks for none.
+// The same way in one trace: the steps of the calls on it are the sums of those above. With no memory it is found, and none is
+// asked for.
 fn trace_without_memory<'a>(
     rt: &impl Abort,
     memory: Memory<'a>,
@@ -216,59 +206,49 @@ fn trace_without_memory<'a>(
     };
     let requests = memory.requests();
     memory.refuse_all();
-    let found = traced(memory, session, &mut told);
+    let found = traced(session, &mut told);
     assert!(rt; memory.requests() == requests);
     memory.accept_all();
     assert!(rt; found.steps == 43 && matches!(found.end, End::Read(7)));
     assert!(rt; told.steps == [10, 11, 21, 27, 35, 0, 0, 0]);
 }
 
-// Feeds a program that puts the byte `x` into a form of this name, calls it and prints it.
+// Feeds a program that puts the byte `x` into a form of this name, that into a block and back, calls it and prints it.
 fn feed_form(session: &mut Session<Memory<'_>>, name: &[u8]) -> Result<(), Refusal> {
     feed(session, b"#(ds,")?;
     feed(session, name)?;
-    feed(session, b",x)#(ps,##(cl,")?;
+    feed(session, b",x)#(sb,B,")?;
+    feed(session, name)?;
+    feed(session, b")#(fb,B)#(ps,##(cl,")?;
     feed(session, name)?;
     feed(session, b"))'")
 }
 
-// Goes to the end of the program over a form of this name.
-fn run_form(rt: &impl Abort, session: &mut Session<Memory<'_>>, name: &[u8]) {
+// The byte that such a program prints is that of this number of the input, which is found with no memory, and none is asked for.
+fn expect_read<'a>(
+    rt: &impl Abort,
+    memory: Memory<'a>,
+    session: &mut Session<Memory<'a>>,
+    name: &[u8],
+    number: usize,
+) {
     feed_form(session, name).expect(rt, "it was refused");
     session.end();
     assert!(rt; go_on(session) == Some(Refusal::Ended));
-}
-
-// Where the byte comes from that is printed, and how many requests for memory that took.
-fn end_of<'a>(memory: Memory<'a>, session: &mut Session<Memory<'a>>) -> (End, u64) {
     let mut told = Told {
         steps: [0; 8],
         count: 0,
     };
     let requests = memory.requests();
-    let found = traced(memory, session, &mut told);
-    (found.end, memory.requests().saturating_sub(requests))
-}
-
-// With no memory it comes as far, and asks for none.
-fn trace_short_name<'a>(rt: &impl Abort, memory: Memory<'a>, session: &mut Session<Memory<'a>>) {
-    run_form(rt, session, &[b'N'; 256]);
     memory.refuse_all();
-    let (end, requests) = end_of(memory, session);
+    let found = traced(session, &mut told);
+    assert!(rt; memory.requests() == requests);
     memory.accept_all();
-    assert!(rt; matches!(end, End::Read(262)) && requests == 0);
-}
-
-// With no memory it comes to the call, and with memory as far.
-fn trace_long_name<'a>(rt: &impl Abort, memory: Memory<'a>, session: &mut Session<Memory<'a>>) {
-    run_form(rt, session, &[b'N'; 257]);
-    memory.refuse_all();
-    let (end, requests) = end_of(memory, session);
-    memory.accept_all();
-    assert!(rt; matches!(end, End::Memory) && requests == 1);
-    assert!(rt; go_on(session) == Some(Refusal::Ended));
-    let (end, requests) = end_of(memory, session);
-    assert!(rt; matches!(end, End::Read(263)) && requests == 1);
+    let read = match found.end {
+        End::Read(n) => n,
+        _ => 0,
+    };
+    assert!(rt; read == number && told.count == 5);
 }
 
 fn let_go(session: Session<Memory<'_>>) {
@@ -289,7 +269,7 @@ fn through_a_form_and_a_block(rt: HostRuntime) {
     let mut session = new_session(&memory).expect(&rt, "it was refused");
     follow_one(&rt, &mut session);
     assert!(&rt; go_on(&mut session) == Some(Refusal::Ended));
-    trace_one(&rt, &memory, &mut session);
+    trace_untold(&rt, &mut session);
     assert!(&rt; go_on(&mut session) == Some(Refusal::Ended));
     trace_without_memory(&rt, &memory, &mut session);
     let_go(session);
@@ -300,7 +280,7 @@ fn through_a_form_and_a_block(rt: HostRuntime) {
 fn a_name_of_256_bytes(rt: HostRuntime) {
     let memory = Refusing::new(rt.alloc());
     let mut session = new_session(&memory).expect(&rt, "it was refused");
-    trace_short_name(&rt, &memory, &mut session);
+    expect_read(&rt, &memory, &mut session, &[b'N'; 256], 262);
     let_go(session);
 }
 
@@ -308,6 +288,6 @@ fn a_name_of_256_bytes(rt: HostRuntime) {
 fn a_name_of_257_bytes(rt: HostRuntime) {
     let memory = Refusing::new(rt.alloc());
     let mut session = new_session(&memory).expect(&rt, "it was refused");
-    trace_long_name(&rt, &memory, &mut session);
+    expect_read(&rt, &memory, &mut session, &[b'N'; 257], 263);
     let_go(session);
 }

@@ -77,7 +77,7 @@ impl<A: Allocator + Copy> Witness<A> for Unsaid {
 
 /// Goes back to the step that made a byte, or read it, and puts the way there at the end of a text: a line for each call that
 /// carried it, the latest first, and then where it stands. Of a byte of the program it says the line and the column. It takes
-/// memory for the lines, and for a name of more than 256 bytes. The error is that memory was refused, here and below.
+/// memory for the lines alone. The error is that memory was refused, here and below, or that the name of a form could not be kept.
 pub fn way_into<A: Allocator + Copy>(
     alloc: A,
     walker: &mut Walker<A>,
@@ -96,11 +96,11 @@ pub fn way_into<A: Allocator + Copy>(
         shown: 0,
         left_out: 0,
     };
-    let end = walker.trace(alloc, place, &mut way);
+    let end = walker.trace(place, &mut way);
     let left_out = way.left_out;
     let origin = match end {
         End::Nothing => return stay(alloc, walker, absent(walker, spot), out),
-        End::Memory | End::Untold => return Err(AllocError),
+        End::Unkept | End::Untold => return Err(AllocError),
         end => origin_of(walker, program, end),
     };
     end_into(alloc, walker, left_out, origin, out)?;
@@ -123,7 +123,7 @@ pub fn written_into<A: Allocator + Copy>(
     };
     let end = walker.step();
     let mut line = step_line(alloc, end, &walker.sight())?;
-    let found = walker.trace(alloc, place, &mut Unsaid);
+    let found = walker.trace(place, &mut Unsaid);
     let origin = origin_of(walker, program, found);
     let source = walker.step();
     if let Some(refusal) = walker.forward(end.saturating_sub(source)) {
@@ -131,7 +131,7 @@ pub fn written_into<A: Allocator + Copy>(
     }
     match found {
         End::Nothing => return stay(alloc, walker, Stop::NoName, out),
-        End::Memory | End::Untold => return Err(AllocError),
+        End::Unkept | End::Untold => return Err(AllocError),
         _ => {}
     }
     origin_into(origin, source, &mut line)?;

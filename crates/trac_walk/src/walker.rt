@@ -129,16 +129,9 @@ impl<A: Allocator + Copy> Walker<A> {
     }
 
     /// Goes back to where the byte at a place comes from, or the item of a form, and tells a witness of each call on the way.
-    pub fn trace<W: Witness<A>>(&mut self, alloc: A, place: Place<'_>, witness: &mut W) -> End {
+    pub fn trace<W: Witness<A>>(&mut self, place: Place<'_>, witness: &mut W) -> End {
         let most = self.window.session.len() as u64;
-        end_of(
-            alloc,
-            &mut self.window.session,
-            self.width,
-            place,
-            most,
-            witness,
-        )
+        end_of(&mut self.window.session, self.width, place, most, witness)
     }
 
     /// Ends the input.
@@ -239,14 +232,13 @@ fn walk_on<A: Allocator + Copy>(session: &mut Session<A>, aim: Option<Aim<'_>>, 
 
 // Where a byte comes from that is followed back.
 fn end_of<A: Allocator + Copy, W: Witness<A>>(
-    alloc: A,
     session: &mut Session<A>,
     width: Width,
     place: Place<'_>,
     most: u64,
     witness: &mut W,
 ) -> End {
-    trace(alloc, session, width, place, most, witness).end
+    trace(session, width, place, most, witness).end
 }
 
 // A copy of the form of this name, where there is one. The error is that memory was refused.

@@ -1,5 +1,5 @@
 use Rattle.std.proofs.Common.{inl, inr, refl, sym, ap, subst, ◌∙◌}
-use Rattle.std.specs.Prelude.{MatchBool}
+use Rattle.std.proofs.lemmas.Bool.{false≢true}
 use Rattle.trac_follow.specs.declared.history.Source as code
 use Rattle.trac_follow.specs.declared.history.Turn as turning
 use Rattle.trac_follow.specs.Places.{IsPassed, is_from_form, is_of_form, place_of}
@@ -11,7 +11,7 @@ returns-then-is_passed g c =
     let s = c.args.before.now.state in
     let here = place_of c.args.here in
     let there = place_of c.in-Carried.there in
-    let passed = subst (λ b. MatchBool b (IsPassed s here there) (IsPassed s here there → ⊥)) c.if-is_passed.true c.is_passed.ensures in (
+    let passed : IsPassed s here there = sym c.is_passed.ensures ∙ c.if-is_passed.true in (
       c.told_of.result,
       c.told_of.ensures.tells,
       subst (λ o. IsTurn s c.args.here o (turning.TheVariants.Found (code.TheVariants.Passed c.in-Carried.there))) (sym c.in-Carried.is)
@@ -23,7 +23,7 @@ returns-else-is_passed g c =
     let s = c.args.before.now.state in
     let here = place_of c.args.here in
     let there = place_of c.in-Carried.there in
-    let on = subst (λ b. MatchBool b (IsPassed s here there) (IsPassed s here there → ⊥)) c.if-is_passed.false c.is_passed.ensures in (
+    let on : IsPassed s here there → ⊥ = λ passed. false≢true (sym c.if-is_passed.false ∙ c.is_passed.ensures ∙ passed) in (
       c.told_of.result,
       c.told_of.ensures.tells,
       subst (λ o. IsTurn s c.args.here o (turning.TheVariants.On c.in-Carried.there)) (sym c.in-Carried.is) (inl (refl, on)),

@@ -2,13 +2,13 @@ use Rattle.std.proofs.Common.{refl, sym, ap, subst, ◌∙◌, arith}
 use Rattle.trac_rules.specs.Session.{Back, repeated}
 use Rattle.trac_follow.specs.declared.tracing.End as ends
 use Rattle.trac_follow.specs.Places.{place_of}
-use Rattle.trac_follow.proofs.Traces.{Way, ends_untold, ends_without_memory, known_so, told_before_call, told_of_call, told_so, told_to_the_end, traced_so, way_begins, way_ends, way_goes_on, way_is_long, way_walked}
+use Rattle.trac_follow.proofs.Traces.{Way, ends_untold, ends_unkept, known_so, told_before_call, told_of_call, told_so, told_to_the_end, traced_so, way_begins, way_ends, way_goes_on, way_is_long, way_walked}
 use Rattle.trac_follow.proofs.tracing.trace.Goals as goal
 
 pub loop-leg-init : goal.loop-leg-init
 loop-leg-init g c = (
   omega arith,
-  subst (λ p. Way c.args.width c.args.session.now c.args.session.now (place_of c.args.place) p 0 0) (sym c.in-Ok.ensures.ok) (way_begins c.args.width c.args.session.now (place_of c.args.place)),
+  subst (λ p. Way c.args.width c.args.session.now c.args.session.now (place_of c.args.place) p 0 0) (sym c.lent-kept.ensures) (way_begins c.args.width c.args.session.now (place_of c.args.place)),
   λ known. refl,
 )
 
@@ -16,10 +16,10 @@ pub loop-leg-preserved : goal.loop-leg-preserved
 loop-leg-preserved g c = (
   omega (arith, c.follow_kept-leg.ensures.most, c.loop-leg.invariant.0),
   way_goes_on _ _ _ _ _ _ _ c.loop-leg.invariant.1 _ _ _ c.follow_kept-leg.ensures.back c.follow_kept-leg.ensures.followed
-      c.machine-in-loop-leg-2.result.now.state c.in-Ok-had_from.from c.in-Ok-further.next c.machine-in-loop-leg-2.ensures.last c.in-Ok-had_from.ensures.on c.in-Ok-further.ensures.ok,
+      c.machine-in-loop-leg-2.result.now.state c.in-Ok.from c.in-Some.next c.machine-in-loop-leg-2.ensures.last c.in-Ok.ensures.on c.in-Some.ensures.leads,
   λ known.
       told_of_call _ _ _ _ _ _ _ c.loop-leg.invariant.1 _ _ _ c.follow_kept-leg.ensures.back c.follow_kept-leg.ensures.followed
-      c.machine-in-loop-leg.result.now.state c.in-Ok-had_from.from c.machine-in-loop-leg.ensures.last c.in-Ok-had_from.ensures.on known
+      c.machine-in-loop-leg.result.now.state c.in-Ok.from c.machine-in-loop-leg.ensures.last c.in-Ok.ensures.on known
       g.W.Witness.passes c.args.witness.now c.loop-leg.witness c.passed.new.self (c.loop-leg.invariant.2 known) (place_of c.place.result) c.place.ensures c.in-Ok-passed.ensures.ok,
 )
 
@@ -41,24 +41,24 @@ returns-in-Err-clause-told g c = λ wide trail.
     (told_to_the_end _ _ _ _ _ _ _ c.loop-leg.invariant.1 _ _ _ c.follow_kept-leg.ensures.back c.follow_kept-leg.ensures.followed g.W.Witness.passes g.W.Witness.refuses _ _
     c.in-Err.end c.in-Err.ensures.ends known (c.loop-leg.invariant.2 known))
 
-pub returns-in_default-passed-clause-back : goal.returns-in_default-passed-clause-back
-returns-in_default-passed-clause-back g c =
-    ap (λ n. repeated Back n c.args.session.now) c.ended-in_default-passed.ensures.steps ∙ way_walked _ _ _ _ _ _ _ c.loop-leg.invariant.1 _ _ _ c.follow_kept-leg.ensures.back c.follow_kept-leg.ensures.followed
+pub returns-in_default-clause-back : goal.returns-in_default-clause-back
+returns-in_default-clause-back g c =
+    ap (λ n. repeated Back n c.args.session.now) c.ended-in_default.ensures.steps ∙ way_walked _ _ _ _ _ _ _ c.loop-leg.invariant.1 _ _ _ c.follow_kept-leg.ensures.back c.follow_kept-leg.ensures.followed
 
-pub returns-in_default-passed-clause-traced : goal.returns-in_default-passed-clause-traced
-returns-in_default-passed-clause-traced g c = λ wide trail.
+pub returns-in_default-clause-traced : goal.returns-in_default-clause-traced
+returns-in_default-clause-traced g c = λ wide trail.
     let known = known_so c.args.width c.args.session.now (place_of c.args.place) c.machine.result.now.state c.machine.ensures.last (c.stands.ensures.there c.if-not-stands.false) wide trail in
-    traced_so _ _ _ _ _ _ ends.TheVariants.Untold _ c.ended-in_default-passed.ensures.steps c.ended-in_default-passed.ensures.end known
+    traced_so _ _ _ _ _ _ ends.TheVariants.Untold _ c.ended-in_default.ensures.steps c.ended-in_default.ensures.end known
     (ends_untold _ _ _ _ _ _ _ c.loop-leg.invariant.1 _ _ _ c.follow_kept-leg.ensures.back c.follow_kept-leg.ensures.followed
-    c.machine-in-loop-leg.result.now.state c.in-Ok-had_from.from c.machine-in-loop-leg.ensures.last c.in-Ok-had_from.ensures.on known)
+    c.machine-in-loop-leg.result.now.state c.in-Ok.from c.machine-in-loop-leg.ensures.last c.in-Ok.ensures.on known)
 
-pub returns-in_default-passed-clause-told : goal.returns-in_default-passed-clause-told
-returns-in_default-passed-clause-told g c = λ wide trail.
+pub returns-in_default-clause-told : goal.returns-in_default-clause-told
+returns-in_default-clause-told g c = λ wide trail.
     let known = known_so c.args.width c.args.session.now (place_of c.args.place) c.machine.result.now.state c.machine.ensures.last (c.stands.ensures.there c.if-not-stands.false) wide trail in
-    told_so g.W.Witness.passes g.W.Witness.refuses c.args.session.now _ _ ends.TheVariants.Untold _ _ _ c.ended-in_default-passed.ensures.steps c.ended-in_default-passed.ensures.end
+    told_so g.W.Witness.passes g.W.Witness.refuses c.args.session.now _ _ ends.TheVariants.Untold _ _ _ c.ended-in_default.ensures.steps c.ended-in_default.ensures.end
     (told_before_call _ _ _ _ _ _ _ c.loop-leg.invariant.1 _ _ _ c.follow_kept-leg.ensures.back c.follow_kept-leg.ensures.followed
-    c.machine-in-loop-leg.result.now.state c.in-Ok-had_from.from c.machine-in-loop-leg.ensures.last c.in-Ok-had_from.ensures.on known
-    g.W.Witness.passes c.args.witness.now c.loop-leg.witness c.passed.new.self (c.loop-leg.invariant.2 known) (place_of c.place.result) c.place.ensures g.W.Witness.refuses c.in_default-passed.ensures.err)
+    c.machine-in-loop-leg.result.now.state c.in-Ok.from c.machine-in-loop-leg.ensures.last c.in-Ok.ensures.on known
+    g.W.Witness.passes c.args.witness.now c.loop-leg.witness c.passed.new.self (c.loop-leg.invariant.2 known) (place_of c.place.result) c.place.ensures g.W.Witness.refuses c.in_default.ensures.err)
 
 pub returns-in_default-further-clause-back : goal.returns-in_default-further-clause-back
 returns-in_default-further-clause-back g c =
@@ -67,16 +67,16 @@ returns-in_default-further-clause-back g c =
 pub returns-in_default-further-clause-traced : goal.returns-in_default-further-clause-traced
 returns-in_default-further-clause-traced g c = λ wide trail.
     let known = known_so c.args.width c.args.session.now (place_of c.args.place) c.machine.result.now.state c.machine.ensures.last (c.stands.ensures.there c.if-not-stands.false) wide trail in
-    traced_so _ _ _ _ _ _ ends.TheVariants.Memory _ c.ended-in_default-further.ensures.steps c.ended-in_default-further.ensures.end known
-    (ends_without_memory _ _ _ _ _ _ _ c.loop-leg.invariant.1 _ _ _ c.follow_kept-leg.ensures.back c.follow_kept-leg.ensures.followed
-    c.machine-in-loop-leg-2.result.now.state c.in-Ok-had_from.from c.machine-in-loop-leg-2.ensures.last c.in-Ok-had_from.ensures.on known c.args.most c.in_default-further.ensures.err)
+    traced_so _ _ _ _ _ _ ends.TheVariants.Unkept _ c.ended-in_default-further.ensures.steps c.ended-in_default-further.ensures.end known
+    (ends_unkept _ _ _ _ _ _ _ c.loop-leg.invariant.1 _ _ _ c.follow_kept-leg.ensures.back c.follow_kept-leg.ensures.followed
+    c.machine-in-loop-leg-2.result.now.state c.in-Ok.from c.machine-in-loop-leg-2.ensures.last c.in-Ok.ensures.on known c.args.most c.in_default-further.ensures.long)
 
 pub returns-in_default-further-clause-told : goal.returns-in_default-further-clause-told
 returns-in_default-further-clause-told g c = λ wide trail.
     let known = known_so c.args.width c.args.session.now (place_of c.args.place) c.machine.result.now.state c.machine.ensures.last (c.stands.ensures.there c.if-not-stands.false) wide trail in
-    told_so g.W.Witness.passes g.W.Witness.refuses c.args.session.now _ _ ends.TheVariants.Memory _ _ _ c.ended-in_default-further.ensures.steps c.ended-in_default-further.ensures.end
+    told_so g.W.Witness.passes g.W.Witness.refuses c.args.session.now _ _ ends.TheVariants.Unkept _ _ _ c.ended-in_default-further.ensures.steps c.ended-in_default-further.ensures.end
     (told_of_call _ _ _ _ _ _ _ c.loop-leg.invariant.1 _ _ _ c.follow_kept-leg.ensures.back c.follow_kept-leg.ensures.followed
-    c.machine-in-loop-leg.result.now.state c.in-Ok-had_from.from c.machine-in-loop-leg.ensures.last c.in-Ok-had_from.ensures.on known
+    c.machine-in-loop-leg.result.now.state c.in-Ok.from c.machine-in-loop-leg.ensures.last c.in-Ok.ensures.on known
     g.W.Witness.passes c.args.witness.now c.loop-leg.witness c.passed.new.self (c.loop-leg.invariant.2 known) (place_of c.place.result) c.place.ensures c.in-Ok-passed.ensures.ok)
 
 pub returns-clause-traced : goal.returns-clause-traced

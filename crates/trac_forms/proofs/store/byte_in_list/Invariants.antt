@@ -4,4 +4,4 @@ use Rattle.trac_forms.proofs.InOrder.{AreTried}
 use Rattle.trac_forms.proofs.store.byte_in_list.Given as goal
 
 abbrev pub invariant-loop-name : goal.invariant-loop-name
-invariant-loop-name g l = AreTried l.text l.i (full_keys (named (λ k. k.items) l.table.entries)) (full_keys (named (λ k. k.items) l.name-iterator))
+invariant-loop-name g l = AreTried l.text l.i (full_keys (named (λ k. k) l.table.entries)) (full_keys (named (λ k. k) l.name-iterator))

@@ -6,5 +6,5 @@ use Rattle.trac_forms.proofs.store.past_lesser.Given as goal
 
 abbrev pub invariant-loop-other : goal.invariant-loop-other
 invariant-loop-other g l =
-    lesser_len l.text l.name (full_keys (named (λ k. k.items) l.table.entries)) + l.left
-    ≡ l.i + lesser_len l.text l.name (full_keys (named (λ k. k.items) l.other-iterator))
+    lesser_len l.text l.name (full_keys (named (λ k. k) l.table.entries)) + l.left
+    ≡ l.i + lesser_len l.text l.name (full_keys (named (λ k. k) l.other-iterator))

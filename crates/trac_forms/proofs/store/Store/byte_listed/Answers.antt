@@ -8,6 +8,6 @@ use Rattle.trac_forms.proofs.store.Store.byte_listed.Goals as goal
 
 pub returns : goal.returns
 returns g c =
-    let es = named (λ k. k.items) c.self.inside.table.entries in
-    found_listed es (IsDistinct-named (λ k. k.items) c.self.inside.table.entries c.len-len.ensures.unique) c.args.text c.args.i (names_of c.args.self.now.forms)
+    let es = named (λ k. k) c.self.inside.table.entries in
+    found_listed es (IsDistinct-named (λ k. k) c.self.inside.table.entries c.len-len.ensures.unique) c.args.text c.args.i (names_of c.args.self.now.forms)
     (ap (λ s. names_of s.forms) c.self.view_is) c.byte_in_list.result c.byte_in_list.ensures

@@ -12,26 +12,26 @@ use Rattle.trac_forms.proofs.store.Store.know.Goals as goal
 pub returns-then-contains_key-clause-known : goal.returns-then-contains_key-clause-known
 returns-then-contains_key-clause-known g c =
     let there : set.contains c.args.self.now.known c.args.name.now ≡ true =
-    name_found (λ k. k.items) c.self.inside.table.entries _ c.args.self.now c.self.view_is c.args.name.now ∙ sym c.if-contains_key.ensures in
+    name_found (λ k. k) c.self.inside.table.entries _ c.args.self.now c.self.view_is c.args.name.now ∙ sym c.if-contains_key.ensures in
     ap (λ names. record c.args.self.now { known = names }) (sym (known_again c.args.self.now.known c.args.name.now there))
 
 pub returns-in_err-key-clause-again : goal.returns-in_err-key-clause-again
 returns-in_err-key-clause-again g c = λ there.
-    absurd (false≢true (c.if-contains_key.ensures ∙ sym (name_found (λ k. k.items) c.self.inside.table.entries _ c.args.self.now c.self.view_is c.args.name.now) ∙ there))
+    absurd (false≢true (c.if-contains_key.ensures ∙ sym (name_found (λ k. k) c.self.inside.table.entries _ c.args.self.now c.self.view_is c.args.name.now) ∙ there))
 
 pub add_entry-requires : goal.add_entry-requires
 add_entry-requires g c =
-    ap (λ name. lookup (λ k. bytes_eq name k.items) c.self.inside.table.entries) c.in_ok-key.ensures.items ∙ none_of_false _ (sym c.if-contains_key.ensures)
+    ap (λ name. lookup (λ k. bytes_eq name k) c.self.inside.table.entries) c.in_ok-key.ensures.name ∙ none_of_false _ (sym c.if-contains_key.ensures)
 
 pub returns-clause-known : goal.returns-clause-known
 returns-clause-known g c =
     on_ok_weaker c.add_entry.result
-    (λ e. made_known (λ k. k.items) c.self.inside.table.entries _ c.args.self.now c.self.view_is c.in_ok-key.key c.args.name.now _ c.in_ok-key.ensures.items e)
+    (λ e. made_known (λ k. k) c.self.inside.table.entries _ c.args.self.now c.self.view_is c.in_ok-key.key c.args.name.now _ c.in_ok-key.ensures.name e)
     c.add_entry.ensures.added
 
 pub returns-clause-again : goal.returns-clause-again
 returns-clause-again g c = λ there.
-    absurd (false≢true (c.if-contains_key.ensures ∙ sym (name_found (λ k. k.items) c.self.inside.table.entries _ c.args.self.now c.self.view_is c.args.name.now) ∙ there))
+    absurd (false≢true (c.if-contains_key.ensures ∙ sym (name_found (λ k. k) c.self.inside.table.entries _ c.args.self.now c.self.view_is c.args.name.now) ∙ there))
 
 pub invariant_of-self : goal.invariant_of-self
 invariant_of-self g c =

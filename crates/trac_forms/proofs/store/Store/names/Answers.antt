@@ -10,9 +10,9 @@ use Rattle.trac_forms.proofs.store.Store.names.Goals as goal
 
 pub returns-clause-names : goal.returns-clause-names
 returns-clause-names g c =
-    let es = named (λ k. k.items) c.self.inside.table.entries in
+    let es = named (λ k. k) c.self.inside.table.entries in
     let sorted = map (λ name. name.now) c.sort_unstable.new.self.items in
-    names_sorted es sorted (IsDistinct-named (λ k. k.items) c.self.inside.table.entries c.in_ok-names.ensures.unique)
+    names_sorted es sorted (IsDistinct-named (λ k. k) c.self.inside.table.entries c.in_ok-names.ensures.unique)
     (subst (λ (ns : List (List ℕ)). IsPermutation ns sorted) c.in_ok-names.ensures.names
     (IsPermutation-map (λ name. name.now) c.in_ok-names.names.items c.sort_unstable.new.self.items c.sort_unstable.ensures.permutation))
     (never_fall_sorted c.sort_unstable.new.self.items c.sort_unstable.ensures.sorted)

@@ -9,18 +9,18 @@ use Rattle.trac_forms.proofs.store.Store.segment.Goals as goal
 
 pub segment_at-requires-clause-cut : goal.segment_at-requires-clause-cut
 segment_at-requires-clause-cut g c =
-    let found = form_found (λ k. k.items) c.self.inside.table.entries _ c.args.self.now c.self.view_is c.args.name.now _ c.in_ok-i.ensures.value in
+    let found = form_found (λ k. k) c.self.inside.table.entries _ c.args.self.now c.self.view_is c.args.name.now _ c.in_ok-i.ensures.value in
     subst (λ (found : Option Form). IfSome found (λ form. c.args.cut.now ≡ cut_of (g.T.Texts.texts c.args.texts.now) form)) found c.requires
 
 pub returns-in_err-i-clause-old : goal.returns-in_err-i-clause-old
 returns-in_err-i-clause-old g c =
-    let none = form_found (λ k. k.items) c.self.inside.table.entries _ c.args.self.now c.self.view_is c.args.name.now None (sym (none_of_false _ (sym c.in_err-i.ensures.found))) in
+    let none = form_found (λ k. k) c.self.inside.table.entries _ c.args.self.now c.self.view_is c.args.name.now None (sym (none_of_false _ (sym c.in_err-i.ensures.found))) in
     c.from_residual.ensures ∙ ap (λ (found : Option Form). option_map (λ form. length form.before) found) (sym none)
 
 pub returns-in_err-i-clause-cut : goal.returns-in_err-i-clause-cut
 returns-in_err-i-clause-cut g c =
-    none_changed (λ k. k.items) c.self.inside.table.entries _ c.args.self.now c.self.view_is c.args.name.now (λ form. segmented (g.T.Texts.texts c.args.texts.now) form)
-    (form_found (λ k. k.items) c.self.inside.table.entries _ c.args.self.now c.self.view_is c.args.name.now None (sym (none_of_false _ (sym c.in_err-i.ensures.found))))
+    none_changed (λ k. k) c.self.inside.table.entries _ c.args.self.now c.self.view_is c.args.name.now (λ form. segmented (g.T.Texts.texts c.args.texts.now) form)
+    (form_found (λ k. k) c.self.inside.table.entries _ c.args.self.now c.self.view_is c.args.name.now None (sym (none_of_false _ (sym c.in_err-i.ensures.found))))
 
 pub invariant_of-self : goal.invariant_of-self
 invariant_of-self g c =
@@ -28,11 +28,11 @@ invariant_of-self g c =
 
 pub returns-clause-old : goal.returns-clause-old
 returns-clause-old g c =
-    let found = form_found (λ k. k.items) c.self.inside.table.entries _ c.args.self.now c.self.view_is c.args.name.now _ c.in_ok-i.ensures.value in
+    let found = form_found (λ k. k) c.self.inside.table.entries _ c.args.self.now c.self.view_is c.args.name.now _ c.in_ok-i.ensures.value in
     c.segment_at.ensures.old ∙ ap (λ (found : Option Form). option_map (λ form. length form.before) found) (sym found)
 
 pub returns-clause-cut : goal.returns-clause-cut
 returns-clause-cut g c =
-    let found = form_found (λ k. k.items) c.self.inside.table.entries _ c.args.self.now c.self.view_is c.args.name.now _ c.in_ok-i.ensures.value in
-    changed_in_place (λ k. k.items) c.self.inside.table.entries _ c.args.self.now c.self.view_is c.args.name.now c.in_ok-i.i (λ form. segmented (g.T.Texts.texts c.args.texts.now) form) _ c.segment_at.new.table.entries
+    let found = form_found (λ k. k) c.self.inside.table.entries _ c.args.self.now c.self.view_is c.args.name.now _ c.in_ok-i.ensures.value in
+    changed_in_place (λ k. k) c.self.inside.table.entries _ c.args.self.now c.self.view_is c.args.name.now c.in_ok-i.i (λ form. segmented (g.T.Texts.texts c.args.texts.now) form) _ c.segment_at.new.table.entries
     (sym c.in_ok-i.ensures.index) c.in_ok-i.ensures.unique found c.segment_at.ensures.cut

@@ -7,13 +7,13 @@ use Rattle.trac_forms.proofs.store.Store.set_pointer.Goals as goal
 
 pub returns-in_err-i-clause-old : goal.returns-in_err-i-clause-old
 returns-in_err-i-clause-old g c =
-    let none = form_found (λ k. k.items) c.self.inside.table.entries _ c.args.self.now c.self.view_is c.args.name.now None (sym (none_of_false _ (sym c.in_err-i.ensures.found))) in
+    let none = form_found (λ k. k) c.self.inside.table.entries _ c.args.self.now c.self.view_is c.args.name.now None (sym (none_of_false _ (sym c.in_err-i.ensures.found))) in
     c.from_residual.ensures ∙ ap (λ (found : Option Form). option_map (λ form. length form.before) found) (sym none)
 
 pub returns-in_err-i-clause-set : goal.returns-in_err-i-clause-set
 returns-in_err-i-clause-set g c =
-    none_changed (λ k. k.items) c.self.inside.table.entries _ c.args.self.now c.self.view_is c.args.name.now (λ form. pointed_at c.args.place (all_items form))
-    (form_found (λ k. k.items) c.self.inside.table.entries _ c.args.self.now c.self.view_is c.args.name.now None (sym (none_of_false _ (sym c.in_err-i.ensures.found))))
+    none_changed (λ k. k) c.self.inside.table.entries _ c.args.self.now c.self.view_is c.args.name.now (λ form. pointed_at c.args.place (all_items form))
+    (form_found (λ k. k) c.self.inside.table.entries _ c.args.self.now c.self.view_is c.args.name.now None (sym (none_of_false _ (sym c.in_err-i.ensures.found))))
 
 pub invariant_of-self : goal.invariant_of-self
 invariant_of-self g c =
@@ -21,11 +21,11 @@ invariant_of-self g c =
 
 pub returns-clause-old : goal.returns-clause-old
 returns-clause-old g c =
-    let found = form_found (λ k. k.items) c.self.inside.table.entries _ c.args.self.now c.self.view_is c.args.name.now _ c.in_ok-i.ensures.value in
+    let found = form_found (λ k. k) c.self.inside.table.entries _ c.args.self.now c.self.view_is c.args.name.now _ c.in_ok-i.ensures.value in
     c.point_at.ensures.old ∙ ap (λ (found : Option Form). option_map (λ form. length form.before) found) (sym found)
 
 pub returns-clause-set : goal.returns-clause-set
 returns-clause-set g c =
-    let found = form_found (λ k. k.items) c.self.inside.table.entries _ c.args.self.now c.self.view_is c.args.name.now _ c.in_ok-i.ensures.value in
-    changed_in_place (λ k. k.items) c.self.inside.table.entries _ c.args.self.now c.self.view_is c.args.name.now c.in_ok-i.i (λ form. pointed_at c.args.place (all_items form)) _ c.point_at.new.table.entries
+    let found = form_found (λ k. k) c.self.inside.table.entries _ c.args.self.now c.self.view_is c.args.name.now _ c.in_ok-i.ensures.value in
+    changed_in_place (λ k. k) c.self.inside.table.entries _ c.args.self.now c.self.view_is c.args.name.now c.in_ok-i.i (λ form. pointed_at c.args.place (all_items form)) _ c.point_at.new.table.entries
     (sym c.in_ok-i.ensures.index) c.in_ok-i.ensures.unique found c.point_at.ensures.set

@@ -6,19 +6,19 @@ use Rattle.trac_forms.proofs.store.Store.take.Goals as goal
 
 pub returns-in-None-clause-taken : goal.returns-in-None-clause-taken
 returns-in-None-clause-taken g c =
-    sym (form_found (λ k. k.items) c.self.inside.table.entries _ c.args.self.now c.self.view_is c.args.name.now None (sym (none_of_false _ (sym c.in-None.ensures.found))))
+    sym (form_found (λ k. k) c.self.inside.table.entries _ c.args.self.now c.self.view_is c.args.name.now None (sym (none_of_false _ (sym c.in-None.ensures.found))))
 
 pub returns-in-None-clause-gone : goal.returns-in-None-clause-gone
 returns-in-None-clause-gone g c =
-    not_taken (λ k. k.items) c.self.inside.table.entries _ c.args.self.now c.self.view_is c.args.name.now (none_of_false _ (sym c.in-None.ensures.found))
+    not_taken (λ k. k) c.self.inside.table.entries _ c.args.self.now c.self.view_is c.args.name.now (none_of_false _ (sym c.in-None.ensures.found))
 
 pub returns-clause-taken : goal.returns-clause-taken
 returns-clause-taken g c =
     sym
-    (form_found (λ k. k.items) c.self.inside.table.entries _ c.args.self.now c.self.view_is c.args.name.now (Some c.take_at.result)
+    (form_found (λ k. k) c.self.inside.table.entries _ c.args.self.now c.self.view_is c.args.name.now (Some c.take_at.result)
     (sym c.take_at.ensures.taken ∙ c.in-Some.ensures.value))
 
 pub returns-clause-gone : goal.returns-clause-gone
 returns-clause-gone g c =
-    written_at (λ k. k.items) c.self.inside.table.entries _ c.args.self.now c.self.view_is c.args.name.now c.in-Some.i None _
+    written_at (λ k. k) c.self.inside.table.entries _ c.args.self.now c.self.view_is c.args.name.now c.in-Some.i None _
     (sym c.in-Some.ensures.index) c.in-Some.ensures.unique c.take_at.ensures.gone

@@ -9,12 +9,12 @@ use Rattle.trac_forms.proofs.store.Store.unsegment.Goals as goal
 
 pub returns-in_default : goal.returns-in_default
 returns-in_default g c =
-    none_changed (λ k. k.items) c.self.inside.table.entries _ c.args.self.now c.self.view_is c.args.name.now (λ form. unsegmented (g.T.Texts.texts c.args.texts.now) c.args.cut c.args.pointer form)
-    (form_found (λ k. k.items) c.self.inside.table.entries _ c.args.self.now c.self.view_is c.args.name.now None (sym (none_of_false _ (sym c.in_default.ensures.found))))
+    none_changed (λ k. k) c.self.inside.table.entries _ c.args.self.now c.self.view_is c.args.name.now (λ form. unsegmented (g.T.Texts.texts c.args.texts.now) c.args.cut c.args.pointer form)
+    (form_found (λ k. k) c.self.inside.table.entries _ c.args.self.now c.self.view_is c.args.name.now None (sym (none_of_false _ (sym c.in_default.ensures.found))))
 
 pub unsegment_at-requires-clause-there : goal.unsegment_at-requires-clause-there
 unsegment_at-requires-clause-there g c =
-    let found = form_found (λ k. k.items) c.self.inside.table.entries _ c.args.self.now c.self.view_is c.args.name.now _ c.in-Some.ensures.value in
+    let found = form_found (λ k. k) c.self.inside.table.entries _ c.args.self.now c.self.view_is c.args.name.now _ c.in-Some.ensures.value in
     subst (λ (found : Option Form). IfSome found (λ form. IsTrue (is_some (joined (g.T.Texts.texts c.args.texts.now) c.args.cut (all_items form))))) found c.requires
 
 pub invariant_of-self : goal.invariant_of-self
@@ -24,6 +24,6 @@ invariant_of-self g c =
 
 pub returns : goal.returns
 returns g c =
-    let found = form_found (λ k. k.items) c.self.inside.table.entries _ c.args.self.now c.self.view_is c.args.name.now _ c.in-Some.ensures.value in
-    changed_in_place (λ k. k.items) c.self.inside.table.entries _ c.args.self.now c.self.view_is c.args.name.now c.in-Some.i (λ form. unsegmented (g.T.Texts.texts c.args.texts.now) c.args.cut c.args.pointer form) _ c.unsegment_at.new.table.entries
+    let found = form_found (λ k. k) c.self.inside.table.entries _ c.args.self.now c.self.view_is c.args.name.now _ c.in-Some.ensures.value in
+    changed_in_place (λ k. k) c.self.inside.table.entries _ c.args.self.now c.self.view_is c.args.name.now c.in-Some.i (λ form. unsegmented (g.T.Texts.texts c.args.texts.now) c.args.cut c.args.pointer form) _ c.unsegment_at.new.table.entries
     (sym c.in-Some.ensures.index) c.in-Some.ensures.unique found c.unsegment_at.ensures
