@@ -1,7 +1,7 @@
 #!/usr/bin/env python3
 """Times `y` of trac-walk beside going back over the same steps, and prints a table.
 
-Each program defines a form and prints a byte first, and then calls much, for up to 990,000 steps. The way back of that byte of
+Each program defines a form and prints a byte first, and then calls much, for up to 1,000,000 steps. The way back of that byte of
 the output, and of the form's byte, goes over all of them. In a second table a call prints a byte that waited in its argument
 while a loop called itself last, or while functions were begun within one another, and a byte that was not scanned meanwhile. In
 a third each level of a recursion hands a byte to the next as an argument, and the innermost prints it.
@@ -21,7 +21,7 @@ import sys
 import tempfile
 
 ROOT = pathlib.Path(__file__).resolve().parent.parent.parent
-STEPS = 990_000
+STEPS = 1_000_000
 FIRST = b"#(ds,keep,x)'\n#(ps,a)'\n"
 LOOP = b"#(ds,Loop,(#(gr,N,0,(#(cl,Loop,##(su,N,1))),)))'\n#(ss,Loop,N)'\n#(ps,a#(cl,Loop,25000)b)'\n"
 DEEP = b"#(ds,Deep,(#(eq,N,0,,(#(ad,1,#(cl,Deep,##(su,N,1)))))))'\n#(ss,Deep,N)'\n#(ps,a#(cl,Deep,18000)b)'\n"

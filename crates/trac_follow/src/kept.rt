@@ -93,6 +93,11 @@ impl<'n, A: Allocator + Copy> Kept<'n, A> {
         ensures long { IfNone result (IsLong (place_of place.entry)) }
     {
         let (spot, name) = parts(place);
+        // In no form, as a rule: then no room for a name has to be moved.
+        if name.is_empty() {
+            let name = KeptName::Lent(&[]);
+            return Some(Kept { spot, name });
+        }
         let name = KeptName::of(store, name)?;
         Some(Kept { spot, name })
     }
