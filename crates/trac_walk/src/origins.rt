@@ -210,10 +210,13 @@ fn printed<A: Allocator + Copy>(walker: &Walker<A>, number: u64) -> Result<usize
 // The place of the last byte of the output.
 fn last_printed<A: Allocator + Copy>(walker: &Walker<A>) -> Result<usize, Stop> {
     let len = walker.pending().len();
-    if len == 0 {
-        return Err(Stop::NotPrinted);
+    if len > 0 {
+        return Ok(len - 1);
     }
-    Ok(len - 1)
+    match walker.released() {
+        0 => Err(Stop::NotPrinted),
+        _ => Err(Stop::PrintedEarlier),
+    }
 }
 
 // The place of the last byte of the last occurrence of a text in the output.
