@@ -1,5 +1,5 @@
 //! Planning a call.
-ghost use Rattle.std.specs.Prelude.{◌≡◌, ◌+◌, ◌≤◌, length, Err, Ok, ◌↔◌, IfOk, IsTrue, MatchResult, OnOk};
+ghost use Rattle.std.specs.Prelude.{◌≡◌, ◌+◌, ◌≤◌, length, true, Err, Ok, ◌↔◌, IfOk, IsTrue, MatchResult, OnOk};
 ghost use Rattle.trac_forms.specs.Stored.{storage_in};
 ghost use Rattle.trac_rules.specs.Blocks.{block_handled};
 ghost use Rattle.trac_rules.specs.Handling.{handled};
@@ -11,8 +11,10 @@ ghost use Rattle.trac_rules.specs.State.{State, storage_of};
 ghost use Rattle.trac_rules.specs.declared.primitive.Primitive.TheVariants as primitive;
 ghost use Rattle.trac_change.specs.declared.change.Change.TheVariants.{Keep};
 ghost use Rattle.trac_change.specs.Changes.{IsChangeOf};
-ghost use Rattle.trac_prims.specs.Effects.{IsChanged, IsDone, done_on, nothing, planned_from, planned_on};
-ghost use Rattle.trac_prims.specs.Plans.{HasPlace, IsGiven, IsNow, fits_after};
+ghost use Rattle.trac_rules.specs.declared.width.Width.{Width};
+ghost use Rattle.trac_prims.specs.declared.effect.Made as made;
+ghost use Rattle.trac_prims.specs.Effects.{IsDone, done_on, nothing, planned_from, planned_on};
+ghost use Rattle.trac_prims.specs.Plans.{HasPlace, IsGiven, IsNow, fits_after, only_changes};
 ghost use Rattle.trac_prims.specs.Tape.{environment_of};
 
 use crate::blocks::{erase_block, fetch_block, store_block};
@@ -153,12 +155,14 @@ fn perform<A: Allocator + Copy>(
         }),
         Primitive::Compute(computation) => compute(alloc, computation, args, now.width, made),
         Primitive::Handle(action) => handle(alloc, action, args, store, now.width, made, change),
-        Primitive::HandleBlock(action) => make(handle_block(alloc, action, args, store), change),
+        Primitive::HandleBlock(action) => change_blocks(alloc, action, args, store, change),
         Primitive::Unknown => Ok(Deed::nothing()),
     }
 }
 
-// What a primitive does with forms.
+// What a primitive does with forms. It is no part of `perform`, nor are the two after it: a change takes 14 words, and a function
+// fills the places for all that it may plan where it begins.
+#[inline(never)]
 fn handle<A: Allocator + Copy>(
     alloc: A,
     action: FormAction,
@@ -174,32 +178,59 @@ fn handle<A: Allocator + Copy>(
     ensures change { OnOk result (IsChangeOf (primitive.Handle action) args.now (storage_in store.now) change.new) }
 {
     match action {
+        FormAction::Call => call(args, store, made),
+        FormAction::Read(reading) => read(alloc, reading, args, store, width, made, change),
+        FormAction::ListNames => list_names(args, store, made),
+        FormAction::PrintForm => print_form(args, store, made),
+        FormAction::Define
+        | FormAction::Delete
+        | FormAction::DeleteAll
+        | FormAction::Segment
+        | FormAction::Restore => change_forms(alloc, action, args, store, change),
+    }
+}
+
+// What a primitive changes among the forms that does nothing else.
+#[inline(never)]
+fn change_forms<A: Allocator + Copy>(
+    alloc: A,
+    action: FormAction,
+    args: &Args<'_>,
+    store: &Store<A>,
+    change: &mut Change<A>,
+) -> Result<Deed, Refusal>
+    requires only { only_changes action ≡ true }
+    requires count { length args.now ≤ MARK_LIMIT }
+    ensures outcome { (width : Width) (made : made.Made A) → IsDone args.now (storage_in store.now) (handled action width args.now (storage_in store.now)) made made change.new result }
+    ensures change { OnOk result (IsChangeOf (primitive.Handle action) args.now (storage_in store.now) change.new) }
+{
+    match action {
         FormAction::Define => make(define(alloc, args, store), change),
         FormAction::Delete => make(delete(alloc, args), change),
         FormAction::DeleteAll => make(Ok(Change::Clear), change),
         FormAction::Segment => make(segment(alloc, args, store), change),
         FormAction::Restore => make(restore(alloc, args, store), change),
-        FormAction::Call => call(args, store, made),
-        FormAction::Read(reading) => read(alloc, reading, args, store, width, made, change),
-        FormAction::ListNames => list_names(args, store, made),
-        FormAction::PrintForm => print_form(args, store, made),
+        FormAction::Call | FormAction::Read(_) | FormAction::ListNames | FormAction::PrintForm =>
+            unreachable!(),
     }
 }
 
 // What a primitive changes with blocks.
-fn handle_block<A: Allocator + Copy>(
+#[inline(never)]
+fn change_blocks<A: Allocator + Copy>(
     alloc: A,
     action: BlockAction,
     args: &Args<'_>,
     store: &Store<A>,
-) -> Result<Change<A>, Refusal>
-    ensures outcome { IsChanged args.now (storage_in store.now) (block_handled action args.now (storage_in store.now)) result }
-    ensures change { IfOk result (IsChangeOf (primitive.HandleBlock action) args.now (storage_in store.now)) }
+    change: &mut Change<A>,
+) -> Result<Deed, Refusal>
+    ensures outcome { (made : made.Made A) → IsDone args.now (storage_in store.now) (block_handled action args.now (storage_in store.now)) made made change.new result }
+    ensures change { OnOk result (IsChangeOf (primitive.HandleBlock action) args.now (storage_in store.now) change.new) }
 {
     match action {
-        BlockAction::StoreBlock => store_block(alloc, args, store),
-        BlockAction::FetchBlock => fetch_block(alloc, args, store),
-        BlockAction::EraseBlock => erase_block(alloc, args, store),
+        BlockAction::StoreBlock => make(store_block(alloc, args, store), change),
+        BlockAction::FetchBlock => make(fetch_block(alloc, args, store), change),
+        BlockAction::EraseBlock => make(erase_block(alloc, args, store), change),
     }
 }
 

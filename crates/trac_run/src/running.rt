@@ -20,6 +20,10 @@ pub use trac_streams::{BUDGET_LIMIT, DEFAULT_BUDGET, Options, READ_SIZE, budget_
 // 43 MiB of forms. A run never goes back, so it keeps them for nothing.
 const JOURNAL_WEIGHT: u64 = 64 * 1024 * 1024 / 12;
 
+// After how many steps a run commits at the latest. Records that are soon dropped lie in a journal that stays in the
+// processor's caches.
+const TURN_STEPS: u64 = 8192;
+
 /// Runs what the reader gives, and writes what it prints, until the budget is spent, the input has ended, or a limit,
 /// memory, the reader or the writer ends it. Output is written and flushed before each read, and before the end.
 /// After a read fault it does not flush again. Each read asks for at most 4,096 bytes, and all of them together give no
@@ -48,7 +52,7 @@ pub fn run<R: Read, W: Write, A: Allocator + Copy>(
     }
 }
 
-// Goes forward until a step is refused, none is left, or the records weigh enough, and does what this asks for.
+// Goes forward until a step is refused, none is left, or the records are many or weigh enough, and does what this asks for.
 fn take_turn<R: Read, W: Write, A: Allocator + Copy>(
     session: &mut Session<A>,
     input: &mut R,
@@ -64,7 +68,7 @@ fn take_turn<R: Read, W: Write, A: Allocator + Copy>(
     ensures fresh { OnOk result (IsFresh session.new) }
     ensures fewer { OnOk result (turns_left session.new left.new < turns_left session.old left.old) }
 {
-    let walk = session.forward_within(*left, JOURNAL_WEIGHT);
+    let walk = session.forward_within((*left).min(TURN_STEPS), JOURNAL_WEIGHT);
     *left -= walk.done;
     let Some(refusal) = walk.why else {
         if *left > 0 {

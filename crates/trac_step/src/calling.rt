@@ -4,7 +4,9 @@ ghost use Rattle.std.specs.List.{concat};
 ghost use Rattle.trac_gap.specs.Ends.{item_count};
 ghost use Rattle.trac_rules.specs.declared.limit.TheConstants.{JOURNAL_LIMIT};
 ghost use Rattle.trac_rules.specs.Outcomes.{MayRefuse};
-ghost use Rattle.trac_rules.specs.Proper.{IsProper};
+ghost use Rattle.std.specs.FinMap as finite;
+ghost use Rattle.trac_rules.specs.Proper.{IsProper, IsProperStorage};
+ghost use Rattle.trac_rules.specs.Undone.{pointer_lost};
 ghost use Rattle.trac_rules.specs.Records as rules;
 ghost use Rattle.trac_rules.specs.Records.{is_scanned, record_of};
 ghost use Rattle.trac_rules.specs.State.{storage_of};
@@ -12,7 +14,7 @@ ghost use Rattle.trac_rules.specs.Scanning.{front_of, scan};
 ghost use Rattle.trac_rules.specs.Stepping.{step};
 ghost use Rattle.trac_text.specs.Cuts.{cut};
 ghost use Rattle.trac_change.specs.declared.change.Change.TheVariants.{Keep};
-ghost use Rattle.trac_change.specs.Changed.{changed};
+ghost use Rattle.trac_change.specs.Changed.{changed, pointed};
 ghost use Rattle.trac_prims.specs.Tape.{environment_of};
 ghost use Rattle.trac_change.specs.Changes.{undone_of};
 ghost use Rattle.trac_text.specs.Pieces.{all_texts};
@@ -35,7 +37,7 @@ use trac_gap::{SlidingBuf, TwoEnds};
 use trac_journal::{Called, Journal, Undone};
 use trac_prims::{Change, Deed, Made, Now, Tape, plan_into};
 use trac_rules::scan::Front;
-use trac_storage::{Places, change_forms, make_place, places_for};
+use trac_storage::{Places, change_forms, make_place, places_for, set_pointer};
 use trac_text::calls::{cut_function, put_value};
 use trac_text::{Args, Beginning, Kind, Mark, Pieces, Refusal, ends};
 
@@ -207,8 +209,18 @@ impl<E: TwoEnds<u8, A>, M: TwoEnds<Mark, A>, A: Allocator + Copy> Core<E, M, A> 
         change_forms(&mut self.store, &arguments, change, places)
     }
 
-    // The same, with the memory for it taken first. It is refused memory alone, and then the state stays. Most calls change
-    // nothing of forms and blocks, and need nothing for that. The change is taken out of its place.
+    // Sets the pointer of the form of this name, if there is one. Returns what was destroyed. It takes no memory.
+    fn put_pointer(&mut self, name: &[u8], place: usize) -> Undone<A>
+        requires { IsProperStorage (pointed name.now place (finite.get self.old.state.forms name.now) (storage_of self.old.state)) }
+        ensures changed { self.new ≡ record self.old { state = with_storage (pointed name.now place (finite.get self.old.state.forms name.now) (storage_of self.old.state)) self.old.state; spare = self.new.spare } }
+        ensures undone { undone_in result ≡ pointer_lost (finite.get self.old.state.forms name.now) }
+    {
+        set_pointer(&mut self.store, name, place)
+    }
+
+    // Changes forms and blocks as the call planned it, with the memory for it taken first. It is refused memory alone, and then
+    // the state stays. Most calls change nothing of forms and blocks, and many others a pointer: these need nothing for that.
+    // Any other change is taken out of its place.
     fn change_storage(
         &mut self,
         beginning: Beginning,
@@ -223,6 +235,9 @@ impl<E: TwoEnds<u8, A>, M: TwoEnds<Mark, A>, A: Allocator + Copy> Core<E, M, A> 
     {
         if let Change::Keep = change {
             return Ok(Undone::Nothing);
+        }
+        if let Change::Point(name, place) = change {
+            return Ok(self.put_pointer(name.as_slice(), *place));
         }
         let change = mem::replace(change, Change::Keep);
         let places = places_for(*self.output.allocator(), &self.store, &change)?;

@@ -77,8 +77,13 @@ fn cut_out<A: Allocator + Copy>(
     }
 }
 
-// Sets the pointer of the form of this name, if there is one.
-fn set_pointer<A: Allocator + Copy>(store: &mut Store<A>, name: &[u8], place: usize) -> Undone<A>
+/// Sets the pointer of the form of this name, if there is one: before the item at this place, or at the end where the form has
+/// none there. Returns what that destroyed, which is where the pointer stood. It takes no memory (this project's profile).
+pub fn set_pointer<A: Allocator + Copy>(
+    store: &mut Store<A>,
+    name: &[u8],
+    place: usize,
+) -> Undone<A>
     ensures storage { storage_in store.new ≡ pointed name.now place (finite.get store.old.forms name.now) (storage_in store.old) }
     ensures undone { undone_in result ≡ pointer_lost (finite.get store.old.forms name.now) }
     ensures names { store.new.known ≡ store.old.known }

@@ -11,9 +11,8 @@ use Rattle.trac_rules.proofs.Steps.{effect_within}
 use Rattle.trac_forms.specs.Stored.{storage_in}
 use Rattle.trac_change.specs.declared.change.Change.TheVariants.{Keep}
 use Rattle.trac_prims.specs.declared.effect.Deed.{Deed}
-use Rattle.trac_change.specs.Changes.{IsChangeOf}
 use Rattle.trac_prims.specs.Effects.{IsDone}
-use Rattle.trac_prims.proofs.Kept.{changed_so, keeps_so, left_so, meta_given, of_change}
+use Rattle.trac_prims.proofs.Kept.{keeps_so, left_so, meta_given}
 use Rattle.trac_prims.proofs.ReadCounts.{done_unread}
 use Rattle.trac_prims.proofs.planning.perform.Goals as goal
 
@@ -83,22 +82,17 @@ returns-in-Handle-clause-within g c =
     (effect_within (Handle c.in-Handle.action) (record { tape = record { bytes = []; ended = false }; width = c.args.now.width }) c.args.args.now (record initial { forms = storage.forms; blocks = storage.blocks })) c.requires.position
 
 pub returns-in-HandleBlock-clause-outcome : goal.returns-in-HandleBlock-clause-outcome
-returns-in-HandleBlock-clause-outcome g c = λ s known.
-    let storage = storage_in c.args.store.now in
-    rw (c.in-HandleBlock.is, known.storage_is)
-    (changed_so c.args.args.now storage c.args.made.now (block_handled c.in-HandleBlock.action c.args.args.now storage) c.handle_block.result c.make.new.change c.make.result c.make.ensures c.handle_block.ensures.outcome)
+returns-in-HandleBlock-clause-outcome g c = λ s known. rw (c.in-HandleBlock.is, known.storage_is) (c.change_blocks.ensures.outcome c.args.made.now)
 
 pub returns-in-HandleBlock-clause-within : goal.returns-in-HandleBlock-clause-within
 returns-in-HandleBlock-clause-within g c =
     let storage = storage_in c.args.store.now in
-    let outcome = block_handled c.in-HandleBlock.action c.args.args.now storage in
-    done_unread c.args.args.now c.args.now.position (length c.args.tape.bytes.now) storage outcome c.args.made.now c.args.made.now c.make.new.change c.make.result
-    (changed_so c.args.args.now storage c.args.made.now outcome c.handle_block.result c.make.new.change c.make.result c.make.ensures c.handle_block.ensures.outcome)
+    done_unread c.args.args.now c.args.now.position (length c.args.tape.bytes.now) storage (block_handled c.in-HandleBlock.action c.args.args.now storage) c.args.made.now c.args.made.now
+    c.change_blocks.new.change c.change_blocks.result (c.change_blocks.ensures.outcome c.args.made.now)
     (effect_within (HandleBlock c.in-HandleBlock.action) (record { tape = record { bytes = []; ended = false }; width = c.args.now.width }) c.args.args.now (record initial { forms = storage.forms; blocks = storage.blocks })) c.requires.position
 
 pub returns-in-HandleBlock-clause-change : goal.returns-in-HandleBlock-clause-change
-returns-in-HandleBlock-clause-change g c =
-    rw c.in-HandleBlock.is (of_change (IsChangeOf (HandleBlock c.in-HandleBlock.action) c.args.args.now (storage_in c.args.store.now)) c.handle_block.result c.make.new.change c.make.result c.make.ensures c.handle_block.ensures.change)
+returns-in-HandleBlock-clause-change g c = rw c.in-HandleBlock.is c.change_blocks.ensures.change
 
 pub returns-in-Unknown-clause-outcome : goal.returns-in-Unknown-clause-outcome
 returns-in-Unknown-clause-outcome g c = λ s known.

@@ -1,12 +1,9 @@
 -- The text is the value, and it is forced.
-use Rattle.std.proofs.Common.{sym, ap, subst, true, ◌∙◌}
+use Rattle.std.proofs.Common.{sym, ap, true, ◌∙◌}
 use Rattle.std.proofs.lemmas.List.{append-nil}
-use Rattle.trac_rules.specs.declared.primitive.FormAction.TheVariants.{Read}
-use Rattle.trac_rules.specs.declared.primitive.Primitive.TheVariants.{Handle}
 use Rattle.trac_rules.specs.Effect.{forces}
 use Rattle.trac_change.specs.declared.change.Change.TheVariants.{Point}
 use Rattle.trac_prims.specs.declared.effect.Deed.{Deed}
-use Rattle.trac_change.specs.Changes.{IsChangeOf}
 use Rattle.trac_prims.proofs.Changes.{reads}
 use Rattle.trac_prims.proofs.Given.{unmoved_so}
 use Rattle.trac_prims.proofs.Kept.{as_said}

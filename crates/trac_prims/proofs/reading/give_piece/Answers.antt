@@ -1,13 +1,9 @@
-use Rattle.std.proofs.Common.{List, ℕ, ◌++◌, sym, ap, subst, ◌∙◌}
+use Rattle.std.proofs.Common.{List, ℕ, ◌++◌, sym, ap, ◌∙◌}
 use Rattle.std.proofs.lemmas.List.{append-nil}
 use Rattle.trac_forms.specs.Taken.{taken}
-use Rattle.trac_rules.specs.declared.primitive.FormAction.TheVariants.{Read}
-use Rattle.trac_rules.specs.declared.primitive.Primitive.TheVariants.{Handle}
 use Rattle.trac_rules.specs.Effect.{gives}
 use Rattle.trac_rules.specs.Handling.{pointing}
 use Rattle.trac_change.specs.declared.change.Change.TheVariants.{Point}
-use Rattle.trac_prims.specs.declared.effect.Deed.{Deed}
-use Rattle.trac_change.specs.Changes.{IsChangeOf}
 use Rattle.trac_prims.proofs.Changes.{reads}
 use Rattle.trac_prims.proofs.Given.{pointed_so}
 use Rattle.trac_prims.proofs.Kept.{as_said}
