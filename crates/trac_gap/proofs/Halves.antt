@@ -2,10 +2,10 @@
 use Rattle.std.proofs.Common.{◌≡◌, ℕ, suc, ◌+◌, ◌-◌, ◌≤◌, ◌<◌, ◌++◌, List, [], ◌∷◌, Option, Some, None, IsSome, length, take, drop, get_or, set, map, refl, sym, ap, subst, ◌∙◌, add-one, arith, length-drop, length-set}
 use Rattle.std.proofs.lemmas.List.{length-map, take-append-drop, take-take, drop-take, drop-drop, drop-set-lt, get_or-take, get_or-drop}
 use Rattle.std.proofs.Math.Seq.{length-take-le, take-add, take-suc, take-suc-set}
-use Rattle.trac_gap.specs.declared.raw_gap.RawGap.TheInside.{Inside}
+use Rattle.trac_gap.specs.declared.gap_buf.GapBuf.TheInside.{Inside}
 use Rattle.trac_gap.specs.declared.slots.Slots.{Slots}
 use Rattle.trac_gap.specs.Ends.{item_count}
-use Rattle.trac_gap.specs.RawGap.{block_ends, IsBlock}
+use Rattle.trac_gap.specs.GapBuf.{block_ends, IsBlock}
 use Rattle.trac_gap.specs.Slots.{items_of, IsFull, IsShifted, run, pasted}
 use Rattle.trac_gap.proofs.Full.{items_of-map, IsFull-map, length-items_of, full_both, IsFull-take, IsFull-drop, items_of-take, items_of-drop, some_at}
 use Rattle.trac_gap.proofs.Pasted.{length-pasted, take-pasted, drop-pasted, take-pasted_before, drop-pasted_after}
@@ -50,9 +50,7 @@ module _ {T A : Type 0} (b : Inside T A) (ok : IsBlock b) where
   becomes p s e ls rs at same gap within hl hr = (
     record {
       places_at = at ∙ ok.places_at;
-      lease_at = ok.lease_at;
-      lease_count = ok.lease_count;
-      lease_alloc = ok.lease_alloc;
+      lease = ok.lease;
       places_count = same ∙ ok.places_count;
       gap = gap;
       within = within;

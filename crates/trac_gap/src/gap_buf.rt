@@ -1,28 +1,57 @@
-//! Lists with two ends over one raw block.
-ghost use Rattle.std.specs.Prelude.{◌≡◌, ◌+◌, ◌<◌, ◌≤◌, IfOk, OnErr, OnOk};
+//! Lists with two ends in one block, with the gap between them.
+ghost use Rattle.std.specs.Prelude.{◌≡◌, ◌+◌, ◌<◌, ◌≤◌, [], IfOk, OnErr, OnOk};
 ghost use Rattle.trac_gap.specs.Ends.{item_count};
 
 use crate::error::GapError;
-use crate::raw_gap::RawGap;
+use crate::slots::{BlockStart, Lease, Slots, allocate, deallocate, no_places};
 use crate::two_ends::TwoEnds;
 use std::alloc::{AllocError, Allocator, Global};
 use std::marker::Model;
+use std_alloc::room::may_hold;
 
-/// Both lists lie in one block, with the gap between them. Pushing, popping and cutting move no
-/// other item. With no capacity there is no block.
-#[derive(Drop)]
+/// Both lists lie in one block: the left list at its begin, and the right one at its end. The places from `gap_start` up to
+/// `gap_end` are the gap. What lies there is of no use, so pushing, popping and cutting move no other item.
+///
+/// Before room is reserved there is no block: no places, and no lease. Only `drop` asks whether there is one, and each other
+/// call does the same with no places.
 pub struct GapBuf<T: Copy, A: Allocator + Copy = Global> {
+    start: BlockStart<T>,
+    places: Slots<T>,
     alloc: A,
-    block: Option<RawGap<T, A>>,
+    gap_start: usize,
+    capacity: usize,
+    gap_end: usize,
+    lease: Option<Lease<T, A>>,
 }
 
 impl<T: Copy, A: Allocator + Copy> Model for GapBuf<T, A> {
     ghost use Rattle.trac_gap.specs.Ends.{Ends};
-    ghost use Rattle.trac_gap.specs.GapBuf.{ends_of};
 
     ghost Value = { Ends T };
 
-    ghost view = { λ g. ends_of g.block };
+    ghost use Rattle.trac_gap.specs.GapBuf.{block_ends, IsBlock};
+
+    ghost view = { block_ends };
+
+    ghost invariant = { IsBlock };
+}
+
+impl<T: Copy, A: Allocator + Copy> Drop for GapBuf<T, A> {
+    fn drop(self) {
+        let GapBuf {
+            start,
+            places,
+            alloc,
+            capacity,
+            lease,
+            gap_start: _,
+            gap_end: _,
+        } = self;
+        match lease {
+            Some(lease) => deallocate(&alloc, start, capacity, places, lease),
+            None => drop(places),
+        }
+    }
 }
 
 // The capacity to grow to: double, where that is enough.
@@ -36,17 +65,36 @@ fn grown(capacity: usize, wanted: usize) -> usize
 }
 
 impl<T: Copy, A: Allocator + Copy> GapBuf<T, A> {
+    // A block of `capacity` places and two empty lists. Refused where there is no memory.
+    fn with_places(alloc: A, capacity: usize) -> Result<Self, AllocError>
+        ensures { IfOk result (λ b. b ≡ record { left = []; right = []; capacity = capacity }) }
+    {
+        if !may_hold::<T>(capacity) {
+            return Err(AllocError);
+        }
+        let (start, places, lease) = allocate(&alloc, capacity)?;
+        Ok(GapBuf {
+            start,
+            places,
+            alloc,
+            gap_start: 0,
+            capacity,
+            gap_end: capacity,
+            lease: Some(lease),
+        })
+    }
+
     // A block of `capacity` places with a copy of both lists.
     #[cold]
     #[inline(never)]
-    fn copied(&self, capacity: usize) -> Result<RawGap<T, A>, AllocError>
+    fn copied(&self, capacity: usize) -> Result<Self, AllocError>
         requires { item_count self.now ≤ capacity }
         ensures { IfOk result (λ b. b ≡ record self.now { capacity = capacity }) }
     {
-        let mut block = RawGap::new(self.alloc, capacity)?;
-        block.put_left(self.left());
-        block.put_right(self.right());
-        Ok(block)
+        let mut copy = GapBuf::with_places(self.alloc, capacity)?;
+        copy.put_left(self.left());
+        copy.put_right(self.right());
+        Ok(copy)
     }
 
     // Makes room for `n` more items by a larger block. It is rarely called, and kept out of the way of `reserve`.
@@ -60,12 +108,11 @@ impl<T: Copy, A: Allocator + Copy> GapBuf<T, A> {
         ensures ok { OnOk result (item_count self.new + n ≤ self.new.capacity) }
         ensures err { OnErr result (self.new ≡ self.old) }
     {
-        let room = self.room();
-        let used = self.left().len() + self.right().len();
+        let used = self.capacity - self.room();
         let Some(wanted) = used.checked_add(n) else {
             return Err(GapError::Memory);
         };
-        self.block = Some(self.copied(grown(used + room, wanted))?);
+        *self = self.copied(grown(self.capacity, wanted))?;
         Ok(())
     }
 }
@@ -74,7 +121,16 @@ impl<T: Copy, A: Allocator + Copy> TwoEnds<T, A> for GapBuf<T, A> {
     ghost ends = { λ g. g };
 
     fn new(alloc: A) -> Self {
-        GapBuf { alloc, block: None }
+        let (start, places) = no_places();
+        GapBuf {
+            start,
+            places,
+            alloc,
+            gap_start: 0,
+            capacity: 0,
+            gap_end: 0,
+            lease: None,
+        }
     }
 
     #[inline]
@@ -87,107 +143,91 @@ impl<T: Copy, A: Allocator + Copy> TwoEnds<T, A> for GapBuf<T, A> {
 
     #[inline]
     fn room(&self) -> usize {
-        match &self.block {
-            Some(block) => block.room(),
-            None => 0,
-        }
+        self.gap_end - self.gap_start
     }
 
     #[inline]
     fn left(&self) -> &[T] {
-        match &self.block {
-            Some(block) => block.left(),
-            None => &[],
-        }
+        self.places.items(self.start, 0, self.gap_start)
     }
 
     #[inline]
     fn right(&self) -> &[T] {
-        match &self.block {
-            Some(block) => block.right(),
-            None => &[],
-        }
+        self.places
+            .items(self.start, self.gap_end, self.capacity - self.gap_end)
     }
 
     #[inline]
     fn push_left(&mut self, x: T) {
-        let Some(block) = &mut self.block else {
-            unreachable!()
-        };
-        block.push_left(x);
+        self.places.put(self.start, self.gap_start, x);
+        self.gap_start += 1;
     }
 
     fn put_left(&mut self, items: &[T]) {
-        if let Some(block) = &mut self.block {
-            block.put_left(items);
-        }
+        self.places.copy_in(self.start, self.gap_start, items);
+        self.gap_start += items.len();
     }
 
     #[inline]
     fn push_right(&mut self, x: T) {
-        let Some(block) = &mut self.block else {
-            unreachable!()
-        };
-        block.push_right(x);
+        self.gap_end -= 1;
+        self.places.put(self.start, self.gap_end, x);
     }
 
     fn put_right(&mut self, items: &[T]) {
-        if let Some(block) = &mut self.block {
-            block.put_right(items);
-        }
+        self.gap_end -= items.len();
+        self.places.copy_in(self.start, self.gap_end, items);
     }
 
     #[inline]
     fn pop_left(&mut self) -> Option<T> {
-        match &mut self.block {
-            Some(block) => block.pop_left(),
-            None => None,
+        if self.gap_start == 0 {
+            return None;
         }
+        self.gap_start -= 1;
+        Some(self.places.item(self.start, self.gap_start))
     }
 
     #[inline]
     fn pop_right(&mut self) -> Option<T> {
-        match &mut self.block {
-            Some(block) => block.pop_right(),
-            None => None,
+        if self.gap_end == self.capacity {
+            return None;
         }
+        let first = self.places.item(self.start, self.gap_end);
+        self.gap_end += 1;
+        Some(first)
     }
 
     #[inline]
     fn cut_left(&mut self, n: usize) {
-        if let Some(block) = &mut self.block {
-            block.cut_left(n);
-        }
+        self.gap_start -= n;
     }
 
     #[inline]
     fn cut_right(&mut self, n: usize) {
-        if let Some(block) = &mut self.block {
-            block.cut_right(n);
-        }
+        self.gap_end += n;
     }
 
     #[inline(always)]
     fn shift_left(&mut self, n: usize) {
-        if let Some(block) = &mut self.block {
-            block.shift_left(n);
-        }
+        self.places
+            .shift(self.start, self.gap_end, self.gap_start, n);
+        self.gap_start += n;
+        self.gap_end += n;
     }
 
     #[inline]
     fn shift_right(&mut self, n: usize) {
-        if let Some(block) = &mut self.block {
-            block.shift_right(n);
-        }
+        self.gap_start -= n;
+        self.gap_end -= n;
+        self.places
+            .shift(self.start, self.gap_start, self.gap_end, n);
     }
 
     fn copy(&self) -> Result<Self, GapError> {
-        let alloc = self.alloc;
-        let capacity = self.room() + self.left().len() + self.right().len();
-        if capacity == 0 {
-            return Ok(GapBuf { alloc, block: None });
+        if self.capacity == 0 {
+            return Ok(GapBuf::new(self.alloc));
         }
-        let block = Some(self.copied(capacity)?);
-        Ok(GapBuf { alloc, block })
+        Ok(self.copied(self.capacity)?)
     }
 }

@@ -5,7 +5,6 @@
 pub mod error;
 pub mod gap_buf;
 pub mod plain;
-mod raw_gap;
 mod runs;
 pub mod sliding;
 mod slots;
@@ -15,8 +14,6 @@ pub mod two_ends;
 pub use error::GapError;
 pub use gap_buf::GapBuf;
 pub use plain::PlainEnds;
-#[doc(hidden)]
-pub use raw_gap::RawGap;
 pub use sliding::SlidingBuf;
 #[doc(hidden)]
 pub use slots::{BlockStart, Lease, Slots};

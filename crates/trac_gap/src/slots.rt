@@ -1,6 +1,6 @@
 //! The block: a row of places, each of which is empty or has an item.
 //! All of this crate's raw pointers are in this file.
-ghost use Rattle.std.specs.Prelude.{◌≡◌, ℕ, ◌+◌, ◌<◌, ◌≤◌, ◌⊎◌, List, Option, Some, None, length, replicate, slice_set, IfOk, ⊤};
+ghost use Rattle.std.specs.Prelude.{◌≡◌, ℕ, ◌+◌, ◌<◌, ◌≤◌, ◌⊎◌, [], List, Option, Some, None, length, replicate, slice_set, IfOk, ⊤};
 ghost use Rattle.std.specs.Vec.Ownership.{FitsInBlock};
 ghost use base.Fml.{ftrue};
 ghost use denote.RawPtr.{Ptr};
@@ -31,6 +31,8 @@ impl<T> Clone for BlockStart<T> {
 impl<T> Copy for BlockStart<T> {}
 
 /// The places of a block with the items in them. It takes no bytes: `BlockStart` has the pointer.
+/// Dropping places frees nothing. No block is lost so, since its lease cannot be dropped, and is given back with its places.
+#[derive(Drop)]
 pub struct Slots<T> {
     mark: PhantomData<*const T>,
     ghost at: { Ptr },
@@ -55,6 +57,17 @@ impl<T, A: Allocator> Model for Lease<T, A> {
     ghost also_owns = { λ l. lease_owns T.row (A.dealloc_token l.alloc) l.at l.count };
 
     ghost also_shares = { λ _ _ _. ftrue };
+}
+
+/// No places. Takes no memory: the pointer is of no use, but not null.
+pub(crate) fn no_places<T>() -> (BlockStart<T>, Slots<T>)
+    ensures { (result.1.at ≡ result.0.ptr) × (result.1.slots ≡ []) }
+{
+    let none: [T; 0] = [];
+    let start = BlockStart {
+        ptr: &raw const none as *mut T,
+    };
+    (start, Slots { mark: PhantomData })
 }
 
 /// A block of `count` empty places.

@@ -1,7 +1,7 @@
 use Rattle.std.proofs.Common.{◌+◌, ◌≤◌, ◌++◌, length, refl, ap, sym, subst, ◌∙◌, arith}
 use Rattle.trac_gap.specs.Ends.{Ends, item_count}
 use Rattle.trac_gap.proofs.Halves.{free_run, put_right}
-use Rattle.trac_gap.proofs.raw_gap.RawGap.put_right.Goals as goal
+use Rattle.trac_gap.proofs.gap_buf.GapBufTwoEnds.put_right.Goals as goal
 
 pub copy_in-requires : goal.copy_in-requires
 copy_in-requires g c =

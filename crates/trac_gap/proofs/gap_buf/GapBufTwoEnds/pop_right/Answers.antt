@@ -1,6 +1,6 @@
 use Rattle.std.proofs.Common.{◌<◌, sym, arith}
 use Rattle.trac_gap.proofs.Halves.{first_some}
-use Rattle.trac_gap.proofs.raw_gap.RawGap.pop_right.Goals as goal
+use Rattle.trac_gap.proofs.gap_buf.GapBufTwoEnds.pop_right.Goals as goal
 
 pub item-first-requires : goal.item-first-requires
 item-first-requires g c =

@@ -1,7 +1,7 @@
 use Rattle.std.proofs.Common.{◌≤◌, ◌++◌, length, take, drop, refl, ap, sym, subst, ◌∙◌, arith}
 use Rattle.trac_gap.specs.Ends.{Ends}
 use Rattle.trac_gap.proofs.Halves.{next_full, shifted_left}
-use Rattle.trac_gap.proofs.raw_gap.RawGap.shift_left.Goals as goal
+use Rattle.trac_gap.proofs.gap_buf.GapBufTwoEnds.shift_left.Goals as goal
 
 pub shift-requires : goal.shift-requires
 shift-requires g c =

@@ -1,7 +1,7 @@
 use Rattle.std.proofs.Common.{◌+◌, ◌≤◌, ◌++◌, length, refl, ap, sym, subst, ◌∙◌, arith}
 use Rattle.trac_gap.specs.Ends.{Ends, item_count}
 use Rattle.trac_gap.proofs.Halves.{free_run, put_left}
-use Rattle.trac_gap.proofs.raw_gap.RawGap.put_left.Goals as goal
+use Rattle.trac_gap.proofs.gap_buf.GapBufTwoEnds.put_left.Goals as goal
 
 pub copy_in-requires : goal.copy_in-requires
 copy_in-requires g c =

@@ -1,7 +1,7 @@
 use Rattle.std.proofs.Common.{◌<◌, ap, sym, ◌∙◌, arith}
-use Rattle.trac_gap.specs.RawGap.{block_ends}
+use Rattle.trac_gap.specs.GapBuf.{block_ends}
 use Rattle.trac_gap.proofs.Halves.{last_some, popped_left}
-use Rattle.trac_gap.proofs.raw_gap.RawGap.pop_left.Goals as goal
+use Rattle.trac_gap.proofs.gap_buf.GapBufTwoEnds.pop_left.Goals as goal
 
 pub item-requires : goal.item-requires
 item-requires g c =
