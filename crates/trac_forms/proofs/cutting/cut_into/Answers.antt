@@ -1,7 +1,6 @@
 -- A run is cut, and the gap after it ends it.
 use Rattle.std.proofs.Common.{◌++◌, List, ℕ, length, ap, ◌∙◌, arith}
 use Rattle.std.proofs.lemmas.List.{nil_from_length}
-use Rattle.trac_rules.specs.declared.item.Item.{Item}
 use Rattle.trac_rules.specs.Cuts.{begins_with_gap}
 use Rattle.trac_rules.specs.Form.{extent}
 use Rattle.trac_rules.specs.Pieces.{bytes_in}
