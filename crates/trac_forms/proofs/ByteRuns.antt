@@ -1,14 +1,16 @@
 -- Runs of bytes among items.
-use Rattle.std.proofs.Common.{◌≡◌, ℕ, zero, suc, ◌+◌, ◌<◌, Bool, true, List, [], ◌∷◌, ◌++◌, length, take, get_or, false, refl, sym, ap, ◌∙◌, arith}
+use Rattle.std.proofs.Common.{◌≡◌, ℕ, zero, suc, ◌+◌, ◌<◌, ◌≤◌, Bool, true, List, [], ◌∷◌, ◌++◌, length, take, get_or, false, refl, sym, ap, ◌∙◌, arith}
 use Rattle.std.specs.Prelude.{◌||◌}
 use Rattle.std.proofs.lemmas.Grind.{flat_map-append}
 use Rattle.std.proofs.lemmas.List.{append_assoc, length-append}
 use Rattle.trac_rules.specs.declared.item.Item.{Item}
 use Rattle.trac_rules.specs.declared.item.Item.TheVariants.{Byte, Gap}
 use Rattle.trac_rules.specs.Filling.{all_filled, filled}
+use Rattle.trac_rules.specs.Form.{as_items, extent}
 use Rattle.trac_rules.specs.Fronts.{IsFrontOf}
 use Rattle.trac_rules.specs.Pieces.{byte_of, bytes_in, is_gap}
 use Rattle.trac_rules.specs.Weights.{gap_count}
+use Rattle.trac_rules.proofs.Cutting.{extent-append}
 use Rattle.trac_forms.proofs.Segments.{gap_count-append, gaps_more}
 
 -- a byte is no gap
@@ -46,6 +48,21 @@ no_gap_at [] i d l none = let past : ⊥ = omega (arith, l) in absurd past
 no_gap_at (Gap k w ∷ items) i d l none = let one : ⊥ = omega (arith, none) in absurd one
 no_gap_at (Byte b ∷ items) zero d l none = refl
 no_gap_at (Byte b ∷ items) (suc i) d l none = no_gap_at items i d (omega (arith, l)) none
+
+-- a run's items are its bytes
+pub run_items : (run : List Item) → gap_count run ≡ 0 → as_items (bytes_in run) ≡ run
+run_items [] h = refl
+run_items (Byte b ∷ run) h = ap (λ (xs : List Item). Byte b ∷ xs) (run_items run h)
+run_items (Gap k w ∷ run) h = let none : ⊥ = omega (arith, h) in absurd none
+
+-- items have no more bytes than they stand for
+bytes_within : (items : List Item) → length (bytes_in items) ≤ extent items
+bytes_within [] = omega arith
+bytes_within (Byte b ∷ items) = omega (arith, bytes_within items)
+bytes_within (Gap k w ∷ items) = omega (arith, bytes_within items)
+
+pub run_within : (items run after : List Item) → items ≡ run ++ after → length (bytes_in run) + extent after ≤ extent items
+run_within items run after seam = omega (arith, bytes_within run, extent-append run after, ap extent seam)
 
 -- what a run gives in a call are its bytes, whatever the texts are
 pub run_filled : (texts : List (List ℕ)) (run : List Item) → gap_count run ≡ 0 → all_filled texts run ≡ bytes_in run

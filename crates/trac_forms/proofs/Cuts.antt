@@ -1,15 +1,19 @@
--- What a search for a text in a run says of the run's parts, and how items are cut one by one.
-use Rattle.std.proofs.Common.{◌≡◌, ℕ, ◌+◌, ◌<◌, ◌≤◌, List, [], ◌∷◌, ◌++◌, length, take, drop, get_or, refl, sym, ap, subst, ◌∙◌, arith, ⊎_elim}
+-- What a search for a text in a run says of the run's parts, and how items are cut run by run.
+use Rattle.std.proofs.Common.{◌≡◌, ℕ, ◌+◌, ◌<◌, ◌≤◌, true, List, [], ◌∷◌, ◌++◌, length, take, drop, get_or, sym, ap, subst, ◌∙◌, arith, ⊎_elim}
 use Rattle.std.specs.Prelude.{None, Some}
-use Rattle.std.proofs.lemmas.Bool.{cases_lt}
+use Rattle.std.proofs.lemmas.Bool.{cases_lt, false≢true}
 use Rattle.std.proofs.lemmas.List.{append_assoc, append-nil, drop_more, take-append-drop, length-append, length-take-le, get_or-append-add, get_or_append_left}
 use Rattle.std.proofs.lemmas.List.Prefix.{at_from_reads}
 use Rattle.memchr.specs.Find.{OccursAt, FindsNeedle}
 use Rattle.trac_rules.specs.declared.item.Item.{Item}
 use Rattle.trac_rules.specs.declared.item.Item.TheVariants.{Byte, Gap}
+use Rattle.trac_rules.specs.Cuts.{begins_with_gap}
 use Rattle.trac_rules.specs.Form.{as_items}
+use Rattle.trac_rules.specs.Pieces.{bytes_in}
 use Rattle.trac_rules.specs.Segmenting.{part, cut_out, segmented_from}
+use Rattle.trac_rules.specs.Weights.{gap_count}
 use Rattle.trac_rules.proofs.Cutting.{part_found, part_without, cut_out_gap, cut_out_last}
+use Rattle.trac_forms.proofs.ByteRuns.{run_items}
 
 -- ---- a run
 
@@ -58,29 +62,32 @@ cut_more k text rest place done fronted new back some h f n b =
     ∙ append_assoc done (as_items (take place rest)) (Gap k (length text) ∷ part k text (drop (place + length text) rest))
     ∙ ap (λ (xs : List Item). done ++ xs) (sym (part_some k text rest place some h))
 
--- ---- items: what is cut so far, the run that is read so far, and the items that are left
+-- ---- items: what is cut so far, and the items that are left, which begin with a run
 
--- a gap, which ends the run
-pub gap_read : (k : ℕ) (text run : List ℕ) (done left all : List Item) (gap : Item) (rest cut new : List Item) → left ≡ gap ∷ rest → ((b : ℕ) → gap ≡ Byte b → ⊥) →
-    cut ≡ done ++ part k text run → new ≡ cut ++ gap ∷ [] →
-    done ++ cut_out k text (as_items run ++ left) ≡ all → new ++ cut_out k text rest ≡ all
-gap_read k text run done left all (Byte b) rest cut new e other c n so_far = absurd (other b refl)
-gap_read k text run done left all (Gap ordinal width) rest cut new e other c n so_far =
-    ap (λ (xs : List Item). xs ++ cut_out k text rest) (n ∙ ap (λ (xs : List Item). xs ++ Gap ordinal width ∷ []) c)
-    ∙ append_assoc (done ++ part k text run) (Gap ordinal width ∷ []) (cut_out k text rest)
-    ∙ append_assoc done (part k text run) (Gap ordinal width ∷ cut_out k text rest)
-    ∙ ap (λ (xs : List Item). done ++ xs) (sym (cut_out_gap k ordinal width text run rest))
-    ∙ ap (λ (xs : List Item). done ++ cut_out k text (as_items run ++ xs)) (sym e)
-    ∙ so_far
+module _ (k : ℕ) (text : List ℕ) (items run after : List Item) (seam : items ≡ run ++ after) (bytes : gap_count run ≡ 0) (done cut all : List Item)
+    (c : cut ≡ done ++ part k text (bytes_in run)) (so_far : done ++ cut_out k text items ≡ all) where
+  as_bytes : done ++ cut_out k text (as_items (bytes_in run) ++ after) ≡ all
+  as_bytes = ap (λ (xs : List Item). done ++ cut_out k text (xs ++ after)) (run_items run bytes) ∙ ap (λ (xs : List Item). done ++ cut_out k text xs) (sym seam) ∙ so_far
 
--- the end, which ends the last run
-pub all_read : (k : ℕ) (text run : List ℕ) (done left all cut : List Item) → left ≡ [] → cut ≡ done ++ part k text run → done ++ cut_out k text (as_items run ++ left) ≡ all → cut ≡ all
-all_read k text run done left all cut e c so_far =
-    c
-    ∙ ap (λ (xs : List Item). done ++ xs) (sym (cut_out_last k text run))
-    ∙ ap (λ (xs : List Item). done ++ cut_out k text xs) (sym (append-nil (as_items run)))
-    ∙ ap (λ (xs : List Item). done ++ cut_out k text (as_items run ++ xs)) (sym e)
-    ∙ so_far
+  -- a gap ends the run
+  pub gap_read : (gap : Item) (rest new : List Item) → after ≡ gap ∷ rest → begins_with_gap after ≡ true → new ≡ cut ++ gap ∷ [] → new ++ cut_out k text rest ≡ all
+  gap_read (Byte b) rest new e here n = absurd (false≢true (sym (ap begins_with_gap e) ∙ here))
+  gap_read (Gap ordinal width) rest new e here n =
+      ap (λ (xs : List Item). xs ++ cut_out k text rest) (n ∙ ap (λ (xs : List Item). xs ++ Gap ordinal width ∷ []) c)
+      ∙ append_assoc (done ++ part k text (bytes_in run)) (Gap ordinal width ∷ []) (cut_out k text rest)
+      ∙ append_assoc done (part k text (bytes_in run)) (Gap ordinal width ∷ cut_out k text rest)
+      ∙ ap (λ (xs : List Item). done ++ xs) (sym (cut_out_gap k ordinal width text (bytes_in run) rest))
+      ∙ ap (λ (xs : List Item). done ++ cut_out k text (as_items (bytes_in run) ++ xs)) (sym e)
+      ∙ as_bytes
+
+  -- the end ends the last run
+  pub all_read : after ≡ [] → cut ≡ all
+  all_read e =
+      c
+      ∙ ap (λ (xs : List Item). done ++ xs) (sym (cut_out_last k text (bytes_in run)))
+      ∙ ap (λ (xs : List Item). done ++ cut_out k text xs) (sym (append-nil (as_items (bytes_in run))))
+      ∙ ap (λ (xs : List Item). done ++ cut_out k text (as_items (bytes_in run) ++ xs)) (sym e)
+      ∙ as_bytes
 
 -- ---- texts
 

@@ -7,7 +7,7 @@ use Rattle.std.specs.FinSet as set
 use Rattle.std.specs.List.{list_any, IsDistinct, AllByRecursion}
 use Rattle.std.specs.List.Sorted.{IsPermutation}
 use Rattle.std.specs.Map.Calls.{RetainsPairs}
-use Rattle.std.specs.Map.{keys_of, lookup, lookup_key, set_value, values_of}
+use Rattle.std.specs.Map.{keys_of, lookup, set_value, values_of}
 use Rattle.std.specs.Option.{option_flatten}
 use Rattle.std.specs.Ordering.{nat_cmp, eq_by_cmp}
 use Rattle.std.specs.Str.{bytes_eq}
@@ -16,7 +16,7 @@ use Rattle.std.proofs.lemmas.List.Sorted.{IsPermutation-map, IsPermutation-refl,
 use Rattle.std.proofs.lemmas.Map.{lookup-set_value, keys-set_value}
 use Rattle.std.proofs.lemmas.Map.Entries.{lookup-filter-values, option_filter}
 use Rattle.std.proofs.lemmas.Map.Keys.{IsDistinct-head, IsDistinct-tail}
-use Rattle.std.proofs.lemmas.Map.Made.{is_some-lookup, lookup_key_passes}
+use Rattle.std.proofs.lemmas.Map.Made.{is_some-lookup}
 use Rattle.std.proofs.lemmas.Map.Text.{is_eq-slice_cmp}
 use Rattle.std.proofs.lemmas.Slice.Eq.{bytes_eq-Decides}
 use Rattle.indexmap.specs.IndexMap.{set_value_at}
@@ -419,10 +419,6 @@ module _ {K : Type 0} (name : K → List ℕ) (es : List (K × Option Form)) (bs
 pub none_of_false : {X : Type 0} (o : Option X) → is_some o ≡ false → o ≡ None
 none_of_false None h = refl
 none_of_false (Some x) h = absurd (cc)
-
--- the key that a look-up finds is the name
-pub key_found : {X : Type 0} (es : List (List ℕ × X)) (q key : List ℕ) → Some key ≡ lookup_key (λ k. bytes_eq q k) es → key ≡ q
-key_found es q key found = sym ((bytes_eq-Decides q key).0 (lookup_key_passes (λ k. bytes_eq q k) es key (sym found)))
 
 -- what follows holds where nothing is there, and what holds anyway holds where something is
 pub if_none : {R : Type 0} (P Q : Type 0) (o : Option R) → (P → Q) → IfNone o P → IfNone o Q

@@ -1,6 +1,7 @@
 //! Runs of bytes among items, many at a time.
-ghost use Rattle.std.specs.Prelude.{◌≡◌, ◌+◌, ◌++◌, ◌≤◌, false, length, take, vec_capacity, vec_len};
+ghost use Rattle.std.specs.Prelude.{◌≡◌, ◌+◌, ◌++◌, ◌<◌, ◌≤◌, false, true, drop, length, take, vec_capacity, vec_len};
 ghost use Rattle.trac_gap.specs.Ends.{item_count};
+ghost use Rattle.trac_rules.specs.Cuts.{begins_with_gap};
 ghost use Rattle.trac_rules.specs.Form.{as_items};
 ghost use Rattle.trac_rules.specs.Pieces.{bytes_in};
 ghost use Rattle.trac_rules.specs.Weights.{gap_count};
@@ -22,6 +23,7 @@ const CHUNK: usize = 32;
 pub(crate) fn run_len(items: &[PackedItem]) -> usize
     ensures within { result ≤ length items.now }
     ensures bytes { gap_count (take result items.now) ≡ 0 }
+    ensures gap { result < length items.now → begins_with_gap (drop result items.now) ≡ true }
 {
     let mut run = 0;
     'groups: while GROUP <= items.len() - run {
@@ -35,7 +37,7 @@ pub(crate) fn run_len(items: &[PackedItem]) -> usize
     }
     'items: while run < items.len() {
         if items[run].is_gap() {
-            break;
+            return run;
         }
         run += 1;
     }

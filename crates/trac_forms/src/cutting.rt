@@ -4,6 +4,7 @@ ghost use Rattle.std.specs.List.{All};
 ghost use Rattle.trac_rules.specs.Form.{IsWide, all_items, as_items, extent};
 ghost use Rattle.trac_rules.specs.Segmenting.{cut_out, part, segmented_from};
 
+use crate::byte_runs::{run_into, run_len};
 use crate::error::FormError;
 use crate::form::Form;
 use crate::packed::PackedItem;
@@ -95,16 +96,19 @@ fn cut_into<A: Allocator>(
     ensures err { IsOkUnless result FormError.Memory }
 {
     let finder = Finder::new(text);
-    for item in items {
-        if let Item::Byte(b) = item.item() {
-            push_item(b, run)?;
-            continue;
-        }
+    let mut rest = items;
+    'runs: loop {
+        let (bytes, after) = rest.split_at(run_len(rest));
+        run.reserve(bytes.len())?;
+        run_into(bytes, run);
         part_into(number, text, &finder, run.as_slice(), out)?;
         end_run(run);
-        push_item(*item, out)?;
+        let Some((gap, after)) = after.split_first() else {
+            return Ok(());
+        };
+        push_item(*gap, out)?;
+        rest = after;
     }
-    part_into(number, text, &finder, run.as_slice(), out)
 }
 
 // Ends a run of bytes at a gap: what comes after it is searched by itself.
@@ -146,8 +150,9 @@ fn bytes_into<A: Allocator>(bytes: &[u8], out: &mut Vec<PackedItem, A>) -> Resul
     ensures ok { OnOk result (out.new.items ≡ out.old.items ++ as_items bytes.now) }
     ensures err { IsOkUnless result FormError.Memory }
 {
+    out.reserve(bytes.len())?;
     for b in bytes {
-        push_item(PackedItem::from_byte(*b), out)?;
+        out.push_reserved(PackedItem::from_byte(*b));
     }
     Ok(())
 }
