@@ -1,6 +1,6 @@
 -- The calls on the way of a byte, over the steps of a leg.
-use Rattle.std.proofs.Common.{◌≡◌, ℕ, zero, suc, ◌+◌, Bool, true, false, List, [], ◌∷◌, ◌++◌, length, take, refl, sym, ap, ap₂, subst, ◌∙◌, arith}
-use Rattle.std.proofs.lemmas.Bool.{cond-true, cond-false}
+use Rattle.std.proofs.Common.{◌≡◌, ℕ, zero, suc, ◌+◌, List, [], ◌∷◌, ◌++◌, length, take, refl, sym, ap, ap₂, subst, ◌∙◌, arith}
+use Rattle.std.proofs.lemmas.Bool.{cond-true, cond-false, false_from_ne_true}
 use Rattle.trac_rules.specs.State.{Environment, State}
 use Rattle.trac_origins.specs.Following.{Followed, followed, going_back, state_back}
 use Rattle.trac_origins.specs.Places.{Place, Origin, Carried, Read, Made}
@@ -9,11 +9,6 @@ use Rattle.trac_follow.specs.Passing.{IsUnpassed, Passing, UnpassedBy, passed_by
 use Rattle.trac_follow.specs.Places.{IsPassed, is_passed}
 use Rattle.trac_follow.specs.Tracing.{ToldAll}
 use Rattle.trac_follow.proofs.StepsBack.{followed_on}
-
--- a test that is not passed fails
-keeps : (b : Bool) → (b ≡ true → ⊥) → b ≡ false
-keeps true unset = absurd (unset refl)
-keeps false unset = refl
 
 -- ---- steps that pass nothing on
 
@@ -30,7 +25,7 @@ quiet environment (s ∷ pre) post k from place here e unpassed = go (origin env
         passings environment (pre ++ post) (k + 1) from r ≡ passings environment post (k + 1 + length pre) from here) →
         passed_by s (k + 1) from place o (λ next r. passings environment (pre ++ post) (k + 1) next r) ≡ passings environment post (k + length (s ∷ pre)) from here
     go (Carried r) h less further =
-        cond-false (is_passed s place r) (record { state = s; steps = k + 1; from = from } ∷ passings environment (pre ++ post) (k + 1) r r) (passings environment (pre ++ post) (k + 1) from r) (keeps (is_passed s place r) less.0)
+        cond-false (is_passed s place r) (record { state = s; steps = k + 1; from = from } ∷ passings environment (pre ++ post) (k + 1) r r) (passings environment (pre ++ post) (k + 1) from r) (false_from_ne_true (is_passed s place r) less.0)
         ∙ further r h less.1
         ∙ ap (λ n. passings environment post n from here) (omega arith)
     go other h less further = absurd (cc)
@@ -54,7 +49,7 @@ silent environment (u ∷ pre) s k from place o e unpassed = go (origin environm
         let count : suc (followed environment (pre ++ s ∷ []) r).carried ≡ suc (length pre) = ap (λ (f : Followed). f.carried) h in
         let here : (followed environment (pre ++ s ∷ []) r).origin ≡ o = ap (λ (f : Followed). f.origin) h in
         let same : followed environment (pre ++ s ∷ []) r ≡ record { carried = length pre; origin = o } = ap₂ (λ n p. let f : Followed = record { carried = n; origin = p } in f) (omega (arith, count)) here in
-        cond-false (is_passed u place r) (record { state = u; steps = k + 1; from = from } ∷ passings environment (pre ++ s ∷ []) (k + 1) r r) (passings environment (pre ++ s ∷ []) (k + 1) from r) (keeps (is_passed u place r) less.0)
+        cond-false (is_passed u place r) (record { state = u; steps = k + 1; from = from } ∷ passings environment (pre ++ s ∷ []) (k + 1) r r) (passings environment (pre ++ s ∷ []) (k + 1) from r) (false_from_ne_true (is_passed u place r) less.0)
         ∙ further r same less.1
     go other h less further = absurd (let n : 0 ≡ suc (length pre) = ap (λ (f : Followed). f.carried) h in omega (arith, n))
 

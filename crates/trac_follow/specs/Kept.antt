@@ -2,6 +2,7 @@
 use Rattle.std.specs.Prelude.{ℕ, ◌<◌, List, length}
 use Rattle.std.specs.Arc.{arc_slice_items}
 use Rattle.trac_origins.specs.Places.{Place, InActive, InBase, InArgument, InForm, InHeld, InOutput}
+use Rattle.trac_follow.specs.declared.kept.TheConstants.{SHORT_NAME}
 use Rattle.trac_follow.specs.declared.kept.KeptName as names
 use Rattle.trac_follow.specs.declared.kept.Nameless as kept
 
@@ -22,6 +23,6 @@ named (kept.TheVariants.Output i) name = InOutput i
 
 -- a place is in a form that has a name of more than 256 bytes
 abbrev pub IsLong : Place → Type 0
-IsLong (InForm name i) = 256 < length name
-IsLong (InHeld number name i) = 256 < length name
+IsLong (InForm name i) = SHORT_NAME < length name
+IsLong (InHeld number name i) = SHORT_NAME < length name
 IsLong place = ⊥

@@ -26,7 +26,8 @@ place_of (code_place.TheVariants.Form name i) = InForm name.now i
 place_of (code_place.TheVariants.Held number name i) = InHeld number name.now i
 place_of (code_place.TheVariants.Output i) = InOutput i
 
--- whether a step calls the function of this number, the innermost, where so many are begun
+-- whether a step that scans this performs a call, and that of the function of this number. It performs that of the innermost function,
+-- which of so many begun ones is the last
 abbrev pub calls : ℕ → ℕ → Scanned → Bool
 calls function depth (Calls call) = function + 1 == depth
 calls function depth other = false
@@ -40,15 +41,16 @@ abbrev pub is_in_storage : Place → Bool
 is_in_storage (InHeld number name i) = true
 is_in_storage place = is_in_form place
 
--- of a byte that the step from a state carried here from there, whether a reader of the call wants to see that: it was from an argument of
--- the call, into a form from a block, or out of a form
+-- The step from a state carried a byte here from there. Whether its call passed the byte on, and did not just leave it where it was, or
+-- move it with the text around it: from an argument of that call to wherever it is now; from a block into a form; or out of a form, as into
+-- its value, the output or a block
 abbrev pub is_passed : State → Place → Place → Bool
 is_passed s here (InArgument function argument byte) = calls function (length s.frames) (scan s)
 is_passed s here (InHeld number name i) = is_in_form here
 is_passed s here (InForm name i) = not (is_in_form here)
 is_passed s here there = false
 
--- that is so: the step passed the byte on
+-- it passed the byte on
 abbrev pub IsPassed : State → Place → Place → Type 0
 IsPassed s here there = is_passed s here there ≡ true
 

@@ -1,15 +1,15 @@
 -- A byte that was followed back to where it comes from, in the words of `trac_origins`.
-use Rattle.std.specs.Prelude.{◌≡◌, ◌⊎◌, ℕ, ◌-◌, ◌<◌, List, [], ◌∷◌, ◌++◌, take}
+use Rattle.std.specs.Prelude.{◌≡◌, ◌⊎◌, ℕ, List, [], ◌∷◌, ◌++◌, take}
 use Rattle.trac_rules.specs.Effect.{argument}
 use Rattle.trac_rules.specs.Scanning.{Call, Calls, scan}
 use Rattle.trac_rules.specs.Session.{PlainSession, over}
 use Rattle.trac_rules.specs.State.{State}
-use Rattle.trac_origins.specs.Places.{Place, InForm, Carried, Read, Made}
+use Rattle.trac_origins.specs.Places.{Place, InForm, Carried}
 use Rattle.trac_follow.specs.declared.history.Source as code
 use Rattle.trac_follow.specs.declared.tracing.End as ends
 use Rattle.trac_follow.specs.declared.tracing.Onward as onwards
 use Rattle.trac_follow.specs.declared.tracing.Traced.{Traced}
-use Rattle.trac_follow.specs.Following.{IsOrigin}
+use Rattle.trac_follow.specs.Following.{IsOrigin, IsSource}
 use Rattle.trac_follow.specs.Kept.{IsLong}
 use Rattle.trac_follow.specs.Passing.{Passing, passings}
 use Rattle.trac_follow.specs.Places.{IsBare, place_of}
@@ -22,10 +22,10 @@ AllCarried old place steps = (q : Place) × IsOrigin old place steps steps (Carr
 -- made it, and the others carried it; or all carried it, from a form whose name of more than 256 bytes could not be kept, or to a call of
 -- which the witness refused to be told
 abbrev pub IsEnd : PlainSession → Place → ℕ → PlainSession → ℕ → ends.End → Type 0
-IsEnd old place most new steps ends.TheVariants.Nothing = (steps ≡ 0) × IsBare old.last place
+IsEnd old place most new steps ends.TheVariants.Nothing = IsSource old place most new steps code.TheVariants.Nothing
 IsEnd old place most new steps ends.TheVariants.Earlier = AllCarried old place steps × ((steps ≡ most) ⊎ (new.earlier ≡ []))
-IsEnd old place most new steps (ends.TheVariants.Read n) = (0 < steps) × IsOrigin old place steps (steps - 1) (Read n)
-IsEnd old place most new steps ends.TheVariants.Made = (0 < steps) × IsOrigin old place steps (steps - 1) Made
+IsEnd old place most new steps (ends.TheVariants.Read n) = IsSource old place most new steps (code.TheVariants.Read n)
+IsEnd old place most new steps ends.TheVariants.Made = IsSource old place most new steps code.TheVariants.Made
 IsEnd old place most new steps ends.TheVariants.Unkept = (q : Place) × IsOrigin old place steps steps (Carried q) × IsLong q
 IsEnd old place most new steps ends.TheVariants.Untold = AllCarried old place steps
 

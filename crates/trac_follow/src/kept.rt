@@ -1,5 +1,6 @@
 //! A place that keeps the name of its form.
 ghost use Rattle.std.specs.Prelude.{◌≡◌, ◌<◌, length, IfNone, IfSome};
+ghost use Rattle.trac_follow.specs.declared.kept.TheConstants.{SHORT_NAME};
 ghost use Rattle.trac_follow.specs.Kept.{IsLong, name_in, named};
 ghost use Rattle.trac_follow.specs.Places.{place_of};
 
@@ -9,6 +10,10 @@ use std::alloc::Allocator;
 use std::marker::Model;
 use std::sync::ArcSlice;
 use trac_forms::Store;
+
+/// A name of up to so many bytes is copied where it is kept, and a longer one is shared (this project's profile). The store shares
+/// those of more than 256 bytes alone: so this may not be less.
+pub(crate) const SHORT_NAME: usize = 256;
 
 /// A place without the name of its form.
 #[derive(Clone, Copy)]
@@ -21,12 +26,14 @@ pub(crate) enum Nameless {
     Output(usize),
 }
 
-/// A name of a form, which takes no memory: it is lent for as long as a byte is followed, or stands here where it has up to 256
-/// bytes, or is owned together with the store.
+/// A name of a form. To keep it takes no memory.
+///
+/// `Lent`: that of the place that was asked for, which whoever asks lends for as long as the byte is followed; or the empty name.
+/// `Short`: a copy, which stands here. `Shared`: a longer name, which this and the store own both.
 #[derive(Drop)]
 pub(crate) enum KeptName<'n, A: Allocator + Copy> {
     Lent(&'n [u8]),
-    Short(ArrayVec<u8, 256>),
+    Short(ArrayVec<u8, SHORT_NAME>),
     Shared(ArcSlice<u8, A>),
 }
 
@@ -52,7 +59,7 @@ impl<'n, A: Allocator + Copy> KeptName<'n, A> {
     // This name. `None` where it has more than 256 bytes, and the store does not know it or no more owners of it can be counted.
     fn of(store: &Store<A>, name: &[u8]) -> Option<Self>
         ensures same { IfSome result (λ kept. name_in kept ≡ name.now) }
-        ensures long { IfNone result (256 < length name.now) }
+        ensures long { IfNone result (SHORT_NAME < length name.now) }
     {
         let mut short = ArrayVec::new();
         match short.try_extend_from_slice(name) {
@@ -93,7 +100,8 @@ impl<'n, A: Allocator + Copy> Kept<'n, A> {
         ensures long { IfNone result (IsLong (place_of place.entry)) }
     {
         let (spot, name) = parts(place);
-        // In no form, as a rule: then no room for a name has to be moved.
+        // Most places are in no form, and have an empty name. So has a form that is named by the empty text. To lend that moves no
+        // room for a short name.
         if name.is_empty() {
             let name = KeptName::Lent(&[]);
             return Some(Kept { spot, name });
@@ -113,7 +121,7 @@ impl<'n, A: Allocator + Copy> Kept<'n, A> {
 // A place without its name, and that.
 fn parts<'a>(place: Place<'a>) -> (Nameless, &'a [u8])
     ensures parts { named result.0 result.1.now ≡ place_of place.entry }
-    ensures long { 256 < length result.1.now → IsLong (place_of place.entry) }
+    ensures long { SHORT_NAME < length result.1.now → IsLong (place_of place.entry) }
 {
     match place {
         Place::Active(i) => (Nameless::Active(i), &[]),

@@ -26,7 +26,8 @@ pub trait Witness<A: Allocator + Copy> {
 
     /// Told of a call that passed the byte on, the latest first: the machine performs it next, so many steps before the state in
     /// which it is traced. The byte is followed back there from this place: the one that is asked for, and later the one from
-    /// which the call that was told of last had it. The error is that memory was refused, which ends the trace.
+    /// which the call that was told of last had it. The error is that the witness refuses to be told, for any reason of its own; it
+    /// ends the trace.
     fn passed(
         &mut self,
         machine: &Machine<A>,
@@ -65,10 +66,10 @@ pub struct Traced {
 
 /// Goes back over up to `most` steps, as long as these carried the byte at a place, or the item of a form, however they did:
 /// until one made or read it. The width of the session's numbers has to be given. A witness is told of each call that passed it
-/// on, as `follow` stops at it, and of no other. It takes no memory but what the witness takes: a name of a form is kept in the frame
-/// of `trace`, or, where it has more than 256 bytes, owned together with the store. Where it cannot be kept, or the witness refuses,
-/// that is returned, and the session stays where it has come to. It says that nothing is there only where nothing stands at the
-/// place (this project's profile).
+/// on, as `follow` stops at it, and of no other. It takes no memory but what the witness takes: the name of a form on the way is
+/// copied into the frame of `trace`, or, where it has more than 256 bytes, shared: `trace` and the store own it both. Where it
+/// cannot be kept, or the witness refuses, that is returned, and the session stays where it has come to. It says that nothing is
+/// there only where nothing stands at the place (this project's profile).
 pub fn trace<A: Allocator + Copy, W: Witness<A>>(
     session: &mut Session<A>,
     width: Width,
@@ -161,14 +162,12 @@ fn further<'n, A: Allocator + Copy>(machine: &Machine<A>, from: Onward<'_>) -> O
     }
 }
 
-// This item of the form that the call which comes next names.
+// This item of the form that the call which comes next names. A call took the item out of a form, so one comes next; `None` is
+// returned for the name alone, as by `further`.
 fn item_called<'n, A: Allocator + Copy>(machine: &Machine<A>, item: usize) -> Option<Kept<'n, A>>
     ensures leads { IfSome result (λ kept. LeadsTo machine.now.state (OfForm item) kept) }
     ensures long { IfNone result (LeadsToLong machine.now.state (OfForm item)) }
 {
-    match machine.next_call() {
-        Some((_, arguments)) => Kept::of(machine.store(), Place::Form(arguments.get(1), item)),
-        // A call took the item out of a form: so one comes next.
-        None => Some(Kept::lent(Place::Output(0))),
-    }
+    let (_, arguments) = machine.next_call()?;
+    Kept::of(machine.store(), Place::Form(arguments.get(1), item))
 }
