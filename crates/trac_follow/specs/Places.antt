@@ -26,8 +26,7 @@ place_of (code_place.TheVariants.Form name i) = InForm name.now i
 place_of (code_place.TheVariants.Held number name i) = InHeld number name.now i
 place_of (code_place.TheVariants.Output i) = InOutput i
 
--- whether a step that scans this performs a call, and that of the function of this number. It performs that of the innermost function,
--- which of so many begun ones is the last
+-- whether a step that scans this performs the call of the function of this number, the innermost of so many
 abbrev pub calls : ℕ → ℕ → Scanned → Bool
 calls function depth (Calls call) = function + 1 == depth
 calls function depth other = false

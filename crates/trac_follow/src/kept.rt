@@ -28,8 +28,8 @@ pub(crate) enum Nameless {
 
 /// A name of a form. To keep it takes no memory.
 ///
-/// `Lent`: that of the place that was asked for, which whoever asks lends for as long as the byte is followed; or the empty name.
-/// `Short`: a copy, which stands here. `Shared`: a longer name, which this and the store own both.
+/// `Lent`: that of the place where the trace begins, which the caller lends; or the empty name. `Short`: a copy, which stands here.
+/// `Shared`: a longer name, which this and the store both own.
 #[derive(Drop)]
 pub(crate) enum KeptName<'n, A: Allocator + Copy> {
     Lent(&'n [u8]),

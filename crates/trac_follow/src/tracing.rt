@@ -25,7 +25,7 @@ pub trait Witness<A: Allocator + Copy> {
     ghost refuses: { Self → Passing → Self → Type 0 } = { λ _ _ _. ⊤ };
 
     /// Told of a call that passed the byte on, the latest first: the machine performs it next, so many steps before the state in
-    /// which it is traced. The byte is followed back there from this place: the one that is asked for, and later the one from
+    /// which it is traced. The byte is followed back there from this place: the one where the trace begins, and later the one from
     /// which the call that was told of last had it. The error is that the witness refuses to be told, for any reason of its own; it
     /// ends the trace.
     fn passed(
@@ -67,7 +67,7 @@ pub struct Traced {
 /// Goes back over up to `most` steps, as long as these carried the byte at a place, or the item of a form, however they did:
 /// until one made or read it. The width of the session's numbers has to be given. A witness is told of each call that passed it
 /// on, as `follow` stops at it, and of no other. It takes no memory but what the witness takes: the name of a form on the way is
-/// copied into the frame of `trace`, or, where it has more than 256 bytes, shared: `trace` and the store own it both. Where it
+/// copied into the frame of `trace`, or, where it has more than 256 bytes, shared: `trace` and the store both own it. Where it
 /// cannot be kept, or the witness refuses, that is returned, and the session stays where it has come to. It says that nothing is
 /// there only where nothing stands at the place (this project's profile).
 pub fn trace<A: Allocator + Copy, W: Witness<A>>(
@@ -162,8 +162,8 @@ fn further<'n, A: Allocator + Copy>(machine: &Machine<A>, from: Onward<'_>) -> O
     }
 }
 
-// This item of the form that the call which comes next names. A call took the item out of a form, so one comes next; `None` is
-// returned for the name alone, as by `further`.
+// This item of the form that the call which comes next names. A call took the item out of a form, so one comes next: so `None`
+// says that the name cannot be kept, as by `further`.
 fn item_called<'n, A: Allocator + Copy>(machine: &Machine<A>, item: usize) -> Option<Kept<'n, A>>
     ensures leads { IfSome result (λ kept. LeadsTo machine.now.state (OfForm item) kept) }
     ensures long { IfNone result (LeadsToLong machine.now.state (OfForm item)) }

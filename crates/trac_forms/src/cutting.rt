@@ -39,7 +39,7 @@ impl<A: Allocator + Copy> Form<A> {
     {
         let after = self.after();
         let mut items = Vec::from_slice(self.alloc, self.before())?;
-        bytes_into(after.text, &mut items)?;
+        packed_into(after.text, &mut items)?;
         items.extend_from_slice(after.items)?;
         Ok(items)
     }
@@ -134,7 +134,7 @@ fn part_into<A: Allocator>(
 {
     let mut rest = run;
     'occurrences: while let Some(place) = finder.find(rest) {
-        bytes_into(rest.split_at(place).0, out)?;
+        packed_into(rest.split_at(place).0, out)?;
         let gap = PackedItem::new(Item::Gap {
             ordinal: number,
             width: text.len() as u32,
@@ -142,11 +142,11 @@ fn part_into<A: Allocator>(
         push_item(gap, out)?;
         rest = rest.split_at(place + text.len()).1;
     }
-    bytes_into(rest, out)
+    packed_into(rest, out)
 }
 
 // Puts bytes at the end of `out`.
-fn bytes_into<A: Allocator>(bytes: &[u8], out: &mut Vec<PackedItem, A>) -> Result<(), FormError>
+fn packed_into<A: Allocator>(bytes: &[u8], out: &mut Vec<PackedItem, A>) -> Result<(), FormError>
     ensures ok { OnOk result (out.new.items ≡ out.old.items ++ as_items bytes.now) }
     ensures err { IsOkUnless result FormError.Memory }
 {

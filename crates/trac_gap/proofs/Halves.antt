@@ -5,7 +5,7 @@ use Rattle.std.proofs.Math.Seq.{length-take-le, take-add, take-suc, take-suc-set
 use Rattle.trac_gap.specs.declared.gap_buf.GapBuf.TheInside.{Inside}
 use Rattle.trac_gap.specs.declared.slots.Slots.{Slots}
 use Rattle.trac_gap.specs.Ends.{item_count}
-use Rattle.trac_gap.specs.GapBuf.{block_ends, IsBlock}
+use Rattle.trac_gap.specs.GapBuf.{buffer_ends, IsLaidOut}
 use Rattle.trac_gap.specs.Slots.{items_of, IsFull, IsShifted, run, pasted}
 use Rattle.trac_gap.proofs.Full.{items_of-map, IsFull-map, length-items_of, full_both, IsFull-take, IsFull-drop, items_of-take, items_of-drop, some_at}
 use Rattle.trac_gap.proofs.Pasted.{length-pasted, take-pasted, drop-pasted, take-pasted_before, drop-pasted_after}
@@ -25,7 +25,7 @@ module _ {T : Type 0} where
   before : (cs ds : List (Option T)) (xs : List T) → ds ≡ map Some xs ++ cs → IsFull cs → Holds ds (xs ++ items_of cs)
   before cs ds xs e full = let both = full_both (map Some xs) cs ds e (IsFull-map xs) full in (both.0, both.1 ∙ ap (λ ys. ys ++ items_of cs) (items_of-map xs))
 
-module _ {T A : Type 0} (b : Inside T A) (ok : IsBlock b) where
+module _ {T A : Type 0} (b : Inside T A) (ok : IsLaidOut b) where
   abbrev cs : List (Option T)
   cs = b.places.slots
 
@@ -43,7 +43,7 @@ module _ {T A : Type 0} (b : Inside T A) (ok : IsBlock b) where
 
   -- the block after a call: its invariant, and what callers see of it
   abbrev pub Becomes : Slots T → ℕ → ℕ → List T → List T → Type 0
-  Becomes p s e ls rs = let b' = record b { places = p; gap_start = s; gap_end = e } in IsBlock b' × (block_ends b' ≡ record { left = ls; right = rs; capacity = b.capacity })
+  Becomes p s e ls rs = let b' = record b { places = p; gap_start = s; gap_end = e } in IsLaidOut b' × (buffer_ends b' ≡ record { left = ls; right = rs; capacity = b.capacity })
 
   becomes : (p : Slots T) (s e : ℕ) (ls rs : List T) → p.at ≡ b.places.at → length p.slots ≡ length cs → s ≤ e → e ≤ b.capacity
       → Holds (take s p.slots) ls → Holds (drop e p.slots) rs → Becomes p s e ls rs
@@ -61,13 +61,13 @@ module _ {T A : Type 0} (b : Inside T A) (ok : IsBlock b) where
     λ i. record { left = hl.1 i; right = hr.1 i; capacity = b.capacity },
   )
 
-  gap_room : (n : ℕ) → item_count (block_ends b) + n ≤ b.capacity → b.gap_start + n ≤ b.gap_end
+  gap_room : (n : ℕ) → item_count (buffer_ends b) + n ≤ b.capacity → b.gap_start + n ≤ b.gap_end
   gap_room n h = omega (arith, left_count, right_count, ok.gap, ok.within)
 
   -- one item at either side
-  module _ (p : Slots T) (x : T) (at : p.at ≡ b.places.at) (room : item_count (block_ends b) < b.capacity) where
+  module _ (p : Slots T) (x : T) (at : p.at ≡ b.places.at) (room : item_count (buffer_ends b) < b.capacity) where
     free : b.gap_start < b.gap_end
-    free = let h : item_count (block_ends b) + 1 ≤ b.capacity = omega arith in let k = gap_room 1 h in omega arith
+    free = let h : item_count (buffer_ends b) + 1 ≤ b.capacity = omega arith in let k = gap_room 1 h in omega arith
 
     pub pushed_left : p.slots ≡ set cs b.gap_start (Some x) → Becomes p (b.gap_start + 1) b.gap_end (L ++ x ∷ []) R
     pushed_left e =
@@ -78,7 +78,7 @@ module _ {T A : Type 0} (b : Inside T A) (ok : IsBlock b) where
         (after (take b.gap_start cs) _ (x ∷ []) front ok.left_full) (same_row (drop b.gap_end cs) _ back ok.right_full)
 
   -- a run of items at either side
-  module _ (p : Slots T) (xs : List T) (at : p.at ≡ b.places.at) (room : item_count (block_ends b) + length xs ≤ b.capacity) where
+  module _ (p : Slots T) (xs : List T) (at : p.at ≡ b.places.at) (room : item_count (buffer_ends b) + length xs ≤ b.capacity) where
     abbrev ws : List (Option T)
     ws = map Some xs
 
@@ -139,7 +139,7 @@ module _ {T A : Type 0} (b : Inside T A) (ok : IsBlock b) where
         let front = take b.gap_start cs in let long = length-take-le b.gap_start cs (omega (arith, ok.gap, ok.within, ok.places_count)) in
         (omega (arith, ok.gap, ok.within, ok.places_count), subst IsSome (get_or-take b.gap_start cs last None (omega arith)) (some_at front last ok.left_full (omega (arith, long))))
 
-    pub popped_left : (x : T) → get_or cs last None ≡ Some x → IsBlock (record b { gap_start = last }) × (L ≡ items_of (take last cs) ++ x ∷ [])
+    pub popped_left : (x : T) → get_or cs last None ≡ Some x → IsLaidOut (record b { gap_start = last }) × (L ≡ items_of (take last cs) ++ x ∷ [])
     popped_left x is =
         let part = left_part last (omega arith) in
         let at : b.gap_start ≡ suc last = omega arith in

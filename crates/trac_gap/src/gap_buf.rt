@@ -9,11 +9,11 @@ use std::alloc::{AllocError, Allocator, Global};
 use std::marker::Model;
 use std_alloc::room::may_hold;
 
-/// Both lists lie in one block: the left list at its begin, and the right one at its end. The places from `gap_start` up to
+/// Both lists lie in one block: the left one at its start, and the right one at its end. The places from `gap_start` up to
 /// `gap_end` are the gap. What lies there is of no use, so pushing, popping and cutting move no other item.
 ///
-/// Before room is reserved there is no block: no places, and no lease. Only `drop` asks whether there is one, and each other
-/// call does the same with no places.
+/// Before room is reserved there is no block: no places, and no lease. `drop` and `copy` alone ask whether there is one; each
+/// other call does the same with no places.
 pub struct GapBuf<T: Copy, A: Allocator + Copy = Global> {
     start: BlockStart<T>,
     places: Slots<T>,
@@ -29,11 +29,11 @@ impl<T: Copy, A: Allocator + Copy> Model for GapBuf<T, A> {
 
     ghost Value = { Ends T };
 
-    ghost use Rattle.trac_gap.specs.GapBuf.{block_ends, IsBlock};
+    ghost use Rattle.trac_gap.specs.GapBuf.{buffer_ends, IsLaidOut};
 
-    ghost view = { block_ends };
+    ghost view = { buffer_ends };
 
-    ghost invariant = { IsBlock };
+    ghost invariant = { IsLaidOut };
 }
 
 impl<T: Copy, A: Allocator + Copy> Drop for GapBuf<T, A> {
@@ -225,6 +225,7 @@ impl<T: Copy, A: Allocator + Copy> TwoEnds<T, A> for GapBuf<T, A> {
     }
 
     fn copy(&self) -> Result<Self, GapError> {
+        // For no places nothing is requested.
         if self.capacity == 0 {
             return Ok(GapBuf::new(self.alloc));
         }

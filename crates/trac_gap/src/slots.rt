@@ -31,7 +31,7 @@ impl<T> Clone for BlockStart<T> {
 impl<T> Copy for BlockStart<T> {}
 
 /// The places of a block with the items in them. It takes no bytes: `BlockStart` has the pointer.
-/// Dropping places frees nothing. No block is lost so, since its lease cannot be dropped, and is given back with its places.
+/// Dropping places frees nothing. So no block is lost: a lease cannot be dropped, and `deallocate` takes it with its places.
 #[derive(Drop)]
 pub struct Slots<T> {
     mark: PhantomData<*const T>,
@@ -59,7 +59,8 @@ impl<T, A: Allocator> Model for Lease<T, A> {
     ghost also_shares = { λ _ _ _. ftrue };
 }
 
-/// No places. Takes no memory: the pointer is of no use, but not null.
+/// No places. Takes no memory: the pointer is that of an array without items, which is gone. It is aligned and not null, as a
+/// slice without items needs, and nothing is read there.
 pub(crate) fn no_places<T>() -> (BlockStart<T>, Slots<T>)
     ensures { (result.1.at ≡ result.0.ptr) × (result.1.slots ≡ []) }
 {

@@ -24,7 +24,6 @@ use std::marker::Model;
 use trac_change::Undone;
 use trac_gap::SlidingBuf;
 use trac_rules::refusal::Refusal;
-use trac_text::pieces::push_lengths;
 use trac_text::{Args, PiecesRef};
 
 /// What the records of a journal destroyed, but for what an entry holds: the calls with their arguments one after another, what
@@ -129,7 +128,7 @@ impl<A: Allocator + Copy> Lists<A> {
         self.calls
             .push_back_reserved(call_by(called, joined.len(), arguments.comma_count()));
         self.bytes.put(joined);
-        push_lengths(&mut self.commas, arguments);
+        arguments.put_lengths(&mut self.commas);
         keep_undone(undone, &mut self.undone)
     }
 

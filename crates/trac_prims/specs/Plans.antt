@@ -37,14 +37,14 @@ pub record HasPlace (now : Now) (value printed : List ℕ) : Type 0 where
   pub text : now.text + length value ≤ TEXT_LIMIT
   pub output : now.output + length printed ≤ OUTPUT_LIMIT
 
--- whether a primitive changes forms and does nothing else
-abbrev pub only_changes : FormAction → Bool
-only_changes Define = true
-only_changes Delete = true
-only_changes DeleteAll = true
-only_changes Segment = true
-only_changes Restore = true
-only_changes Call = false
-only_changes (Read reading) = false
-only_changes ListNames = false
-only_changes PrintForm = false
+-- whether a primitive changes forms, and does nothing else with them
+abbrev pub only_changes_forms : FormAction → Bool
+only_changes_forms Define = true
+only_changes_forms Delete = true
+only_changes_forms DeleteAll = true
+only_changes_forms Segment = true
+only_changes_forms Restore = true
+only_changes_forms Call = false
+only_changes_forms (Read reading) = false
+only_changes_forms ListNames = false
+only_changes_forms PrintForm = false

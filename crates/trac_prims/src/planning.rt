@@ -14,7 +14,7 @@ ghost use Rattle.trac_change.specs.Changes.{IsChangeOf};
 ghost use Rattle.trac_rules.specs.declared.width.Width.{Width};
 ghost use Rattle.trac_prims.specs.declared.effect.Made as made;
 ghost use Rattle.trac_prims.specs.Effects.{IsDone, done_on, nothing, planned_from, planned_on};
-ghost use Rattle.trac_prims.specs.Plans.{HasPlace, IsGiven, IsNow, fits_after, only_changes};
+ghost use Rattle.trac_prims.specs.Plans.{HasPlace, IsGiven, IsNow, fits_after, only_changes_forms};
 ghost use Rattle.trac_prims.specs.Tape.{environment_of};
 
 use crate::blocks::{erase_block, fetch_block, store_block};
@@ -155,13 +155,13 @@ fn perform<A: Allocator + Copy>(
         }),
         Primitive::Compute(computation) => compute(alloc, computation, args, now.width, made),
         Primitive::Handle(action) => handle(alloc, action, args, store, now.width, made, change),
-        Primitive::HandleBlock(action) => change_blocks(alloc, action, args, store, change),
+        Primitive::HandleBlock(action) => plan_block_change(alloc, action, args, store, change),
         Primitive::Unknown => Ok(Deed::nothing()),
     }
 }
 
-// What a primitive does with forms. It is no part of `perform`, nor are the two after it: a change takes 14 words, and a function
-// fills the places for all that it may plan where it begins.
+// What a primitive does with forms. A function clears room for all changes that it may plan where it begins: so this and the two
+// after it are compiled apart, and a call that plans none does not pay.
 #[inline(never)]
 fn handle<A: Allocator + Copy>(
     alloc: A,
@@ -186,22 +186,22 @@ fn handle<A: Allocator + Copy>(
         | FormAction::Delete
         | FormAction::DeleteAll
         | FormAction::Segment
-        | FormAction::Restore => change_forms(alloc, action, args, store, change),
+        | FormAction::Restore => plan_form_change(alloc, action, args, store, change),
     }
 }
 
-// What a primitive changes among the forms that does nothing else.
+// The change of a primitive that only changes forms.
 #[inline(never)]
-fn change_forms<A: Allocator + Copy>(
+fn plan_form_change<A: Allocator + Copy>(
     alloc: A,
     action: FormAction,
     args: &Args<'_>,
     store: &Store<A>,
     change: &mut Change<A>,
 ) -> Result<Deed, Refusal>
-    requires only { only_changes action ≡ true }
+    requires only { only_changes_forms action ≡ true }
     requires count { length args.now ≤ MARK_LIMIT }
-    ensures outcome { (width : Width) (made : made.Made A) → IsDone args.now (storage_in store.now) (handled action width args.now (storage_in store.now)) made made change.new result }
+    ensures outcome { (width : Width) (texts : made.Made A) → IsDone args.now (storage_in store.now) (handled action width args.now (storage_in store.now)) texts texts change.new result }
     ensures change { OnOk result (IsChangeOf (primitive.Handle action) args.now (storage_in store.now) change.new) }
 {
     match action {
@@ -215,16 +215,16 @@ fn change_forms<A: Allocator + Copy>(
     }
 }
 
-// What a primitive changes with blocks.
+// The change of a primitive that handles blocks.
 #[inline(never)]
-fn change_blocks<A: Allocator + Copy>(
+fn plan_block_change<A: Allocator + Copy>(
     alloc: A,
     action: BlockAction,
     args: &Args<'_>,
     store: &Store<A>,
     change: &mut Change<A>,
 ) -> Result<Deed, Refusal>
-    ensures outcome { (made : made.Made A) → IsDone args.now (storage_in store.now) (block_handled action args.now (storage_in store.now)) made made change.new result }
+    ensures outcome { (texts : made.Made A) → IsDone args.now (storage_in store.now) (block_handled action args.now (storage_in store.now)) texts texts change.new result }
     ensures change { OnOk result (IsChangeOf (primitive.HandleBlock action) args.now (storage_in store.now) change.new) }
 {
     match action {

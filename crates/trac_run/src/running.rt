@@ -20,8 +20,7 @@ pub use trac_streams::{BUDGET_LIMIT, DEFAULT_BUDGET, Options, READ_SIZE, budget_
 // 43 MiB of forms. A run never goes back, so it keeps them for nothing.
 const JOURNAL_WEIGHT: u64 = 64 * 1024 * 1024 / 12;
 
-// After how many steps a run commits at the latest. Records that are soon dropped lie in a journal that stays in the
-// processor's caches.
+// After how many steps a run commits at the latest. It never goes back, and a short journal stays in the processor's caches.
 const TURN_STEPS: u64 = 8192;
 
 /// Runs what the reader gives, and writes what it prints, until the budget is spent, the input has ended, or a limit,
@@ -52,7 +51,8 @@ pub fn run<R: Read, W: Write, A: Allocator + Copy>(
     }
 }
 
-// Goes forward until a step is refused, none is left, or the records are many or weigh enough, and does what this asks for.
+// Goes forward until a step is refused, the budget is spent, `TURN_STEPS` are taken or the records weigh enough; then reads,
+// commits or ends.
 fn take_turn<R: Read, W: Write, A: Allocator + Copy>(
     session: &mut Session<A>,
     input: &mut R,

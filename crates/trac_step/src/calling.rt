@@ -210,7 +210,7 @@ impl<E: TwoEnds<u8, A>, M: TwoEnds<Mark, A>, A: Allocator + Copy> Core<E, M, A> 
     }
 
     // Sets the pointer of the form of this name, if there is one. Returns what was destroyed. It takes no memory.
-    fn put_pointer(&mut self, name: &[u8], place: usize) -> Undone<A>
+    fn set_pointer(&mut self, name: &[u8], place: usize) -> Undone<A>
         requires { IsProperStorage (pointed name.now place (finite.get self.old.state.forms name.now) (storage_of self.old.state)) }
         ensures changed { self.new ≡ record self.old { state = with_storage (pointed name.now place (finite.get self.old.state.forms name.now) (storage_of self.old.state)) self.old.state; spare = self.new.spare } }
         ensures undone { undone_in result ≡ pointer_lost (finite.get self.old.state.forms name.now) }
@@ -219,7 +219,7 @@ impl<E: TwoEnds<u8, A>, M: TwoEnds<Mark, A>, A: Allocator + Copy> Core<E, M, A> 
     }
 
     // Changes forms and blocks as the call planned it, with the memory for it taken first. It is refused memory alone, and then
-    // the state stays. Most calls change nothing of forms and blocks, and many others a pointer: these need nothing for that.
+    // the state stays. Most calls change nothing of forms and blocks, and many others only move a pointer: neither takes memory.
     // Any other change is taken out of its place.
     fn change_storage(
         &mut self,
@@ -237,7 +237,7 @@ impl<E: TwoEnds<u8, A>, M: TwoEnds<Mark, A>, A: Allocator + Copy> Core<E, M, A> 
             return Ok(Undone::Nothing);
         }
         if let Change::Point(name, place) = change {
-            return Ok(self.put_pointer(name.as_slice(), *place));
+            return Ok(self.set_pointer(name.as_slice(), *place));
         }
         let change = mem::replace(change, Change::Keep);
         let places = places_for(*self.output.allocator(), &self.store, &change)?;

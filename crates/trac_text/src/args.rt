@@ -63,8 +63,9 @@ impl<'a> Args<'a> {
         part(self.text, start, end)
     }
 
-    // Puts the lengths of all arguments but the last at the end of a list that has room for them, in one pass over the marks.
-    pub(crate) fn put_lengths<A: Allocator>(&self, commas: &mut SlidingBuf<u32, A>)
+    /// Puts the lengths of all arguments but the last at the end of a list that has room for them, in one pass over the marks. They
+    /// have fewer than 2^32 bytes together. It takes no memory (this project's profile).
+    pub fn put_lengths<A: Allocator>(&self, commas: &mut SlidingBuf<u32, A>)
         requires short { length (concat self.now) < 2 ^ 32 }
         requires room { length commas.old.items + (length self.now - 1) ≤ commas.old.capacity }
         ensures { commas.new.items ≡ commas.old.items ++ map length (take (length self.now - 1) self.now) }

@@ -1,12 +1,11 @@
 //! The arguments of begun functions, kept apart from the neutral text.
-ghost use Rattle.std.specs.Prelude.{◌≡◌, ◌+◌, ◌≤◌, ◌<◌, ◌^◌, ◌++◌, ◌-◌, [], length, map, take, IfOk, IsOkUnless};
+ghost use Rattle.std.specs.Prelude.{◌≡◌, ◌+◌, ◌≤◌, ◌<◌, ◌^◌, ◌++◌, [], length, map, IfOk, IsOkUnless};
 ghost use Rattle.std.specs.List.{concat, sum};
 ghost use Rattle.trac_text.specs.Pieces.{all_texts, cut_at};
 
 use crate::args::Args;
 use std::alloc::{Allocator, Global};
 use std::marker::Model;
-use trac_gap::SlidingBuf;
 use trac_rules::kind::Kind;
 use trac_rules::refusal::Refusal;
 
@@ -112,14 +111,4 @@ impl<'a> PiecesRef<'a> {
     {
         self.commas
     }
-}
-
-/// Puts the lengths of all these arguments but the last at the end of a list that has room for them. They have fewer than 2^32
-/// bytes together. It takes no memory (this project's profile).
-pub fn push_lengths<A: Allocator>(commas: &mut SlidingBuf<u32, A>, arguments: &Args<'_>)
-    requires short { length (concat arguments.now) < 2 ^ 32 }
-    requires room { length commas.old.items + (length arguments.now - 1) ≤ commas.old.capacity }
-    ensures { commas.new.items ≡ commas.old.items ++ map length (take (length arguments.now - 1) arguments.now) }
-{
-    arguments.put_lengths(commas);
 }

@@ -221,7 +221,7 @@ fn run_command<'a>(alloc: Global) -> Result<Command<'a>, AllocError> {
     with_options(
         alloc,
         command.override_usage(RUN_USAGE).arg(budget(alloc))?,
-        "After how many steps output is written at the latest: 1 to 1048576 [default: 65536]",
+        "Output is written after N steps at the latest, and after 8192: 1 to 1048576 [default: 65536]",
     )
 }
 

@@ -27,4 +27,4 @@ pub returns-in-PrintForm-clause-change : goal.returns-in-PrintForm-clause-change
 returns-in-PrintForm-clause-change g c = rw c.in-PrintForm.is (keeps_so (Handle action.PrintForm) c.args.args.now (storage_in c.args.store.now) c.args.change.now c.print_form.result refl c.requires.keeps)
 
 pub returns-in-Define : goal.returns-in-Define
-returns-in-Define g c = record { outcome = c.change_forms.ensures.outcome c.args.width c.args.made.now; change = c.change_forms.ensures.change }
+returns-in-Define g c = record { outcome = c.plan_form_change.ensures.outcome c.args.width c.args.made.now; change = c.plan_form_change.ensures.change }

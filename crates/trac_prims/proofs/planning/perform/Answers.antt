@@ -82,17 +82,17 @@ returns-in-Handle-clause-within g c =
     (effect_within (Handle c.in-Handle.action) (record { tape = record { bytes = []; ended = false }; width = c.args.now.width }) c.args.args.now (record initial { forms = storage.forms; blocks = storage.blocks })) c.requires.position
 
 pub returns-in-HandleBlock-clause-outcome : goal.returns-in-HandleBlock-clause-outcome
-returns-in-HandleBlock-clause-outcome g c = λ s known. rw (c.in-HandleBlock.is, known.storage_is) (c.change_blocks.ensures.outcome c.args.made.now)
+returns-in-HandleBlock-clause-outcome g c = λ s known. rw (c.in-HandleBlock.is, known.storage_is) (c.plan_block_change.ensures.outcome c.args.made.now)
 
 pub returns-in-HandleBlock-clause-within : goal.returns-in-HandleBlock-clause-within
 returns-in-HandleBlock-clause-within g c =
     let storage = storage_in c.args.store.now in
     done_unread c.args.args.now c.args.now.position (length c.args.tape.bytes.now) storage (block_handled c.in-HandleBlock.action c.args.args.now storage) c.args.made.now c.args.made.now
-    c.change_blocks.new.change c.change_blocks.result (c.change_blocks.ensures.outcome c.args.made.now)
+    c.plan_block_change.new.change c.plan_block_change.result (c.plan_block_change.ensures.outcome c.args.made.now)
     (effect_within (HandleBlock c.in-HandleBlock.action) (record { tape = record { bytes = []; ended = false }; width = c.args.now.width }) c.args.args.now (record initial { forms = storage.forms; blocks = storage.blocks })) c.requires.position
 
 pub returns-in-HandleBlock-clause-change : goal.returns-in-HandleBlock-clause-change
-returns-in-HandleBlock-clause-change g c = rw c.in-HandleBlock.is c.change_blocks.ensures.change
+returns-in-HandleBlock-clause-change g c = rw c.in-HandleBlock.is c.plan_block_change.ensures.change
 
 pub returns-in-Unknown-clause-outcome : goal.returns-in-Unknown-clause-outcome
 returns-in-Unknown-clause-outcome g c = λ s known.

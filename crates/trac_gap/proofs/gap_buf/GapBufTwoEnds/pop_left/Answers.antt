@@ -1,5 +1,5 @@
 use Rattle.std.proofs.Common.{◌<◌, ap, sym, ◌∙◌, arith}
-use Rattle.trac_gap.specs.GapBuf.{block_ends}
+use Rattle.trac_gap.specs.GapBuf.{buffer_ends}
 use Rattle.trac_gap.proofs.Halves.{last_some, popped_left}
 use Rattle.trac_gap.proofs.gap_buf.GapBufTwoEnds.pop_left.Goals as goal
 
@@ -15,4 +15,4 @@ invariant_of-self g c =
 pub returns : goal.returns
 returns g c =
     let some : 0 < c.self.inside.gap_start = omega arith in let e = (popped_left c.self.inside c.self.invariant some c.item.result c.item.ensures).1 in
-    sym c.self.view_is ∙ ap (λ ls. record (block_ends c.self.inside) { left = ls }) e
+    sym c.self.view_is ∙ ap (λ ls. record (buffer_ends c.self.inside) { left = ls }) e

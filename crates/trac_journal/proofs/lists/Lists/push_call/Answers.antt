@@ -13,8 +13,8 @@ use Rattle.trac_journal.proofs.lists.Lists.push_call.Goals as goal
 pub put-requires : goal.put-requires
 put-requires g c = omega (arith, c.requires.room.bytes, c.len-bytes.ensures.within, ap (λ (v : Lists). v.room.bytes) c.self.view_is, ap (λ (text : List ℕ). length text) c.joined-joined.ensures)
 
-pub push_lengths-requires-clause-room : goal.push_lengths-requires-clause-room
-push_lengths-requires-clause-room g c =
+pub put_lengths-requires-clause-room : goal.put_lengths-requires-clause-room
+put_lengths-requires-clause-room g c =
     omega (arith, c.requires.room.commas, c.len-commas.ensures.within, ap (λ (v : Lists). v.room.commas) c.self.view_is)
 
 pub returns : goal.returns
@@ -22,7 +22,7 @@ returns g c =
     let texts : List (List ℕ) = c.args.arguments.now in
     let n : ℕ = length texts - 1 in
     let l : Listed = c.args.self.now.listed in
-    let new : Listed = listed_by c.push_back_reserved.new.self.items c.put.new.self.items c.push_lengths.new.commas.items c.keep_undone.new.list.items c.self.inside.emptied.items in
+    let new : Listed = listed_by c.push_back_reserved.new.self.items c.put.new.self.items c.put_lengths.new.commas.items c.keep_undone.new.list.items c.self.inside.emptied.items in
     let view : listed_by c.self.inside.calls.items c.self.inside.bytes.items c.self.inside.commas.items c.self.inside.undone.items c.self.inside.emptied.items ≡ l =
     ap (λ (v : Lists). v.listed) c.self.view_is in
     let count : n + 1 ≡ length texts = omega (arith, c.comma_count.ensures) in
@@ -32,6 +32,6 @@ returns g c =
     (ap (λ (cs : List CallEntry). reverse cs) c.push_back_reserved.ensures.items ∙ reverse_push c.self.inside.calls.items c.call_by.result
     ∙ ap (λ (v : Listed). c.call_by.result ∷ v.calls) view)
     (c.put.ensures.items ∙ (λ i. (view i).bytes ++ c.joined-joined.ensures i))
-    (c.push_lengths.ensures ∙ ap (λ (v : Listed). v.commas ++ map length (take n texts)) view)
+    (c.put_lengths.ensures ∙ ap (λ (v : Listed). v.commas ++ map length (take n texts)) view)
     (subst (λ (us : List Undone). IsKept c.keep_undone.result (undone_in c.args.undone) us new.undone) (ap (λ (v : Listed). v.undone) view) c.keep_undone.ensures)
     (ap (λ (v : Listed). v.emptied) view)

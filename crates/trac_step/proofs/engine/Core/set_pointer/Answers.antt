@@ -7,7 +7,7 @@ use Rattle.trac_forms.specs.Stored.{storage_in}
 use Rattle.trac_change.specs.Changed.{pointed}
 use Rattle.trac_step.specs.Layout.{Shown, parts_of}
 use Rattle.trac_step.proofs.Storages.{stored_shows, stored_sound}
-use Rattle.trac_step.proofs.engine.Core.put_pointer.Goals as goal
+use Rattle.trac_step.proofs.engine.Core.set_pointer.Goals as goal
 
 pub invariant_of-self : goal.invariant_of-self
 invariant_of-self g c =

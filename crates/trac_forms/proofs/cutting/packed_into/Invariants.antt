@@ -2,7 +2,7 @@
 use Rattle.std.proofs.Common.{◌≡◌, ◌+◌, ◌++◌, ◌≤◌, length, take}
 use Rattle.std.specs.Prelude.{vec_capacity, vec_len}
 use Rattle.trac_rules.specs.Form.{as_items}
-use Rattle.trac_forms.proofs.cutting.bytes_into.Given as goal
+use Rattle.trac_forms.proofs.cutting.packed_into.Given as goal
 
 abbrev pub invariant-loop-b : goal.invariant-loop-b
 invariant-loop-b g l = record {
