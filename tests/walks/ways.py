@@ -290,7 +290,7 @@ def reply(machine, asked):
     """The lines that `y` replies, of a way at most 30."""
     way = way_of(machine, asked)
     lines = [line_of(machine.tape, *event) for event in way]
-    if len(lines) > 29:
+    if len(lines) > 30:
         lines = lines[:28] + [f".. {len(lines) - 29} more .."] + lines[-1:]
     step, call, _ = way[-1]
     return lines + ["here: " + cut(f"{step}  {seen(call)}", 80)]

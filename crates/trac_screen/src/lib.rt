@@ -19,6 +19,6 @@ pub use notes::{NO_PRIMITIVE, Stop, no_end_into, refused, stop_into, window_into
 pub use printing::lacks_output_room;
 pub use screen::{Reach, screen_into};
 pub use screen_line::ScreenLine;
-pub use sight::{Sight, performed_in, reads_text, sight_of};
+pub use sight::{Sight, reads_text, sight_of};
 pub use standing_line::standing_into;
 pub use way::{Origin, Treatment, left_out_into, origin_into, step_line, treatment_into};

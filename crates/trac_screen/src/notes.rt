@@ -23,8 +23,10 @@ pub enum Stop {
     Outside,
     /// The value of no function ends here.
     NoValue,
-    /// Byte 0 of the output was named; the first is number 1.
+    /// Byte 0 was named, of the output, of a form or of an argument; the first is number 1.
     FromOne,
+    /// An empty text was given, and its last byte is wanted.
+    EmptyText,
     /// The output has no such byte or text.
     NotPrinted,
     /// The output has no such text since the first step that one can go back to; what was printed before is not known.
@@ -90,7 +92,8 @@ fn reason(stop: Stop) -> &'static [u8] {
         Stop::NotMet | Stop::NoForm => b"not met on the way back, which ends at step ",
         Stop::Outside => b"no call is begun here",
         Stop::NoValue => b"the value of no call ends here",
-        Stop::FromOne => b"bytes of the output are counted from 1",
+        Stop::FromOne => b"bytes are counted from 1",
+        Stop::EmptyText => b"an empty text has no last byte",
         Stop::NotPrinted => b"that was not printed up to here",
         Stop::NotPrintedSince => b"that was not printed since the way back begins, at step ",
         Stop::PrintedEarlier => b"that was printed before the way back begins, at step ",

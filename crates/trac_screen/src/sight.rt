@@ -62,8 +62,8 @@ pub fn last_of<'m>(arguments: &Args<'m>) -> &'m [u8] {
     arguments.get(arguments.count().saturating_sub(1))
 }
 
-/// The arguments of the call that the next step performs; none where it performs none.
-pub fn performed_in<'s, 'm, A: Allocator + Copy>(sight: &'s Sight<'m, A>) -> Option<&'s Args<'m>> {
+// The arguments of the call that the next step performs; none where it performs none.
+fn performed_in<'s, 'm, A: Allocator + Copy>(sight: &'s Sight<'m, A>) -> Option<&'s Args<'m>> {
     match (sight.active, &sight.begun) {
         ([b')', ..], Some((_, arguments))) => Some(arguments),
         _ => None,

@@ -208,7 +208,7 @@ fn not_printed<A: Allocator + Copy>(walker: &Walker<A>) -> Stop {
 // Back to where the last occurrence of a text was not printed whole yet.
 fn to_printed_text<A: Allocator + Copy>(walker: &mut Walker<A>, text: &[u8]) -> Option<Stop> {
     if text.is_empty() {
-        return Some(Stop::NotPrinted);
+        return Some(Stop::EmptyText);
     }
     let Some(place) = memmem::rfind(walker.pending(), text) else {
         return Some(not_printed(walker));

@@ -13,8 +13,11 @@ use trac_screen::{
 };
 use trac_session::Machine;
 
-// So many lines of a way are shown at most: the first of them, how many are left out, and the last.
+// So many lines of a way are shown at most. A longer way has its first lines, how many are left out, and the last.
 const LINE_COUNT: usize = 30;
+
+// Of a longer way so many calls are shown: two lines are left, for how many are left out, and for the end.
+const FIRST_COUNT: usize = LINE_COUNT - 2;
 
 // What is said of the way of a byte: a line for each call that passed it on.
 #[derive(Drop)]
@@ -24,9 +27,10 @@ struct Way<'o, A: Allocator + Copy> {
     step: u64,
     // where its lines go
     out: &'o mut Vec<u8, A>,
-    // how many there are, and how many are left out
-    shown: usize,
-    left_out: usize,
+    // how many calls passed it on so far
+    count: usize,
+    // how long `out` was before the latest line was put there
+    before_last: usize,
 }
 
 impl<'o, A: Allocator + Copy> Witness<A> for Way<'o, A> {
@@ -36,11 +40,13 @@ impl<'o, A: Allocator + Copy> Witness<A> for Way<'o, A> {
         steps: u64,
         from: Place<'_>,
     ) -> Result<(), AllocError> {
-        if self.shown >= LINE_COUNT - 2 {
-            self.left_out = self.left_out.saturating_add(1);
+        self.count = self.count.saturating_add(1);
+        // The end takes a line too: so with this call the way is too long, and the line of the one before is taken back.
+        if self.count >= LINE_COUNT {
+            self.out.truncate(self.before_last);
             return Ok(());
         }
-        self.shown += 1;
+        self.before_last = self.out.len();
         treatment_into(
             self.alloc,
             self.step.saturating_sub(steps),
@@ -48,6 +54,15 @@ impl<'o, A: Allocator + Copy> Witness<A> for Way<'o, A> {
             treatment(from),
             self.out,
         )
+    }
+}
+
+// How many of so many calls are left out.
+fn left_out_of(count: usize) -> usize {
+    if count < LINE_COUNT {
+        0
+    } else {
+        count - FIRST_COUNT
     }
 }
 
@@ -93,11 +108,11 @@ pub fn way_into<A: Allocator + Copy>(
         alloc,
         step: walker.step(),
         out,
-        shown: 0,
-        left_out: 0,
+        count: 0,
+        before_last: 0,
     };
     let end = walker.trace(place, &mut way);
-    let left_out = way.left_out;
+    let left_out = left_out_of(way.count);
     let origin = match end {
         End::Nothing => return stay(alloc, walker, absent(walker, spot), out),
         End::Unkept | End::Untold => return Err(AllocError),
@@ -186,7 +201,7 @@ fn absent_form(name: &[u8]) -> Stop {
 // The place of a byte that is counted from 1.
 fn counted(number: u64) -> Result<usize, Stop> {
     if number == 0 {
-        return Err(Stop::NoByte);
+        return Err(Stop::FromOne);
     }
     Ok((number - 1) as usize)
 }
@@ -222,7 +237,7 @@ fn last_printed<A: Allocator + Copy>(walker: &Walker<A>) -> Result<usize, Stop> 
 // The place of the last byte of the last occurrence of a text in the output.
 fn printed_text<A: Allocator + Copy>(walker: &Walker<A>, text: &[u8]) -> Result<usize, Stop> {
     if text.is_empty() {
-        return Err(Stop::NotPrinted);
+        return Err(Stop::EmptyText);
     }
     match memmem::rfind(walker.pending(), text) {
         Some(place) => Ok(place.saturating_add(text.len() - 1)),
