@@ -130,7 +130,7 @@ def windows(rounds):
 
 def definitions(rounds):
     """Many forms, with the least journal and with the default one."""
-    print("\n| forms defined | journal of 65,536 | journal of 1 | ratio |\n|---|---|---|---|")
+    print("\n| forms defined | journal of 8,192 | journal of 1 | ratio |\n|---|---|---|---|")
     for count in (8_000, 65_533):
         given = b"".join(b"#(ds,name%d,value)'" % i for i in range(count))
         default, small = least(rounds, [([TRAC, "run"], given), ([TRAC, "run", "--journal", "1"], given)])
