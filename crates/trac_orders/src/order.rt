@@ -19,7 +19,7 @@ u CALL..   forward to a call             r CALL..   back to a call
 w NAME     back to the call that changed the form NAME last
 w #K       back to the call that printed byte K of the output
 w \"TEXT\"   back to the call that printed the last TEXT
-y \"TEXT\"   to where the last TEXT comes from      y #K   byte K of the output
+y \"TEXT\"   to where the last TEXT comes from    y #[K]   byte K printed, or last
 y NAME K   to where byte K of a form comes from    y . A K   of argument A
 y          to where the next call was written      l      says where that is
 g N        to step N
