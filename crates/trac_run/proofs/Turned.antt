@@ -2,7 +2,7 @@
 use Rattle.std.proofs.Common.{◌≡◌, ℕ, zero, suc, ◌+◌, ◌-◌, ◌*◌, ◌<◌, ◌≤◌, Bool, true, false, List, [], ◌++◌, length, refl, sym, ap, subst, ◌∙◌, arith, ⊎_elim}
 use Rattle.std.specs.Prelude.{Option, None, Some, MatchOption, Result, Ok, Err, OnOk, IfErr, if◌then◌else◌, ◌⊎◌, ◌==◌}
 use Rattle.std.specs.Io.KnownBytes.{Appends, IsAtEnd}
-use Rattle.std.proofs.lemmas.Bool.{false≢true}
+use Rattle.std.proofs.lemmas.Bool.{cases_lt, false≢true}
 use Rattle.std.proofs.lemmas.Bool.Decides.{nat_tests}
 use Rattle.std.proofs.lemmas.List.{length-drop}
 use Rattle.trac_rules.specs.declared.limit.TheConstants.{TAPE_LIMIT}
@@ -39,12 +39,12 @@ pub unmoved_by_none : (k : ℕ) (p q : PlainSession) → repeated Step k p ≡ S
 unmoved_by_none zero p q h e = cc
 unmoved_by_none (suc k) p q h e = absurd (omega arith)
 
--- what a walk leaves
-pub after_walk : {most : ℕ} {p : PlainSession} {m k : ℕ} {why : Option Refusal} {q : PlainSession} → IsFresh p → IsWalkWithin most m p k why q → AfterWalk p m k q
-after_walk {most} {p} {m} {k} {why} {q} fresh walk =
+-- what a walk of n steps at most leaves, where m are left
+pub after_walk : {most n : ℕ} {p : PlainSession} {m k : ℕ} {why : Option Refusal} {q : PlainSession} → n ≤ m → IsFresh p → IsWalkWithin most n p k why q → AfterWalk p m k q
+after_walk {most} {n} {p} {m} {k} {why} {q} fewer fresh walk =
     let start : p.last.position ≤ length p.tape.bytes = omega (arith, fresh.nothing_read) in
     let after = after_repeated k p q start walk.walk.walked in
-    let l : k ≤ m = omega (arith, walk.walk.within, walk.within) in
+    let l : k ≤ m = omega (arith, walk.walk.within, walk.within, fewer) in
     let count : m ≡ (m - k) + k = omega (arith, l) in
     record {
       within = l;
@@ -93,12 +93,14 @@ not_stopped p m k why q walk e =
     (λ (met : (0 < k) × (no_goal q.last ≡ true)). absurd (false≢true met.1))
     (subst (λ w. MatchOption w (HasEnded no_goal m k q) (λ x. (k < m) × (0 < k → no_goal q.last ≡ false) × Answers Step q (Refused x) q)) e walk.stopped)
 
--- a walk that no refusal stopped took a step at least, where it has any left: it stopped for the weight of its records
-pub taken_when_heavy : {most : ℕ} {p : PlainSession} {m k : ℕ} {why : Option Refusal} {q : PlainSession} → IsWalkWithin most m p k why q → why ≡ None → 0 < m - k → 0 < k
-taken_when_heavy {most} {p} {m} {k} {why} {q} walk e some =
+-- a walk that no refusal stopped took a step at least, where it may take any: all of these, or until its records were heavy
+pub taken_unstopped : {most : ℕ} {p : PlainSession} {n k : ℕ} {why : Option Refusal} {q : PlainSession} → IsWalkWithin most n p k why q → why ≡ None → 0 < n → 0 < k
+taken_unstopped {most} {p} {n} {k} {why} {q} walk e some =
     let all : k ≡ walk.allowed = not_stopped p walk.allowed k why q walk.walk e in
-    let heavy = walk.heavy (omega (arith, all, some)) in
-    omega (arith, all, heavy.0)
+    ⊎_elim
+    (λ (early : walk.allowed < n). omega (arith, all, (walk.heavy early).0))
+    (λ (last : n ≤ walk.allowed). omega (arith, all, last, some))
+    (cases_lt walk.allowed n)
 
 -- a step is refused for nothing else
 pub refused_for_none : (q : PlainSession) (refusal : Refusal) → answer Step q ≡ refused refusal q →
