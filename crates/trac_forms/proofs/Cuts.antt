@@ -28,7 +28,7 @@ pub occurs_in : (run front text back : List ℕ) → run ≡ front ++ (text ++ b
 occurs_in run front text back e = subst (λ r. OccursAt r text (length front)) (sym e) (occurs_after front text back)
 
 -- a run splits where a text occurs
-split_at : (run text : List ℕ) (place : ℕ) → OccursAt run text place → run ≡ take place run ++ (text ++ drop (place + length text) run)
+pub split_at : (run text : List ℕ) (place : ℕ) → OccursAt run text place → run ≡ take place run ++ (text ++ drop (place + length text) run)
 split_at run text place h = sym (take-append-drop place run) ∙ ap (λ r. take place run ++ r) (at_from_reads 0 run text place h.fits h.reads)
 
 -- the first place that a search finds is cut

@@ -9,7 +9,7 @@ use Rattle.trac_rules.specs.declared.item.Item.TheVariants.{Byte}
 use Rattle.trac_rules.specs.declared.limit.TheConstants.{FORM_LIMIT}
 use Rattle.trac_rules.specs.Form.{Form, IsWide, all_items, as_items, defined, extent, pointed_at}
 use Rattle.trac_forms.specs.Layout.{IsHeld, IsKept, divided, with_text}
-use Rattle.trac_rules.proofs.Cutting.{count_within_extent, extent-as_items, wide-as_items}
+use Rattle.trac_rules.proofs.Cutting.{count_within_extent, extent-append, extent-as_items, wide-as_items}
 
 -- the same items in as many places are kept as well
 pub kept_again : (old new : Ends Item) → new.left ++ new.right ≡ old.left ++ old.right → old.capacity ≤ new.capacity → IsKept old → IsKept new
@@ -163,6 +163,17 @@ room_held text items held =
       length-append items.left right,
       length-append (as_items text) items.right,
       length-map text Byte,
+    )
+
+-- a text that is kept as one is no longer than a form may be
+pub text_fits : (text : List ℕ) (items : Ends Item) → IsHeld text items → length text ≤ FORM_LIMIT
+text_fits text items held =
+    omega (
+      arith,
+      held.kept.within,
+      extent-append items.left (as_items text ++ items.right),
+      extent-append (as_items text) items.right,
+      extent-as_items text,
     )
 
 pub kept_packed : (text : List ℕ) (items packed : Ends Item) → IsHeld text items → packed ≡ with_text text items → IsKept packed

@@ -1,6 +1,7 @@
 pub mod BlockLists
 pub mod Cuts
 pub mod Segments
+pub mod RunGaps
 pub mod CutWalks
 pub mod Divided
 pub mod Extents
