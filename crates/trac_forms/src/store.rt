@@ -169,6 +169,23 @@ impl<A: Allocator + Copy> Store<A> {
         }
     }
 
+    /// Puts a form under a name, known or not, and returns the one that it replaces. It takes memory only where the name is not
+    /// known (this project's profile).
+    /// Refused with `Memory` where the allocator refuses, and then nothing has changed.
+    pub fn insert(&mut self, name: &[u8], form: Form<A>) -> Result<Option<Form<A>>, FormError>
+        ensures replaced { IfOk result (λ replaced. replaced ≡ finite.get self.old.forms name.now) }
+        ensures put { OnOk result (self.new ≡ record self.old { forms = finite.insert self.old.forms name.now form; known = set.insert self.old.known name.now }) }
+        ensures unchanged { OnErr result (self.new ≡ self.old) }
+        ensures err { IsOkUnless result FormError.Memory }
+    {
+        // A known name is looked up once.
+        if let Some(i) = self.table.get_index_of(name) {
+            return Ok(put_at(&mut self.table, &mut self.live, i, form));
+        }
+        self.know(name)?;
+        Ok(self.put(name, form))
+    }
+
     /// Takes the form of this name away, if there is one, and returns it. The name stays known. It takes no memory
     /// (this project's profile).
     pub fn take(&mut self, name: &[u8]) -> Option<Form<A>>

@@ -6,7 +6,7 @@ ghost use Rattle.trac_rules.specs.declared.limit.TheConstants.{JOURNAL_LIMIT};
 ghost use Rattle.trac_rules.specs.Outcomes.{MayRefuse};
 ghost use Rattle.std.specs.FinMap as finite;
 ghost use Rattle.trac_rules.specs.Proper.{IsProper, IsProperStorage};
-ghost use Rattle.trac_rules.specs.Undone.{pointer_lost};
+ghost use Rattle.trac_rules.specs.Undone.{Swap, pointer_lost};
 ghost use Rattle.trac_rules.specs.Records as rules;
 ghost use Rattle.trac_rules.specs.Records.{is_scanned, record_of};
 ghost use Rattle.trac_rules.specs.State.{storage_of};
@@ -14,7 +14,7 @@ ghost use Rattle.trac_rules.specs.Scanning.{front_of, scan};
 ghost use Rattle.trac_rules.specs.Stepping.{step};
 ghost use Rattle.trac_text.specs.Cuts.{cut};
 ghost use Rattle.trac_change.specs.declared.change.Change.TheVariants.{Keep};
-ghost use Rattle.trac_change.specs.Changed.{changed, pointed};
+ghost use Rattle.trac_change.specs.Changed.{changed, pointed, with_form};
 ghost use Rattle.trac_prims.specs.Tape.{environment_of};
 ghost use Rattle.trac_change.specs.Changes.{undone_of};
 ghost use Rattle.trac_text.specs.Pieces.{all_texts};
@@ -33,11 +33,12 @@ use crate::engine::Core;
 use crate::record::Record;
 use std::alloc::Allocator;
 use std::mem;
+use trac_forms::Form;
 use trac_gap::{SlidingBuf, TwoEnds};
 use trac_journal::{Called, Journal, Undone};
 use trac_prims::{Change, Deed, Made, Now, Tape, plan_into};
 use trac_rules::scan::Front;
-use trac_storage::{Places, change_forms, make_place, places_for, set_pointer};
+use trac_storage::{Places, change_forms, define, make_place, places_for, set_pointer};
 use trac_text::calls::{cut_function, put_value};
 use trac_text::{Args, Beginning, Kind, Mark, Pieces, Refusal, ends};
 
@@ -218,9 +219,40 @@ impl<E: TwoEnds<u8, A>, M: TwoEnds<Mark, A>, A: Allocator + Copy> Core<E, M, A> 
         set_pointer(&mut self.store, name, place)
     }
 
+    // Puts a form under a name. Returns what was destroyed. It is refused memory alone, and then the state stays.
+    fn define(&mut self, name: &[u8], form: Form<A>) -> Result<Undone<A>, Refusal>
+        requires { IsProperStorage (with_form name.now form (storage_of self.old.state)) }
+        ensures changed { OnOk result (self.new.state ≡ with_storage (with_form name.now form (storage_of self.old.state)) self.old.state) }
+        ensures undone { IfOk result (λ undone. undone_in undone ≡ Swap (finite.get self.old.state.forms name.now)) }
+        ensures unchanged { OnErr result (self.new.state ≡ self.old.state) }
+        ensures room { IsNoLess self.old self.new }
+        ensures err { IsOkUnless result Refusal.Memory }
+    {
+        define(&mut self.store, name, form)
+    }
+
     // Changes forms and blocks as the call planned it, with the memory for it taken first. It is refused memory alone, and then
-    // the state stays. Most calls change nothing of forms and blocks, and many others only move a pointer: neither takes memory.
-    // Any other change is taken out of its place.
+    // the state stays. It is compiled apart, since it is seldom called and clears room for all that it may make.
+    #[inline(never)]
+    fn change_all(
+        &mut self,
+        beginning: Beginning,
+        change: Change<A>,
+    ) -> Result<Undone<A>, Refusal>
+        requires { CanChange self.old.state beginning change }
+        ensures changed { OnOk result (self.new.state ≡ with_storage (changed (arguments_in (scan self.old.state)) change (storage_of self.old.state)) self.old.state) }
+        ensures undone { IfOk result (λ undone. undone_in undone ≡ undone_of change (storage_of self.old.state)) }
+        ensures unchanged { OnErr result (self.new.state ≡ self.old.state) }
+        ensures room { IsNoLess self.old self.new }
+        ensures err { IsOkUnless result Refusal.Memory }
+    {
+        let places = places_for(*self.output.allocator(), &self.store, &change)?;
+        self.make_places(&change)?;
+        Ok(self.put_change(beginning, change, places))
+    }
+
+    // The same. Most calls change nothing of forms and blocks, and of the others most move a pointer or define a form: for these
+    // no places are made. Any change but the first two is taken out of its place.
     fn change_storage(
         &mut self,
         beginning: Beginning,
@@ -239,10 +271,10 @@ impl<E: TwoEnds<u8, A>, M: TwoEnds<Mark, A>, A: Allocator + Copy> Core<E, M, A> 
         if let Change::Point(name, place) = change {
             return Ok(self.set_pointer(name.as_slice(), *place));
         }
-        let change = mem::replace(change, Change::Keep);
-        let places = places_for(*self.output.allocator(), &self.store, &change)?;
-        self.make_places(&change)?;
-        Ok(self.put_change(beginning, change, places))
+        match mem::replace(change, Change::Keep) {
+            Change::Put(name, form) => self.define(name.as_slice(), form),
+            other => self.change_all(beginning, other),
+        }
     }
 
     // Ends the call whose change of forms and blocks is made: its function is gone, what it prints is printed, and its value

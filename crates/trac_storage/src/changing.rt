@@ -1,17 +1,17 @@
 //! Changing forms and blocks as a call planned it.
-ghost use Rattle.std.specs.Prelude.{◌≡◌, ◌≤◌, [], drop, length, is_some, IfSome, IsTrue, Some};
+ghost use Rattle.std.specs.Prelude.{◌≡◌, ◌≤◌, [], drop, length, is_some, IfOk, IfSome, IsOkUnless, IsTrue, OnErr, OnOk, Some};
 ghost use Rattle.std.specs.FinMap as finite;
 ghost use Rattle.std.specs.FinSet as set;
 ghost use Rattle.trac_rules.specs.Blocks.{block_at, erased, put_aside};
 ghost use Rattle.trac_rules.specs.Cuts.{cut_of};
 ghost use Rattle.trac_rules.specs.Handling.{without};
 ghost use Rattle.trac_rules.specs.Proper.{IsProperStorage};
-ghost use Rattle.trac_rules.specs.Undone.{block_lost, pointer_lost};
+ghost use Rattle.trac_rules.specs.Undone.{Swap, block_lost, pointer_lost};
 ghost use Rattle.trac_forms.specs.Stored.{storage_in};
 ghost use Rattle.trac_change.specs.Changes.{NamesGiven, cut_lost, undone_of};
 ghost use Rattle.trac_change.specs.Changed.{changed, cut_in, pointed, with_form};
 ghost use Rattle.trac_text.specs.Framing.{texts_of};
-ghost use Rattle.trac_storage.specs.Changing.{AreMadeFor, HasPlaceFor};
+ghost use Rattle.trac_storage.specs.Changing.{AreAmong, AreMadeFor, HasPlaceFor};
 ghost use Rattle.trac_change.specs.Undone.{undone_in};
 
 use crate::blocking::move_into;
@@ -20,6 +20,7 @@ use crate::places::Places;
 use std::alloc::Allocator;
 use trac_change::{Change, Undone, after};
 use trac_forms::{Block, Cut, Form, Store};
+use trac_rules::refusal::Refusal;
 use trac_text::Args;
 
 /// Changes forms and blocks as a call of these arguments planned it, and returns what that destroyed; what leaves the store
@@ -92,6 +93,23 @@ pub fn set_pointer<A: Allocator + Copy>(
         Some(old) => Undone::Point(old),
         None => Undone::Nothing,
     }
+}
+
+/// Puts a form under a name, in place of an earlier one. Returns what that destroyed, which is the earlier one. It takes memory
+/// only where the name is not known, and forgets no name (this project's profile).
+/// Refused with `Memory` where the allocator refuses, and then nothing has changed.
+pub fn define<A: Allocator + Copy>(
+    store: &mut Store<A>,
+    name: &[u8],
+    form: Form<A>,
+) -> Result<Undone<A>, Refusal>
+    ensures storage { OnOk result (storage_in store.new ≡ with_form name.now form (storage_in store.old)) }
+    ensures undone { IfOk result (λ undone. undone_in undone ≡ Swap (finite.get store.old.forms name.now)) }
+    ensures unchanged { OnErr result (storage_in store.new ≡ storage_in store.old) }
+    ensures names { AreAmong store.old.known store.new.known }
+    ensures err { IsOkUnless result Refusal.Memory }
+{
+    Ok(Undone::Swap(store.insert(name, form)?))
 }
 
 // Moves the forms of these names into a new block, puts its address under a name, and returns what that replaces.

@@ -9,7 +9,7 @@ mod places;
 mod storage_back;
 mod storing;
 
-pub use changing::{change_forms, set_pointer};
+pub use changing::{change_forms, define, set_pointer};
 pub use parts::{Parts, lengths_within};
 pub use places::{Places, make_place, places_for};
 pub use storage_back::put_storage;

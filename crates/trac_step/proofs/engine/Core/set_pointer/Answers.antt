@@ -1,7 +1,7 @@
 use Rattle.std.proofs.Common.{sym, ap, ◌∙◌, subst}
 use Rattle.std.specs.FinMap as finite
 use Rattle.trac_rules.specs.Proper.{IsProperStorage}
-use Rattle.trac_rules.specs.State.{State, storage_of}
+use Rattle.trac_rules.specs.State.{storage_of}
 use Rattle.trac_rules.specs.Undone.{pointer_lost}
 use Rattle.trac_forms.specs.Stored.{storage_in}
 use Rattle.trac_change.specs.Changed.{pointed}
