@@ -2,18 +2,16 @@
 use Rattle.std.proofs.Common.{◌≡◌, ℕ, ◌+◌, ◌≤◌, List, [], ◌∷◌, ◌++◌, length, map, take, drop, refl, sym, ap, subst, ◌∙◌, arith}
 use Rattle.std.specs.List.{concat, sum}
 use Rattle.std.proofs.lemmas.List.{length-append, length-map, length-take-le}
-use Rattle.trac_rules.specs.Records.{Called, Idle, last_of}
-use Rattle.trac_rules.specs.State.{Frame}
+use Rattle.trac_rules.specs.Records.{Called, last_of}
 use Rattle.trac_rules.specs.Undone.{Undone, Nothing, Point}
 use Rattle.trac_rules.specs.Weights.{meta_weight, undone_weight, weight}
-use Rattle.trac_journal.specs.Listed.{Listed, call_of, called_in, first_undone, idle_of, newest_in, without_call, HasCall, HasMore, Holds, IsKept}
+use Rattle.trac_journal.specs.Listed.{Listed, call_of, called_in, first_undone, without_call, HasCall, HasMore, IsKept}
 use Rattle.trac_text.specs.Pieces.{Arguments, all_texts, cut_at}
-use Rattle.trac_journal.specs.Told.{record_with, IsTold}
+use Rattle.trac_journal.specs.Told.{record_with}
 use Rattle.trac_journal.specs.declared.called.Called as code
 use Rattle.trac_journal.specs.declared.entry.CallEntry.{CallEntry}
 use Rattle.trac_journal.specs.declared.entry.Kept.{Kept}
 use Rattle.trac_journal.specs.declared.entry.Kept.TheVariants as kept
-use Rattle.trac_journal.specs.declared.told.Newest.TheVariants as newest
 use Rattle.trac_journal.proofs.Ends.{before-append, last-append, length-last}
 use Rattle.trac_text.proofs.Joined.{count-cut, cut-joined, joined-cut, lengths_within, total-joined}
 
@@ -32,9 +30,9 @@ newest_call calls older c bytes commas first has =
 
 -- it is lent
 pub call_told : (c : CallEntry) (called : code.Called) (calls older : List CallEntry) (bytes commas : List ℕ) (arguments : Arguments) → calls ≡ c ∷ older → called ≡ called_in c →
-    arguments ≡ cut_at (last_of c.commas commas) (last_of c.bytes bytes) → (undone : Undone) → IsTold (newest.Call called arguments) (call_of calls undone bytes commas)
+    arguments ≡ cut_at (last_of c.commas commas) (last_of c.bytes bytes) → (undone : Undone) → call_of calls undone bytes commas ≡ Called (record_with called (all_texts arguments) undone)
 call_told c called calls older bytes commas arguments first called_is arguments_are undone =
-    (undone, ap (λ (cs : List CallEntry). call_of cs undone bytes commas) first ∙ (λ i. Called (record_with (sym called_is i) (all_texts (sym arguments_are i)) undone)))
+    ap (λ (cs : List CallEntry). call_of cs undone bytes commas) first ∙ (λ i. Called (record_with (sym called_is i) (all_texts (sym arguments_are i)) undone))
 
 -- the others stay
 pub undone_stays : (calls : List CallEntry) (l : Listed) → (without_call calls l).undone ≡ l.undone
@@ -124,15 +122,3 @@ call_more k called c texts n u old new count called_is bytes_are commas_are call
     by_kept (kept.Quoted closed inner) so w = absurd so
     by_kept (kept.Deleted b) so w = absurd so
     by_kept kept.Idle so w = absurd so
-
--- ---- what was destroyed or emptied last
-
--- the record of an idle step is told
-pub idle_told : (k : Kept) (l : Listed) → k ≡ kept.Idle → Holds k l → (base : List ℕ) × ((frames : List Frame) × (newest_in k l ≡ Idle base frames))
-idle_told k l is has =
-    let there = first_idle l.emptied (subst (λ (x : Kept). Holds x l) is has) in
-    (there.0, (there.1.0, ap (λ (x : Kept). newest_in x l) is ∙ there.1.1))
-  where
-    first_idle : (emptied : List (List ℕ × List Frame)) → 1 ≤ length emptied → (base : List ℕ) × ((frames : List Frame) × (idle_of emptied ≡ Idle base frames))
-    first_idle [] some = absurd (omega (arith, some))
-    first_idle (texts ∷ emptied) some = (texts.0, (texts.1, refl))

@@ -154,19 +154,18 @@ one_more moved count weighed own entries new e r old_l new_l last same more is l
 
 -- ---- one record less
 
-pub record OneLess (moved count weighed own : ℕ) (entries left : List Entry) (e : Entry) (l new : Listed) : Type 0 where
-  pub first : unpacked moved (reverse entries) l ≡ newest_in e.kept l ∷ unpacked e.moved (reverse left) new
+pub record OneLess (moved count weighed own : ℕ) (entries left : List Entry) (e : Entry) (r : Record) (l new : Listed) : Type 0 where
+  pub first : unpacked moved (reverse entries) l ≡ r ∷ unpacked e.moved (reverse left) new
   pub few : 1 ≤ count
   pub within : own ≤ weighed
   pub sound : IsSound e.moved left new (count - 1) (weighed - own)
 
-pub one_less : (moved count weighed own : ℕ) (entries left : List Entry) (e : Entry) (l new : Listed) → moved ≡ 0 → entries ≡ left ++ e ∷ [] → new ≡ older_in e.kept l →
-    own ≡ weight (newest_in e.kept l) → IsSound moved entries l count weighed → OneLess moved count weighed own entries left e l new
-one_less moved count weighed own entries left e l new none last others is sound =
-    let r : Record = newest_in e.kept l in
+pub one_less : {moved count weighed own : ℕ} {entries left : List Entry} {e : Entry} {r : Record} {l new : Listed} → moved ≡ 0 → entries ≡ left ++ e ∷ [] → newest_in e.kept l ≡ r →
+    new ≡ older_in e.kept l → own ≡ weight r → IsSound moved entries l count weighed → OneLess moved count weighed own entries left e r l new
+one_less {moved} {count} {weighed} {own} {entries} {left} {e} {r} {l} {new} none last newest others is sound =
     let later : List Record = unpacked e.moved (reverse left) new in
     let first : unpacked moved (reverse entries) l ≡ r ∷ later =
-    entry_first moved entries left e l none last ∙ ap (λ (x : Listed). r ∷ unpacked e.moved (reverse left) x) (sym others) in
+    entry_first moved entries left e l none last ∙ (λ i. newest i ∷ unpacked e.moved (reverse left) (sym others i)) in
     let there = entry_there entries left e l last sound.0 in
     let less = counted_less (unpacked moved (reverse entries) l) (r ∷ []) later count weighed first sound.1 in
     record {

@@ -14,16 +14,16 @@ last_apart (y ∷ xs) x zero many is =
     λ i. sym is i ∷ none i
 last_apart {X} (y ∷ xs) x (suc n) many is = ap (λ (rest : List X). y ∷ rest) (last_apart xs x n (omega (arith, many)) is)
 
+-- what is left without the last
+pub last_out : {X : Type 0} (xs left : List X) (x : X) (count : ℕ) → 0 < count → count ≡ length xs → x ≡ get_or xs (count - 1) x → left ≡ take (count - 1) xs → xs ≡ left ++ x ∷ []
+last_out {X} xs left x count some many is rest =
+    last_apart xs x (count - 1) (omega (arith, some, many)) is ∙ ap (λ (ys : List X). ys ++ x ∷ []) (sym rest)
+
 -- the last of a list stands first in reverse
 pub last_first : {X : Type 0} (xs : List X) (x : X) (n : ℕ) → length xs ≡ n + 1 → x ≡ get_or xs n x → reverse xs ≡ x ∷ reverse (take n xs)
 last_first xs x n many is = ap reverse (last_apart xs x n many is) ∙ reverse_push (take n xs) x
 
--- of a list that is seen through a function, the newest first, the last item is the newest
-pub newest_seen : {X Y Z : Type 0} (f : X → Y) (newest : List Y → Z) (xs : List X) (x : X) (count : ℕ) {ys : List Y} → map f (reverse xs) ≡ ys → 0 < count → count ≡ length xs →
-    x ≡ get_or xs (count - 1) x → newest ys ≡ newest (f x ∷ map f (reverse (take (count - 1) xs)))
-newest_seen f newest xs x count seen some many is = ap newest (sym seen ∙ ap (map f) (last_first xs x (count - 1) (omega (arith, some, many)) is))
-
--- and where it stands after the others
+-- of a list that is seen through a function, the newest first, it is the newest
 pub push_seen : {X Y : Type 0} (f : X → Y) (xs others : List X) (x : X) (ys : List Y) → map f (reverse xs) ≡ ys → xs ≡ others ++ x ∷ [] →
     ys ≡ f x ∷ map f (reverse others)
 push_seen {X} f xs others x ys seen is = sym seen ∙ ap (λ (zs : List X). map f (reverse zs)) is ∙ ap (map f) (reverse_push others x)

@@ -73,6 +73,12 @@ abbrev pub first_undone : List Undone → Undone
 first_undone [] = Nothing
 first_undone (undone ∷ older) = undone
 
+-- what a call destroyed of which an entry keeps this; from the list of these, where it stands there
+abbrev pub undone_of : Kept → List Undone → Undone
+undone_of (kept.Pointed place) undone = Point place
+undone_of kept.Changed undone = first_undone undone
+undone_of other undone = Nothing
+
 abbrev pub idle_of : List (List ℕ × List Frame) → Record
 idle_of [] = Idle [] []
 idle_of (texts ∷ older) = Idle texts.0 texts.1
@@ -103,6 +109,11 @@ abbrev pub without_call : List CallEntry → Listed → Listed
 without_call [] l = l
 without_call (c ∷ calls) l =
     record l { calls = calls; bytes = all_before_last c.bytes l.bytes; commas = all_before_last c.commas l.commas }
+
+-- what older calls destroyed than one of which an entry keeps this
+abbrev pub older_undone : Kept → List Undone → List Undone
+older_undone kept.Changed undone = drop 1 undone
+older_undone other undone = undone
 
 -- the lists without what is the newest record's own, of which an entry keeps this
 abbrev pub older_in : Kept → Listed → Listed

@@ -1,18 +1,10 @@
--- What a record says, and what is returned with it.
+-- What a record says, and what the newest one is of.
 use Rattle.std.specs.Prelude.{◌≡◌, ℕ, ◌+◌, ◌<◌, ◌^◌, List, [], ◌∷◌}
 use Rattle.trac_rules.specs.Records.{CallRecord, Record, Moved, Comma, Begun, Quoted, Deleted, Idle, Called}
-use Rattle.trac_rules.specs.State.{Frame}
 use Rattle.trac_rules.specs.Undone as rules
-use Rattle.trac_text.specs.Pieces.{all_texts}
-use Rattle.trac_journal.specs.Emptied.{texts_in}
-use Rattle.trac_change.specs.Undone.{undone_in}
 use Rattle.trac_journal.specs.declared.called.Called as code
 use Rattle.trac_journal.specs.declared.called.Short.{Short}
 use Rattle.trac_journal.specs.declared.called.Short.TheVariants as short
-use Rattle.trac_journal.specs.declared.told.Lost.{Lost}
-use Rattle.trac_journal.specs.declared.told.Lost.TheVariants as lost
-use Rattle.trac_journal.specs.declared.told.Newest.{Newest}
-use Rattle.trac_journal.specs.declared.told.Newest.TheVariants as newest
 
 -- the record of a call of these arguments, from what it destroyed of forms and blocks, and what is said beside them
 abbrev pub record_with : code.Called → List (List ℕ) → rules.Undone → CallRecord
@@ -41,21 +33,40 @@ abbrev pub FitsEntry : Short → Type 0
 FitsEntry (short.Quoted inner closed) = inner < 2 ^ 32
 FitsEntry other = Unit {0}
 
--- a record is told by this, all but what its step destroyed of forms and blocks, or emptied
-abbrev pub IsTold : Newest → Record → Type 0
-IsTold (newest.Short s) r = r ≡ said_by s
-IsTold (newest.Call called arguments) r = (undone : rules.Undone) × (r ≡ Called (record_with called (all_texts arguments) undone))
-IsTold newest.Idle r = (base : List ℕ) × ((frames : List Frame) × (r ≡ Idle base frames))
+-- ---- the newest of the records
 
--- and this is what its step destroyed of forms and blocks, or emptied
-abbrev pub IsLost : {A : Type 0} → Lost A → Record → Type 0
-IsLost (lost.Storage undone) (Called call) = undone_in undone ≡ call.undone
-IsLost (lost.Storage undone) other = ⊥
-IsLost (lost.Texts emptied) (Idle base frames) = texts_in emptied ≡ (base, frames)
-IsLost (lost.Texts emptied) other = ⊥
-IsLost lost.Nothing (Called call) = ⊥
-IsLost lost.Nothing (Idle base frames) = ⊥
-IsLost lost.Nothing other = Unit {0}
+-- it is short
+abbrev pub IsShortFirst : List Record → Type 0
+IsShortFirst [] = ⊥
+IsShortFirst (Called call ∷ older) = ⊥
+IsShortFirst (Idle base frames ∷ older) = ⊥
+IsShortFirst (newest ∷ older) = Unit {0}
+
+-- it is of a call
+abbrev pub IsCallFirst : List Record → Type 0
+IsCallFirst [] = ⊥
+IsCallFirst (Called call ∷ older) = Unit {0}
+IsCallFirst (newest ∷ older) = ⊥
+
+-- it is of a step that emptied all texts
+abbrev pub IsIdleFirst : List Record → Type 0
+IsIdleFirst [] = ⊥
+IsIdleFirst (Idle base frames ∷ older) = Unit {0}
+IsIdleFirst (newest ∷ older) = ⊥
+
+-- it is of a call of these arguments, and this is said beside them
+pub record HasCallFirst (called : code.Called) (arguments : List (List ℕ)) (records : List Record) : Type 0 where
+  pub undone : rules.Undone
+  pub older : List Record
+  pub first : records ≡ Called (record_with called arguments undone) ∷ older
+
+-- it was of a call and is taken out, and this is what it destroyed of forms and blocks
+pub record HasCallOut (undone : rules.Undone) (old new : List Record) : Type 0 where
+  pub call : CallRecord
+  pub taken : old ≡ Called call ∷ new
+  pub destroyed : undone ≡ call.undone
+
+-- ---- sums
 
 -- how many bytes of the tape the step of a record read
 abbrev pub read_by : Record → ℕ

@@ -1,5 +1,5 @@
 //! The journal: a record for each step, packed.
-ghost use Rattle.std.specs.Prelude.{◌≡◌, ◌==◌, ◌+◌, ◌-◌, ◌<◌, ◌≤◌, ◌^◌, ◌++◌, List, ◌∷◌, [], length, replicate, IsOkUnless, MatchOption, OnErr, OnOk};
+ghost use Rattle.std.specs.Prelude.{◌≡◌, ◌==◌, ◌+◌, ◌-◌, ◌<◌, ◌≤◌, ◌^◌, ◌++◌, ◌∷◌, [], length, replicate, IsOkUnless, MatchOption, OnErr, OnOk};
 ghost use Rattle.std.specs.List.{concat};
 ghost use Rattle.std.specs.VecDeque.{deque_capacity, deque_len};
 ghost use Rattle.trac_rules.specs.declared.limit.TheConstants.{JOURNAL_LIMIT};
@@ -7,29 +7,28 @@ ghost use Rattle.trac_rules.specs.Records.{Called as CallOf, Idle, Moved, Record
 ghost use Rattle.trac_rules.specs.Weights.{meta_weight, undone_weight, weight};
 ghost use Rattle.trac_journal.specs.Journaled.{HasPlaceForCall, HasPlaceForIdle, IsLight};
 ghost use Rattle.trac_journal.specs.Listed.{newest_in, nothing_listed, AreSmall, IsBrief};
-ghost use Rattle.trac_text.specs.Pieces.{frames_in};
-ghost use Rattle.trac_journal.specs.Told.{record_with, said_by, sum_by, FitsEntry, IsLost, IsTold};
+ghost use Rattle.trac_text.specs.Pieces.{all_texts, frames_in};
+ghost use Rattle.trac_journal.specs.Told.{record_with, said_by, sum_by, FitsEntry, HasCallFirst, HasCallOut, IsCallFirst, IsIdleFirst, IsShortFirst};
 ghost use Rattle.trac_change.specs.Undone.{undone_in};
 
 use crate::called::{Called, Short};
 use crate::emptied::Emptied;
 use crate::entry::{Entry, Kept};
 use crate::lists::Lists;
-use crate::told::{Lost, Newest};
 use std::alloc::{AllocError, Allocator, Global};
 use std::collections::VecDeque;
 use std::marker::Model;
 use trac_change::Undone;
 use trac_rules::refusal::Refusal;
-use trac_text::Args;
+use trac_text::{Args, PiecesRef};
 
 /// What the steps of a machine destroyed, a record for each: seen as the list of the rules' records, the newest first, and
 /// beside it how much room there is for more.
 ///
 /// A step first reserves, then changes the machine, and then pushes its record, which cannot be refused. On the way back the
-/// newest record is lent, and taken out after its texts are put back. Bytes that were moved one after another are kept as their
-/// number, and their records take no memory. Only calls that reserve can be refused, with `Memory`, and then the records stay. A
-/// journal holds at most 1,048,576 records.
+/// newest record is taken out by the function for its kind; that of a call is lent before, and taken out after its texts are
+/// put back. Bytes that were moved one after another are kept as their number, and their records take no memory. Only calls
+/// that reserve can be refused, with `Memory`, and then the records stay. A journal holds at most 1,048,576 records.
 #[derive(Drop)]
 pub struct Journal<A: Allocator + Copy = Global> {
     // how many bytes were moved since the last entry, a step each
@@ -219,38 +218,75 @@ impl<A: Allocator + Copy> Journal<A> {
         self.weight += weight;
     }
 
-    /// The newest record, lent as far as it can be; none where there is none.
-    pub fn newest(&self) -> Option<Newest<'_>>
-        ensures { MatchOption result (self.now.records ≡ []) (λ n. (r : Record) × ((older : List Record) × ((self.now.records ≡ r ∷ older) × IsTold n r))) }
-    {
-        if self.moved > 0 {
-            return Some(Newest::Short(Short::Moved));
-        }
-        match self.entries.back() {
-            Some(entry) => Some(self.lists.newest(entry.kept)),
-            None => None,
-        }
-    }
-
-    /// Takes out the newest record, and returns what its step destroyed of forms and blocks, or emptied; none where there is
-    /// no record.
-    pub fn pop(&mut self) -> Option<Lost<A>>
-        ensures { MatchOption result ((self.old.records ≡ []) × (self.new.records ≡ [])) (λ lost. (r : Record) × ((self.old.records ≡ r ∷ self.new.records) × IsLost lost r)) }
+    /// Takes out the newest record and returns it, where its step performed no function and did not empty the texts; else
+    /// returns none, and changes nothing.
+    #[inline(always)]
+    pub fn pop_short(&mut self) -> Option<Short>
+        ensures { MatchOption result ((IsShortFirst self.old.records → ⊥) × (self.new ≡ self.old)) (λ short. self.old.records ≡ said_by short ∷ self.new.records) }
     {
         if self.moved > 0 {
             self.moved -= 1;
             self.len -= 1;
-            return Some(Lost::Nothing);
+            return Some(Short::Moved);
         }
-        let Some(entry) = self.entries.pop_back() else {
-            return None;
-        };
-        let weight = self.lists.weigh_newest(entry.kept);
-        let lost = self.lists.pop(entry.kept);
+        let entry = *self.entries.back()?;
+        let short = short_in(entry.kept)?;
+        self.entries.pop_back();
         self.moved = entry.moved as usize;
         self.len -= 1;
-        self.weight -= weight;
-        Some(lost)
+        self.weight -= weigh_brief(entry.kept);
+        Some(short)
+    }
+
+    /// The newest record, where it is of a call: what it says beside its arguments, and these, lent; else none.
+    #[inline(always)]
+    pub fn newest_call(&self) -> Option<(Called, PiecesRef<'_>)>
+        ensures { MatchOption result (IsCallFirst self.now.records → ⊥) (λ call. HasCallFirst call.0 (all_texts call.1) self.now.records) }
+    {
+        if self.moved > 0 {
+            return None;
+        }
+        match self.entries.back()?.kept {
+            Kept::Call | Kept::Pointed(_) | Kept::Changed => Some(self.lists.newest_call()),
+            Kept::Comma | Kept::Begun | Kept::Quoted { .. } | Kept::Deleted(_) | Kept::Idle => None,
+        }
+    }
+
+    /// Takes out the newest record, which has to be of a call, and returns what its step destroyed of forms and blocks.
+    #[inline(always)]
+    pub fn pop_call(&mut self) -> Undone<A>
+        requires { IsCallFirst self.old.records }
+        ensures { HasCallOut (undone_in result) self.old.records self.new.records }
+    {
+        let Some(entry) = self.entries.pop_back() else {
+            unreachable!()
+        };
+        let undone = self.lists.pop_undone(entry.kept);
+        let texts = self.lists.pop_call();
+        self.moved = entry.moved as usize;
+        self.len -= 1;
+        self.weight -= texts + undone.weight() as u64;
+        undone
+    }
+
+    /// Takes out the newest record and returns what its step emptied, where it emptied all texts; else returns none, and changes
+    /// nothing.
+    pub fn pop_idle(&mut self) -> Option<Emptied<A>>
+        ensures { MatchOption result ((IsIdleFirst self.old.records → ⊥) × (self.new ≡ self.old)) (λ emptied. self.old.records ≡ Idle emptied.base.items (frames_in emptied.frames.items) ∷ self.new.records) }
+    {
+        if self.moved > 0 {
+            return None;
+        }
+        let entry = *self.entries.back()?;
+        let Kept::Idle = entry.kept else {
+            return None;
+        };
+        let emptied = self.lists.pop_emptied();
+        self.entries.pop_back();
+        self.moved = entry.moved as usize;
+        self.len -= 1;
+        self.weight -= emptied.weight() as u64;
+        Some(emptied)
     }
 
     /// Takes out the records of the bytes that were moved last, up to `most` of them, and returns how many these are.
@@ -273,6 +309,23 @@ impl<A: Allocator + Copy> Journal<A> {
         self.moved = 0;
         self.len = 0;
         self.weight = 0;
+    }
+}
+
+// The short record that an entry holds; none where it holds less than all of a record.
+#[inline(always)]
+fn short_in(kept: Kept) -> Option<Short>
+    ensures { MatchOption result (IsBrief kept → ⊥) (λ short. IsBrief kept × (said_by short ≡ newest_in kept nothing_listed)) }
+{
+    match kept {
+        Kept::Comma => Some(Short::Comma),
+        Kept::Begun => Some(Short::Begun),
+        Kept::Quoted { closed, inner } => Some(Short::Quoted {
+            inner: inner as usize,
+            closed,
+        }),
+        Kept::Deleted(byte) => Some(Short::Deleted(byte)),
+        Kept::Call | Kept::Pointed(_) | Kept::Changed | Kept::Idle => None,
     }
 }
 

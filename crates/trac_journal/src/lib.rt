@@ -9,7 +9,6 @@ mod emptied_weight;
 pub mod entry;
 pub mod journal;
 pub mod lists;
-pub mod told;
 
 pub use called::{Called, Short};
 pub use dropping::Passed;
@@ -20,7 +19,6 @@ pub use entry::{CallEntry, Entry, Kept};
 pub use journal::Journal;
 #[doc(hidden)]
 pub use lists::Lists;
-pub use told::{Lost, Newest};
 pub use trac_change::{Undone, undone};
 pub use trac_rules::kind::Kind;
 pub use trac_rules::refusal::Refusal;

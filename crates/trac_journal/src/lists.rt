@@ -8,16 +8,15 @@ ghost use Rattle.trac_rules.specs.Undone as rules;
 ghost use Rattle.trac_rules.specs.Weights.{meta_weight, undone_weight, weight};
 ghost use Rattle.trac_journal.specs.Dropped.{printed_at, printed_in, without_oldest, EndsWithCall, IsGone, IsGoneCall, IsOldest};
 ghost use Rattle.trac_journal.specs.Journaled.{HasRoom};
-ghost use Rattle.trac_journal.specs.Listed.{call_of, called_in, first_undone, idle_of, newest_in, nothing_listed, older_in, without_call, AreSmall, HasCall, HasMore, Holds, IsKept, Listed};
-ghost use Rattle.trac_text.specs.Pieces.{frames_in};
-ghost use Rattle.trac_journal.specs.Told.{record_with, IsLost, IsTold};
+ghost use Rattle.trac_journal.specs.Listed.{call_of, called_in, first_undone, idle_of, newest_in, nothing_listed, older_undone, undone_of, without_call, AreSmall, HasCall, HasMore, Holds, IsKept, Listed};
+ghost use Rattle.trac_text.specs.Pieces.{all_texts, frames_in};
+ghost use Rattle.trac_journal.specs.Told.{record_with};
 ghost use Rattle.trac_journal.specs.Emptied.{texts_in};
 ghost use Rattle.trac_change.specs.Undone.{undone_in};
 
-use crate::called::{Called, Short};
+use crate::called::Called;
 use crate::emptied::Emptied;
 use crate::entry::{CallEntry, Kept};
-use crate::told::{Lost, Newest};
 use std::alloc::{Allocator, Global};
 use std::collections::VecDeque;
 use std::marker::Model;
@@ -140,72 +139,30 @@ impl<A: Allocator + Copy> Lists<A> {
         self.emptied.push_back_reserved(emptied);
     }
 
-    // The record of which the newest entry keeps this, as far as it can be lent.
-    pub(crate) fn newest(&self, kept: Kept) -> Newest<'_>
-        requires { Holds kept self.now.listed }
-        ensures { IsTold result (newest_in kept self.now.listed) }
-    {
-        match kept {
-            Kept::Comma => Newest::Short(Short::Comma),
-            Kept::Begun => Newest::Short(Short::Begun),
-            Kept::Quoted { closed, inner } => Newest::Short(Short::Quoted {
-                inner: inner as usize,
-                closed,
-            }),
-            Kept::Deleted(byte) => Newest::Short(Short::Deleted(byte)),
-            Kept::Call | Kept::Pointed(_) | Kept::Changed => self.newest_call(),
-            Kept::Idle => Newest::Idle,
-        }
-    }
-
-    // The newest call.
-    fn newest_call(&self) -> Newest<'_>
+    // What the newest call says beside its arguments, and these.
+    #[inline(always)]
+    pub(crate) fn newest_call(&self) -> (Called, PiecesRef<'_>)
         requires { HasCall self.now.listed.calls self.now.listed.bytes self.now.listed.commas }
-        ensures { (undone : rules.Undone) → IsTold result (call_of self.now.listed.calls undone self.now.listed.bytes self.now.listed.commas) }
+        ensures { (undone : rules.Undone) → call_of self.now.listed.calls undone self.now.listed.bytes self.now.listed.commas ≡ CallOf (record_with result.0 (all_texts result.1) undone) }
     {
         let Some(call) = self.calls.back() else {
             unreachable!()
         };
         let bytes = self.bytes.as_slice();
         let commas = self.commas.as_slice();
-        Newest::Call {
-            called: called_by(*call),
-            arguments: PiecesRef::new(
-                bytes.split_at(bytes.len() - call.bytes as usize).1,
-                commas.split_at(commas.len() - call.commas as usize).1,
-            ),
-        }
+        let arguments = PiecesRef::new(
+            bytes.split_at(bytes.len() - call.bytes as usize).1,
+            commas.split_at(commas.len() - call.commas as usize).1,
+        );
+        (called_by(*call), arguments)
     }
 
-    // Takes out what the newest record has in the lists, of which its entry keeps this, and returns what its step destroyed of
-    // forms and blocks, or emptied.
-    pub(crate) fn pop(&mut self, kept: Kept) -> Lost<A>
-        requires { Holds kept self.old.listed }
-        ensures others { self.new.listed ≡ older_in kept self.old.listed }
-        ensures lost { IsLost result (newest_in kept self.old.listed) }
-    {
-        match kept {
-            Kept::Call => {
-                self.pop_call();
-                Lost::Storage(Undone::Nothing)
-            }
-            Kept::Pointed(place) => {
-                self.pop_call();
-                Lost::Storage(Undone::Point(place as usize))
-            }
-            Kept::Changed => {
-                self.pop_call();
-                Lost::Storage(self.pop_undone())
-            }
-            Kept::Idle => Lost::Texts(self.pop_emptied()),
-            Kept::Comma | Kept::Begun | Kept::Quoted { .. } | Kept::Deleted(_) => Lost::Nothing,
-        }
-    }
-
-    // Takes out the newest call with its arguments.
-    fn pop_call(&mut self)
+    // Takes out the newest call with its arguments, and returns what it weighs beside what it destroyed of forms and blocks.
+    #[inline(always)]
+    pub(crate) fn pop_call(&mut self) -> u64
         requires { HasCall self.old.listed.calls self.old.listed.bytes self.old.listed.commas }
-        ensures { self.new.listed ≡ without_call self.old.listed.calls self.old.listed }
+        ensures others { self.new.listed ≡ without_call self.old.listed.calls self.old.listed }
+        ensures weighs { (undone : rules.Undone) → result + undone_weight undone ≡ weight (call_of self.old.listed.calls undone self.old.listed.bytes self.old.listed.commas) }
     {
         let Some(call) = self.calls.pop_back() else {
             unreachable!()
@@ -213,10 +170,30 @@ impl<A: Allocator + Copy> Lists<A> {
         self.bytes.truncate(self.bytes.len() - call.bytes as usize);
         self.commas
             .truncate(self.commas.len() - call.commas as usize);
+        weigh_texts(call)
+    }
+
+    // Takes out what the newest call destroyed of forms and blocks, of which its entry keeps this.
+    #[inline(always)]
+    pub(crate) fn pop_undone(&mut self, kept: Kept) -> Undone<A>
+        requires { Holds kept self.old.listed }
+        ensures others { self.new.listed ≡ record self.old.listed { undone = older_undone kept self.old.listed.undone } }
+        ensures own { undone_in result ≡ undone_of kept self.old.listed.undone }
+    {
+        match kept {
+            Kept::Pointed(place) => Undone::Point(place as usize),
+            Kept::Changed => self.pop_changed(),
+            Kept::Comma
+            | Kept::Begun
+            | Kept::Quoted { .. }
+            | Kept::Deleted(_)
+            | Kept::Call
+            | Kept::Idle => Undone::Nothing,
+        }
     }
 
     // Takes out what was destroyed last of forms and blocks.
-    fn pop_undone(&mut self) -> Undone<A>
+    fn pop_changed(&mut self) -> Undone<A>
         requires { 1 ≤ length self.old.listed.undone }
         ensures others { self.new.listed ≡ record self.old.listed { undone = drop 1 self.old.listed.undone } }
         ensures first { undone_in result ≡ first_undone self.old.listed.undone }
@@ -228,7 +205,7 @@ impl<A: Allocator + Copy> Lists<A> {
     }
 
     // Takes out what was emptied last.
-    fn pop_emptied(&mut self) -> Emptied<A>
+    pub(crate) fn pop_emptied(&mut self) -> Emptied<A>
         requires { 1 ≤ length self.old.listed.emptied }
         ensures others { self.new.listed ≡ record self.old.listed { emptied = drop 1 self.old.listed.emptied } }
         ensures first { Idle (texts_in result).0 (texts_in result).1 ≡ idle_of self.old.listed.emptied }
@@ -237,56 +214,6 @@ impl<A: Allocator + Copy> Lists<A> {
             unreachable!()
         };
         emptied
-    }
-
-    // What the newest record weighs, of which its entry keeps this.
-    pub(crate) fn weigh_newest(&self, kept: Kept) -> u64
-        requires there { Holds kept self.now.listed }
-        requires fits { weight (newest_in kept self.now.listed) < 2 ^ 64 }
-        ensures { result ≡ weight (newest_in kept self.now.listed) }
-    {
-        match kept {
-            Kept::Comma | Kept::Begun | Kept::Quoted { .. } => 0,
-            Kept::Deleted(_byte) => 1,
-            Kept::Call | Kept::Pointed(_) => self.weigh_newest_call(),
-            Kept::Changed => self.weigh_newest_call() + self.weigh_newest_undone(),
-            Kept::Idle => self.weigh_newest_emptied(),
-        }
-    }
-
-    // What the newest call weighs beside what it destroyed of forms and blocks.
-    fn weigh_newest_call(&self) -> u64
-        requires { HasCall self.now.listed.calls self.now.listed.bytes self.now.listed.commas }
-        ensures { (undone : rules.Undone) → result + undone_weight undone ≡ weight (call_of self.now.listed.calls undone self.now.listed.bytes self.now.listed.commas) }
-    {
-        let Some(call) = self.calls.back() else {
-            unreachable!()
-        };
-        weigh_texts(*call)
-    }
-
-    // What was destroyed last of forms and blocks weighs.
-    fn weigh_newest_undone(&self) -> u64
-        requires some { 1 ≤ length self.now.listed.undone }
-        requires fits { undone_weight (first_undone self.now.listed.undone) < 2 ^ 64 }
-        ensures { result ≡ undone_weight (first_undone self.now.listed.undone) }
-    {
-        let Some(undone) = self.undone.back() else {
-            unreachable!()
-        };
-        undone.weight() as u64
-    }
-
-    // What was emptied last weighs.
-    fn weigh_newest_emptied(&self) -> u64
-        requires some { 1 ≤ length self.now.listed.emptied }
-        requires fits { weight (idle_of self.now.listed.emptied) < 2 ^ 64 }
-        ensures { result ≡ weight (idle_of self.now.listed.emptied) }
-    {
-        let Some(emptied) = self.emptied.back() else {
-            unreachable!()
-        };
-        emptied.weight() as u64
     }
 
     // Drops what the oldest record has in the lists, of which its entry keeps this, and returns what is to be known of it.

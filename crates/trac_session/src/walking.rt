@@ -21,7 +21,8 @@ enum Direction {
 }
 
 impl<A: Allocator + Copy> Session<A> {
-    // Takes one step this way.
+    // Takes one step this way. The loop of a walk has it in itself, with the scanning steps, and calls the way back.
+    #[inline(always)]
     fn go(&mut self, direction: Direction) -> Result<(), Refusal>
         ensures { Answers (command_towards direction) self.old (reply_of result) self.new }
     {

@@ -5,7 +5,7 @@ use Rattle.trac_journal.specs.declared.called.Called.{Called}
 use Rattle.trac_journal.specs.Journaled.{IsLight}
 use Rattle.trac_journal.specs.Listed.{AreSmall}
 use Rattle.trac_journal.specs.Told.{record_with}
-use Rattle.trac_rules.specs.Records.{CallRecord, Record, Idle, record_of, state_before}
+use Rattle.trac_rules.specs.Records.{Record, record_of, state_before}
 use Rattle.trac_rules.specs.Records.{Called as CallOf}
 use Rattle.trac_rules.specs.State.{Environment, State}
 use Rattle.trac_rules.specs.Undone.{Undone}
@@ -35,24 +35,6 @@ pub record IsKept (environment : Environment) (before after : State) (old new : 
 abbrev pub CanGoBack : Shown → List Record → Type 0
 CanGoBack m [] = Unit {0}
 CanGoBack m (newest ∷ older) = IsSomeAnd (state_before newest m.state) (λ s. HasRoom m s)
-
--- the newest of the records is of a call
-abbrev pub IsCallFirst : List Record → Type 0
-IsCallFirst [] = ⊥
-IsCallFirst (CallOf call ∷ older) = Unit {0}
-IsCallFirst (newest ∷ older) = ⊥
-
--- it is taken out, and this is what it destroyed of forms and blocks
-pub record HasCallOut (undone : Undone) (old new : List Record) : Type 0 where
-  pub call : CallRecord
-  pub taken : old ≡ CallOf call ∷ new
-  pub destroyed : undone ≡ call.undone
-
--- the newest of the records is of a step that emptied all texts
-abbrev pub IsIdleFirst : List Record → Type 0
-IsIdleFirst [] = ⊥
-IsIdleFirst (Idle base frames ∷ older) = Unit {0}
-IsIdleFirst (newest ∷ older) = ⊥
 
 -- the newest of the records led back from one state to another, and is taken out
 pub record HasGoneBack (after before : State) (old new : List Record) : Type 0 where

@@ -1,39 +1,15 @@
 //! The way back over the newest record of a journal.
-ghost use Rattle.std.specs.Prelude.{◌≡◌, ◌∷◌, [], false, IsSomeAnd, IsTrue, Some};
-ghost use Rattle.trac_rules.specs.Records.{Idle, state_before};
-ghost use Rattle.trac_text.specs.Pieces.{frames_in};
+ghost use Rattle.std.specs.Prelude.{◌≡◌, [], false, IsSomeAnd, IsTrue, Some};
+ghost use Rattle.trac_rules.specs.Records.{state_before};
 ghost use Rattle.trac_journal.specs.Told.{said_by};
-ghost use Rattle.trac_change.specs.Undone.{undone_in};
-ghost use Rattle.trac_step.specs.Kept.{CanGoBack, HasCallOut, HasGoneBack, IsCallFirst, IsIdleFirst};
+ghost use Rattle.trac_step.specs.Kept.{CanGoBack, HasGoneBack};
 ghost use Rattle.trac_step.specs.Room.{HasRoom, IsNoLess};
 
 use crate::engine::Core;
 use std::alloc::Allocator;
 use trac_gap::TwoEnds;
-use trac_journal::{Emptied, Journal, Lost, Newest, Short, Undone};
+use trac_journal::{Journal, Short};
 use trac_text::Mark;
-
-// Takes out the newest record, which is of a call, and returns what it destroyed of forms and blocks.
-fn pop_undone<A: Allocator + Copy>(journal: &mut Journal<A>) -> Undone<A>
-    requires { IsCallFirst journal.old.records }
-    ensures { HasCallOut (undone_in result) journal.old.records journal.new.records }
-{
-    match journal.pop() {
-        Some(Lost::Storage(undone)) => undone,
-        Some(Lost::Texts(_)) | Some(Lost::Nothing) | None => unreachable!(),
-    }
-}
-
-// Takes out the newest record, which is of a step that emptied all texts, and returns these.
-fn pop_emptied<A: Allocator + Copy>(journal: &mut Journal<A>) -> Emptied<A>
-    requires { IsIdleFirst journal.old.records }
-    ensures { journal.old.records ≡ Idle result.base.items (frames_in result.frames.items) ∷ journal.new.records }
-{
-    match journal.pop() {
-        Some(Lost::Texts(emptied)) => emptied,
-        Some(Lost::Storage(_)) | Some(Lost::Nothing) | None => unreachable!(),
-    }
-}
 
 impl<E: TwoEnds<u8, A>, M: TwoEnds<Mark, A>, A: Allocator + Copy> Core<E, M, A> {
     // Goes back over a step that performed no function, and did not empty the texts.
@@ -55,6 +31,8 @@ impl<E: TwoEnds<u8, A>, M: TwoEnds<Mark, A>, A: Allocator + Copy> Core<E, M, A> 
     /// texts of a call are put back from where the journal keeps them. It takes no memory and cannot fail, lessens no room and
     /// forgets no name. The newest record has to lead back to a state for which the machine has room, as it does after its
     /// step.
+    // A session has it in its own `step_back`, so a step of a walk back takes one call.
+    #[inline(always)]
     pub fn step_back(&mut self, journal: &mut Journal<A>) -> bool
         requires { CanGoBack self.old journal.old.records }
         ensures back { IsTrue result → HasGoneBack self.old.state self.new.state journal.old.records journal.new.records }
@@ -62,25 +40,21 @@ impl<E: TwoEnds<u8, A>, M: TwoEnds<Mark, A>, A: Allocator + Copy> Core<E, M, A> 
         ensures room { IsNoLess self.old self.new }
     {
         self.is_in_its_room();
-        match journal.newest() {
-            None => false,
-            Some(Newest::Short(short)) => {
-                self.undo_short(short);
-                journal.pop();
-                true
-            }
-            Some(Newest::Idle) => {
-                let emptied = pop_emptied(journal);
-                let frames = emptied.frames;
-                self.unload(emptied.base.as_slice(), frames);
-                true
-            }
-            Some(Newest::Call { called, arguments }) => {
-                self.begin_again(called, &arguments);
-                let undone = pop_undone(journal);
-                self.restore_storage(undone);
-                true
-            }
+        if let Some(short) = journal.pop_short() {
+            self.undo_short(short);
+            return true;
         }
+        if let Some((called, arguments)) = journal.newest_call() {
+            self.begin_again(called, &arguments);
+            let undone = journal.pop_call();
+            self.restore_storage(undone);
+            return true;
+        }
+        if let Some(emptied) = journal.pop_idle() {
+            let frames = emptied.frames;
+            self.unload(emptied.base.as_slice(), frames);
+            return true;
+        }
+        false
     }
 }
