@@ -87,7 +87,7 @@ impl<A: Allocator + Copy> Form<A> {
         fill_gaps(&mut self.items, cut.gaps(), texts);
     }
 
-    // The text of the whole form, where it is kept as one.
+    // The text of the whole form, where it is kept as one. None is always allowed: then the items are gone over.
     fn whole_text(&self) -> Option<&[u8]>
         ensures whole { IfSome result (λ run. self.now ≡ defined run.now) }
         ensures fits { IfSome result (λ run. length run.now ≤ FORM_LIMIT) }
@@ -170,7 +170,7 @@ fn cut_in_run<A: Allocator + Copy>(alloc: A, text: &[u8], run: &[u8]) -> Result<
 {
     let mut gaps = Vec::new(alloc);
     gaps_in_run(text, run, &mut gaps)?;
-    // a cut may be kept for long: so it has memory for its gaps alone
+    // a cut may be kept for long: what growing took too much is given back
     gaps.shrink_to_fit();
     Ok(Cut { gaps })
 }

@@ -177,6 +177,9 @@ impl<A: Allocator + Copy> Store<A> {
         ensures put { OnOk result (self.new ≡ record self.old { forms = finite.insert self.old.forms name.now form; known = set.insert self.old.known name.now }) }
         ensures unchanged { OnErr result (self.new ≡ self.old) }
         ensures err { IsOkUnless result FormError.Memory }
+
+        // Of a name that is known already nothing is asked of the allocator.
+        ensures again { IsTrue (set.contains self.old.known name.now) → IsOk result }
     {
         // A known name is looked up once.
         if let Some(i) = self.table.get_index_of(name) {

@@ -73,7 +73,7 @@ abbrev pub first_undone : List Undone → Undone
 first_undone [] = Nothing
 first_undone (undone ∷ older) = undone
 
--- what a call destroyed of which an entry keeps this; from the list of these, where it stands there
+-- what the newest call destroyed, by what its entry keeps: from the list of these, where it stands there
 abbrev pub undone_of : Kept → List Undone → Undone
 undone_of (kept.Pointed place) undone = Point place
 undone_of kept.Changed undone = first_undone undone
@@ -110,7 +110,7 @@ without_call [] l = l
 without_call (c ∷ calls) l =
     record l { calls = calls; bytes = all_before_last c.bytes l.bytes; commas = all_before_last c.commas l.commas }
 
--- what older calls destroyed than one of which an entry keeps this
+-- what is left of that list without the newest call's own
 abbrev pub older_undone : Kept → List Undone → List Undone
 older_undone kept.Changed undone = drop 1 undone
 older_undone other undone = undone

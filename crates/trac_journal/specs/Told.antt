@@ -1,4 +1,4 @@
--- What a record says, and what the newest one is of.
+-- What a record says, and of what kind the newest is.
 use Rattle.std.specs.Prelude.{◌≡◌, ℕ, ◌+◌, ◌<◌, ◌^◌, List, [], ◌∷◌}
 use Rattle.trac_rules.specs.Records.{CallRecord, Record, Moved, Comma, Begun, Quoted, Deleted, Idle, Called}
 use Rattle.trac_rules.specs.Undone as rules

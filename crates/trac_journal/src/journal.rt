@@ -25,7 +25,7 @@ use trac_text::{Args, PiecesRef};
 /// What the steps of a machine destroyed, a record for each: seen as the list of the rules' records, the newest first, and
 /// beside it how much room there is for more.
 ///
-/// A step first reserves, then changes the machine, and then pushes its record, which cannot be refused. On the way back the
+/// A step first reserves, then changes the machine, and pushes its record, which cannot be refused. On the way back the
 /// newest record is taken out by the function for its kind; that of a call is lent before, and taken out after its texts are
 /// put back. Bytes that were moved one after another are kept as their number, and their records take no memory. Only calls
 /// that reserve can be refused, with `Memory`, and then the records stay. A journal holds at most 1,048,576 records.
@@ -262,10 +262,10 @@ impl<A: Allocator + Copy> Journal<A> {
             unreachable!()
         };
         let undone = self.lists.pop_undone(entry.kept);
-        let texts = self.lists.pop_call();
+        let weight = self.lists.pop_call();
         self.moved = entry.moved as usize;
         self.len -= 1;
-        self.weight -= texts + undone.weight() as u64;
+        self.weight -= weight + undone.weight() as u64;
         undone
     }
 

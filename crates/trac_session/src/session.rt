@@ -112,7 +112,7 @@ impl<A: Allocator + Copy> Session<A> {
 
     /// Goes back over the last step, which takes no memory.
     /// Refused, with nothing changed, as `AtStart` where there is no record to go back over.
-    // The loop of a walk calls it, and has no more than the scanning steps in itself.
+    // The loop of a walk calls it, so that it holds the steps of scanning alone.
     #[inline(never)]
     pub(crate) fn step_back(&mut self) -> Result<(), Refusal>
         ensures { answer Back self.old ≡ record { reply = reply_of result; session = self.new } }

@@ -251,8 +251,8 @@ impl<E: TwoEnds<u8, A>, M: TwoEnds<Mark, A>, A: Allocator + Copy> Core<E, M, A> 
         Ok(self.put_change(beginning, change, places))
     }
 
-    // The same. Most calls change nothing of forms and blocks, and of the others most move a pointer or define a form: for these
-    // no places are made. Any change but the first two is taken out of its place.
+    // Changes forms and blocks as `change_all` does. Most calls change nothing of them, and of the others most move a pointer or
+    // define a form: for these no places are made. Any change but `Keep` and `Point` is taken out of its place.
     fn change_storage(
         &mut self,
         beginning: Beginning,

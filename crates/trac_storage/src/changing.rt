@@ -1,5 +1,5 @@
 //! Changing forms and blocks as a call planned it.
-ghost use Rattle.std.specs.Prelude.{◌≡◌, ◌≤◌, [], drop, length, is_some, IfOk, IfSome, IsOkUnless, IsTrue, OnErr, OnOk, Some};
+ghost use Rattle.std.specs.Prelude.{◌≡◌, ◌≤◌, [], drop, length, is_some, IfOk, IfSome, IsOk, IsOkUnless, IsTrue, OnErr, OnOk, Some};
 ghost use Rattle.std.specs.FinMap as finite;
 ghost use Rattle.std.specs.FinSet as set;
 ghost use Rattle.trac_rules.specs.Blocks.{block_at, erased, put_aside};
@@ -105,9 +105,10 @@ pub fn define<A: Allocator + Copy>(
 ) -> Result<Undone<A>, Refusal>
     ensures storage { OnOk result (storage_in store.new ≡ with_form name.now form (storage_in store.old)) }
     ensures undone { IfOk result (λ undone. undone_in undone ≡ Swap (finite.get store.old.forms name.now)) }
-    ensures unchanged { OnErr result (storage_in store.new ≡ storage_in store.old) }
+    ensures unchanged { OnErr result (store.new ≡ store.old) }
     ensures names { AreAmong store.old.known store.new.known }
     ensures err { IsOkUnless result Refusal.Memory }
+    ensures again { IsTrue (set.contains store.old.known name.now) → IsOk result }
 {
     Ok(Undone::Swap(store.insert(name, form)?))
 }
