@@ -1,29 +1,24 @@
 -- What calls on blocks come to, and what is judged for them.
-use Rattle.std.proofs.Common.{◌≡◌, ℕ, ◌+◌, ◌<◌, ◌≤◌, ◌^◌, Bool, true, false, List, [], ◌∷◌, ◌++◌, length, refl, sym, ap, subst, ◌∙◌, arith}
-use Rattle.std.specs.Prelude.{Option, None, Some, Result, Ok, Err, bytes_eq, cond, decimal, is_some, nat_le, option_map, if◌then◌else◌}
-use Rattle.std.specs.Borrow.{Bor}
+use Rattle.std.proofs.Common.{◌≡◌, ℕ, ◌+◌, ◌<◌, ◌≤◌, ◌^◌, Bool, true, false, List, [], ◌∷◌, ◌++◌, length, refl, sym, ap, ◌∙◌, arith}
+use Rattle.std.specs.Prelude.{None, Some, Ok, bytes_eq, cond, decimal, is_some}
 use Rattle.std.specs.FinMap as finite
 use Rattle.std.specs.List.{list_any}
 use Rattle.std.proofs.lemmas.Bool.{le-leb}
 use Rattle.std.proofs.lemmas.Fmt.{length-decimal-le}
 use Rattle.std.proofs.lemmas.List.{length-map}
 use Rattle.trac_rules.specs.declared.limit.TheConstants.{BLOCK_LIMIT, FORM_COUNT_LIMIT}
-use Rattle.trac_rules.specs.declared.refusal.Refusal.{Refusal}
-use Rattle.trac_rules.specs.declared.refusal.Refusal.TheVariants.{Memory, TooLong}
-use Rattle.trac_rules.specs.declared.primitive.BlockAction.TheVariants.{EraseBlock, FetchBlock}
-use Rattle.trac_rules.specs.Blocks.{block_at, block_handled, erased, fetched, fetching, forms_in, moved_out, named_block_number, on_block, put_aside, storing, with_all}
-use Rattle.trac_rules.specs.Effect.{Effect, argument, leaves}
+use Rattle.trac_rules.specs.declared.refusal.Refusal.TheVariants.{Memory}
+use Rattle.trac_rules.specs.Blocks.{moved_out, put_aside, storing}
+use Rattle.trac_rules.specs.Effect.{leaves}
 use Rattle.trac_rules.specs.Form.{Form, defined}
-use Rattle.trac_rules.specs.Handling.{keeping, without}
+use Rattle.trac_rules.specs.Handling.{without}
 use Rattle.trac_rules.specs.Limits.{may_be_put}
-use Rattle.trac_rules.specs.State.{Block, Forms, Held, Storage}
+use Rattle.trac_rules.specs.State.{Forms, Storage}
 use Rattle.trac_rules.proofs.Cutting.{extent-as_items, wide-as_items}
 use Rattle.trac_forms.specs.declared.error.FormError.{FormError}
 use Rattle.trac_forms.specs.declared.error.FormError.TheVariants.{Memory as NoMemory, TooLong as LongForm}
 use Rattle.trac_forms.specs.Layout.{IsSound}
 use Rattle.trac_forms.specs.Outcomes.{MayRefuseForm, as_refusal}
-use Rattle.trac_forms.specs.Stored.{Gathered}
-use Rattle.trac_prims.specs.Blocks.{IsBlock}
 use Rattle.trac_rules.specs.Undone.{names_in}
 use Rattle.trac_change.specs.Changed.{with_form}
 use Rattle.trac_prims.proofs.MovedOut.{get-without, len-without, moved_out-again, without-again}
@@ -83,37 +78,3 @@ module _ (names held : List (List ℕ)) (forms : Forms) (is : held ≡ names_in 
       either : (b : Bool) → is_some (cond b None (finite.get forms name)) ≡ false
       either true = refl
       either false = none
-
--- ---- the block that a form names
-
--- what was found
-pub named_so : (number : Option ℕ) (blocks : List Block) (found : Option (ℕ × Bor Gathered)) (k : ℕ) (block : Bor Gathered) → found ≡ Some (k, block) →
-    IsBlock number blocks (option_map (λ x. (x.0, x.1.now.held)) found) → (number ≡ Some k) × (block_at k blocks ≡ Some block.now.held)
-named_so number blocks found k block is there =
-    subst (λ (f : Option (ℕ × Bor Gathered)). IsBlock number blocks (option_map (λ x. (x.0, x.1.now.held)) f)) is there
-
-module _ (arguments : List (List ℕ)) (storage : Storage) where
-  -- a block is named, and it is erased
-  pub erased_so : (number : ℕ) (name : List ℕ) → named_block_number arguments storage ≡ Some number → name ≡ argument 1 arguments →
-      block_handled EraseBlock arguments storage ≡ Ok (leaves (erased number name storage))
-  erased_so number name named called =
-      ap (λ n. on_block n (λ k. Ok (leaves (erased k (argument 1 arguments) storage))) storage) named
-      ∙ ap (λ (n : List ℕ). Ok (leaves (erased number n storage))) (sym called)
-
-  -- a block is named, and this is what it holds
-  module _ (number : ℕ) (held : Held) (named : named_block_number arguments storage ≡ Some number) (block : block_at number storage.blocks ≡ Some held) where
-    fetched_forms : fetched number storage ≡ with_all held storage.forms
-    fetched_forms = ap (λ b. with_all (forms_in b) storage.forms) block
-
-    fetched_by : nat_le (finite.len (with_all held storage.forms)) FORM_COUNT_LIMIT ≡ true →
-        block_handled FetchBlock arguments storage ≡ Ok (leaves (keeping (with_all held storage.forms) storage))
-    fetched_by judged =
-        ap (λ n. on_block n (λ k. fetching k storage) storage) named
-        ∙ ap (λ (forms : Forms). let outcome : Result Effect Refusal = if nat_le (finite.len forms) FORM_COUNT_LIMIT then Ok (leaves (keeping forms storage)) else Err TooLong in outcome) fetched_forms
-        ∙ ap (λ b. let outcome : Result Effect Refusal = if b then Ok (leaves (keeping (with_all held storage.forms) storage)) else Err TooLong in outcome) judged
-
-    -- copies of them are put
-    pub fetched_so : (copies : Held) → nat_le (finite.len (with_all held storage.forms)) FORM_COUNT_LIMIT ≡ true → copies ≡ held →
-        block_handled FetchBlock arguments storage ≡ Ok (leaves (keeping (with_all copies storage.forms) storage))
-    fetched_so copies few same =
-        fetched_by few ∙ ap (λ (h : Held). Ok (leaves (keeping (with_all h storage.forms) storage))) (sym same)

@@ -1,26 +1,20 @@
 -- Forms that are there, and forms that cannot be made.
-use Rattle.std.proofs.Common.{◌≡◌, ℕ, List, length, refl, sym, ap, ◌∙◌, true, false}
-use Rattle.std.specs.Prelude.{Option, None, Some, Ok, Err}
+use Rattle.std.proofs.Common.{◌≡◌, ℕ, List, length, sym, ap, ◌∙◌, true, false}
+use Rattle.std.specs.Prelude.{Option, Some, Ok, Err}
 use Rattle.trac_forms.specs.declared.error.FormError.{FormError}
 use Rattle.trac_forms.specs.declared.error.FormError.TheVariants.{Memory as NoMemory, TooLong as LongForm}
 use Rattle.trac_forms.specs.Outcomes.{MayRefuseForm, as_refusal}
 use Rattle.trac_rules.specs.declared.refusal.Refusal.TheVariants.{TooLong}
 use Rattle.trac_rules.specs.Effect.{leaves}
 use Rattle.trac_rules.specs.Form.{Form, defined}
-use Rattle.trac_rules.specs.Handling.{on_form, pointing, putting}
+use Rattle.trac_rules.specs.Handling.{on_form, putting}
 use Rattle.trac_rules.specs.Limits.{may_be_put}
 use Rattle.trac_rules.specs.Outcomes.{limited}
 use Rattle.trac_rules.specs.Segmenting.{segmented}
 use Rattle.trac_rules.specs.State.{Storage}
 use Rattle.trac_prims.specs.Effects.{MayFail, pieces_fit}
-use Rattle.trac_change.specs.Changed.{cut_in, pointed}
+use Rattle.trac_change.specs.Changed.{cut_in}
 use Rattle.trac_prims.proofs.Putting.{is_put, long_text, not_put, putting_lacks}
-
--- the pointer of a form is set where the form is there
-pub restored : (name : List ℕ) (held : Option Form) (storage : Storage) →
-    on_form held (λ form. Ok (leaves (pointing name 0 form storage))) storage ≡ Ok (leaves (pointed name 0 held storage))
-restored name None storage = refl
-restored name (Some form) storage = refl
 
 -- a text that was not made a form is refused, or memory is
 pub not_made : (name text : List ℕ) (storage : Storage) (e : FormError) → MayRefuseForm (length text) e → MayFail (putting name (defined text) storage) (as_refusal e)

@@ -1,6 +1,6 @@
 -- What was done where texts were added to those that were made before.
 use Rattle.std.proofs.Common.{◌≡◌, ℕ, ◌<◌, List, [], ◌∷◌, ◌++◌, length, take, Bool, true, refl, sym, ap, subst, ◌∙◌}
-use Rattle.std.specs.Prelude.{Result, Ok, Err, IfOk, MatchResult, OnOk, nat_le, slice_get}
+use Rattle.std.specs.Prelude.{Result, Ok, Err, OnOk, nat_le, slice_get}
 use Rattle.std.proofs.lemmas.Bool.{and_left, lt-leb}
 use Rattle.std.proofs.lemmas.List.{append-nil}
 use Rattle.trac_rules.specs.declared.limit.TheConstants.{OUTPUT_LIMIT, TEXT_LIMIT}
@@ -19,7 +19,7 @@ use Rattle.trac_change.specs.declared.change.Change.TheVariants.{Keep}
 use Rattle.trac_prims.specs.declared.effect.Deed.{Deed}
 use Rattle.trac_prims.specs.declared.effect.Made.{Made}
 use Rattle.trac_change.specs.Changes.{IsChangeOf}
-use Rattle.trac_prims.specs.Effects.{IsChanged, IsDone, done_on, nothing, pieces_fit}
+use Rattle.trac_prims.specs.Effects.{IsDone, done_on, nothing, pieces_fit}
 use Rattle.trac_change.specs.Changed.{changed}
 
 module _ {A : Type 0} (arguments : List (List ℕ)) (storage : Storage) (old new : Made A) where
@@ -51,21 +51,12 @@ module _ {A : Type 0} (arguments : List (List ℕ)) (storage : Storage) (made : 
       as_said arguments storage made made e change d (sym (append-nil made.value.items) ∙ ap (λ text. made.value.items ++ text) (sym none))
       (sym (append-nil made.print.items) ∙ ap (λ text. made.print.items ++ text) (sym silent)) left is
 
-  -- a change of the forms, and no more
-  pub changed_so : (outcome : Result Effect Refusal) (planned : Result (Change A) Refusal) (change : Change A) (result : Result Deed Refusal) →
-      MatchResult planned (λ c. (change ≡ c) × (result ≡ Ok nothing)) (λ refusal. result ≡ Err refusal) → IsChanged arguments storage outcome planned →
-      IsDone arguments storage outcome made made change result
-  changed_so outcome (Ok c) change result is said =
-      rw (is.0, is.1)
-      (subst (λ o. IsDone arguments storage o made made c (Ok nothing)) (sym said)
-      (left_so (leaves (changed arguments c storage)) c nothing refl refl refl refl))
-  changed_so outcome (Err refusal) change result is said = subst (IsDone arguments storage outcome made made change) (sym is) said
-
--- what holds of a change that is planned holds of the one that is made
-pub of_change : {A : Type 0} (P : Change A → Type 0) (planned : Result (Change A) Refusal) (change : Change A) (result : Result Deed Refusal) →
-    MatchResult planned (λ c. (change ≡ c) × (result ≡ Ok nothing)) (λ refusal. result ≡ Err refusal) → IfOk planned P → OnOk result (P change)
-of_change P (Ok c) change result is holds = rw (is.0, is.1) holds
-of_change P (Err refusal) change result is holds = rw is tt
+  -- a change, and no more
+  pub changed_so : {outcome : Result Effect Refusal} {d : Deed} (change : Change A) → outcome ≡ Ok (leaves (changed arguments change storage)) → d ≡ nothing →
+      IsDone arguments storage outcome made made change (Ok d)
+  changed_so {outcome} {d} change said is =
+      subst (λ o. IsDone arguments storage o made made change (Ok d)) (sym said)
+      (left_so (leaves (changed arguments change storage)) change d refl refl refl is)
 
 -- nothing is destroyed where the forms stay
 pub keeps_so : {A : Type 0} (primitive : Primitive) (arguments : List (List ℕ)) (storage : Storage) (change : Change A) (result : Result Deed Refusal) →

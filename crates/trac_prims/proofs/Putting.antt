@@ -17,7 +17,7 @@ use Rattle.trac_rules.specs.Outcomes.{MayLackMemory}
 use Rattle.trac_rules.specs.Limits.{form_fits, may_be_put}
 use Rattle.trac_rules.specs.Segmenting.{segmented}
 use Rattle.trac_rules.specs.State.{Forms, Storage}
-use Rattle.trac_rules.proofs.Cutting.{count_within_extent, extent-as_items, extent-segmented, wide-as_items, wide-segmented_from}
+use Rattle.trac_rules.proofs.Cutting.{count_within_extent, extent-segmented, wide-segmented_from}
 use Rattle.trac_forms.specs.Layout.{IsSound}
 
 -- what a reference is made of is there where the reference is
@@ -68,11 +68,7 @@ module _ (name : List ℕ) (form : Form) (forms : Forms) (count : ℕ) (named : 
 
 -- ---- forms as the code has them
 
--- a text that is short enough makes one
-pub sound_defined : (text : List ℕ) → length text ≤ FORM_LIMIT → IsSound (defined text)
-sound_defined text h = record { within = omega (arith, extent-as_items text); wide = wide-as_items text }
-
--- what is cut out of one leaves one
+-- one of which texts are cut out is one still
 pub sound_segmented : (texts : List (List ℕ)) (form : Form) → IsSound form → IsSound (segmented texts form)
 sound_segmented texts form sound = record {
   within = omega (arith, sound.within, extent-segmented texts form);

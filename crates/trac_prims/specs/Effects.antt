@@ -3,7 +3,7 @@ use Rattle.std.specs.Prelude.{◌≡◌, ◌+◌, ◌++◌, ◌&&◌, ℕ, List,
 use Rattle.std.specs.Option.{unwrap_or}
 use Rattle.trac_rules.specs.declared.limit.TheConstants.{OUTPUT_LIMIT, TEXT_LIMIT}
 use Rattle.trac_rules.specs.declared.refusal.Refusal.{Refusal}
-use Rattle.trac_rules.specs.Effect.{Effect, leaves}
+use Rattle.trac_rules.specs.Effect.{Effect}
 use Rattle.trac_rules.specs.Outcomes.{MayLackMemory, OrMemory, limited, seen_as}
 use Rattle.trac_rules.specs.State.{Storage}
 use Rattle.trac_change.specs.declared.change.Change as code
@@ -79,11 +79,6 @@ pieces_fit e = nat_le (length e.value) TEXT_LIMIT && nat_le (length e.printed) O
 -- `Memory` where that may be
 abbrev pub MayFail : Result Effect Refusal → Refusal → Type 0
 MayFail outcome refusal = OrMemory (MayLackMemory outcome) (λ said. limited pieces_fit outcome ≡ Err said) refusal
-
--- what is changed with these arguments where this is the outcome of the definitions
-abbrev pub IsChanged : {A : Type 0} → List (List ℕ) → Storage → Result Effect Refusal → Result (code.Change A) Refusal → Type 0
-IsChanged arguments storage outcome (Ok change) = outcome ≡ Ok (leaves (changed arguments change storage))
-IsChanged arguments storage outcome (Err refusal) = MayFail outcome refusal
 
 -- what is done with these arguments, this change among it, where this is the outcome of the definitions: its texts are added to those that
 -- were made before

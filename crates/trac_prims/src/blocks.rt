@@ -11,12 +11,15 @@ ghost use Rattle.trac_rules.specs.Pieces.{bytes_in};
 ghost use Rattle.trac_rules.specs.declared.primitive.BlockAction.TheVariants.{EraseBlock, FetchBlock, StoreBlock};
 ghost use Rattle.trac_prims.specs.Blocks.{IsBlock, count_further};
 ghost use Rattle.trac_rules.specs.declared.primitive.Primitive.TheVariants.{HandleBlock};
+ghost use Rattle.trac_change.specs.declared.change.Change.TheVariants.{Keep};
 ghost use Rattle.trac_change.specs.Changes.{IsChangeOf};
 ghost use Rattle.trac_rules.specs.Undone.{names_in};
-ghost use Rattle.trac_prims.specs.Effects.{IsChanged};
+ghost use Rattle.trac_prims.specs.declared.effect.Made as made;
+ghost use Rattle.trac_prims.specs.Effects.{IsDone};
 ghost use Rattle.trac_change.specs.Changed.{named_forms};
 ghost use Rattle.trac_text.specs.Framing.{texts_of};
 
+use crate::effect::Deed;
 use std::alloc::Allocator;
 use trac_change::{Change, LaterArguments, after};
 use trac_forms::{Block, Form, Item, Store, Texts};
@@ -34,9 +37,10 @@ pub(crate) fn store_block<A: Allocator + Copy>(
     alloc: A,
     args: &Args<'_>,
     store: &Store<A>,
-) -> Result<Change<A>, Refusal>
-    ensures outcome { IsChanged args.now (storage_in store.now) (block_handled StoreBlock args.now (storage_in store.now)) result }
-    ensures change { IfOk result (IsChangeOf (HandleBlock StoreBlock) args.now (storage_in store.now)) }
+    change: &mut Change<A>,
+) -> Result<Deed, Refusal>
+    ensures outcome { (texts : made.Made A) → IsDone args.now (storage_in store.now) (block_handled StoreBlock args.now (storage_in store.now)) texts texts change.new result }
+    ensures change { OnOk result (IsChangeOf (HandleBlock StoreBlock) args.now (storage_in store.now) change.new) }
 {
     let name = args.get(1);
     let held = leaving(alloc, store, &after(args, 2))?;
@@ -49,11 +53,12 @@ pub(crate) fn store_block<A: Allocator + Copy>(
     }
     let address = address_of(alloc, number)?;
     let name = Vec::from_slice(alloc, name)?;
-    Ok(Change::MoveIn {
+    *change = Change::MoveIn {
         held,
         name,
         address,
-    })
+    };
+    Ok(Deed::nothing())
 }
 
 // `fb`: copies of a block's forms are put among the forms.
@@ -61,19 +66,22 @@ pub(crate) fn fetch_block<A: Allocator + Copy>(
     alloc: A,
     args: &Args<'_>,
     store: &Store<A>,
-) -> Result<Change<A>, Refusal>
-    ensures outcome { IsChanged args.now (storage_in store.now) (block_handled FetchBlock args.now (storage_in store.now)) result }
-    ensures change { IfOk result (IsChangeOf (HandleBlock FetchBlock) args.now (storage_in store.now)) }
+    change: &mut Change<A>,
+) -> Result<Deed, Refusal>
+    requires { change.old ≡ Keep }
+    ensures outcome { (texts : made.Made A) → IsDone args.now (storage_in store.now) (block_handled FetchBlock args.now (storage_in store.now)) texts texts change.new result }
+    ensures change { OnOk result (IsChangeOf (HandleBlock FetchBlock) args.now (storage_in store.now) change.new) }
 {
     let found = named_block(alloc, args, store)?;
     let Some((number, block)) = found else {
-        return Ok(Change::Keep);
+        return Ok(Deed::nothing());
     };
     if !may_come_back(store, block) {
         return Err(Refusal::TooLong);
     }
     let forms = copies_of(alloc, block)?;
-    Ok(Change::Bring { number, forms })
+    *change = Change::Bring { number, forms };
+    Ok(Deed::nothing())
 }
 
 // `eb`: a block is erased, and the form that names it deleted.
@@ -81,16 +89,19 @@ pub(crate) fn erase_block<A: Allocator + Copy>(
     alloc: A,
     args: &Args<'_>,
     store: &Store<A>,
-) -> Result<Change<A>, Refusal>
-    ensures outcome { IsChanged args.now (storage_in store.now) (block_handled EraseBlock args.now (storage_in store.now)) result }
-    ensures change { IfOk result (IsChangeOf (HandleBlock EraseBlock) args.now (storage_in store.now)) }
+    change: &mut Change<A>,
+) -> Result<Deed, Refusal>
+    requires { change.old ≡ Keep }
+    ensures outcome { (texts : made.Made A) → IsDone args.now (storage_in store.now) (block_handled EraseBlock args.now (storage_in store.now)) texts texts change.new result }
+    ensures change { OnOk result (IsChangeOf (HandleBlock EraseBlock) args.now (storage_in store.now) change.new) }
 {
     let found = named_block(alloc, args, store)?;
     let Some((number, _block)) = found else {
-        return Ok(Change::Keep);
+        return Ok(Deed::nothing());
     };
     let name = Vec::from_slice(alloc, args.get(1))?;
-    Ok(Change::Erase { number, name })
+    *change = Change::Erase { number, name };
+    Ok(Deed::nothing())
 }
 
 // ---- forms that leave

@@ -1,18 +1,18 @@
 //! Calls that look at the forms or change them.
-ghost use Rattle.std.specs.Prelude.{◌≡◌, ◌<◌, ◌≤◌, ◌++◌, List, ℕ, length, drop, flat_map, IfOk, IsOkUnless, MatchOption, OnOk, SomeIff};
+ghost use Rattle.std.specs.Prelude.{◌≡◌, ◌<◌, ◌≤◌, ◌++◌, length, drop, flat_map, IfOk, IsOkUnless, MatchOption, OnOk, SomeIff};
 ghost use Rattle.trac_forms.specs.Layout.{IsSound};
 ghost use Rattle.trac_forms.specs.Stored.{storage_in};
-ghost use Rattle.trac_rules.specs.Effect.{argument};
 ghost use Rattle.trac_rules.specs.Filling.{called};
 ghost use Rattle.trac_rules.specs.Form.{Form as Divided};
-ghost use Rattle.trac_rules.specs.Handling.{handled, putting};
+ghost use Rattle.trac_rules.specs.Handling.{handled};
 ghost use Rattle.trac_rules.specs.Limits.{may_be_put};
 ghost use Rattle.trac_rules.specs.State.{Storage};
 ghost use Rattle.trac_rules.specs.declared.primitive.FormAction.TheVariants.{Define, Delete, ListNames, PrintForm, Restore, Segment, Call as CallForm};
 ghost use Rattle.trac_rules.specs.declared.primitive.Primitive.TheVariants.{Handle};
 ghost use Rattle.trac_change.specs.declared.change.Change.TheVariants.{Keep};
 ghost use Rattle.trac_change.specs.Changes.{IsChangeOf};
-ghost use Rattle.trac_prims.specs.Effects.{IsChanged, IsDone};
+ghost use Rattle.trac_prims.specs.declared.effect.Made as made;
+ghost use Rattle.trac_prims.specs.Effects.{IsDone};
 ghost use Rattle.trac_text.specs.Framing.{texts_of};
 ghost use Rattle.trac_rules.specs.declared.width.Width.{Width};
 
@@ -29,21 +29,33 @@ pub(crate) fn define<A: Allocator + Copy>(
     alloc: A,
     args: &Args<'_>,
     store: &Store<A>,
-) -> Result<Change<A>, Refusal>
-    ensures outcome { (width : Width) → IsChanged args.now (storage_in store.now) (handled Define width args.now (storage_in store.now)) result }
-    ensures change { IfOk result (IsChangeOf (Handle Define) args.now (storage_in store.now)) }
+    change: &mut Change<A>,
+) -> Result<Deed, Refusal>
+    ensures outcome { (width : Width) (texts : made.Made A) → IsDone args.now (storage_in store.now) (handled Define width args.now (storage_in store.now)) texts texts change.new result }
+    ensures change { OnOk result (IsChangeOf (Handle Define) args.now (storage_in store.now) change.new) }
 {
+    let name = args.get(1);
     let form = Form::new(alloc, args.get(2))?;
-    put(alloc, store, args.get(1), form)
+    if !may_put(store, name) {
+        return Err(Refusal::TooLong);
+    }
+    let name = Vec::from_slice(alloc, name)?;
+    *change = Change::Put(name, form);
+    Ok(Deed::nothing())
 }
 
 // `dd`: the forms of some names are deleted.
-pub(crate) fn delete<A: Allocator + Copy>(alloc: A, args: &Args<'_>) -> Result<Change<A>, Refusal>
-    ensures outcome { (width : Width) (storage : Storage) → IsChanged args.now storage (handled Delete width args.now storage) result }
-    ensures change { IfOk result (λ change. (storage : Storage) → IsChangeOf (Handle Delete) args.now storage change) }
+pub(crate) fn delete<A: Allocator + Copy>(
+    alloc: A,
+    args: &Args<'_>,
+    change: &mut Change<A>,
+) -> Result<Deed, Refusal>
+    ensures outcome { (storage : Storage) (width : Width) (texts : made.Made A) → IsDone args.now storage (handled Delete width args.now storage) texts texts change.new result }
+    ensures change { (storage : Storage) → OnOk result (IsChangeOf (Handle Delete) args.now storage change.new) }
 {
     let names = copies(alloc, &after(args, 1))?;
-    Ok(Change::Remove(names))
+    *change = Change::Remove(names);
+    Ok(Deed::nothing())
 }
 
 // `ss`: texts are cut out of a form.
@@ -51,21 +63,24 @@ pub(crate) fn segment<A: Allocator + Copy>(
     alloc: A,
     args: &Args<'_>,
     store: &Store<A>,
-) -> Result<Change<A>, Refusal>
-    requires { length args.now ≤ MARK_LIMIT }
-    ensures outcome { (width : Width) → IsChanged args.now (storage_in store.now) (handled Segment width args.now (storage_in store.now)) result }
-    ensures change { IfOk result (IsChangeOf (Handle Segment) args.now (storage_in store.now)) }
+    change: &mut Change<A>,
+) -> Result<Deed, Refusal>
+    requires keeps { change.old ≡ Keep }
+    requires count { length args.now ≤ MARK_LIMIT }
+    ensures outcome { (width : Width) (texts : made.Made A) → IsDone args.now (storage_in store.now) (handled Segment width args.now (storage_in store.now)) texts texts change.new result }
+    ensures change { OnOk result (IsChangeOf (Handle Segment) args.now (storage_in store.now) change.new) }
 {
     let name = args.get(1);
     let Some(form) = store.get(name) else {
-        return Ok(Change::Keep);
+        return Ok(Deed::nothing());
     };
     if !may_put(store, name) {
         return Err(Refusal::TooLong);
     }
     let cut = form.cut_for(&after(args, 2))?;
     let name = Vec::from_slice(alloc, name)?;
-    Ok(Change::Cut(name, cut))
+    *change = Change::Cut(name, cut);
+    Ok(Deed::nothing())
 }
 
 // `cr`: the pointer of a form goes before its first item.
@@ -73,16 +88,19 @@ pub(crate) fn restore<A: Allocator + Copy>(
     alloc: A,
     args: &Args<'_>,
     store: &Store<A>,
-) -> Result<Change<A>, Refusal>
-    ensures outcome { (width : Width) → IsChanged args.now (storage_in store.now) (handled Restore width args.now (storage_in store.now)) result }
-    ensures change { IfOk result (IsChangeOf (Handle Restore) args.now (storage_in store.now)) }
+    change: &mut Change<A>,
+) -> Result<Deed, Refusal>
+    requires { change.old ≡ Keep }
+    ensures outcome { (width : Width) (texts : made.Made A) → IsDone args.now (storage_in store.now) (handled Restore width args.now (storage_in store.now)) texts texts change.new result }
+    ensures change { OnOk result (IsChangeOf (Handle Restore) args.now (storage_in store.now) change.new) }
 {
     let name = args.get(1);
     if store.get(name).is_none() {
-        return Ok(Change::Keep);
+        return Ok(Deed::nothing());
     }
     let name = Vec::from_slice(alloc, name)?;
-    Ok(Change::Point(name, 0))
+    *change = Change::Point(name, 0);
+    Ok(Deed::nothing())
 }
 
 // `cl`: a form from its pointer on, its gaps filled with texts.
@@ -171,24 +189,6 @@ fn may_put<A: Allocator + Copy>(store: &Store<A>, name: &[u8]) -> bool
         return false;
     }
     store.has_fewer_forms(FORM_COUNT_LIMIT + 1)
-}
-
-// A form is put under this name, the first argument after that of the call.
-fn put<A: Allocator + Copy>(
-    alloc: A,
-    store: &Store<A>,
-    name: &[u8],
-    form: Form<A>,
-) -> Result<Change<A>, Refusal>
-    requires { IsSound form }
-    ensures outcome { (arguments : List (List ℕ)) → IsChanged arguments (storage_in store.now) (putting name.now form (storage_in store.now)) result }
-    ensures change { IfOk result (λ change. (arguments : List (List ℕ)) → name.now ≡ argument 1 arguments → IsChangeOf (Handle Define) arguments (storage_in store.now) change) }
-{
-    if !may_put(store, name) {
-        return Err(Refusal::TooLong);
-    }
-    let name = Vec::from_slice(alloc, name)?;
-    Ok(Change::Put(name, form))
 }
 
 // Texts with memory of their own.

@@ -1,5 +1,5 @@
 //! Planning a call.
-ghost use Rattle.std.specs.Prelude.{◌≡◌, ◌+◌, ◌≤◌, length, true, Err, Ok, ◌↔◌, IfOk, IsTrue, MatchResult, OnOk};
+ghost use Rattle.std.specs.Prelude.{◌≡◌, ◌+◌, ◌≤◌, length, true, ◌↔◌, IfOk, IsTrue, OnOk};
 ghost use Rattle.trac_forms.specs.Stored.{storage_in};
 ghost use Rattle.trac_rules.specs.Blocks.{block_handled};
 ghost use Rattle.trac_rules.specs.Handling.{handled};
@@ -13,7 +13,7 @@ ghost use Rattle.trac_change.specs.declared.change.Change.TheVariants.{Keep};
 ghost use Rattle.trac_change.specs.Changes.{IsChangeOf};
 ghost use Rattle.trac_rules.specs.declared.width.Width.{Width};
 ghost use Rattle.trac_prims.specs.declared.effect.Made as made;
-ghost use Rattle.trac_prims.specs.Effects.{IsDone, done_on, nothing, planned_from, planned_on};
+ghost use Rattle.trac_prims.specs.Effects.{IsDone, done_on, planned_from, planned_on};
 ghost use Rattle.trac_prims.specs.Plans.{HasPlace, IsGiven, IsNow, fits_after, only_changes_forms};
 ghost use Rattle.trac_prims.specs.Tape.{environment_of};
 
@@ -200,16 +200,20 @@ fn plan_form_change<A: Allocator + Copy>(
     change: &mut Change<A>,
 ) -> Result<Deed, Refusal>
     requires only { only_changes_forms action ≡ true }
+    requires keeps { change.old ≡ Keep }
     requires count { length args.now ≤ MARK_LIMIT }
     ensures outcome { (width : Width) (texts : made.Made A) → IsDone args.now (storage_in store.now) (handled action width args.now (storage_in store.now)) texts texts change.new result }
     ensures change { OnOk result (IsChangeOf (primitive.Handle action) args.now (storage_in store.now) change.new) }
 {
     match action {
-        FormAction::Define => make(define(alloc, args, store), change),
-        FormAction::Delete => make(delete(alloc, args), change),
-        FormAction::DeleteAll => make(Ok(Change::Clear), change),
-        FormAction::Segment => make(segment(alloc, args, store), change),
-        FormAction::Restore => make(restore(alloc, args, store), change),
+        FormAction::Define => define(alloc, args, store, change),
+        FormAction::Delete => delete(alloc, args, change),
+        FormAction::DeleteAll => {
+            *change = Change::Clear;
+            Ok(Deed::nothing())
+        }
+        FormAction::Segment => segment(alloc, args, store, change),
+        FormAction::Restore => restore(alloc, args, store, change),
         FormAction::Call | FormAction::Read(_) | FormAction::ListNames | FormAction::PrintForm =>
             unreachable!(),
     }
@@ -224,23 +228,13 @@ fn plan_block_change<A: Allocator + Copy>(
     store: &Store<A>,
     change: &mut Change<A>,
 ) -> Result<Deed, Refusal>
+    requires { change.old ≡ Keep }
     ensures outcome { (texts : made.Made A) → IsDone args.now (storage_in store.now) (block_handled action args.now (storage_in store.now)) texts texts change.new result }
     ensures change { OnOk result (IsChangeOf (primitive.HandleBlock action) args.now (storage_in store.now) change.new) }
 {
     match action {
-        BlockAction::StoreBlock => make(store_block(alloc, args, store), change),
-        BlockAction::FetchBlock => make(fetch_block(alloc, args, store), change),
-        BlockAction::EraseBlock => make(erase_block(alloc, args, store), change),
+        BlockAction::StoreBlock => store_block(alloc, args, store, change),
+        BlockAction::FetchBlock => fetch_block(alloc, args, store, change),
+        BlockAction::EraseBlock => erase_block(alloc, args, store, change),
     }
-}
-
-// Puts a planned change in its place. The call does nothing else.
-fn make<A: Allocator + Copy>(
-    planned: Result<Change<A>, Refusal>,
-    change: &mut Change<A>,
-) -> Result<Deed, Refusal>
-    ensures { MatchResult planned (λ made. (change.new ≡ made) × (result ≡ Ok nothing)) (λ refusal. result ≡ Err refusal) }
-{
-    *change = planned?;
-    Ok(Deed::nothing())
 }

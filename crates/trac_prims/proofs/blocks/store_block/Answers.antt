@@ -9,9 +9,11 @@ use Rattle.trac_rules.specs.Form.{defined}
 use Rattle.trac_rules.specs.Handling.{without}
 use Rattle.trac_rules.specs.Limits.{may_be_put}
 use Rattle.trac_rules.specs.Undone.{names_in}
+use Rattle.trac_change.specs.declared.change.Change.TheVariants.{MoveIn}
 use Rattle.trac_text.specs.Framing.{texts_of}
 use Rattle.trac_prims.proofs.BlockPlans.{stored_so}
 use Rattle.trac_prims.proofs.Changes.{moves_in}
+use Rattle.trac_prims.proofs.Kept.{changed_so}
 use Rattle.trac_prims.proofs.MovedOut.{fewer_held}
 use Rattle.trac_prims.proofs.blocks.store_block.Goals as goal
 
@@ -20,7 +22,7 @@ may_stand-requires g c =
     fewer_held c.as_slice.result.now c.in_ok-held.held.items c.after.result c.args.store.now.forms c.as_slice.ensures.value c.in_ok-held.ensures.made
 
 pub returns-clause-outcome : goal.returns-clause-outcome
-returns-clause-outcome g c =
+returns-clause-outcome g c = λ texts.
     let storage = storage_in c.args.store.now in
     let name = argument 1 c.args.args.now in
     let names = drop 2 c.args.args.now in
@@ -35,8 +37,10 @@ returns-clause-outcome g c =
     let may : may_be_put name (defined (decimal (length blocks))) (without names storage.forms) ≡ true =
     ap (λ (n : List ℕ). may_be_put n (defined (decimal (length blocks))) (without names storage.forms)) (sym c.get-name.ensures)
     ∙ sym (c.if-not-may_stand.ensures names (length blocks) (omega (arith, more)) slice) in
-    stored_so name names storage (texts_of c.in_ok-held.held.items) c.in_ok-name.name.items c.in_ok-address.address held (c.in_ok-name.ensures.items ∙ c.get-name.ensures)
-    (c.in_ok-address.ensures.made ∙ ap (λ (n : ℕ). defined (decimal n)) c.block_count-number.ensures.count) few more may
+    changed_so c.args.args.now storage texts (MoveIn c.in_ok-held.held c.in_ok-name.name c.in_ok-address.address)
+    (stored_so name names storage (texts_of c.in_ok-held.held.items) c.in_ok-name.name.items c.in_ok-address.address held (c.in_ok-name.ensures.items ∙ c.get-name.ensures)
+    (c.in_ok-address.ensures.made ∙ ap (λ (n : ℕ). defined (decimal n)) c.block_count-number.ensures.count) few more may)
+    c.nothing.ensures
 
 pub returns-clause-change : goal.returns-clause-change
 returns-clause-change g c =

@@ -1,14 +1,14 @@
 use Rattle.std.proofs.Common.{◌≡◌, ℕ, ◌<◌, ◌++◌, List, length, drop, Ok, Some, None, refl, sym, ap, subst, ◌∙◌}
 use Rattle.std.specs.FinMap as finite
 use Rattle.trac_rules.specs.declared.limit.TheConstants.{TEXT_LIMIT}
-use Rattle.trac_rules.specs.Effect.{gives, leaves}
+use Rattle.trac_rules.specs.Effect.{gives}
 use Rattle.trac_rules.specs.Filling.{called}
 use Rattle.trac_rules.specs.Handling.{named_form, on_form}
 use Rattle.trac_rules.specs.Outcomes.{limited}
 use Rattle.trac_forms.specs.Stored.{storage_in}
 use Rattle.trac_prims.specs.Effects.{IsDone, pieces_fit}
 use Rattle.trac_change.specs.declared.change.Change.TheVariants.{Keep}
-use Rattle.trac_prims.proofs.Kept.{given, left_so, value_beyond}
+use Rattle.trac_prims.proofs.Kept.{changed_so, given, value_beyond}
 use Rattle.trac_prims.proofs.forms.call.Goals as goal
 
 pub returns-in_default-room_of : goal.returns-in_default-room_of
@@ -23,9 +23,9 @@ pub returns-in_default : goal.returns-in_default
 returns-in_default g c = λ width.
     let storage = storage_in c.args.store.now in
     let missing : named_form c.args.args.now storage ≡ None = ap (finite.get storage.forms) (sym c.get.ensures) ∙ sym c.in_default.ensures.value in
-    subst (λ o. IsDone c.args.args.now storage o c.args.made.now c.args.made.now Keep (Ok c.nothing.result))
-    (sym (ap (λ h. on_form h (λ form. Ok (gives (called (drop 2 c.args.args.now) form) storage)) storage) missing))
-    (left_so c.args.args.now storage c.args.made.now (leaves storage) Keep c.nothing.result refl refl refl c.nothing.ensures)
+    changed_so c.args.args.now storage c.args.made.now Keep
+    (ap (λ h. on_form h (λ form. Ok (gives (called (drop 2 c.args.args.now) form) storage)) storage) missing)
+    c.nothing.ensures
 
 pub returns : goal.returns
 returns g c = λ width.

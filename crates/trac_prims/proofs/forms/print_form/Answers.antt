@@ -1,21 +1,19 @@
 use Rattle.std.proofs.Common.{◌≡◌, ℕ, List, ◌++◌, Ok, Some, None, refl, sym, ap, subst, ◌∙◌}
 use Rattle.std.specs.FinMap as finite
-use Rattle.trac_rules.specs.Effect.{leaves, prints}
+use Rattle.trac_rules.specs.Effect.{prints}
 use Rattle.trac_rules.specs.Handling.{named_form, on_form}
 use Rattle.trac_rules.specs.Showing.{shown}
 use Rattle.trac_forms.specs.Stored.{storage_in}
 use Rattle.trac_change.specs.declared.change.Change.TheVariants.{Keep}
 use Rattle.trac_prims.specs.Effects.{IsDone}
-use Rattle.trac_prims.proofs.Kept.{left_so, printed}
+use Rattle.trac_prims.proofs.Kept.{changed_so, printed}
 use Rattle.trac_prims.proofs.forms.print_form.Goals as goal
 
 pub returns-in_default : goal.returns-in_default
 returns-in_default g c = λ width.
     let storage = storage_in c.args.store.now in
     let missing : named_form c.args.args.now storage ≡ None = ap (finite.get storage.forms) (sym c.get.ensures) ∙ sym c.in_default.ensures.value in
-    subst (λ o. IsDone c.args.args.now storage o c.args.made.now c.args.made.now Keep (Ok c.nothing.result))
-    (sym (ap (λ h. on_form h (λ form. Ok (prints (shown form) storage)) storage) missing))
-    (left_so c.args.args.now storage c.args.made.now (leaves storage) Keep c.nothing.result refl refl refl c.nothing.ensures)
+    changed_so c.args.args.now storage c.args.made.now Keep (ap (λ h. on_form h (λ form. Ok (prints (shown form) storage)) storage) missing) c.nothing.ensures
 
 pub returns : goal.returns
 returns g c = λ width.

@@ -1,43 +1,37 @@
 use Rattle.std.proofs.Common.{◌≡◌, ℕ, List, Ok, Some, drop, sym, ap, ◌∙◌}
 use Rattle.std.specs.FinMap as finite
 use Rattle.trac_forms.specs.Stored.{storage_in}
-use Rattle.trac_rules.specs.Cuts.{cut_of}
 use Rattle.trac_rules.specs.Effect.{argument, leaves}
 use Rattle.trac_rules.specs.Handling.{named_form}
 use Rattle.trac_rules.specs.Limits.{may_be_put}
 use Rattle.trac_rules.specs.Segmenting.{segmented}
+use Rattle.trac_change.specs.declared.change.Change.TheVariants.{Cut}
 use Rattle.trac_change.specs.Changed.{cut_in}
-use Rattle.trac_prims.proofs.Changes.{cuts}
 use Rattle.trac_prims.proofs.Held.{is_segmented, not_segmented}
+use Rattle.trac_prims.proofs.Kept.{changed_so}
 use Rattle.trac_prims.proofs.Putting.{sound_segmented}
 use Rattle.trac_prims.proofs.forms.segment.Goals as goal
 
 pub returns-then-not-may_put-clause-outcome : goal.returns-then-not-may_put-clause-outcome
-returns-then-not-may_put-clause-outcome g c = λ width.
+returns-then-not-may_put-clause-outcome g c = λ width texts.
     let storage = storage_in c.args.store.now in
-    let texts = drop 2 c.args.args.now in
+    let given = drop 2 c.args.args.now in
     let form = c.in-Some.form.now in
     let held : named_form c.args.args.now storage ≡ Some form = ap (finite.get storage.forms) (sym c.get-name.ensures) ∙ sym c.in-Some.ensures.value in
-    let may = c.if-not-may_put.ensures (segmented texts form) (sound_segmented texts form c.in-Some.ensures.sound) in
-    not_segmented (argument 1 c.args.args.now) texts (named_form c.args.args.now storage) form storage held
-    (ap (λ (name : List ℕ). may_be_put name (segmented texts form) storage.forms) (sym c.get-name.ensures) ∙ sym may)
+    let may = c.if-not-may_put.ensures (segmented given form) (sound_segmented given form c.in-Some.ensures.sound) in
+    not_segmented (argument 1 c.args.args.now) given (named_form c.args.args.now storage) form storage held
+    (ap (λ (name : List ℕ). may_be_put name (segmented given form) storage.forms) (sym c.get-name.ensures) ∙ sym may)
 
 pub returns-clause-outcome : goal.returns-clause-outcome
-returns-clause-outcome g c = λ width.
+returns-clause-outcome g c = λ width texts.
     let storage = storage_in c.args.store.now in
-    let texts = drop 2 c.args.args.now in
+    let given = drop 2 c.args.args.now in
     let form = c.in-Some.form.now in
     let held : named_form c.args.args.now storage ≡ Some form = ap (finite.get storage.forms) (sym c.get-name.ensures) ∙ sym c.in-Some.ensures.value in
-    let may = c.if-not-may_put.ensures (segmented texts form) (sound_segmented texts form c.in-Some.ensures.sound) in
+    let may = c.if-not-may_put.ensures (segmented given form) (sound_segmented given form c.in-Some.ensures.sound) in
     let named : argument 1 c.args.args.now ≡ c.in_ok-name.name.items = sym (c.in_ok-name.ensures.items ∙ c.get-name.ensures) in
-    is_segmented (argument 1 c.args.args.now) texts (named_form c.args.args.now storage) form storage held
-    (ap (λ (name : List ℕ). may_be_put name (segmented texts form) storage.forms) (sym c.get-name.ensures) ∙ sym may)
-    ∙ ap (λ (name : List ℕ). Ok (leaves (cut_in name texts (finite.get storage.forms name) storage))) named
-
-pub returns-clause-change : goal.returns-clause-change
-returns-clause-change g c =
-    let arguments = c.args.args.now in
-    let storage = storage_in c.args.store.now in
-    let held : named_form arguments storage ≡ Some c.in-Some.form.now = ap (finite.get storage.forms) (sym c.get-name.ensures) ∙ sym c.in-Some.ensures.value in
-    cuts arguments storage c.in_ok-name.name (c.in_ok-name.ensures.items ∙ c.get-name.ensures) c.in-Some.form.now c.in_ok-cut.cut held
-    (c.in_ok-cut.ensures.cut ∙ ap (λ (texts : List (List ℕ)). cut_of texts c.in-Some.form.now) c.after.ensures)
+    changed_so c.args.args.now storage texts (Cut c.in_ok-name.name c.in_ok-cut.cut)
+    (is_segmented (argument 1 c.args.args.now) given (named_form c.args.args.now storage) form storage held
+    (ap (λ (name : List ℕ). may_be_put name (segmented given form) storage.forms) (sym c.get-name.ensures) ∙ sym may)
+    ∙ ap (λ (name : List ℕ). Ok (leaves (cut_in name given (finite.get storage.forms name) storage))) named)
+    c.nothing-2.ensures

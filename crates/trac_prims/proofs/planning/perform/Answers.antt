@@ -12,7 +12,7 @@ use Rattle.trac_forms.specs.Stored.{storage_in}
 use Rattle.trac_change.specs.declared.change.Change.TheVariants.{Keep}
 use Rattle.trac_prims.specs.declared.effect.Deed.{Deed}
 use Rattle.trac_prims.specs.Effects.{IsDone}
-use Rattle.trac_prims.proofs.Kept.{keeps_so, left_so, meta_given}
+use Rattle.trac_prims.proofs.Kept.{changed_so, keeps_so, left_so, meta_given}
 use Rattle.trac_prims.proofs.ReadCounts.{done_unread}
 use Rattle.trac_prims.proofs.planning.perform.Goals as goal
 
@@ -96,4 +96,4 @@ returns-in-HandleBlock-clause-change g c = rw c.in-HandleBlock.is c.plan_block_c
 
 pub returns-in-Unknown-clause-outcome : goal.returns-in-Unknown-clause-outcome
 returns-in-Unknown-clause-outcome g c = λ s known.
-    rw (c.in-Unknown.is, c.requires.keeps) (left_so c.args.args.now (storage_of s) c.args.made.now (leaves (storage_of s)) Keep c.nothing-in-Unknown.result refl refl refl c.nothing-in-Unknown.ensures)
+    rw (c.in-Unknown.is, c.requires.keeps) (changed_so c.args.args.now (storage_of s) c.args.made.now Keep refl c.nothing-in-Unknown.ensures)

@@ -1,10 +1,9 @@
 -- The text is the value, and it is forced.
-use Rattle.std.proofs.Common.{sym, ap, true, ◌∙◌}
+use Rattle.std.proofs.Common.{sym, ap, true}
 use Rattle.std.proofs.lemmas.List.{append-nil}
 use Rattle.trac_rules.specs.Effect.{forces}
 use Rattle.trac_change.specs.declared.change.Change.TheVariants.{Point}
 use Rattle.trac_prims.specs.declared.effect.Deed.{Deed}
-use Rattle.trac_prims.proofs.Changes.{reads}
 use Rattle.trac_prims.proofs.Given.{unmoved_so}
 use Rattle.trac_prims.proofs.Kept.{as_said}
 use Rattle.trac_prims.proofs.reading.force.Goals as goal
@@ -16,7 +15,3 @@ returns-clause-outcome g c = λ arguments storage there.
     c.in_ok-extend_from_slice.ensures.items (sym (append-nil old.print.items))
     (unmoved_so arguments storage c.in_ok-name.name c.args.name.now c.in_ok-name.ensures.items c.args.form.now there c.pointer.result c.pointer.ensures)
     (ap (λ (d : Deed). record d { forced = true }) c.nothing.ensures)
-
-pub returns-clause-change : goal.returns-clause-change
-returns-clause-change g c = λ reading arguments storage named.
-    reads arguments storage c.in_ok-name.name (c.in_ok-name.ensures.items ∙ named) reading c.pointer.result

@@ -4,7 +4,6 @@ use Rattle.trac_forms.specs.Taken.{taken}
 use Rattle.trac_rules.specs.Effect.{gives}
 use Rattle.trac_rules.specs.Handling.{pointing}
 use Rattle.trac_change.specs.declared.change.Change.TheVariants.{Point}
-use Rattle.trac_prims.proofs.Changes.{reads}
 use Rattle.trac_prims.proofs.Given.{pointed_so}
 use Rattle.trac_prims.proofs.Kept.{as_said}
 use Rattle.trac_prims.proofs.reading.give_piece.Goals as goal
@@ -17,7 +16,3 @@ returns-clause-outcome g c = λ other arguments storage there.
     as_said arguments storage old (record old { value = c.piece_into.new.out }) (gives piece.value (pointing c.args.name.now piece.place c.args.form.now storage)) (Point c.in_ok-name.name piece.place) c.nothing.result
     added (sym (append-nil old.print.items))
     (pointed_so arguments storage c.in_ok-name.name c.args.name.now c.in_ok-name.ensures.items c.args.form.now there piece.place) c.nothing.ensures
-
-pub returns-clause-change : goal.returns-clause-change
-returns-clause-change g c = λ reading arguments storage named.
-    reads arguments storage c.in_ok-name.name (c.in_ok-name.ensures.items ∙ named) reading c.args.piece.now.pointer

@@ -1,13 +1,13 @@
-use Rattle.std.proofs.Common.{◌≡◌, ℕ, List, Ok, Some, None, refl, sym, ap, subst, ◌∙◌}
+use Rattle.std.proofs.Common.{◌≡◌, ℕ, List, Ok, Some, None, sym, ap, subst, ◌∙◌}
 use Rattle.std.specs.FinMap as finite
 use Rattle.std.specs.Prelude.{option_map}
 use Rattle.trac_forms.specs.Stored.{storage_in}
 use Rattle.trac_forms.specs.Taken.{taken}
-use Rattle.trac_rules.specs.Effect.{forces, leaves}
+use Rattle.trac_rules.specs.Effect.{forces}
 use Rattle.trac_rules.specs.Handling.{default_argument, form_read, gives_piece, named_form, on_form}
 use Rattle.trac_change.specs.declared.change.Change.TheVariants.{Keep}
 use Rattle.trac_prims.specs.Effects.{IsDone}
-use Rattle.trac_prims.proofs.Kept.{left_so}
+use Rattle.trac_prims.proofs.Kept.{changed_so}
 use Rattle.trac_prims.proofs.Given.{form_is_read}
 use Rattle.trac_prims.proofs.reading.read.Goals as goal
 
@@ -46,6 +46,6 @@ returns-in_default-clause-outcome g c =
     let storage = storage_in c.args.store.now in
     let missing : named_form c.args.args.now storage ≡ None = ap (finite.get storage.forms) (sym c.get-name.ensures) ∙ sym c.in_default.ensures.value in
     rw c.requires
-    (subst (λ o. IsDone c.args.args.now storage o c.args.made.now c.args.made.now Keep (Ok c.nothing.result))
-    (sym (ap (λ h. on_form h (λ form. Ok (form_read c.args.reading c.args.width c.args.args.now form storage)) storage) missing))
-    (left_so c.args.args.now storage c.args.made.now (leaves storage) Keep c.nothing.result refl refl refl c.nothing.ensures))
+    (changed_so c.args.args.now storage c.args.made.now Keep
+    (ap (λ h. on_form h (λ form. Ok (form_read c.args.reading c.args.width c.args.args.now form storage)) storage) missing)
+    c.nothing.ensures)
