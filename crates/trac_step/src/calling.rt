@@ -234,11 +234,7 @@ impl<E: TwoEnds<u8, A>, M: TwoEnds<Mark, A>, A: Allocator + Copy> Core<E, M, A> 
     // Changes forms and blocks as the call planned it, with the memory for it taken first. It is refused memory alone, and then
     // the state stays. It is compiled apart, since it is seldom called and clears room for all that it may make.
     #[inline(never)]
-    fn change_all(
-        &mut self,
-        beginning: Beginning,
-        change: Change<A>,
-    ) -> Result<Undone<A>, Refusal>
+    fn change_all(&mut self, beginning: Beginning, change: Change<A>) -> Result<Undone<A>, Refusal>
         requires { CanChange self.old.state beginning change }
         ensures changed { OnOk result (self.new.state ≡ with_storage (changed (arguments_in (scan self.old.state)) change (storage_of self.old.state)) self.old.state) }
         ensures undone { IfOk result (λ undone. undone_in undone ≡ undone_of change (storage_of self.old.state)) }

@@ -35,4 +35,3 @@ returns-in-Point-clause-undone g c =
     let s = c.args.self.now.state in
     c.set_pointer.ensures.undone ∙ ap (λ (name : List ℕ). pointer_lost (finite.get s.forms name)) c.as_slice.ensures.value
     ∙ ap (λ x. undone_of x (storage_of s)) (sym c.in-Point.is)
-
