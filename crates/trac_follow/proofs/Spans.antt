@@ -1,16 +1,21 @@
 -- Items one after another, what they give and how much they stand for.
-use Rattle.std.proofs.Common.{◌≡◌, ℕ, zero, suc, ◌+◌, ◌-◌, ◌<◌, ◌≤◌, List, [], ◌∷◌, ◌++◌, All, length, take, drop, get_or, true, false, refl, ap, subst, ◌∙◌, ltb, ltb-false, ⊎_elim, arith}
+use Rattle.std.proofs.Common.{◌≡◌, ℕ, zero, suc, ◌+◌, ◌-◌, ◌<◌, ◌≤◌, List, [], ◌∷◌, ◌++◌, All, length, take, drop, get_or, not, true, false, refl, ap, subst, ◌∙◌, ltb, ltb-false, ⊎_elim, arith}
 use Rattle.std.specs.Prelude.{Some, slice_get}
-use Rattle.std.specs.List.{flat_map}
+use Rattle.std.specs.List.{flat_map, position_or_len}
 use Rattle.std.proofs.lemmas.Bool.{cases_Bool, ltb-true}
 use Rattle.std.proofs.lemmas.Grind.{flat_map-append}
-use Rattle.std.proofs.lemmas.List.{length-append, length-drop, take_all, take_more}
+use Rattle.std.proofs.lemmas.List.{drop-drop, length-append, length-drop, length-take, take_all, take_more}
 use Rattle.std.proofs.lemmas.List.Elements.{All-head, All-tail}
+use Rattle.std.proofs.lemmas.List.Sums.{prefix_len-le-length}
+use Rattle.std.proofs.Math.Seq.{take-add}
 use Rattle.std.proofs.lemmas.Option.{get_or_from_slice_get, slice_get_within}
 use Rattle.trac_rules.specs.declared.item.Item.{Item}
+use Rattle.trac_rules.specs.declared.item.Item.TheVariants.{Byte, Gap}
 use Rattle.trac_rules.specs.Form.{IsWide, extent, width_of}
-use Rattle.trac_rules.specs.Pieces.{byte_of, bytes_in}
+use Rattle.trac_rules.specs.Pieces.{byte_of, bytes_in, is_gap}
 use Rattle.trac_rules.proofs.Cutting.{extent-append}
+use Rattle.trac_follow.specs.declared.items.Given.{Given}
+use Rattle.trac_follow.specs.Items.{IsGiven}
 
 -- one item more
 pub given_more : (give : Item → List ℕ) (items : List Item) (n : ℕ) (item : Item) → slice_get items n ≡ Some item →
@@ -21,11 +26,6 @@ given_more give items n item e =
     ∙ length-append (flat_map give (take n items)) (flat_map give (get_or items n item ∷ []))
     ∙ omega (arith, length-append (give (get_or items n item)) [], ap (λ (x : Item). length (give x)) (get_or_from_slice_get items n item item e))
 
-pub stands_for_more : (items : List Item) (n : ℕ) (item : Item) → slice_get items n ≡ Some item → extent (take (n + 1) items) ≡ extent (take n items) + width_of item
-stands_for_more items n item e =
-    ap extent (take_more items n item (slice_get_within items n item e)) ∙ extent-append (take n items) (get_or items n item ∷ [])
-    ∙ omega (arith, ap (λ (x : Item). width_of x) (get_or_from_slice_get items n item item e))
-
 -- of items without the first ones
 pub dropped_at : (items : List Item) (k n : ℕ) → slice_get (drop k items) n ≡ slice_get items (k + n)
 dropped_at items zero n = ap (slice_get items) (omega arith)
@@ -33,6 +33,60 @@ dropped_at [] (suc k) n = refl
 dropped_at (item ∷ items) (suc k) n =
     let later : suc (k + n) ≡ suc k + n = omega arith in
     dropped_at items k n ∙ ap (slice_get (item ∷ items)) later
+
+-- items before the first gap give a byte each, where each byte gives one
+run_given : (give : Item → List ℕ) → ((b : ℕ) → length (give (Byte b)) ≡ 1) → (items : List Item) (m n : ℕ) → n ≤ position_or_len is_gap (take m items) → length (flat_map give (take n items)) ≡ n
+run_given give one items m zero l = refl
+run_given give one [] zero (suc n) l = absurd (omega (arith, l))
+run_given give one [] (suc m) (suc n) l = absurd (omega (arith, l))
+run_given give one (item ∷ items) zero (suc n) l = absurd (omega (arith, l))
+run_given give one (Byte b ∷ items) (suc m) (suc n) l =
+    omega (arith, length-append (give (Byte b)) (flat_map give (take n items)), one b, run_given give one items m n (omega (arith, l)))
+run_given give one (Gap k w ∷ items) (suc m) (suc n) l = absurd (omega (arith, l))
+
+-- of the items from one place up to another: those up to a place, and a run of bytes from there on
+module _ (give : Item → List ℕ) (one : (b : ℕ) → length (give (Byte b)) ≡ 1) (items : List Item) (from place to : ℕ) (order : from ≤ place) where
+  run_more : (n : ℕ) → n ≤ position_or_len is_gap (take (to - place) (drop place items)) →
+      length (flat_map give (take (place + n - from) (drop from items))) ≡ length (flat_map give (take (place - from) (drop from items))) + n
+  run_more n l =
+      let later : drop (place - from) (drop from items) ≡ drop place items =
+      drop-drop (place - from) from items ∙ ap (λ k. drop k items) (let same : from + (place - from) ≡ place = omega (arith, order) in same) in
+      ap (λ k. length (flat_map give (take k (drop from items)))) (let same : place + n - from ≡ place - from + n = omega (arith, order) in same)
+      ∙ ap (λ (xs : List Item). length (flat_map give xs)) (take-add (place - from) n (drop from items) ∙ ap (λ (xs : List Item). take (place - from) (drop from items) ++ take n xs) later)
+      ∙ ap (λ (text : List ℕ). length text) (flat_map-append give (take (place - from) (drop from items)) (take n (drop place items)))
+      ∙ length-append (flat_map give (take (place - from) (drop from items))) (flat_map give (take n (drop place items)))
+      ∙ ap (λ k. length (flat_map give (take (place - from) (drop from items))) + k) (run_given give one (drop place items) (to - place) n l)
+
+  module _ (run : ℕ) (is : run ≡ position_or_len is_gap (take (to - place) (drop place items))) where
+    pub run_within : run ≤ to - place
+    run_within = omega (arith, is, prefix_len-le-length (λ item. not (is_gap item)) (take (to - place) (drop place items)), length-take (to - place) (drop place items))
+
+    -- all of it is passed
+    pub run_passed : length (flat_map give (take (place + run - from) (drop from items))) ≡ length (flat_map give (take (place - from) (drop from items))) + run
+    run_passed = run_more run (omega (arith, is))
+
+    -- or a byte of it is found
+    pub run_found : (rest i : ℕ) (given : Given) → length (flat_map give (take (place - from) (drop from items))) + rest ≡ i → rest < run → place ≤ to →
+        slice_get items (place + rest) ≡ Some given.item → given.at ≡ place + rest - from → given.byte ≡ 0 → (given.at < to - from) × IsGiven give (drop from items) i given
+    run_found rest i given sum short within there at byte =
+        let here : slice_get (drop from items) given.at ≡ Some given.item =
+        ap (slice_get (drop from items)) at ∙ dropped_at items from (place + rest - from)
+        ∙ ap (slice_get items) (let same : from + (place + rest - from) ≡ place + rest = omega (arith, order) in same) ∙ there in
+        let before = run_more rest (omega (arith, is, short)) in
+        let more = run_more (rest + 1) (omega (arith, is, short)) in
+        let next : place + (rest + 1) - from ≡ place + rest - from + 1 = omega (arith, order) in
+        let counted = ap (λ k. length (flat_map give (take k (drop from items)))) next in
+        let count = ap (λ k. length (flat_map give (take k (drop from items)))) at in
+        let one_more = given_more give (drop from items) given.at given.item here in
+        let same = ap (λ k. length (flat_map give (take (k + 1) (drop from items)))) at in (
+          omega (arith, at, short, run_within, within, order),
+          record { there = here; place = omega (arith, before, sum, count, byte); within = omega (arith, before, more, counted, count, one_more, same, byte) },
+        )
+
+pub stands_for_more : (items : List Item) (n : ℕ) (item : Item) → slice_get items n ≡ Some item → extent (take (n + 1) items) ≡ extent (take n items) + width_of item
+stands_for_more items n item e =
+    ap extent (take_more items n item (slice_get_within items n item e)) ∙ extent-append (take n items) (get_or items n item ∷ [])
+    ∙ omega (arith, ap (λ (x : Item). width_of x) (get_or_from_slice_get items n item item e))
 
 pub after_those : (xs ys : List Item) → drop (length xs) (xs ++ ys) ≡ ys
 after_those [] ys = refl

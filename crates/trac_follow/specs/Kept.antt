@@ -21,6 +21,12 @@ named (kept.TheVariants.Form i) name = InForm name i
 named (kept.TheVariants.Held number i) name = InHeld number name i
 named (kept.TheVariants.Output i) name = InOutput i
 
+-- a place is in no form, so that its name says nothing
+abbrev pub IsFormless : kept.Nameless → Type 0
+IsFormless (kept.TheVariants.Form i) = ⊥
+IsFormless (kept.TheVariants.Held number i) = ⊥
+IsFormless spot = Unit {0}
+
 -- a place is in a form that has a name of more than 256 bytes
 abbrev pub IsLong : Place → Type 0
 IsLong (InForm name i) = SHORT_NAME < length name

@@ -58,22 +58,45 @@ pub(crate) fn byte_among<A: Allocator + Copy>(
     requires within { to ≤ length (all_items form.now) }
     ensures { IsAmong (given_by giving.entry) (drop from (all_items form.now)) (to - from) i result }
 {
+    let mut place = from;
     let mut rest = i;
-    for place in from..to {
-        let Some(item) = form.item(place) else {
-            unreachable!();
-        };
-        let len = given_len(giving, item);
-        if rest < len {
-            return Among::Here(Given {
-                item,
-                at: place - from,
-                byte: rest,
-            });
+    'runs: while place < to {
+        let run = form.run_len(place, to);
+        if rest < run {
+            return Among::Here(given_at(form, from, place + rest, 0));
         }
+        place += run;
+        rest -= run;
+        if place == to {
+            break;
+        }
+        let given = given_at(form, from, place, rest);
+        let len = given_len(giving, given.item);
+        if rest < len {
+            return Among::Here(given);
+        }
+        place += 1;
         rest -= len;
     }
     Among::Past(rest)
+}
+
+// This byte of what the item at a place gives, of the items from an earlier place on.
+fn given_at<A: Allocator + Copy>(form: &Form<A>, from: usize, place: usize, byte: usize) -> Given
+    requires order { from ≤ place }
+    requires within { place < length (all_items form.now) }
+    ensures there { slice_get (all_items form.now) place ≡ Some result.item }
+    ensures at { result.at ≡ place - from }
+    ensures byte { result.byte ≡ byte }
+{
+    let Some(item) = form.item(place) else {
+        unreachable!();
+    };
+    Given {
+        item,
+        at: place - from,
+        byte,
+    }
 }
 
 // How many bytes an item gives.

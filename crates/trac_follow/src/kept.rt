@@ -1,7 +1,7 @@
 //! A place that keeps the name of its form.
-ghost use Rattle.std.specs.Prelude.{◌≡◌, ◌<◌, length, IfNone, IfSome};
+ghost use Rattle.std.specs.Prelude.{◌≡◌, ◌<◌, [], length, IfNone, IfSome};
 ghost use Rattle.trac_follow.specs.declared.kept.TheConstants.{SHORT_NAME};
-ghost use Rattle.trac_follow.specs.Kept.{IsLong, name_in, named};
+ghost use Rattle.trac_follow.specs.Kept.{IsFormless, IsLong, name_in, named};
 ghost use Rattle.trac_follow.specs.Places.{place_of};
 
 use crate::place::Place;
@@ -100,14 +100,17 @@ impl<'n, A: Allocator + Copy> Kept<'n, A> {
         ensures long { IfNone result (IsLong (place_of place.entry)) }
     {
         let (spot, name) = parts(place);
-        // Most places are in no form, and have an empty name. So has a form that is named by the empty text. To lend that moves no
-        // room for a short name.
-        if name.is_empty() {
-            let name = KeptName::Lent(&[]);
-            return Some(Kept { spot, name });
-        }
         let name = KeptName::of(store, name)?;
         Some(Kept { spot, name })
+    }
+
+    /// Goes to a place that is in no form. The name that is kept stays, and is not looked at: to move another one takes more time
+    /// than most legs of a trace.
+    pub(crate) fn go(&mut self, spot: Nameless)
+        requires { IsFormless spot }
+        ensures { self.new ≡ named spot [] }
+    {
+        self.spot = spot;
     }
 
     /// The place, which is lent the name.
@@ -115,6 +118,18 @@ impl<'n, A: Allocator + Copy> Kept<'n, A> {
         ensures { place_of result ≡ self.now }
     {
         with_name(self.spot, self.name.as_slice())
+    }
+}
+
+/// A place that is in no form; else none.
+pub(crate) fn formless(place: Place<'_>) -> Option<Nameless>
+    ensures { IfSome result (λ spot. IsFormless spot × (named spot [] ≡ place_of place.entry)) }
+{
+    match place {
+        Place::Form(_, _) | Place::Held(_, _, _) => None,
+        Place::Active(_) | Place::Base(_) | Place::Argument { .. } | Place::Output(_) => {
+            Some(parts(place).0)
+        }
     }
 }
 

@@ -1,15 +1,17 @@
 //! Following a byte back to where it comes from, past all calls that passed it on.
-ghost use Rattle.std.specs.Prelude.{◌≡◌, ◌≤◌, ⊤, IfErr, IfNone, IfOk, IfSome, OnErr, OnOk, Some};
+ghost use Rattle.std.specs.Prelude.{◌≡◌, ◌≤◌, [], ⊤, IfErr, IfNone, IfOk, IfSome, OnErr, OnOk, Some};
 ghost use Rattle.trac_follow.specs.declared.tracing.Onward.TheVariants.{OfForm};
 ghost use Rattle.trac_follow.specs.Following.{IsFollowed, IsKnown};
+ghost use Rattle.trac_follow.specs.Kept.{IsFormless, named};
 ghost use Rattle.trac_follow.specs.Passing.{Passing};
 ghost use Rattle.trac_follow.specs.Places.{place_of};
 ghost use Rattle.trac_follow.specs.Tracing.{EndsAs, IsTold, IsTraced, LeadsTo, LeadsToLong, source_of, way_of};
 ghost use Rattle.trac_rules.specs.Session.{Back, repeated};
+ghost use Rattle.trac_rules.specs.State.{State};
 ghost use Rattle.trac_rules.specs.Trails.{IsTrail};
 
 use crate::history::{Followed, Source, follow_from};
-use crate::kept::Kept;
+use crate::kept::{Kept, Nameless, formless};
 use crate::place::Place;
 use crate::standing::stands;
 use std::alloc::{AllocError, Allocator};
@@ -97,6 +99,10 @@ pub fn trace<A: Allocator + Copy, W: Witness<A>>(
         let Ok(()) = witness.passed(session.machine(), steps, kept.place()) else {
             return ended(steps, End::Untold);
         };
+        if let Some(spot) = formless_from(from) {
+            kept.go(spot);
+            continue;
+        }
         let Some(next) = further(session.machine(), from) else {
             return ended(steps, End::Unkept);
         };
@@ -147,6 +153,16 @@ fn had_from<'a>(source: Source<'a>) -> Result<Onward<'a>, End>
         Source::Made => Err(End::Made),
         Source::Passed(there) => Ok(Onward::At(there)),
         Source::OfForm(item) => Ok(Onward::OfForm(item)),
+    }
+}
+
+// The place from which the call that comes next had a byte, where that is in no form; else none.
+fn formless_from(from: Onward<'_>) -> Option<Nameless>
+    ensures { IfSome result (λ spot. IsFormless spot × ((s : State) → LeadsTo s from.entry (named spot []))) }
+{
+    match from {
+        Onward::At(there) => formless(there),
+        Onward::OfForm(_) => None,
     }
 }
 

@@ -11,6 +11,7 @@ pub mod Names
 pub mod Parted
 pub mod Passing
 pub mod ByteRuns
+pub mod RunLengths
 pub mod Searching
 pub mod InOrder
 pub mod TextsAlone

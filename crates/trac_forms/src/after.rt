@@ -1,6 +1,9 @@
 //! What stands after the pointer of a form.
-ghost use Rattle.std.specs.Prelude.{◌≡◌, ◌≤◌, ◌==◌, length, slice_get, SomeIff};
+ghost use Rattle.std.specs.List.{position_or_len};
+ghost use Rattle.std.specs.Prelude.{◌≡◌, ◌-◌, ◌≤◌, ◌==◌, drop, length, slice_get, take, SomeIff};
+ghost use Rattle.trac_rules.specs.Pieces.{is_gap};
 
+use crate::byte_runs::run_len;
 use crate::packed::PackedItem;
 use std::marker::Model;
 
@@ -42,6 +45,18 @@ impl<'a> After<'a> {
             return Some(PackedItem::from_byte(self.text[i]));
         }
         self.items.get(i - self.text.len()).copied()
+    }
+
+    /// How many items from one number on, up to another, stand before the first gap among them; all where there is none.
+    pub(crate) fn run_len(&self, from: usize, to: usize) -> usize
+        requires order { from ≤ to }
+        requires within { to ≤ length self.now }
+        ensures { result ≡ position_or_len is_gap (take (to - from) (drop from self.now)) }
+    {
+        if self.text.is_empty() {
+            return run_len(&self.items[from..to]);
+        }
+        to - from
     }
 }
 

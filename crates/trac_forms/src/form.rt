@@ -1,13 +1,14 @@
 //! A form: a text with gaps and a pointer.
-ghost use Rattle.std.specs.Prelude.{◌≡◌, ◌⊎◌, ◌+◌, ◌++◌, ◌≤◌, [], length, slice_get, IfOk, IfErr, OnOk, IsOkUnless, SomeIff};
-ghost use Rattle.std.specs.List.{All};
+ghost use Rattle.std.specs.Prelude.{◌≡◌, ◌⊎◌, ◌+◌, ◌-◌, ◌++◌, ◌≤◌, [], drop, length, slice_get, take, IfOk, IfErr, OnOk, IsOkUnless, SomeIff};
+ghost use Rattle.std.specs.List.{All, position_or_len};
 ghost use Rattle.trac_gap.specs.Ends.{item_count};
 ghost use Rattle.trac_rules.specs.Form.{IsWide, all_items, as_items, at_start, defined, extent, pointed_at, width_of};
+ghost use Rattle.trac_rules.specs.Pieces.{is_gap};
 ghost use Rattle.trac_forms.specs.Layout.{IsKept, IsSound, divided, with_text};
 ghost use Rattle.trac_forms.specs.Outcomes.{MayRefuseForm};
 
 use crate::after::After;
-use crate::byte_runs::put_text;
+use crate::byte_runs::{put_text, run_len};
 use crate::error::FormError;
 use crate::packed::PackedItem;
 use std::alloc::{Allocator, Global};
@@ -147,6 +148,25 @@ impl<A: Allocator + Copy> Form<A> {
             self.items.shift_left(place - old);
         }
         old
+    }
+
+    /// How many items from one place on, up to another, stand before the first gap among them; all where there is none. It takes
+    /// no memory, and looks at many items together (this project's profile).
+    pub fn run_len(&self, from: usize, to: usize) -> usize
+        requires order { from ≤ to }
+        requires within { to ≤ length (all_items self.now) }
+        ensures { result ≡ position_or_len is_gap (take (to - from) (drop from (all_items self.now))) }
+    {
+        let before = self.before();
+        if before.len() <= from {
+            return self.after().run_len(from - before.len(), to - before.len());
+        }
+        let front = &before[from..to.min(before.len())];
+        let run = run_len(front);
+        if run < front.len() {
+            return run;
+        }
+        run + self.after().run_len(0, to.saturating_sub(before.len()))
     }
 
     // The item at this place, as it is kept.

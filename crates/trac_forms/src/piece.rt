@@ -8,6 +8,7 @@ ghost use Rattle.trac_rules.specs.Pieces.{at_most_all, bytes_in, char_read, coun
 ghost use Rattle.trac_forms.specs.Taken.{IsThere, taken};
 
 use crate::after::After;
+use crate::byte_runs::run_len;
 use crate::cutting::end_run;
 use crate::error::FormError;
 use crate::form::Form;
@@ -204,20 +205,9 @@ fn segment_among(items: &[PackedItem]) -> Reached
     ensures bytes { result.bytes ≡ length (bytes_in (take result.items items.now)) }
     ensures within { result.items ≤ length items.now }
 {
-    let mut bytes = 0;
-    for item in items {
-        if item.is_gap() {
-            return Reached {
-                items: bytes + 1,
-                bytes,
-            };
-        }
-        bytes += 1;
-    }
-    Reached {
-        items: bytes,
-        bytes,
-    }
+    let bytes = run_len(items);
+    let items = if bytes < items.len() { bytes + 1 } else { bytes };
+    Reached { items, bytes }
 }
 
 // The place right after the first `n` bytes of these items, or after all bytes where there are fewer.

@@ -1,18 +1,116 @@
--- One item more.
-use Rattle.std.proofs.Common.{◌≡◌, ◌+◌, ◌-◌, drop, length, take, sym, ap, ◌∙◌, arith}
+-- A run of bytes is passed, and then the gap that ends it; or the byte is found.
+use Rattle.std.proofs.Common.{◌≡◌, ℕ, ◌+◌, ◌-◌, ◌≤◌, drop, length, take, refl, sym, ap, ◌∙◌, arith}
 use Rattle.std.specs.List.{flat_map}
 use Rattle.std.specs.Prelude.{slice_get}
+use Rattle.trac_rules.specs.declared.item.Item.TheVariants.{Byte}
 use Rattle.trac_rules.specs.Form.{all_items}
+use Rattle.trac_follow.specs.declared.items.Giving.{Giving}
+use Rattle.trac_follow.specs.declared.items.Giving.TheVariants.{Filled, Read, Shown}
 use Rattle.trac_follow.specs.Items.{given_by}
-use Rattle.trac_follow.proofs.Spans.{dropped_at, given_more}
+use Rattle.trac_follow.proofs.Spans.{dropped_at, given_more, run_found, run_passed, run_within}
 use Rattle.trac_follow.proofs.items.byte_among.Goals as goal
 
-pub loop-place-preserved : goal.loop-place-preserved
-loop-place-preserved g c =
+-- a byte gives one
+one : (giving : Giving) (b : ℕ) → length (given_by giving (Byte b)) ≡ 1
+one (Filled arguments) b = refl
+one Read b = refl
+one Shown b = refl
+
+pub overflow_add-place : goal.overflow_add-place
+overflow_add-place g c =
+    omega (
+      arith,
+      run_within (given_by c.args.giving) (one c.args.giving) (all_items c.args.form.now) c.args.from c.runs.place c.args.to c.runs.invariant.from c.run_len-run.result c.run_len-run.ensures,
+      c.if-rest-run.true,
+      c.runs.invariant.to,
+      c.ranges.to.fits,
+    )
+
+pub given_at-requires-clause-within : goal.given_at-requires-clause-within
+given_at-requires-clause-within g c =
+    omega (
+      arith,
+      run_within (given_by c.args.giving) (one c.args.giving) (all_items c.args.form.now) c.args.from c.runs.place c.args.to c.runs.invariant.from c.run_len-run.result c.run_len-run.ensures,
+      c.if-rest-run.true,
+      c.runs.invariant.to,
+      c.requires.within,
+    )
+
+pub returns-then-rest-run : goal.returns-then-rest-run
+returns-then-rest-run g c =
+    run_found (given_by c.args.giving) (one c.args.giving) (all_items c.args.form.now) c.args.from c.runs.place c.args.to c.runs.invariant.from c.run_len-run.result c.run_len-run.ensures
+    c.runs.rest c.args.i c.given_at.result c.runs.invariant.passed c.if-rest-run.true c.runs.invariant.to c.given_at.ensures.there c.given_at.ensures.at c.given_at.ensures.byte
+
+pub overflow_add-place-in-runs : goal.overflow_add-place-in-runs
+overflow_add-place-in-runs g c =
+    omega (
+      arith,
+      run_within (given_by c.args.giving) (one c.args.giving) (all_items c.args.form.now) c.args.from c.runs.place c.args.to c.runs.invariant.from c.run_len-run.result c.run_len-run.ensures,
+      c.runs.invariant.to,
+      c.ranges.to.fits,
+    )
+
+pub given_at-given-requires-clause-within : goal.given_at-given-requires-clause-within
+given_at-given-requires-clause-within g c =
+    omega (
+      arith,
+      run_within (given_by c.args.giving) (one c.args.giving) (all_items c.args.form.now) c.args.from c.runs.place c.args.to c.runs.invariant.from c.run_len-run.result c.run_len-run.ensures,
+      c.if-place-to.false,
+      c.runs.invariant.to,
+      c.requires.within,
+    )
+
+pub returns-then-rest-len : goal.returns-then-rest-len
+returns-then-rest-len g c =
     let items = all_items c.args.form.now in
-    let n = c.loop-place.place - c.args.from in
-    let there = dropped_at items c.args.from n ∙ ap (slice_get items) (omega (arith, c.loop-place.auto)) ∙ sym c.in-Some.ensures in
-    let more = given_more (given_by c.args.giving) (drop c.args.from items) n c.in-Some.item there in
-    let next : c.loop-place.place + 1 - c.args.from ≡ n + 1 = omega (arith, c.loop-place.auto) in
-    let counted = ap (λ k. length (flat_map (given_by c.args.giving) (take k (drop c.args.from items)))) next in
-    omega (arith, c.loop-place.invariant, more, counted, c.given_len-len.ensures, c.if-rest-len.false)
+    let give = given_by c.args.giving in
+    let within = run_within give (one c.args.giving) items c.args.from c.runs.place c.args.to c.runs.invariant.from c.run_len-run.result c.run_len-run.ensures in
+    let passed = run_passed give (one c.args.giving) items c.args.from c.runs.place c.args.to c.runs.invariant.from c.run_len-run.result c.run_len-run.ensures in
+    let at = c.given_at-given.ensures.at in
+    let there = ap (slice_get (drop c.args.from items)) at ∙ dropped_at items c.args.from (c.runs.place + c.run_len-run.result - c.args.from)
+    ∙ ap (slice_get items) (let same : c.args.from + (c.runs.place + c.run_len-run.result - c.args.from) ≡ c.runs.place + c.run_len-run.result = omega (arith, c.runs.invariant.from) in same)
+    ∙ c.given_at-given.ensures.there in
+    let count = ap (λ k. length (flat_map give (take k (drop c.args.from items)))) at in (
+      omega (arith, at, within, c.if-place-to.false, c.runs.invariant.to, c.runs.invariant.from),
+      record {
+        there = there;
+        place = omega (arith, count, passed, c.given_at-given.ensures.byte, c.runs.invariant.passed, c.if-rest-run.false);
+        within = omega (arith, c.given_at-given.ensures.byte, c.given_len-len.ensures, c.if-rest-len.true);
+      },
+    )
+
+pub overflow_add-place-in-runs-2 : goal.overflow_add-place-in-runs-2
+overflow_add-place-in-runs-2 g c =
+    omega (
+      arith,
+      run_within (given_by c.args.giving) (one c.args.giving) (all_items c.args.form.now) c.args.from c.runs.place c.args.to c.runs.invariant.from c.run_len-run.result c.run_len-run.ensures,
+      c.if-place-to.false,
+      c.runs.invariant.to,
+      c.ranges.to.fits,
+    )
+
+pub runs-preserved : goal.runs-preserved
+runs-preserved g c =
+    let items = all_items c.args.form.now in
+    let give = given_by c.args.giving in
+    let within = run_within give (one c.args.giving) items c.args.from c.runs.place c.args.to c.runs.invariant.from c.run_len-run.result c.run_len-run.ensures in
+    let passed = run_passed give (one c.args.giving) items c.args.from c.runs.place c.args.to c.runs.invariant.from c.run_len-run.result c.run_len-run.ensures in
+    let n = c.runs.place + c.run_len-run.result - c.args.from in
+    let there = dropped_at items c.args.from n
+    ∙ ap (slice_get items) (let same : c.args.from + n ≡ c.runs.place + c.run_len-run.result = omega (arith, c.runs.invariant.from) in same) ∙ c.given_at-given.ensures.there in
+    let more = given_more give (drop c.args.from items) n c.given_at-given.result.item there in
+    let next : c.runs.place + c.run_len-run.result + 1 - c.args.from ≡ n + 1 = omega (arith, c.runs.invariant.from) in
+    let counted = ap (λ k. length (flat_map give (take k (drop c.args.from items)))) next in
+    record {
+      from = omega (arith, c.runs.invariant.from);
+      to = omega (arith, within, c.if-place-to.false, c.runs.invariant.to);
+      passed = omega (arith, counted, more, passed, c.runs.invariant.passed, c.given_len-len.ensures, c.if-rest-len.false, c.if-rest-run.false);
+    }
+
+pub returns-then-place-to : goal.returns-then-place-to
+returns-then-place-to g c =
+    let items = all_items c.args.form.now in
+    let give = given_by c.args.giving in
+    let passed = run_passed give (one c.args.giving) items c.args.from c.runs.place c.args.to c.runs.invariant.from c.run_len-run.result c.run_len-run.ensures in
+    let all = ap (λ k. length (flat_map give (take (k - c.args.from) (drop c.args.from items)))) c.if-place-to.true in
+    omega (arith, all, passed, c.runs.invariant.passed, c.if-rest-run.false)

@@ -2,6 +2,7 @@ use Rattle.std.proofs.Common.{refl, sym, ap, subst, ◌∙◌, arith}
 use Rattle.trac_rules.specs.Session.{Back, repeated}
 use Rattle.trac_follow.specs.declared.tracing.End as ends
 use Rattle.trac_follow.specs.Places.{place_of}
+use Rattle.trac_follow.specs.Tracing.{LeadsTo}
 use Rattle.trac_follow.proofs.Traces.{Way, ends_untold, ends_unkept, known_so, told_before_call, told_of_call, told_so, told_to_the_end, traced_so, way_begins, way_ends, way_goes_on, way_is_long, way_walked}
 use Rattle.trac_follow.proofs.tracing.trace.Goals as goal
 
@@ -12,11 +13,24 @@ loop-leg-init g c = (
   λ known. refl,
 )
 
+pub loop-leg-preserved-in-Some : goal.loop-leg-preserved-in-Some
+loop-leg-preserved-in-Some g c =
+    let s = c.machine-in-loop-leg.result.now.state in
+    let leads = subst (λ p. LeadsTo s c.in-Ok.from p) (sym c.go.ensures) (c.in-Some.ensures.1 s) in (
+      omega (arith, c.follow_kept-leg.ensures.most, c.loop-leg.invariant.0),
+      way_goes_on _ _ _ _ _ _ _ c.loop-leg.invariant.1 _ _ _ c.follow_kept-leg.ensures.back c.follow_kept-leg.ensures.followed
+          s c.in-Ok.from c.go.new.self c.machine-in-loop-leg.ensures.last c.in-Ok.ensures.on leads,
+      λ known.
+          told_of_call _ _ _ _ _ _ _ c.loop-leg.invariant.1 _ _ _ c.follow_kept-leg.ensures.back c.follow_kept-leg.ensures.followed
+          c.machine-in-loop-leg.result.now.state c.in-Ok.from c.machine-in-loop-leg.ensures.last c.in-Ok.ensures.on known
+          g.W.Witness.passes c.args.witness.now c.loop-leg.witness c.passed.new.self (c.loop-leg.invariant.2 known) (place_of c.place.result) c.place.ensures c.in-Ok-passed.ensures.ok,
+    )
+
 pub loop-leg-preserved : goal.loop-leg-preserved
 loop-leg-preserved g c = (
   omega (arith, c.follow_kept-leg.ensures.most, c.loop-leg.invariant.0),
   way_goes_on _ _ _ _ _ _ _ c.loop-leg.invariant.1 _ _ _ c.follow_kept-leg.ensures.back c.follow_kept-leg.ensures.followed
-      c.machine-in-loop-leg-2.result.now.state c.in-Ok.from c.in-Some.next c.machine-in-loop-leg-2.ensures.last c.in-Ok.ensures.on c.in-Some.ensures.leads,
+      c.machine-in-loop-leg-2.result.now.state c.in-Ok.from c.in-Some-further.next c.machine-in-loop-leg-2.ensures.last c.in-Ok.ensures.on c.in-Some-further.ensures.leads,
   λ known.
       told_of_call _ _ _ _ _ _ _ c.loop-leg.invariant.1 _ _ _ c.follow_kept-leg.ensures.back c.follow_kept-leg.ensures.followed
       c.machine-in-loop-leg.result.now.state c.in-Ok.from c.machine-in-loop-leg.ensures.last c.in-Ok.ensures.on known
