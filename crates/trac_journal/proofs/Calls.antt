@@ -1,5 +1,5 @@
 -- Calls in the lists of a journal: the newest one lent, taken out and put there.
-use Rattle.std.proofs.Common.{◌≡◌, ℕ, ◌+◌, ◌≤◌, List, [], ◌∷◌, ◌++◌, length, map, take, drop, refl, sym, ap, subst, ◌∙◌, arith}
+use Rattle.std.proofs.Common.{◌≡◌, ℕ, ◌+◌, ◌≤◌, List, [], ◌∷◌, ◌++◌, length, map, take, drop, sym, ap, subst, ◌∙◌, arith}
 use Rattle.std.specs.List.{concat, sum}
 use Rattle.std.proofs.lemmas.List.{length-append, length-map, length-take-le}
 use Rattle.trac_rules.specs.Records.{Called, last_of}
@@ -34,11 +34,6 @@ pub call_told : (c : CallEntry) (called : code.Called) (calls older : List CallE
 call_told c called calls older bytes commas arguments first called_is arguments_are undone =
     ap (λ (cs : List CallEntry). call_of cs undone bytes commas) first ∙ (λ i. Called (record_with (sym called_is i) (all_texts (sym arguments_are i)) undone))
 
--- the others stay
-pub undone_stays : (calls : List CallEntry) (l : Listed) → (without_call calls l).undone ≡ l.undone
-undone_stays [] l = refl
-undone_stays (c ∷ calls) l = refl
-
 -- what it weighs beside what it destroyed of forms and blocks
 pub call_weighs : (calls older : List CallEntry) (c : CallEntry) (bytes commas : List ℕ) → calls ≡ c ∷ older → IsCall c bytes commas → (undone : Undone) →
     c.bytes + c.commas + meta_weight c.meta + undone_weight undone ≡ weight (call_of calls undone bytes commas)
@@ -63,7 +58,7 @@ call_weighs calls older c bytes commas first has undone =
 record WithCall (called : code.Called) (texts : List (List ℕ)) (old new : Listed) : Type 0 where
   has : HasCall new.calls new.bytes new.commas
   says : (undone : Undone) → call_of new.calls undone new.bytes new.commas ≡ Called (record_with called texts undone)
-  others : without_call new.calls new ≡ record old { undone = new.undone }
+  others : (undone : List Undone) → without_call new.calls (record new { undone = undone }) ≡ record old { undone = undone }
 
 with_call : (called : code.Called) (c : CallEntry) (texts : List (List ℕ)) (n : ℕ) (old new : Listed) → n + 1 ≡ length texts → called_in c ≡ called →
     c.bytes ≡ length (concat texts) → c.commas ≡ n → new.calls ≡ c ∷ old.calls → new.bytes ≡ old.bytes ++ concat texts → new.commas ≡ old.commas ++ map length (take n texts) →
@@ -85,13 +80,13 @@ with_call called c texts n old new count called_is bytes_are commas_are calls_ne
         subst (λ (ms : List ℕ). sum ms ≤ c.bytes) (sym lengths_last) (omega (arith, bytes_are, lengths_within texts n)),
       );
       says = λ undone. (λ i. Called (record_with (called_is i) (texts_are i) undone));
-      others = λ i. record {
+      others = λ undone. (λ i. record {
         calls = old.calls;
         bytes = before-append old.bytes (concat texts) c.bytes bytes_are i;
         commas = before-append old.commas lengths c.commas many i;
-        undone = new.undone;
+        undone = undone;
         emptied = old.emptied;
-      };
+      });
     })
 
 -- it is the newest, whichever way what it destroyed is kept
@@ -105,20 +100,16 @@ call_more k called c texts n u old new count called_is bytes_are commas_are call
     by_kept kept.Call so w = record {
       is_there = w.has;
       newest = w.says Nothing ∙ ap (λ (v : Undone). Called (record_with called texts v)) (sym so.0);
-      others = w.others ∙ (λ i. record old { undone = so.1 i });
+      others = w.others new.undone ∙ (λ i. record old { undone = so.1 i });
     }
     by_kept (kept.Pointed place) so w = record {
       is_there = w.has;
       newest = w.says (Point place) ∙ ap (λ (v : Undone). Called (record_with called texts v)) (sym so.0);
-      others = w.others ∙ (λ i. record old { undone = so.1 i });
+      others = w.others new.undone ∙ (λ i. record old { undone = so.1 i });
     }
     by_kept kept.Changed so w = record {
       is_there = (w.has, omega (arith, ap (λ (us : List Undone). length us) so));
       newest = w.says (first_undone new.undone) ∙ ap (λ (us : List Undone). Called (record_with called texts (first_undone us))) so;
-      others = ap (λ (l : Listed). let rest : Listed = record l { undone = drop 1 new.undone } in rest) w.others ∙ (λ i. record old { undone = drop 1 (so i) });
+      others = w.others (drop 1 new.undone) ∙ (λ i. record old { undone = drop 1 (so i) });
     }
-    by_kept kept.Comma so w = absurd so
-    by_kept kept.Begun so w = absurd so
-    by_kept (kept.Quoted closed inner) so w = absurd so
-    by_kept (kept.Deleted b) so w = absurd so
-    by_kept kept.Idle so w = absurd so
+    by_kept k so w = absurd so

@@ -131,14 +131,11 @@ entry_listed entries new e r old_l new_l last more listed =
 -- ---- one record more
 
 pub brief_light : (k : Kept) → IsBrief k → weight (newest_in k nothing_listed) ≤ 1
-brief_light kept.Comma brief = omega arith
-brief_light kept.Begun brief = omega arith
-brief_light (kept.Quoted closed inner) brief = omega arith
-brief_light (kept.Deleted b) brief = omega arith
 brief_light kept.Call brief = absurd brief
 brief_light (kept.Pointed place) brief = absurd brief
 brief_light kept.Changed brief = absurd brief
 brief_light kept.Idle brief = absurd brief
+brief_light k brief = omega arith
 
 -- what holds of the fields of every journal
 abbrev pub IsSound : ℕ → List Entry → Listed → ℕ → ℕ → Type 0

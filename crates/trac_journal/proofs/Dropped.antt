@@ -16,7 +16,7 @@ use Rattle.trac_journal.specs.declared.entry.Entry.{Entry}
 use Rattle.trac_journal.specs.declared.entry.Kept.{Kept}
 use Rattle.trac_journal.specs.declared.entry.Kept.TheVariants as kept
 use Rattle.trac_journal.specs.declared.lists.Gone.{Gone}
-use Rattle.trac_journal.proofs.Calls.{call_weighs, newest_call, undone_stays}
+use Rattle.trac_journal.proofs.Calls.{call_weighs, newest_call}
 use Rattle.trac_journal.proofs.Counted.{moved_sum, sum_by-append}
 use Rattle.trac_text.proofs.TakenOut.{same_before_last}
 use Rattle.trac_journal.proofs.Ends.{length-alone}
@@ -24,24 +24,20 @@ use Rattle.trac_journal.proofs.Oldest.{OldestApart, oldest_apart, oldest_last}
 
 -- ---- the first of a list of the code is the last of those that are seen
 
-pub first_of : {X Y : Type 0} → (f : X → Y) (items left : List X) (x : X) (seen newer : List Y) (y : Y) → items ≡ x ∷ left → map f (reverse items) ≡ seen → seen ≡ newer ++ y ∷ [] →
+pub first_of : {X Y : Type 0} (f : X → Y) {items left : List X} {x : X} {seen : List Y} (newer : List Y) (y : Y) → items ≡ x ∷ left → map f (reverse items) ≡ seen → seen ≡ newer ++ y ∷ [] →
     (newer ≡ map f (reverse left)) × (y ≡ f x)
-first_of {X} f items left x seen newer y first view last =
+first_of {X} f {items} {left} {x} newer y first view last =
     let there : map f (reverse items) ≡ map f (reverse left) ++ f x ∷ [] =
     ap (λ (xs : List X). map f (reverse xs)) first ∙ ap (map f) (reverse-append (x ∷ []) left) ∙ map-append f (reverse left) (x ∷ []) in
     same_before_last newer (map f (reverse left)) y (f x) (sym last ∙ sym view ∙ there)
 
-pub first_call : (items left : List CallEntry) (x call : CallEntry) (seen newer : List CallEntry) → items ≡ x ∷ left → reverse items ≡ seen → seen ≡ newer ++ call ∷ [] →
+pub first_call : {items left seen : List CallEntry} {x : CallEntry} (newer : List CallEntry) (call : CallEntry) → items ≡ x ∷ left → reverse items ≡ seen → seen ≡ newer ++ call ∷ [] →
     (newer ≡ reverse left) × (call ≡ x)
-first_call items left x call seen newer first view last =
+first_call {items} {left} {x = x} newer call first view last =
     let there : reverse items ≡ reverse left ++ x ∷ [] = ap reverse first ∙ reverse-append (x ∷ []) left in
     same_before_last newer (reverse left) call x (sym last ∙ sym view ∙ there)
 
 -- ---- the oldest call
-
-emptied_stays : (calls : List CallEntry) (l : Listed) → (without_call calls l).emptied ≡ l.emptied
-emptied_stays [] l = refl
-emptied_stays (c ∷ calls) l = refl
 
 -- it is the last of the calls, and all that stands before it is others'
 pub record OldestCall (own others all : Listed) : Type 0 where
@@ -50,54 +46,63 @@ pub record OldestCall (own others all : Listed) : Type 0 where
   pub weighs : (undone : Undone) → call.bytes + call.commas + meta_weight call.meta + undone_weight undone ≡ weight (call_of own.calls undone own.bytes own.commas)
   pub read : (undone : Undone) → call.read ≡ read_by (call_of own.calls undone own.bytes own.commas)
   pub printed : (undone : Undone) → call.printed ≡ printed_by (call_of own.calls undone own.bytes own.commas)
-  pub left : without_oldest call others.calls all ≡ record others { undone = others.undone ++ own.undone; emptied = others.emptied ++ own.emptied }
+  pub left : without_oldest call others.calls all ≡ record others { undone = others.undone ++ own.undone }
 
-oldest_call : (own others all alone : Listed) → HasCall own.calls own.bytes own.commas → without_call own.calls own ≡ alone → alone.calls ≡ [] → alone.bytes ≡ [] → alone.commas ≡ [] →
-    all ≡ joined own others → OldestCall own others all
-oldest_call own others all alone has is no_calls no_bytes no_commas together = by_calls own.calls refl has is
+-- where nothing is left without it, and with this of what was destroyed, which is nothing then
+oldest_call : (own others all : Listed) (undone : List Undone) → HasCall own.calls own.bytes own.commas → without_call own.calls (record own { undone = undone }) ≡ nothing_listed →
+    all ≡ joined own others → OldestCall own others all × (undone ≡ [])
+oldest_call own others all undone has alone together = by_calls own.calls refl has alone
   where
-    by_calls : (calls : List CallEntry) → own.calls ≡ calls → HasCall calls own.bytes own.commas → without_call calls own ≡ alone → OldestCall own others all
+    by_calls : (calls : List CallEntry) → own.calls ≡ calls → HasCall calls own.bytes own.commas → without_call calls (record own { undone = undone }) ≡ nothing_listed →
+        OldestCall own others all × (undone ≡ [])
     by_calls [] first has is = absurd has
     by_calls (c ∷ calls) first has is =
-        let one : own.calls ≡ c ∷ [] = first ∙ ap (λ (cs : List CallEntry). c ∷ cs) (ap (λ (l : Listed). l.calls) is ∙ no_calls) in
-        let bytes : length own.bytes ≡ c.bytes = length-alone c.bytes own.bytes has.0 (ap (λ (l : Listed). l.bytes) is ∙ no_bytes) in
-        let commas : length own.commas ≡ c.commas = length-alone c.commas own.commas has.1 (ap (λ (l : Listed). l.commas) is ∙ no_commas) in
+        let one : own.calls ≡ c ∷ [] = first ∙ ap (λ (l : Listed). c ∷ l.calls) is in
+        let bytes : length own.bytes ≡ c.bytes = length-alone c.bytes own.bytes has.0 (ap (λ (l : Listed). l.bytes) is) in
+        let commas : length own.commas ≡ c.commas = length-alone c.commas own.commas has.1 (ap (λ (l : Listed). l.commas) is) in
         let text_is : all.bytes ≡ own.bytes ++ others.bytes = ap (λ (l : Listed). l.bytes) together in
-        let lengths_are : all.commas ≡ own.commas ++ others.commas = ap (λ (l : Listed). l.commas) together in
-        record {
-          call = c;
-          ends = record {
-            last = ap (λ (l : Listed). l.calls) together ∙ ap (λ (cs : List CallEntry). others.calls ++ cs) one;
-            bytes = omega (arith, bytes, ap (λ (xs : List ℕ). length xs) text_is, length-append own.bytes others.bytes);
-            commas = omega (arith, commas, ap (λ (xs : List ℕ). length xs) lengths_are, length-append own.commas others.commas);
-          };
-          weighs = call_weighs own.calls calls c own.bytes own.commas first (newest_call own.calls calls c own.bytes own.commas first (subst (λ (cs : List CallEntry). HasCall cs own.bytes own.commas) (sym first) has));
-          read = λ undone. sym (ap (λ (cs : List CallEntry). read_by (call_of cs undone own.bytes own.commas)) first);
-          printed = λ undone. sym (ap (λ (cs : List CallEntry). printed_by (call_of cs undone own.bytes own.commas)) first);
-          left = λ i. record {
-            calls = others.calls;
-            bytes = (ap (drop c.bytes) text_is ∙ drop_at own.bytes others.bytes c.bytes bytes) i;
-            commas = (ap (drop c.commas) lengths_are ∙ drop_at own.commas others.commas c.commas commas) i;
-            undone = ap (λ (l : Listed). l.undone) together i;
-            emptied = ap (λ (l : Listed). l.emptied) together i;
-          };
-        }
+        let lengths_are : all.commas ≡ own.commas ++ others.commas = ap (λ (l : Listed). l.commas) together in (
+          record {
+            call = c;
+            ends = record {
+              last = ap (λ (l : Listed). l.calls) together ∙ ap (λ (cs : List CallEntry). others.calls ++ cs) one;
+              bytes = omega (arith, bytes, ap (λ (xs : List ℕ). length xs) text_is, length-append own.bytes others.bytes);
+              commas = omega (arith, commas, ap (λ (xs : List ℕ). length xs) lengths_are, length-append own.commas others.commas);
+            };
+            weighs = call_weighs own.calls calls c own.bytes own.commas first (newest_call own.calls calls c own.bytes own.commas first (subst (λ (cs : List CallEntry). HasCall cs own.bytes own.commas) (sym first) has));
+            read = λ undone. sym (ap (λ (cs : List CallEntry). read_by (call_of cs undone own.bytes own.commas)) first);
+            printed = λ undone. sym (ap (λ (cs : List CallEntry). printed_by (call_of cs undone own.bytes own.commas)) first);
+            left = λ i. record {
+              calls = others.calls;
+              bytes = (ap (drop c.bytes) text_is ∙ drop_at own.bytes others.bytes c.bytes bytes) i;
+              commas = (ap (drop c.commas) lengths_are ∙ drop_at own.commas others.commas c.commas commas) i;
+              undone = ap (λ (l : Listed). l.undone) together i;
+              emptied = (ap (λ (l : Listed). l.emptied) together ∙ ap (λ (l : Listed). others.emptied ++ l.emptied) is ∙ append-nil others.emptied) i;
+            };
+          },
+          ap (λ (l : Listed). l.undone) is,
+        )
 
--- of an entry that holds what the call destroyed of forms and blocks
-pub whole_call : (own others all : Listed) → HasCall own.calls own.bytes own.commas → without_call own.calls own ≡ nothing_listed → all ≡ joined own others →
+-- an entry that keeps this holds what its call destroyed of forms and blocks
+abbrev pub IsWhole : Kept → Type 0
+IsWhole kept.Call = Unit {0}
+IsWhole (kept.Pointed place) = Unit {0}
+IsWhole other = ⊥
+
+held_call : (own others all : Listed) → HasCall own.calls own.bytes own.commas → without_call own.calls own ≡ nothing_listed → all ≡ joined own others →
     (oldest : OldestCall own others all) × (without_oldest oldest.call others.calls all ≡ others)
-whole_call own others all has alone together =
-    let oldest = oldest_call own others all nothing_listed has alone refl refl refl together in
-    let undone : own.undone ≡ [] = sym (undone_stays own.calls own) ∙ ap (λ (l : Listed). l.undone) alone in
-    let emptied : own.emptied ≡ [] = sym (emptied_stays own.calls own) ∙ ap (λ (l : Listed). l.emptied) alone in (
-      oldest,
-      oldest.left ∙ (λ i. record others {
-        undone = (ap (λ (us : List Undone). others.undone ++ us) undone ∙ append-nil others.undone) i;
-        emptied = (ap (λ (es : List (List ℕ × List Frame)). others.emptied ++ es) emptied ∙ append-nil others.emptied) i;
-      }),
-    )
+held_call own others all has alone together =
+    let oldest = oldest_call own others all own.undone has alone together in
+    (oldest.0, oldest.0.left ∙ (λ i. record others { undone = (ap (λ (us : List Undone). others.undone ++ us) oldest.1 ∙ append-nil others.undone) i }))
 
--- and of one that does not
+-- then the call is all that stands in the lists
+pub whole_call : (k : Kept) (own others all : Listed) → IsWhole k → IsOldest k own others all →
+    (oldest : OldestCall own others all) × (without_oldest oldest.call others.calls all ≡ others)
+whole_call kept.Call own others all whole is = held_call own others all is.is_there is.alone is.together
+whole_call (kept.Pointed place) own others all whole is = held_call own others all is.is_there is.alone is.together
+whole_call k own others all whole is = absurd whole
+
+-- and where it does not, the last of the list of these is the call's
 pub record ChangedCall (own others all : Listed) : Type 0 where
   pub oldest : OldestCall own others all
   pub undone : Undone
@@ -107,20 +112,17 @@ pub record ChangedCall (own others all : Listed) : Type 0 where
 
 pub changed_call : (own others all : Listed) → IsOldest kept.Changed own others all → ChangedCall own others all
 changed_call own others all is =
-    let alone : without_call own.calls own ≡ record nothing_listed { undone = own.undone } =
-    λ i. record (is.alone i) { undone = undone_stays own.calls own i } in
-    let oldest = oldest_call own others all (record nothing_listed { undone = own.undone }) is.is_there.0 alone refl refl refl is.together in
-    let emptied : own.emptied ≡ [] = sym (emptied_stays own.calls own) ∙ ap (λ (l : Listed). l.emptied) is.alone in
-    by_undone own.undone refl is.is_there.1 (ap (λ (l : Listed). l.undone) is.alone) oldest emptied
+    let oldest = oldest_call own others all (drop 1 own.undone) is.is_there.0 is.alone is.together in
+    by_undone own.undone refl is.is_there.1 oldest.1 oldest.0
   where
-    by_undone : (us : List Undone) → own.undone ≡ us → 1 ≤ length us → drop 1 us ≡ [] → OldestCall own others all → own.emptied ≡ [] → ChangedCall own others all
-    by_undone [] same some none oldest emptied = absurd (omega (arith, some))
-    by_undone (u ∷ us) same some none oldest emptied = record {
+    by_undone : (us : List Undone) → own.undone ≡ us → 1 ≤ length us → drop 1 us ≡ [] → OldestCall own others all → ChangedCall own others all
+    by_undone [] same some none oldest = absurd (omega (arith, some))
+    by_undone (u ∷ us) same some none oldest = record {
       oldest = oldest;
       undone = u;
       last = ap (λ (l : Listed). l.undone) is.together ∙ ap (λ (vs : List Undone). others.undone ++ vs) (same ∙ ap (λ (vs : List Undone). u ∷ vs) none);
       is_first = ap first_undone same;
-      left = (λ i. record (oldest.left i) { undone = others.undone }) ∙ (λ i. record others { emptied = (ap (λ (es : List (List ℕ × List Frame)). others.emptied ++ es) emptied ∙ append-nil others.emptied) i });
+      left = λ i. record (oldest.left i) { undone = others.undone };
     }
 
 -- what an idle step emptied
@@ -169,57 +171,37 @@ brief_left own others all none together =
 -- an entry held all of it
 pub brief_gone : (k : Kept) (gone : Gone) (own others all : Listed) → IsBrief k → gone.weight ≡ weight (newest_in k nothing_listed) → gone.read ≡ 0 → gone.printed ≡ 0 →
     IsOldest k own others all → IsGone gone (newest_in k own) × (all ≡ others)
-brief_gone kept.Comma gone own others all brief weighs reads prints is =
-    (record { weighs = weighs; reads = reads; prints = prints }, brief_left own others all is.alone is.together)
-brief_gone kept.Begun gone own others all brief weighs reads prints is =
-    (record { weighs = weighs; reads = reads; prints = prints }, brief_left own others all is.alone is.together)
-brief_gone (kept.Quoted closed inner) gone own others all brief weighs reads prints is =
-    (record { weighs = weighs; reads = reads; prints = prints }, brief_left own others all is.alone is.together)
-brief_gone (kept.Deleted b) gone own others all brief weighs reads prints is =
-    (record { weighs = weighs; reads = reads; prints = prints }, brief_left own others all is.alone is.together)
 brief_gone kept.Call gone own others all brief weighs reads prints is = absurd brief
 brief_gone (kept.Pointed place) gone own others all brief weighs reads prints is = absurd brief
 brief_gone kept.Changed gone own others all brief weighs reads prints is = absurd brief
 brief_gone kept.Idle gone own others all brief weighs reads prints is = absurd brief
+brief_gone k gone own others all brief weighs reads prints is =
+    (record { weighs = weighs; reads = reads; prints = prints }, brief_left own others all is.alone is.together)
 
 -- what dropping the oldest call leaves
 abbrev pub DropsCall : Gone → Listed → Listed → Type 0
 DropsCall gone all new = (call : CallEntry) (newer : List CallEntry) → EndsWithCall call newer all → IsGoneCall gone call × (new ≡ without_oldest call newer all)
 
 -- of an entry that holds what the call destroyed of forms and blocks
-pub call_gone : (k : Kept) (u : Undone) (gone : Gone) (own others all new : Listed) → (whole : (oldest : OldestCall own others all) × (without_oldest oldest.call others.calls all ≡ others)) →
-    undone_weight u ≡ 0 → newest_in k own ≡ call_of own.calls u own.bytes own.commas → DropsCall gone all new → IsGone gone (newest_in k own) × (new ≡ others)
-call_gone k u gone own others all new whole light is drops =
-    let d = drops whole.0.call others.calls whole.0.ends in (
-      record {
-        weighs = omega (arith, d.0.weighs, light, whole.0.weighs u, ap weight is);
-        reads = d.0.reads ∙ whole.0.read u ∙ ap read_by (sym is);
-        prints = d.0.prints ∙ whole.0.printed u ∙ ap printed_by (sym is);
-      },
-      d.1 ∙ whole.1,
-    )
+pub whole_gone : (k : Kept) (gone : Gone) (own others all new : Listed) → IsWhole k → IsOldest k own others all → DropsCall gone all new → IsGone gone (newest_in k own) × (new ≡ others)
+whole_gone k gone own others all new whole is drops = by_kept k whole
+  where
+    by_undone : (u : Undone) → undone_weight u ≡ 0 → IsGone gone (call_of own.calls u own.bytes own.commas) × (new ≡ others)
+    by_undone u light =
+        let oldest = whole_call k own others all whole is in
+        let d = drops oldest.0.call others.calls oldest.0.ends in (
+          record {
+            weighs = omega (arith, d.0.weighs, light, oldest.0.weighs u);
+            reads = d.0.reads ∙ oldest.0.read u;
+            prints = d.0.prints ∙ oldest.0.printed u;
+          },
+          d.1 ∙ oldest.1,
+        )
 
-pub plain_call : (k : Kept) (own others all : Listed) → k ≡ kept.Call → IsOldest k own others all →
-    (oldest : OldestCall own others all) × (without_oldest oldest.call others.calls all ≡ others)
-plain_call k own others all kind oldest =
-    let is = subst (λ (x : Kept). IsOldest x own others all) kind oldest in
-    whole_call own others all is.is_there is.alone is.together
-
-pub plain_gone : (k : Kept) (gone : Gone) (own others all new : Listed) → k ≡ kept.Call → IsOldest k own others all → DropsCall gone all new →
-    IsGone gone (newest_in k own) × (new ≡ others)
-plain_gone k gone own others all new kind oldest drops =
-    call_gone k Nothing gone own others all new (plain_call k own others all kind oldest) refl (ap (λ (x : Kept). newest_in x own) kind) drops
-
-pub pointed_call : (k : Kept) {place : ℕ} (own others all : Listed) → k ≡ kept.Pointed place → IsOldest k own others all →
-    (oldest : OldestCall own others all) × (without_oldest oldest.call others.calls all ≡ others)
-pointed_call k own others all kind oldest =
-    let is = subst (λ (x : Kept). IsOldest x own others all) kind oldest in
-    whole_call own others all is.is_there is.alone is.together
-
-pub pointed_gone : (k : Kept) {place : ℕ} (gone : Gone) (own others all new : Listed) → k ≡ kept.Pointed place → IsOldest k own others all → DropsCall gone all new →
-    IsGone gone (newest_in k own) × (new ≡ others)
-pointed_gone k {place} gone own others all new kind oldest drops =
-    call_gone k (Point place) gone own others all new (pointed_call k own others all kind oldest) refl (ap (λ (x : Kept). newest_in x own) kind) drops
+    by_kept : (k : Kept) → IsWhole k → IsGone gone (newest_in k own) × (new ≡ others)
+    by_kept kept.Call whole = by_undone Nothing refl
+    by_kept (kept.Pointed place) whole = by_undone (Point place) refl
+    by_kept k whole = absurd whole
 
 -- and of one that does not
 pub changed_gone : (k : Kept) (gone part : Gone) (weighed : ℕ) (own others all middle new : Listed) → k ≡ kept.Changed → IsOldest k own others all → DropsCall part all middle →
@@ -464,24 +446,23 @@ all_kept count all n = record {
 }
 
 -- then fewer
-pub fewer_kept : (count : Record → ℕ) (all now next : List Record) (n dropped more : ℕ) → next ≡ take (length next) now → length next < length now → n ≤ length next →
+pub fewer_kept : {count : Record → ℕ} {all now next : List Record} {n dropped more : ℕ} → next ≡ take (length next) now → length next < length now → n ≤ length next →
     more ≡ sum_by count (drop (length next) now) → AreKept count all now n dropped → AreKept count all next n (dropped + more)
-fewer_kept count all now next n dropped more fewer less enough is so = record {
+fewer_kept {count} {all} {now} {next} fewer less enough is so = record {
   kept = fewer_left all now next so.kept fewer;
   enough = omega (arith, enough);
   counted = omega (arith, is, so.counted, sum_left count all now next so.kept (omega (arith, less)));
 }
 
 -- what is counted fits where it does of all that are dropped in the end
-pub kept_fits : (count : Record → ℕ) (all now next : List Record) (n dropped more : ℕ) → next ≡ take (length next) now → length next < length now → n ≤ length next →
+pub kept_fits : {count : Record → ℕ} {all now next : List Record} {n dropped more : ℕ} → next ≡ take (length next) now → length next < length now → n ≤ length next →
     more ≡ sum_by count (drop (length next) now) → AreKept count all now n dropped → dropped + more ≤ sum_by count (drop n all)
-kept_fits count all now next n dropped more fewer less enough is so =
-    omega (arith, (fewer_kept count all now next n dropped more fewer less enough is so).counted, sum_fewer count all n (length next) enough)
+kept_fits {count} {all} {next = next} {n} fewer less enough is so = omega (arith, (fewer_kept fewer less enough is so).counted, sum_fewer count all n (length next) enough)
 
 -- and at last n are kept, or all
-pub last_kept : (count : Record → ℕ) (all now : List Record) (n dropped : ℕ) → length now ≤ n → AreKept count all now n dropped →
+pub last_kept : {count : Record → ℕ} {all now : List Record} {n dropped : ℕ} → length now ≤ n → AreKept count all now n dropped →
     (now ≡ take n all) × (dropped ≡ sum_by count (drop n all))
-last_kept count all now n dropped few so =
+last_kept {count} {all} {now} {n} few so =
     let within : length now ≤ length all = omega (arith, ap (λ (rs : List Record). length rs) so.kept, length-take (length now) all) in
     let many : length now ≡ min n (length all) = omega (arith, few, within, so.enough) in (
       so.kept ∙ ap (λ k. take k all) many ∙ take_min n all,

@@ -6,7 +6,7 @@ use Rattle.trac_rules.specs.State.{Frame}
 use Rattle.trac_rules.specs.Undone.{Undone}
 use Rattle.trac_rules.specs.Weights.{undone_weight, weight}
 use Rattle.trac_journal.specs.Journaled.{unpacked, AreListed}
-use Rattle.trac_journal.specs.Listed.{Listed, call_of, idle_of, newest_in, nothing_listed, older_in, older_undone, undone_of, without_call, HasCall, Holds, IsBrief}
+use Rattle.trac_journal.specs.Listed.{Listed, call_of, idle_of, newest_in, newest_undone, nothing_listed, older_in, older_undone, without_call, HasCall, Holds, IsBrief}
 use Rattle.trac_journal.specs.Told.{HasCallOut, IsCallFirst}
 use Rattle.trac_journal.specs.declared.entry.CallEntry.{CallEntry}
 use Rattle.trac_journal.specs.declared.entry.Entry.{Entry}
@@ -25,14 +25,11 @@ none_moved IsFirst other (suc moved) (e ∷ entries) l first = absurd (other _ f
 
 -- its entry holds all of it
 brief_alone : (k : Kept) (l : Listed) → IsBrief k → (newest_in k l ≡ newest_in k nothing_listed) × (older_in k l ≡ l)
-brief_alone kept.Comma l brief = (refl, refl)
-brief_alone kept.Begun l brief = (refl, refl)
-brief_alone (kept.Quoted closed inner) l brief = (refl, refl)
-brief_alone (kept.Deleted b) l brief = (refl, refl)
 brief_alone kept.Call l brief = absurd brief
 brief_alone (kept.Pointed place) l brief = absurd brief
 brief_alone kept.Changed l brief = absurd brief
 brief_alone kept.Idle l brief = absurd brief
+brief_alone k l brief = (refl, refl)
 
 pub short_less : {moved count weighed own : ℕ} {entries left : List Entry} {e : Entry} {r : Record} {l : Listed} → moved ≡ 0 → entries ≡ left ++ e ∷ [] → IsBrief e.kept →
     r ≡ newest_in e.kept nothing_listed → own ≡ weight (newest_in e.kept nothing_listed) → IsSound moved entries l count weighed → OneLess moved count weighed own entries left e r l l
@@ -45,26 +42,19 @@ short_less {e = e} {l = l} none last brief says is sound =
 -- of which an entry keeps this
 record KeepsCall (k : Kept) (l : Listed) : Type 0 where
   has : HasCall l.calls l.bytes l.commas
-  newest : newest_in k l ≡ call_of l.calls (undone_of k l.undone) l.bytes l.commas
+  newest : newest_in k l ≡ call_of l.calls (newest_undone k l.undone) l.bytes l.commas
   others : without_call l.calls (record l { undone = older_undone k l.undone }) ≡ older_in k l
 
-undone_apart : (calls : List CallEntry) (l : Listed) (undone : List Undone) → without_call calls (record l { undone = undone }) ≡ record (without_call calls l) { undone = undone }
-undone_apart [] l undone = refl
-undone_apart (c ∷ calls) l undone = refl
-
 keeps_call : (k : Kept) (l : Listed) (older : List Record) → IsCallFirst (newest_in k l ∷ older) → Holds k l → KeepsCall k l
-keeps_call kept.Comma l older first there = absurd first
-keeps_call kept.Begun l older first there = absurd first
-keeps_call (kept.Quoted closed inner) l older first there = absurd first
-keeps_call (kept.Deleted b) l older first there = absurd first
 keeps_call kept.Call l older first there = record { has = there; newest = refl; others = refl }
 keeps_call (kept.Pointed place) l older first there = record { has = there; newest = refl; others = refl }
-keeps_call kept.Changed l older first there = record { has = there.0; newest = refl; others = undone_apart l.calls l (drop 1 l.undone) }
+keeps_call kept.Changed l older first there = record { has = there.0; newest = refl; others = refl }
 keeps_call kept.Idle l older first there = absurd (no_call l.emptied first)
   where
     no_call : (emptied : List (List ℕ × List Frame)) → IsCallFirst (idle_of emptied ∷ older) → ⊥
     no_call [] first = first
     no_call (texts ∷ emptied) first = first
+keeps_call k l older first there = absurd first
 
 -- it says what it destroyed
 says_undone : (calls : List CallEntry) (undone : Undone) (bytes commas : List ℕ) → HasCall calls bytes commas → (call : CallRecord) × ((call_of calls undone bytes commas ≡ Called call) × (undone ≡ call.undone))
@@ -88,7 +78,7 @@ pub call_there : (moved : ℕ) (entries left : List Entry) (e : Entry) (l : List
 call_there moved entries left e l first last listed mid_is = subst (λ (x : Listed). HasCall x.calls x.bytes x.commas) (sym mid_is) (call_kept moved entries left e l first last listed).1.has
 
 pub call_less : {moved count weighed texts : ℕ} {entries left : List Entry} {e : Entry} {l mid new : Listed} {undone : Undone} → IsCallFirst (unpacked moved (reverse entries) l) →
-    entries ≡ left ++ e ∷ [] → IsSound moved entries l count weighed → mid ≡ record l { undone = older_undone e.kept l.undone } → undone ≡ undone_of e.kept l.undone →
+    entries ≡ left ++ e ∷ [] → IsSound moved entries l count weighed → mid ≡ record l { undone = older_undone e.kept l.undone } → undone ≡ newest_undone e.kept l.undone →
     new ≡ without_call mid.calls mid → ((u : Undone) → texts + undone_weight u ≡ weight (call_of mid.calls u mid.bytes mid.commas)) → CallLess moved count weighed texts entries left e undone l new
 call_less {moved} {texts = texts} {entries} {left} {e} {l} {undone = undone} first last sound mid_is own new_is weighs =
     let kept_so = call_kept moved entries left e l first last sound.0 in

@@ -3,7 +3,6 @@ use Rattle.std.proofs.Common.{◌≡◌, ℕ, ◌≤◌, List, [], ◌∷◌, �
 use Rattle.std.specs.Prelude.{replicate, sum}
 use Rattle.std.proofs.lemmas.List.{append-nil, append_assoc, length-append, length-take-le, take-append-drop}
 use Rattle.trac_rules.specs.Records.{Record, Called, Moved, last_of}
-use Rattle.trac_rules.specs.State.{Frame}
 use Rattle.trac_rules.specs.Undone.{Undone, Nothing, Point}
 use Rattle.trac_rules.proofs.FurtherOn.{all_before_last-further}
 use Rattle.trac_journal.specs.Dropped.{joined, IsOldest}
@@ -15,7 +14,6 @@ use Rattle.trac_journal.specs.declared.entry.CallEntry.{CallEntry}
 use Rattle.trac_journal.specs.declared.entry.Entry.{Entry}
 use Rattle.trac_journal.specs.declared.entry.Kept.{Kept}
 use Rattle.trac_journal.specs.declared.entry.Kept.TheVariants as kept
-use Rattle.trac_journal.proofs.Calls.{undone_stays}
 use Rattle.trac_journal.proofs.Ends.{before-last, ends_joined, last-after, last-last, length-last}
 
 -- ---- lists with older ones after them
@@ -61,13 +59,11 @@ call_after (c ∷ calls) older l has =
       };
     }
 
-first_after : (undone older : List Undone) → 1 ≤ length undone → (first_undone (undone ++ older) ≡ first_undone undone) × (drop 1 (undone ++ older) ≡ drop 1 undone ++ older)
-first_after [] older some = absurd (omega (arith, some))
-first_after (u ∷ undone) older some = (refl, refl)
-
-idle_after : (emptied older : List (List ℕ × List Frame)) → 1 ≤ length emptied → (idle_of (emptied ++ older) ≡ idle_of emptied) × (drop 1 (emptied ++ older) ≡ drop 1 emptied ++ older)
-idle_after [] older some = absurd (omega (arith, some))
-idle_after (texts ∷ emptied) older some = (refl, refl)
+-- so is what is told by the first of a list, and the others are those and these
+first_after : {X Y : Type 0} (f : List X → Y) → ((x : X) (xs ys : List X) → f (x ∷ xs) ≡ f (x ∷ ys)) → (xs older : List X) → 1 ≤ length xs →
+    (f (xs ++ older) ≡ f xs) × (drop 1 (xs ++ older) ≡ drop 1 xs ++ older)
+first_after f told [] older some = absurd (omega (arith, some))
+first_after f told (x ∷ xs) older some = (told x (xs ++ older) xs, refl)
 
 -- so is the newest record of any kind
 record IsAfter (k : Kept) (older l : Listed) : Type 0 where
@@ -76,10 +72,6 @@ record IsAfter (k : Kept) (older l : Listed) : Type 0 where
   rest : older_in k (joined older l) ≡ joined older (older_in k l)
 
 after : (k : Kept) (older l : Listed) → Holds k l → IsAfter k older l
-after kept.Comma older l has = record { has = tt; same = refl; rest = refl }
-after kept.Begun older l has = record { has = tt; same = refl; rest = refl }
-after (kept.Quoted closed inner) older l has = record { has = tt; same = refl; rest = refl }
-after (kept.Deleted b) older l has = record { has = tt; same = refl; rest = refl }
 after kept.Call older l has =
     let call = call_after l.calls older l has in
     record { has = call.has; same = call.same Nothing; rest = call.rest }
@@ -87,20 +79,21 @@ after (kept.Pointed place) older l has =
     let call = call_after l.calls older l has in
     record { has = call.has; same = call.same (Point place); rest = call.rest }
 after kept.Changed older l has =
-    let call = call_after l.calls older l has.0 in
-    let first = first_after l.undone older.undone has.1 in
+    let call = call_after l.calls older (record l { undone = drop 1 l.undone }) has.0 in
+    let first = first_after first_undone (λ undone newer others. refl) l.undone older.undone has.1 in
     record {
       has = (call.has, omega (arith, has.1, length-append l.undone older.undone));
       same = call.same (first_undone (l.undone ++ older.undone)) ∙ ap (λ (u : Undone). call_of l.calls u l.bytes l.commas) first.0;
-      rest = λ i. record (call.rest i) { undone = first.1 i };
+      rest = (λ i. without_call (l.calls ++ older.calls) (record (joined older l) { undone = first.1 i })) ∙ call.rest;
     }
 after kept.Idle older l has =
-    let first = idle_after l.emptied older.emptied has in
+    let first = first_after idle_of (λ texts newer others. refl) l.emptied older.emptied has in
     record {
       has = omega (arith, has, length-append l.emptied older.emptied);
       same = first.0;
       rest = λ i. record (joined older l) { emptied = first.1 i };
     }
+after k older l has = record { has = tt; same = refl; rest = refl }
 
 -- ---- the newest record's own
 
@@ -109,8 +102,8 @@ record CallApart (calls : List CallEntry) (l : Listed) (undone : List Undone) : 
   own : Listed
   has : HasCall own.calls own.bytes own.commas
   destroyed : own.undone ≡ undone
-  alone : without_call own.calls own ≡ record nothing_listed { undone = undone }
-  together : (others : List Undone) → undone ++ others ≡ l.undone → l ≡ joined (record (without_call calls l) { undone = others }) own
+  alone : (rest : List Undone) → without_call own.calls (record own { undone = rest }) ≡ record nothing_listed { undone = rest }
+  together : (others : List Undone) → undone ++ others ≡ l.undone → l ≡ joined (without_call calls (record l { undone = others })) own
 
 call_apart : (calls : List CallEntry) (l : Listed) (undone : List Undone) → l.calls ≡ calls → HasCall calls l.bytes l.commas → CallApart calls l undone
 call_apart [] l undone first has = absurd has
@@ -122,7 +115,7 @@ call_apart (c ∷ calls) l undone first has = record {
     subst (λ (ms : List ℕ). sum ms ≤ c.bytes) (sym (last-last c.commas l.commas has.1)) has.2,
   );
   destroyed = refl;
-  alone = λ i. record { calls = []; bytes = before-last c.bytes l.bytes has.0 i; commas = before-last c.commas l.commas has.1 i; undone = undone; emptied = [] };
+  alone = λ rest. (λ i. record { calls = []; bytes = before-last c.bytes l.bytes has.0 i; commas = before-last c.commas l.commas has.1 i; undone = rest; emptied = [] });
   together = λ others both. (λ i. record {
     calls = first i;
     bytes = sym (ends_joined c.bytes l.bytes) i;
@@ -139,29 +132,29 @@ record Apart (k : Kept) (l : Listed) : Type 0 where
   alone : older_in k own ≡ nothing_listed
   together : l ≡ joined (older_in k l) own
 
+none_left : {X : Type 0} (xs : List X) → drop 1 (take 1 xs) ≡ []
+none_left [] = refl
+none_left (x ∷ xs) = refl
+
 none_apart : (l : Listed) → l ≡ joined l nothing_listed
 none_apart l = sym (joined_nothing l)
 
 apart : (k : Kept) (l : Listed) → Holds k l → Apart k l
-apart kept.Comma l has = record { own = nothing_listed; has = tt; alone = refl; together = none_apart l }
-apart kept.Begun l has = record { own = nothing_listed; has = tt; alone = refl; together = none_apart l }
-apart (kept.Quoted closed inner) l has = record { own = nothing_listed; has = tt; alone = refl; together = none_apart l }
-apart (kept.Deleted b) l has = record { own = nothing_listed; has = tt; alone = refl; together = none_apart l }
 apart kept.Call l has =
     let call = call_apart l.calls l [] refl has in
     record {
       own = call.own;
       has = call.has;
-      alone = call.alone;
-      together = call.together l.undone refl ∙ (λ i. joined (record (without_call l.calls l) { undone = sym (undone_stays l.calls l) i }) call.own);
+      alone = call.alone call.own.undone ∙ (λ i. record nothing_listed { undone = call.destroyed i });
+      together = call.together l.undone refl;
     }
 apart (kept.Pointed place) l has =
     let call = call_apart l.calls l [] refl has in
     record {
       own = call.own;
       has = call.has;
-      alone = call.alone;
-      together = call.together l.undone refl ∙ (λ i. joined (record (without_call l.calls l) { undone = sym (undone_stays l.calls l) i }) call.own);
+      alone = call.alone call.own.undone ∙ (λ i. record nothing_listed { undone = call.destroyed i });
+      together = call.together l.undone refl;
     }
 apart kept.Changed l has =
     let call = call_apart l.calls l (take 1 l.undone) refl has.0 in
@@ -169,13 +162,9 @@ apart kept.Changed l has =
     record {
       own = call.own;
       has = (call.has, omega (arith, one, ap (λ (us : List Undone). length us) call.destroyed));
-      alone = (λ i. record (call.alone i) { undone = drop 1 (call.destroyed i) }) ∙ (λ i. record nothing_listed { undone = none_left l.undone i });
+      alone = call.alone (drop 1 call.own.undone) ∙ (λ i. record nothing_listed { undone = (ap (drop 1) call.destroyed ∙ none_left l.undone) i });
       together = call.together (drop 1 l.undone) (take-append-drop 1 l.undone);
     }
-  where
-    none_left : (us : List Undone) → drop 1 (take 1 us) ≡ []
-    none_left [] = refl
-    none_left (u ∷ us) = refl
 apart kept.Idle l has =
     record {
       own = record nothing_listed { emptied = take 1 l.emptied };
@@ -189,10 +178,7 @@ apart kept.Idle l has =
         emptied = sym (take-append-drop 1 l.emptied) i;
       };
     }
-  where
-    none_left : (emptied : List (List ℕ × List Frame)) → drop 1 (take 1 emptied) ≡ []
-    none_left [] = refl
-    none_left (texts ∷ emptied) = refl
+apart k l has = record { own = nothing_listed; has = tt; alone = refl; together = none_apart l }
 
 -- ---- the oldest record's own
 

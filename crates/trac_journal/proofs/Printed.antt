@@ -32,24 +32,16 @@ call_printed : (own others all : Listed) (calls : List CallEntry) (oldest : Olde
 call_printed own others all [] oldest view =
     absurd (omega (arith, ap (λ (cs : List CallEntry). length cs) (sym view ∙ oldest.ends.last), length-append others.calls (oldest.call ∷ [])))
 call_printed own others all (c ∷ calls) oldest view =
-    let first = first_call (c ∷ calls) calls c oldest.call all.calls others.calls refl (sym view) oldest.ends.last in
+    let first = first_call {items = c ∷ calls} others.calls oldest.call refl (sym view) oldest.ends.last in
     (ap (λ (call : CallEntry). call.printed) first.1, first.0)
 
 oldest_printed : (k : Kept) (own others all : Listed) (calls : List CallEntry) → IsOldest k own others all → all.calls ≡ reverse calls → OldestPrinted k own others calls
-oldest_printed kept.Comma own others all calls is view =
-    record { printed = refl; left = ap (λ (l : Listed). l.calls) (sym (brief_left own others all is.alone is.together)) ∙ view }
-oldest_printed kept.Begun own others all calls is view =
-    record { printed = refl; left = ap (λ (l : Listed). l.calls) (sym (brief_left own others all is.alone is.together)) ∙ view }
-oldest_printed (kept.Quoted closed inner) own others all calls is view =
-    record { printed = refl; left = ap (λ (l : Listed). l.calls) (sym (brief_left own others all is.alone is.together)) ∙ view }
-oldest_printed (kept.Deleted b) own others all calls is view =
-    record { printed = refl; left = ap (λ (l : Listed). l.calls) (sym (brief_left own others all is.alone is.together)) ∙ view }
 oldest_printed kept.Call own others all calls is view =
-    let whole = whole_call own others all is.is_there is.alone is.together in
+    let whole = whole_call kept.Call own others all tt is in
     let first = call_printed own others all calls whole.0 view in
     record { printed = sym (whole.0.printed Nothing) ∙ first.0; left = first.1 }
 oldest_printed (kept.Pointed place) own others all calls is view =
-    let whole = whole_call own others all is.is_there is.alone is.together in
+    let whole = whole_call (kept.Pointed place) own others all tt is in
     let first = call_printed own others all calls whole.0 view in
     record { printed = sym (whole.0.printed (Point place)) ∙ first.0; left = first.1 }
 oldest_printed kept.Changed own others all calls is view =
@@ -59,6 +51,8 @@ oldest_printed kept.Changed own others all calls is view =
 oldest_printed kept.Idle own others all calls is view =
     let whole = oldest_idle own others all is in
     record { printed = ap printed_by whole.is_first; left = ap (λ (l : Listed). l.calls) (sym whole.left) ∙ view }
+oldest_printed k own others all calls is view =
+    record { printed = refl; left = ap (λ (l : Listed). l.calls) (sym (brief_left own others all is.alone is.together)) ∙ view }
 
 -- ---- all that are left out
 

@@ -74,10 +74,10 @@ first_undone [] = Nothing
 first_undone (undone ∷ older) = undone
 
 -- what the newest call destroyed, by what its entry keeps: from the list of these, where it stands there
-abbrev pub undone_of : Kept → List Undone → Undone
-undone_of (kept.Pointed place) undone = Point place
-undone_of kept.Changed undone = first_undone undone
-undone_of other undone = Nothing
+abbrev pub newest_undone : Kept → List Undone → Undone
+newest_undone (kept.Pointed place) undone = Point place
+newest_undone kept.Changed undone = first_undone undone
+newest_undone other undone = Nothing
 
 abbrev pub idle_of : List (List ℕ × List Frame) → Record
 idle_of [] = Idle [] []
@@ -89,10 +89,8 @@ newest_in kept.Comma l = Comma
 newest_in kept.Begun l = Begun
 newest_in (kept.Quoted closed inner) l = Quoted inner closed
 newest_in (kept.Deleted b) l = Deleted b
-newest_in kept.Call l = call_of l.calls Nothing l.bytes l.commas
-newest_in (kept.Pointed place) l = call_of l.calls (Point place) l.bytes l.commas
-newest_in kept.Changed l = call_of l.calls (first_undone l.undone) l.bytes l.commas
 newest_in kept.Idle l = idle_of l.emptied
+newest_in call l = call_of l.calls (newest_undone call l.undone) l.bytes l.commas
 
 -- an entry that keeps this holds all of its record
 abbrev pub IsBrief : Kept → Type 0
@@ -117,11 +115,12 @@ older_undone other undone = undone
 
 -- the lists without what is the newest record's own, of which an entry keeps this
 abbrev pub older_in : Kept → Listed → Listed
-older_in kept.Call l = without_call l.calls l
-older_in (kept.Pointed place) l = without_call l.calls l
-older_in kept.Changed l = record (without_call l.calls l) { undone = drop 1 l.undone }
+older_in kept.Comma l = l
+older_in kept.Begun l = l
+older_in (kept.Quoted closed inner) l = l
+older_in (kept.Deleted b) l = l
 older_in kept.Idle l = record l { emptied = drop 1 l.emptied }
-older_in other l = l
+older_in call l = without_call l.calls (record l { undone = older_undone call l.undone })
 
 -- there is a call, and all bytes and lengths of its arguments
 abbrev pub HasCall : List CallEntry → List ℕ → List ℕ → Type 0

@@ -1,5 +1,6 @@
-//! What a record says beside texts, forms and blocks.
+//! What a record says, but for what was destroyed of forms and blocks.
 use trac_rules::kind::Kind;
+use trac_text::PiecesRef;
 
 /// What the record of a call says beside its arguments, and what was destroyed of forms and blocks.
 #[derive(Clone, Copy)]
@@ -18,6 +19,15 @@ pub struct Called {
     pub meta: Option<u8>,
     /// Whether each call was printed before.
     pub trace: bool,
+}
+
+/// The record of a call, lent, but for what was destroyed of forms and blocks.
+#[derive(Drop)]
+pub struct LentCall<'a> {
+    /// What it says beside its arguments.
+    pub called: Called,
+    /// Its arguments, where they are kept.
+    pub arguments: PiecesRef<'a>,
 }
 
 /// The record of a step that performs no function and does not empty the texts: small, copied freely, and it owns no memory.

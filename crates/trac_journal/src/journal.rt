@@ -11,7 +11,7 @@ ghost use Rattle.trac_text.specs.Pieces.{all_texts, frames_in};
 ghost use Rattle.trac_journal.specs.Told.{record_with, said_by, sum_by, FitsEntry, HasCallFirst, HasCallOut, IsCallFirst, IsIdleFirst, IsShortFirst};
 ghost use Rattle.trac_change.specs.Undone.{undone_in};
 
-use crate::called::{Called, Short};
+use crate::called::{Called, LentCall, Short};
 use crate::emptied::Emptied;
 use crate::entry::{Entry, Kept};
 use crate::lists::Lists;
@@ -20,7 +20,7 @@ use std::collections::VecDeque;
 use std::marker::Model;
 use trac_change::Undone;
 use trac_rules::refusal::Refusal;
-use trac_text::{Args, PiecesRef};
+use trac_text::Args;
 
 /// What the steps of a machine destroyed, a record for each: seen as the list of the rules' records, the newest first, and
 /// beside it how much room there is for more.
@@ -238,10 +238,10 @@ impl<A: Allocator + Copy> Journal<A> {
         Some(short)
     }
 
-    /// The newest record, where it is of a call: what it says beside its arguments, and these, lent; else none.
+    /// The newest record, lent, where it is of a call; else none.
     #[inline(always)]
-    pub fn newest_call(&self) -> Option<(Called, PiecesRef<'_>)>
-        ensures { MatchOption result (IsCallFirst self.now.records → ⊥) (λ call. HasCallFirst call.0 (all_texts call.1) self.now.records) }
+    pub fn newest_call(&self) -> Option<LentCall<'_>>
+        ensures { MatchOption result (IsCallFirst self.now.records → ⊥) (λ call. HasCallFirst call.called (all_texts call.arguments) self.now.records) }
     {
         if self.moved > 0 {
             return None;

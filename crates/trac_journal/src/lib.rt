@@ -10,7 +10,7 @@ pub mod entry;
 pub mod journal;
 pub mod lists;
 
-pub use called::{Called, Short};
+pub use called::{Called, LentCall, Short};
 pub use dropping::Passed;
 pub use emptied::Emptied;
 pub use emptied_weight::weigh_functions;

@@ -8,13 +8,13 @@ ghost use Rattle.trac_rules.specs.Undone as rules;
 ghost use Rattle.trac_rules.specs.Weights.{meta_weight, undone_weight, weight};
 ghost use Rattle.trac_journal.specs.Dropped.{printed_at, printed_in, without_oldest, EndsWithCall, IsGone, IsGoneCall, IsOldest};
 ghost use Rattle.trac_journal.specs.Journaled.{HasRoom};
-ghost use Rattle.trac_journal.specs.Listed.{call_of, called_in, first_undone, idle_of, newest_in, nothing_listed, older_undone, undone_of, without_call, AreSmall, HasCall, HasMore, Holds, IsKept, Listed};
+ghost use Rattle.trac_journal.specs.Listed.{call_of, called_in, first_undone, idle_of, newest_in, newest_undone, nothing_listed, older_undone, without_call, AreSmall, HasCall, HasMore, Holds, IsKept, Listed};
 ghost use Rattle.trac_text.specs.Pieces.{all_texts, frames_in};
 ghost use Rattle.trac_journal.specs.Told.{record_with};
 ghost use Rattle.trac_journal.specs.Emptied.{texts_in};
 ghost use Rattle.trac_change.specs.Undone.{undone_in};
 
-use crate::called::Called;
+use crate::called::{Called, LentCall};
 use crate::emptied::Emptied;
 use crate::entry::{CallEntry, Kept};
 use std::alloc::{Allocator, Global};
@@ -139,11 +139,11 @@ impl<A: Allocator + Copy> Lists<A> {
         self.emptied.push_back_reserved(emptied);
     }
 
-    // What the newest call says beside its arguments, and these.
+    // The newest call.
     #[inline(always)]
-    pub(crate) fn newest_call(&self) -> (Called, PiecesRef<'_>)
+    pub(crate) fn newest_call(&self) -> LentCall<'_>
         requires { HasCall self.now.listed.calls self.now.listed.bytes self.now.listed.commas }
-        ensures { (undone : rules.Undone) → call_of self.now.listed.calls undone self.now.listed.bytes self.now.listed.commas ≡ CallOf (record_with result.0 (all_texts result.1) undone) }
+        ensures { (undone : rules.Undone) → call_of self.now.listed.calls undone self.now.listed.bytes self.now.listed.commas ≡ CallOf (record_with result.called (all_texts result.arguments) undone) }
     {
         let Some(call) = self.calls.back() else {
             unreachable!()
@@ -154,7 +154,8 @@ impl<A: Allocator + Copy> Lists<A> {
             bytes.split_at(bytes.len() - call.bytes as usize).1,
             commas.split_at(commas.len() - call.commas as usize).1,
         );
-        (called_by(*call), arguments)
+        let called = called_by(*call);
+        LentCall { called, arguments }
     }
 
     // Takes out the newest call with its arguments, and returns what it weighs beside what it destroyed of forms and blocks.
@@ -178,7 +179,7 @@ impl<A: Allocator + Copy> Lists<A> {
     pub(crate) fn pop_undone(&mut self, kept: Kept) -> Undone<A>
         requires { Holds kept self.old.listed }
         ensures others { self.new.listed ≡ record self.old.listed { undone = older_undone kept self.old.listed.undone } }
-        ensures own { undone_in result ≡ undone_of kept self.old.listed.undone }
+        ensures own { undone_in result ≡ newest_undone kept self.old.listed.undone }
     {
         match kept {
             Kept::Pointed(place) => Undone::Point(place as usize),

@@ -44,8 +44,8 @@ impl<E: TwoEnds<u8, A>, M: TwoEnds<Mark, A>, A: Allocator + Copy> Core<E, M, A> 
             self.undo_short(short);
             return true;
         }
-        if let Some((called, arguments)) = journal.newest_call() {
-            self.begin_again(called, &arguments);
+        if let Some(call) = journal.newest_call() {
+            self.begin_again(call.called, &call.arguments);
             let undone = journal.pop_call();
             self.restore_storage(undone);
             return true;

@@ -8,36 +8,27 @@ loop-self-init g c = record { read = all_kept read_by c.args.self.now.records c.
 
 pub overflow_add-passed : goal.overflow_add-passed
 overflow_add-passed g c =
-    omega (
-      arith,
-      c.requires.read_fits,
-      kept_fits read_by c.args.self.now.records c.loop-self.self.records c.drop_some-more.new.self.records c.args.n c.loop-self.passed.read c.drop_some-more.result.read
-          c.drop_some-more.ensures.kept c.drop_some-more.ensures.some (omega arith) c.drop_some-more.ensures.read c.loop-self.invariant.read,
-    )
+    let less = c.drop_some-more.ensures in
+    omega (arith, c.requires.read_fits, kept_fits less.kept less.some (omega arith) less.read c.loop-self.invariant.read)
 
 pub overflow_add-passed-in-loop-self : goal.overflow_add-passed-in-loop-self
 overflow_add-passed-in-loop-self g c =
-    omega (
-      arith,
-      c.requires.printed_fits,
-      kept_fits printed_by c.args.self.now.records c.loop-self.self.records c.drop_some-more.new.self.records c.args.n c.loop-self.passed.printed c.drop_some-more.result.printed
-          c.drop_some-more.ensures.kept c.drop_some-more.ensures.some (omega arith) c.drop_some-more.ensures.printed c.loop-self.invariant.printed,
-    )
+    let less = c.drop_some-more.ensures in
+    omega (arith, c.requires.printed_fits, kept_fits less.kept less.some (omega arith) less.printed c.loop-self.invariant.printed)
 
 pub loop-self-preserved : goal.loop-self-preserved
-loop-self-preserved g c = record {
-  read = fewer_kept read_by c.args.self.now.records c.loop-self.self.records c.drop_some-more.new.self.records c.args.n c.loop-self.passed.read c.drop_some-more.result.read
-      c.drop_some-more.ensures.kept c.drop_some-more.ensures.some (omega arith) c.drop_some-more.ensures.read c.loop-self.invariant.read;
-  printed = fewer_kept printed_by c.args.self.now.records c.loop-self.self.records c.drop_some-more.new.self.records c.args.n c.loop-self.passed.printed c.drop_some-more.result.printed
-      c.drop_some-more.ensures.kept c.drop_some-more.ensures.some (omega arith) c.drop_some-more.ensures.printed c.loop-self.invariant.printed;
-}
+loop-self-preserved g c =
+    let less = c.drop_some-more.ensures in
+    record {
+      read = fewer_kept less.kept less.some (omega arith) less.read c.loop-self.invariant.read;
+      printed = fewer_kept less.kept less.some (omega arith) less.printed c.loop-self.invariant.printed;
+    }
 
 pub returns-clause-kept : goal.returns-clause-kept
-returns-clause-kept g c = (last_kept read_by c.args.self.now.records c.loop-self.self.records c.args.n c.loop-self.passed.read (omega arith) c.loop-self.invariant.read).0
+returns-clause-kept g c = (last_kept (omega arith) c.loop-self.invariant.read).0
 
 pub returns-clause-read : goal.returns-clause-read
-returns-clause-read g c = (last_kept read_by c.args.self.now.records c.loop-self.self.records c.args.n c.loop-self.passed.read (omega arith) c.loop-self.invariant.read).1
+returns-clause-read g c = (last_kept (omega arith) c.loop-self.invariant.read).1
 
 pub returns-clause-printed : goal.returns-clause-printed
-returns-clause-printed g c =
-    (last_kept printed_by c.args.self.now.records c.loop-self.self.records c.args.n c.loop-self.passed.printed (omega arith) c.loop-self.invariant.printed).1
+returns-clause-printed g c = (last_kept (omega arith) c.loop-self.invariant.printed).1

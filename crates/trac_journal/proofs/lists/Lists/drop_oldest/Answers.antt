@@ -3,7 +3,7 @@ use Rattle.std.proofs.Common.{◌+◌, ap, refl, subst, sym, ◌∙◌, arith}
 use Rattle.trac_rules.specs.Weights.{weight}
 use Rattle.trac_journal.specs.Listed.{Listed, newest_in, nothing_listed, IsBrief}
 use Rattle.trac_journal.specs.declared.entry.Kept.{Kept}
-use Rattle.trac_journal.proofs.Dropped.{brief_gone, changed_fits, changed_gone, idle_fits, idle_gone, plain_call, plain_gone, pointed_call, pointed_gone}
+use Rattle.trac_journal.proofs.Dropped.{brief_gone, changed_fits, changed_gone, idle_fits, idle_gone, whole_call, whole_gone, IsWhole}
 use Rattle.trac_journal.proofs.lists.Lists.drop_oldest.Goals as goal
 
 pub returns-in-Comma : goal.returns-in-Comma
@@ -32,23 +32,23 @@ returns-in-Deleted g c =
 
 pub drop_call-requires : goal.drop_call-requires
 drop_call-requires g c =
-    let whole = plain_call c.args.kept c.requires.0 c.requires.1.0 c.args.self.now.listed c.in-Call.is c.requires.1.1.0 in
+    let whole = whole_call c.args.kept c.requires.0 c.requires.1.0 c.args.self.now.listed (subst IsWhole (sym c.in-Call.is) tt) c.requires.1.1.0 in
     (whole.0.call, (c.requires.1.0.calls, whole.0.ends))
 
 pub returns-in-Call : goal.returns-in-Call
 returns-in-Call g c =
     λ own others oldest.
-    plain_gone c.args.kept c.drop_call.result own others c.args.self.now.listed c.drop_call.new.self.listed c.in-Call.is oldest c.drop_call.ensures
+    whole_gone c.args.kept c.drop_call.result own others c.args.self.now.listed c.drop_call.new.self.listed (subst IsWhole (sym c.in-Call.is) tt) oldest c.drop_call.ensures
 
 pub drop_call-requires-in-Pointed : goal.drop_call-requires-in-Pointed
 drop_call-requires-in-Pointed g c =
-    let whole = pointed_call c.args.kept c.requires.0 c.requires.1.0 c.args.self.now.listed c.in-Pointed.is c.requires.1.1.0 in
+    let whole = whole_call c.args.kept c.requires.0 c.requires.1.0 c.args.self.now.listed (subst IsWhole (sym c.in-Pointed.is) tt) c.requires.1.1.0 in
     (whole.0.call, (c.requires.1.0.calls, whole.0.ends))
 
 pub returns-in-Pointed : goal.returns-in-Pointed
 returns-in-Pointed g c =
     λ own others oldest.
-    pointed_gone c.args.kept c.drop_call-in-Pointed.result own others c.args.self.now.listed c.drop_call-in-Pointed.new.self.listed c.in-Pointed.is oldest c.drop_call-in-Pointed.ensures
+    whole_gone c.args.kept c.drop_call-in-Pointed.result own others c.args.self.now.listed c.drop_call-in-Pointed.new.self.listed (subst IsWhole (sym c.in-Pointed.is) tt) oldest c.drop_call-in-Pointed.ensures
 
 pub drop_call-call-requires : goal.drop_call-call-requires
 drop_call-call-requires g c =

@@ -26,5 +26,5 @@ returns g c =
     c.split_at.ensures.back ∙ ap (last_of call.bytes) (c.as_slice-bytes.ensures.items ∙ ap (λ (v : Listed). v.bytes) view) in
     let commas : c.split_at-2.result.1.now ≡ last_of call.commas l.commas =
     c.split_at-2.ensures.back ∙ ap (last_of call.commas) (c.as_slice-commas.ensures.items ∙ ap (λ (v : Listed). v.commas) view) in
-    call_told call c.called_by.result l.calls (reverse (take n c.self.inside.calls.items)) l.bytes l.commas c.new-arguments.result first c.called_by.ensures
+    call_told call c.called_by-called.result l.calls (reverse (take n c.self.inside.calls.items)) l.bytes l.commas c.new-arguments.result first c.called_by-called.ensures
     (c.new-arguments.ensures ∙ (λ i. cut_at (commas i) (bytes i))) undone
