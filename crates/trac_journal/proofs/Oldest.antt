@@ -97,26 +97,24 @@ after k older l has = record { has = tt; same = refl; rest = refl }
 
 -- ---- the newest record's own
 
--- those of a call, with what it destroyed of forms and blocks
-record CallApart (calls : List CallEntry) (l : Listed) (undone : List Undone) : Type 0 where
+-- those of a call, with this of what was destroyed of forms and blocks
+record CallApart (calls : List CallEntry) (l : Listed) : Type 0 where
   own : Listed
   has : HasCall own.calls own.bytes own.commas
-  destroyed : own.undone ≡ undone
-  alone : (rest : List Undone) → without_call own.calls (record own { undone = rest }) ≡ record nothing_listed { undone = rest }
-  together : (others : List Undone) → undone ++ others ≡ l.undone → l ≡ joined (without_call calls (record l { undone = others })) own
+  alone : (undone : List Undone) → without_call own.calls (record own { undone = undone }) ≡ record nothing_listed { undone = undone }
+  together : (undone others : List Undone) → undone ++ others ≡ l.undone → l ≡ joined (without_call calls (record l { undone = others })) (record own { undone = undone })
 
-call_apart : (calls : List CallEntry) (l : Listed) (undone : List Undone) → l.calls ≡ calls → HasCall calls l.bytes l.commas → CallApart calls l undone
-call_apart [] l undone first has = absurd has
-call_apart (c ∷ calls) l undone first has = record {
-  own = record { calls = c ∷ []; bytes = last_of c.bytes l.bytes; commas = last_of c.commas l.commas; undone = undone; emptied = [] };
+call_apart : (calls : List CallEntry) (l : Listed) → l.calls ≡ calls → HasCall calls l.bytes l.commas → CallApart calls l
+call_apart [] l first has = absurd has
+call_apart (c ∷ calls) l first has = record {
+  own = record nothing_listed { calls = c ∷ []; bytes = last_of c.bytes l.bytes; commas = last_of c.commas l.commas };
   has = (
     omega (arith, length-last c.bytes l.bytes has.0),
     omega (arith, length-last c.commas l.commas has.1),
     subst (λ (ms : List ℕ). sum ms ≤ c.bytes) (sym (last-last c.commas l.commas has.1)) has.2,
   );
-  destroyed = refl;
-  alone = λ rest. (λ i. record { calls = []; bytes = before-last c.bytes l.bytes has.0 i; commas = before-last c.commas l.commas has.1 i; undone = rest; emptied = [] });
-  together = λ others both. (λ i. record {
+  alone = λ undone. (λ i. record nothing_listed { bytes = before-last c.bytes l.bytes has.0 i; commas = before-last c.commas l.commas has.1 i; undone = undone });
+  together = λ undone others both. (λ i. record {
     calls = first i;
     bytes = sym (ends_joined c.bytes l.bytes) i;
     commas = sym (ends_joined c.commas l.commas) i;
@@ -141,29 +139,18 @@ none_apart l = sym (joined_nothing l)
 
 apart : (k : Kept) (l : Listed) → Holds k l → Apart k l
 apart kept.Call l has =
-    let call = call_apart l.calls l [] refl has in
-    record {
-      own = call.own;
-      has = call.has;
-      alone = call.alone call.own.undone ∙ (λ i. record nothing_listed { undone = call.destroyed i });
-      together = call.together l.undone refl;
-    }
+    let call = call_apart l.calls l refl has in
+    record { own = record call.own { undone = [] }; has = call.has; alone = call.alone []; together = call.together [] l.undone refl }
 apart (kept.Pointed place) l has =
-    let call = call_apart l.calls l [] refl has in
-    record {
-      own = call.own;
-      has = call.has;
-      alone = call.alone call.own.undone ∙ (λ i. record nothing_listed { undone = call.destroyed i });
-      together = call.together l.undone refl;
-    }
+    let call = call_apart l.calls l refl has in
+    record { own = record call.own { undone = [] }; has = call.has; alone = call.alone []; together = call.together [] l.undone refl }
 apart kept.Changed l has =
-    let call = call_apart l.calls l (take 1 l.undone) refl has.0 in
-    let one : length (take 1 l.undone) ≡ 1 = length-take-le 1 l.undone has.1 in
+    let call = call_apart l.calls l refl has.0 in
     record {
-      own = call.own;
-      has = (call.has, omega (arith, one, ap (λ (us : List Undone). length us) call.destroyed));
-      alone = call.alone (drop 1 call.own.undone) ∙ (λ i. record nothing_listed { undone = (ap (drop 1) call.destroyed ∙ none_left l.undone) i });
-      together = call.together (drop 1 l.undone) (take-append-drop 1 l.undone);
+      own = record call.own { undone = take 1 l.undone };
+      has = (call.has, omega (arith, length-take-le 1 l.undone has.1));
+      alone = call.alone (drop 1 (take 1 l.undone)) ∙ (λ i. record nothing_listed { undone = none_left l.undone i });
+      together = call.together (take 1 l.undone) (drop 1 l.undone) (take-append-drop 1 l.undone);
     }
 apart kept.Idle l has =
     record {

@@ -14,7 +14,7 @@ ghost use Rattle.trac_change.specs.Undone.{undone_in};
 use crate::called::{Called, LentCall, Short};
 use crate::emptied::Emptied;
 use crate::entry::{Entry, Kept};
-use crate::lists::Lists;
+use crate::lists::{Lists, weigh_brief};
 use std::alloc::{AllocError, Allocator, Global};
 use std::collections::VecDeque;
 use std::marker::Model;
@@ -326,17 +326,6 @@ fn short_in(kept: Kept) -> Option<Short>
         }),
         Kept::Deleted(byte) => Some(Short::Deleted(byte)),
         Kept::Call | Kept::Pointed(_) | Kept::Changed | Kept::Idle => None,
-    }
-}
-
-// What an entry weighs that holds all of its record: one for a deleted byte.
-fn weigh_brief(kept: Kept) -> u64
-    requires { IsBrief kept }
-    ensures { result ≡ weight (newest_in kept nothing_listed) }
-{
-    match kept {
-        Kept::Deleted(_byte) => 1,
-        _ => 0,
     }
 }
 

@@ -8,7 +8,7 @@ ghost use Rattle.trac_rules.specs.Undone as rules;
 ghost use Rattle.trac_rules.specs.Weights.{meta_weight, undone_weight, weight};
 ghost use Rattle.trac_journal.specs.Dropped.{printed_at, printed_in, without_oldest, EndsWithCall, IsGone, IsGoneCall, IsOldest};
 ghost use Rattle.trac_journal.specs.Journaled.{HasRoom};
-ghost use Rattle.trac_journal.specs.Listed.{call_of, called_in, first_undone, idle_of, newest_in, newest_undone, nothing_listed, older_undone, without_call, AreSmall, HasCall, HasMore, Holds, IsKept, Listed};
+ghost use Rattle.trac_journal.specs.Listed.{call_of, called_in, first_undone, idle_of, newest_in, newest_undone, nothing_listed, older_undone, without_call, AreSmall, HasCall, HasMore, Holds, IsBrief, IsKept, Listed};
 ghost use Rattle.trac_text.specs.Pieces.{all_texts, frames_in};
 ghost use Rattle.trac_journal.specs.Told.{record_with};
 ghost use Rattle.trac_journal.specs.Emptied.{texts_in};
@@ -223,12 +223,10 @@ impl<A: Allocator + Copy> Lists<A> {
         ensures { (own others : Listed) → IsOldest kept own others self.old.listed → IsGone result (newest_in kept own) × (self.new.listed ≡ others) }
     {
         match kept {
-            Kept::Comma => weighing(0),
-            Kept::Begun => weighing(0),
-            Kept::Quoted { .. } => weighing(0),
-            Kept::Deleted(_byte) => weighing(1),
-            Kept::Call => self.drop_call(),
-            Kept::Pointed(_) => self.drop_call(),
+            Kept::Comma | Kept::Begun | Kept::Quoted { .. } | Kept::Deleted(_) => {
+                weighing(weigh_brief(kept))
+            }
+            Kept::Call | Kept::Pointed(_) => self.drop_call(),
             Kept::Changed => {
                 let call = self.drop_call();
                 let undone = self.drop_undone();
@@ -321,6 +319,17 @@ fn weighing(weight: u64) -> Gone
         weight,
         read: 0,
         printed: 0,
+    }
+}
+
+// What an entry weighs that holds all of its record: one for a deleted byte.
+pub(crate) fn weigh_brief(kept: Kept) -> u64
+    requires { IsBrief kept }
+    ensures { result ≡ weight (newest_in kept nothing_listed) }
+{
+    match kept {
+        Kept::Deleted(_byte) => 1,
+        _ => 0,
     }
 }
 

@@ -10,13 +10,7 @@ use Rattle.trac_text.proofs.Joined.{total-joined}
 use Rattle.trac_journal.proofs.journal.Journal.push_call.Goals as goal
 
 pub overflow_cast-self-inside : goal.overflow_cast-self-inside
-overflow_cast-self-inside g c =
-    omega (
-      arith,
-      c.requires.not_full,
-      ap (λ (j : Journaled). length j.records) c.self.view_is,
-      moved_within c.self.inside.moved (reverse c.self.inside.entries.items) c.self.inside.lists.listed,
-    )
+overflow_cast-self-inside g c = grind (arith, moved_within)
 
 pub overflow_add-self-2 : goal.overflow_add-self-2
 overflow_add-self-2 g c =

@@ -1,7 +1,5 @@
-use Rattle.std.proofs.Common.{length, ap, refl, arith}
-use Rattle.std.specs.Prelude.{reverse}
+use Rattle.std.proofs.Common.{refl, arith}
 use Rattle.trac_rules.specs.Records.{Idle}
-use Rattle.trac_journal.specs.Journaled.{unpacked, Journaled}
 use Rattle.trac_text.specs.Pieces.{frames_in}
 use Rattle.trac_journal.specs.declared.entry.Entry.{Entry}
 use Rattle.trac_journal.specs.declared.entry.Kept.TheVariants as kept
@@ -9,24 +7,10 @@ use Rattle.trac_journal.proofs.Counted.{moved_within, one_more, weight_bounded}
 use Rattle.trac_journal.proofs.journal.Journal.push_idle.Goals as goal
 
 pub overflow_cast-self-inside : goal.overflow_cast-self-inside
-overflow_cast-self-inside g c =
-    omega (
-      arith,
-      c.requires.not_full,
-      ap (λ (j : Journaled). length j.records) c.self.view_is,
-      moved_within c.self.inside.moved (reverse c.self.inside.entries.items) c.self.inside.lists.listed,
-    )
+overflow_cast-self-inside g c = grind (arith, moved_within)
 
 pub overflow_add-self-2 : goal.overflow_add-self-2
-overflow_add-self-2 g c =
-    omega (
-      arith,
-      c.requires.not_full,
-      c.requires.light,
-      ap (λ (j : Journaled). length j.records) c.self.view_is,
-      c.weight-weight.ensures,
-      weight_bounded (unpacked c.self.inside.moved (reverse c.self.inside.entries.items) c.self.inside.lists.listed) c.self.inside.len c.self.inside.weight c.self.invariant.1,
-    )
+overflow_add-self-2 g c = grind (arith, weight_bounded)
 
 pub invariant_of-self : goal.invariant_of-self
 invariant_of-self g c =

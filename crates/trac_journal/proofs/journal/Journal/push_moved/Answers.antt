@@ -1,4 +1,4 @@
-use Rattle.std.proofs.Common.{◌-◌, ◌++◌, length, ap, ◌∙◌, arith}
+use Rattle.std.proofs.Common.{◌-◌, ◌++◌, ap, ◌∙◌, arith}
 use Rattle.std.specs.Prelude.{replicate, reverse}
 use Rattle.std.specs.VecDeque.{deque_capacity, deque_len}
 use Rattle.trac_rules.specs.Records.{Moved}
@@ -7,13 +7,7 @@ use Rattle.trac_journal.proofs.Counted.{more_moved, moved_more, moved_within}
 use Rattle.trac_journal.proofs.journal.Journal.push_moved.Goals as goal
 
 pub overflow_add-self : goal.overflow_add-self
-overflow_add-self g c =
-    omega (
-      arith,
-      c.requires,
-      ap (λ (j : Journaled). length j.records) c.self.view_is,
-      moved_within c.self.inside.moved (reverse c.self.inside.entries.items) c.self.inside.lists.listed,
-    )
+overflow_add-self g c = grind (arith, moved_within)
 
 pub invariant_of-self : goal.invariant_of-self
 invariant_of-self g c =

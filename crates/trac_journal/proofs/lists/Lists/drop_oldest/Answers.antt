@@ -1,54 +1,23 @@
 -- By what the oldest entry keeps.
-use Rattle.std.proofs.Common.{◌+◌, ap, refl, subst, sym, ◌∙◌, arith}
-use Rattle.trac_rules.specs.Weights.{weight}
-use Rattle.trac_journal.specs.Listed.{Listed, newest_in, nothing_listed, IsBrief}
-use Rattle.trac_journal.specs.declared.entry.Kept.{Kept}
-use Rattle.trac_journal.proofs.Dropped.{brief_gone, changed_fits, changed_gone, idle_fits, idle_gone, whole_call, whole_gone, IsWhole}
+use Rattle.std.proofs.Common.{◌+◌, ap, refl, ◌∙◌, arith, rules}
+use Rattle.trac_journal.specs.Listed.{Listed}
+use Rattle.trac_journal.proofs.Dropped.{brief_gone, changed_fits, changed_gone, idle_fits, idle_gone, whole_call, whole_gone}
 use Rattle.trac_journal.proofs.lists.Lists.drop_oldest.Goals as goal
 
 pub returns-in-Comma : goal.returns-in-Comma
 returns-in-Comma g c =
     λ own others is.
-    brief_gone c.args.kept c.weighing.result own others c.args.self.now.listed (subst IsBrief (sym c.in-Comma.is) tt)
-    (c.weighing.ensures.weight ∙ ap (λ (k : Kept). weight (newest_in k nothing_listed)) (sym c.in-Comma.is)) c.weighing.ensures.read c.weighing.ensures.printed is
-
-pub returns-in-Begun : goal.returns-in-Begun
-returns-in-Begun g c =
-    λ own others is.
-    brief_gone c.args.kept c.weighing-in-Begun.result own others c.args.self.now.listed (subst IsBrief (sym c.in-Begun.is) tt)
-    (c.weighing-in-Begun.ensures.weight ∙ ap (λ (k : Kept). weight (newest_in k nothing_listed)) (sym c.in-Begun.is)) c.weighing-in-Begun.ensures.read c.weighing-in-Begun.ensures.printed is
-
-pub returns-in-Quoted : goal.returns-in-Quoted
-returns-in-Quoted g c =
-    λ own others is.
-    brief_gone c.args.kept c.weighing-in-Quoted.result own others c.args.self.now.listed (subst IsBrief (sym c.in-Quoted.is) tt)
-    (c.weighing-in-Quoted.ensures.weight ∙ ap (λ (k : Kept). weight (newest_in k nothing_listed)) (sym c.in-Quoted.is)) c.weighing-in-Quoted.ensures.read c.weighing-in-Quoted.ensures.printed is
-
-pub returns-in-Deleted : goal.returns-in-Deleted
-returns-in-Deleted g c =
-    λ own others is.
-    brief_gone c.args.kept c.weighing-in-Deleted.result own others c.args.self.now.listed (subst IsBrief (sym c.in-Deleted.is) tt)
-    (c.weighing-in-Deleted.ensures.weight ∙ ap (λ (k : Kept). weight (newest_in k nothing_listed)) (sym c.in-Deleted.is)) c.weighing-in-Deleted.ensures.read c.weighing-in-Deleted.ensures.printed is
+    brief_gone c.args.kept c.weighing.result own others c.args.self.now.listed (search rules) (c.weighing.ensures.weight ∙ c.weigh_brief.ensures) c.weighing.ensures.read c.weighing.ensures.printed is
 
 pub drop_call-requires : goal.drop_call-requires
 drop_call-requires g c =
-    let whole = whole_call c.args.kept c.requires.0 c.requires.1.0 c.args.self.now.listed (subst IsWhole (sym c.in-Call.is) tt) c.requires.1.1.0 in
+    let whole = whole_call c.args.kept c.requires.0 c.requires.1.0 c.args.self.now.listed (search rules) c.requires.1.1.0 in
     (whole.0.call, (c.requires.1.0.calls, whole.0.ends))
 
 pub returns-in-Call : goal.returns-in-Call
 returns-in-Call g c =
     λ own others oldest.
-    whole_gone c.args.kept c.drop_call.result own others c.args.self.now.listed c.drop_call.new.self.listed (subst IsWhole (sym c.in-Call.is) tt) oldest c.drop_call.ensures
-
-pub drop_call-requires-in-Pointed : goal.drop_call-requires-in-Pointed
-drop_call-requires-in-Pointed g c =
-    let whole = whole_call c.args.kept c.requires.0 c.requires.1.0 c.args.self.now.listed (subst IsWhole (sym c.in-Pointed.is) tt) c.requires.1.1.0 in
-    (whole.0.call, (c.requires.1.0.calls, whole.0.ends))
-
-pub returns-in-Pointed : goal.returns-in-Pointed
-returns-in-Pointed g c =
-    λ own others oldest.
-    whole_gone c.args.kept c.drop_call-in-Pointed.result own others c.args.self.now.listed c.drop_call-in-Pointed.new.self.listed (subst IsWhole (sym c.in-Pointed.is) tt) oldest c.drop_call-in-Pointed.ensures
+    whole_gone c.args.kept c.drop_call.result own others c.args.self.now.listed c.drop_call.new.self.listed (search rules) oldest c.drop_call.ensures
 
 pub drop_call-call-requires : goal.drop_call-call-requires
 drop_call-call-requires g c =
