@@ -1,33 +1,36 @@
 -- Machines of which forms and blocks alone are changed, and the call at which they stand.
-use Rattle.std.proofs.Common.{◌≡◌, ℕ, List, [], ◌∷◌, refl, sym, ap, ◌∙◌, subst, arith, Bool}
-use Rattle.std.specs.Prelude.{Option, None, Some, IsSomeAnd}
+use Rattle.std.proofs.Common.{◌≡◌, ℕ, List, [], ◌∷◌, refl, sym, ap, ◌∙◌, subst, Bool}
+use Rattle.std.specs.Prelude.{Option, None, Some, IsSomeAnd, Result, Ok, Err, OnOk, OnErr}
 use Rattle.trac_gap.specs.Ends.{Ends}
 use Rattle.trac_gap.specs.Window.{Window}
+use Rattle.trac_rules.specs.declared.refusal.Refusal.{Refusal}
 use Rattle.trac_rules.specs.declared.scan.Front.TheVariants.{Closing}
 use Rattle.trac_rules.specs.declared.width.Width.{Width}
 use Rattle.trac_rules.specs.Performing.{changed_by}
 use Rattle.trac_rules.specs.Proper.{IsProper, IsProperStorage}
 use Rattle.trac_rules.specs.Scanning.{Scanned, closing_in, deleted, front_of, scan}
 use Rattle.trac_rules.specs.State.{Frame, State, Storage, storage_of}
-use Rattle.trac_rules.specs.Undone.{Nothing}
 use Rattle.trac_rules.proofs.ProperStates.{storage-placed}
 use Rattle.trac_forms.specs.Stored.{KnowsAll, Names, Stored, storage_in}
 use Rattle.trac_change.specs.declared.change.Change.{Change}
-use Rattle.trac_change.specs.declared.change.Change.TheVariants.{Keep}
 use Rattle.trac_prims.specs.declared.effect.Made.{Made}
 use Rattle.trac_text.specs.declared.mark.Mark.{Mark}
-use Rattle.trac_change.specs.Changes.{undone_of}
 use Rattle.trac_change.specs.Changed.{changed}
 use Rattle.trac_text.specs.declared.calls.Beginning.{Beginning}
 use Rattle.trac_step.specs.declared.calling.Plan.{Plan}
 use Rattle.trac_step.specs.Calling.{BeginsFirst, BeginsInnermost, arguments_in, effect_with, state_after, state_ended, with_storage}
 use Rattle.trac_step.specs.Layout.{Parts, IsSound, Shown, parts_of, shown_by, state_of}
-use Rattle.trac_step.specs.Ready.{CanChange}
 use Rattle.trac_storage.specs.Returning.{KnowsBefore}
-use Rattle.trac_step.specs.Room.{IsNoLess}
 use Rattle.trac_step.proofs.Scans.{scan_front}
 
 -- ---- the parts of a machine
+
+-- they show the same but for forms and blocks, and what can be put without more memory
+pub changed_shows : {width : Width} (text : Ends ℕ) (ms : Ends Mark) (store after : Stored) (meta : ℕ) (trace : Bool) (position : ℕ) (output : Window ℕ) (m : Shown) →
+    shown_by width (parts_of text ms store meta trace position output) ≡ m →
+    shown_by width (parts_of text ms after meta trace position output) ≡ record m { state = with_storage (storage_in after) m.state; known = after.known; spare = after.spare }
+changed_shows text ms store after meta trace position output m view =
+    ap (λ (n : Shown). let other : Shown = record n { state = with_storage (storage_in after) n.state; known = after.known; spare = after.spare } in other) view
 
 -- they show the same but for forms and blocks
 pub stored_shows : {width : Width} (text : Ends ℕ) (ms : Ends Mark) (store after : Stored) (meta : ℕ) (trace : Bool) (position : ℕ) (output : Window ℕ) (m : Shown) (storage : Storage) →
@@ -49,29 +52,13 @@ stored_sound p storage known spare sound proper = record {
   storage = proper;
 }
 
--- ---- forms and blocks are changed
+-- ---- forms and blocks are changed, or are refused to
 
--- where the change is none
-pub nothing_changed : {A : Type 0} (change : Change A) (s : State) → change ≡ Keep → s ≡ with_storage (changed (arguments_in (scan s)) change (storage_of s)) s
-nothing_changed {A} change s is = subst (λ (x : Change A). s ≡ with_storage (changed (arguments_in (scan s)) x (storage_of s)) s) (sym is) refl
-
-pub nothing_undone : {A : Type 0} (change : Change A) (storage : Storage) → change ≡ Keep → Nothing ≡ undone_of change storage
-nothing_undone {A} change storage is = ap (λ (x : Change A). undone_of x storage) (sym is)
-
--- a machine that shows the same state can change them so, too
-pub can_change_still : {A : Type 0} (s t : State) (b : Beginning) (change : Change A) → t ≡ s → CanChange s b change → CanChange t b change
-can_change_still s t b change same can = subst (λ (x : State). CanChange x b change) (sym same) can
-
-module _ {A : Type 0} (s : State) (m n : Shown) (change : Change A) (same : m.state ≡ s)
-    (is : n ≡ record m { state = with_storage (changed (arguments_in (scan m.state)) change (storage_of m.state)) m.state; spare = n.spare }) where
-  pub changed_then : n.state ≡ with_storage (changed (arguments_in (scan s)) change (storage_of s)) s
-  changed_then = ap (λ (x : Shown). x.state) is ∙ ap (λ (t : State). with_storage (changed (arguments_in (scan t)) change (storage_of t)) t) same
-
-pub no_less_changed : {A : Type 0} (m n : Shown) (change : Change A) →
-    n ≡ record m { state = with_storage (changed (arguments_in (scan m.state)) change (storage_of m.state)) m.state; spare = n.spare } → IsNoLess m n
-no_less_changed m n change is =
-    subst (λ (x : Shown). IsNoLess m x) (sym is)
-    (record { width = refl; text = omega arith; marks = omega arith; output = omega arith; names = λ name h. h })
+-- they are proper then
+pub proper_either : {T : Type 0} (outcome : Result T Refusal) (before after made : Storage) → OnOk outcome (after ≡ made) → OnErr outcome (after ≡ before) →
+    IsProperStorage before → IsProperStorage made → IsProperStorage after
+proper_either (Ok t) before after made done same proper proper_made = subst IsProperStorage (sym done) proper_made
+proper_either (Err e) before after made done same proper proper_made = subst IsProperStorage (sym same) proper
 
 -- ---- forms and blocks before
 

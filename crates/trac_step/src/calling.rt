@@ -4,9 +4,7 @@ ghost use Rattle.std.specs.List.{concat};
 ghost use Rattle.trac_gap.specs.Ends.{item_count};
 ghost use Rattle.trac_rules.specs.declared.limit.TheConstants.{JOURNAL_LIMIT};
 ghost use Rattle.trac_rules.specs.Outcomes.{MayRefuse};
-ghost use Rattle.std.specs.FinMap as finite;
-ghost use Rattle.trac_rules.specs.Proper.{IsProper, IsProperStorage};
-ghost use Rattle.trac_rules.specs.Undone.{Swap, pointer_lost};
+ghost use Rattle.trac_rules.specs.Proper.{IsProper};
 ghost use Rattle.trac_rules.specs.Records as rules;
 ghost use Rattle.trac_rules.specs.Records.{is_scanned, record_of};
 ghost use Rattle.trac_rules.specs.State.{storage_of};
@@ -14,14 +12,13 @@ ghost use Rattle.trac_rules.specs.Scanning.{front_of, scan};
 ghost use Rattle.trac_rules.specs.Stepping.{step};
 ghost use Rattle.trac_text.specs.Cuts.{cut};
 ghost use Rattle.trac_change.specs.declared.change.Change.TheVariants.{Keep};
-ghost use Rattle.trac_change.specs.Changed.{changed, pointed, with_form};
+ghost use Rattle.trac_change.specs.Changed.{changed};
 ghost use Rattle.trac_prims.specs.Tape.{environment_of};
 ghost use Rattle.trac_change.specs.Changes.{undone_of};
 ghost use Rattle.trac_text.specs.Pieces.{all_texts};
 ghost use Rattle.trac_journal.specs.Journaled.{HasPlaceForCall};
 ghost use Rattle.trac_journal.specs.Told.{record_with};
 ghost use Rattle.trac_change.specs.Undone.{undone_in};
-ghost use Rattle.trac_storage.specs.Changing.{AreMadeFor, HasPlaceFor};
 ghost use Rattle.trac_step.specs.Calling.{BeginsInnermost, HasRoomFor, IsBegun, arguments_in, state_after, state_ended, with_storage};
 ghost use Rattle.trac_text.specs.Moving.{with_value};
 ghost use Rattle.trac_step.specs.Kept.{FitsJournal, IsAdded};
@@ -32,13 +29,11 @@ ghost use Rattle.trac_step.specs.Room.{IsNoLess, LacksRoomAhead};
 use crate::engine::Core;
 use crate::record::Record;
 use std::alloc::Allocator;
-use std::mem;
-use trac_forms::Form;
 use trac_gap::{SlidingBuf, TwoEnds};
 use trac_journal::{Called, Journal, Undone};
 use trac_prims::{Change, Deed, Made, Now, Tape, plan_into};
 use trac_rules::scan::Front;
-use trac_storage::{Places, change_forms, define, make_place, places_for, set_pointer};
+use trac_storage::change_forms;
 use trac_text::calls::{cut_function, put_value};
 use trac_text::{Args, Beginning, Kind, Mark, Pieces, Refusal, ends};
 
@@ -182,73 +177,8 @@ impl<E: TwoEnds<u8, A>, M: TwoEnds<Mark, A>, A: Allocator + Copy> Core<E, M, A> 
         Ok(())
     }
 
-    // Makes places for what a change of forms and blocks puts. The state stays.
-    fn make_places(&mut self, change: &Change<A>) -> Result<(), Refusal>
-        ensures place { OnOk result (HasPlaceFor change.now self.new.known self.new.spare) }
-        ensures state { self.new.state ≡ self.old.state }
-        ensures room { IsNoLess self.old self.new }
-        ensures err { IsOkUnless result Refusal.Memory }
-    {
-        make_place(&mut self.store, change)
-    }
-
     // Changes forms and blocks as the call planned it, while its arguments still stand in the neutral text. Returns what was
-    // destroyed. It takes no memory.
-    fn put_change(
-        &mut self,
-        beginning: Beginning,
-        change: Change<A>,
-        places: Places<A>,
-    ) -> Undone<A>
-        requires can { CanChange self.old.state beginning change }
-        requires place { HasPlaceFor change self.old.known self.old.spare }
-        requires made { AreMadeFor change self.old.state.forms places }
-        ensures changed { self.new ≡ record self.old { state = with_storage (changed (arguments_in (scan self.old.state)) change (storage_of self.old.state)) self.old.state; spare = self.new.spare } }
-        ensures undone { undone_in result ≡ undone_of change (storage_of self.old.state) }
-    {
-        let arguments = arguments_at(&self.text, &self.marks, beginning);
-        change_forms(&mut self.store, &arguments, change, places)
-    }
-
-    // Sets the pointer of the form of this name, if there is one. Returns what was destroyed. It takes no memory.
-    fn set_pointer(&mut self, name: &[u8], place: usize) -> Undone<A>
-        requires { IsProperStorage (pointed name.now place (finite.get self.old.state.forms name.now) (storage_of self.old.state)) }
-        ensures changed { self.new ≡ record self.old { state = with_storage (pointed name.now place (finite.get self.old.state.forms name.now) (storage_of self.old.state)) self.old.state; spare = self.new.spare } }
-        ensures undone { undone_in result ≡ pointer_lost (finite.get self.old.state.forms name.now) }
-    {
-        set_pointer(&mut self.store, name, place)
-    }
-
-    // Puts a form under a name. Returns what was destroyed. It is refused memory alone, and then the state stays.
-    fn define(&mut self, name: &[u8], form: Form<A>) -> Result<Undone<A>, Refusal>
-        requires { IsProperStorage (with_form name.now form (storage_of self.old.state)) }
-        ensures changed { OnOk result (self.new.state ≡ with_storage (with_form name.now form (storage_of self.old.state)) self.old.state) }
-        ensures undone { IfOk result (λ undone. undone_in undone ≡ Swap (finite.get self.old.state.forms name.now)) }
-        ensures unchanged { OnErr result (self.new.state ≡ self.old.state) }
-        ensures room { IsNoLess self.old self.new }
-        ensures err { IsOkUnless result Refusal.Memory }
-    {
-        define(&mut self.store, name, form)
-    }
-
-    // Changes forms and blocks as the call planned it, with the memory for it taken first. It is refused memory alone, and then
-    // the state stays. It is compiled apart, since it is seldom called and clears room for all that it may make.
-    #[inline(never)]
-    fn change_all(&mut self, beginning: Beginning, change: Change<A>) -> Result<Undone<A>, Refusal>
-        requires { CanChange self.old.state beginning change }
-        ensures changed { OnOk result (self.new.state ≡ with_storage (changed (arguments_in (scan self.old.state)) change (storage_of self.old.state)) self.old.state) }
-        ensures undone { IfOk result (λ undone. undone_in undone ≡ undone_of change (storage_of self.old.state)) }
-        ensures unchanged { OnErr result (self.new.state ≡ self.old.state) }
-        ensures room { IsNoLess self.old self.new }
-        ensures err { IsOkUnless result Refusal.Memory }
-    {
-        let places = places_for(*self.output.allocator(), &self.store, &change)?;
-        self.make_places(&change)?;
-        Ok(self.put_change(beginning, change, places))
-    }
-
-    // Changes forms and blocks as `change_all` does. Most calls change nothing of them, and of the others most move a pointer or
-    // define a form: for these no places are made. Any change but `Keep` and `Point` is taken out of its place.
+    // destroyed. It is refused memory alone, and then the state stays. What stands in `change` after it is not told.
     fn change_storage(
         &mut self,
         beginning: Beginning,
@@ -261,16 +191,9 @@ impl<E: TwoEnds<u8, A>, M: TwoEnds<Mark, A>, A: Allocator + Copy> Core<E, M, A> 
         ensures room { IsNoLess self.old self.new }
         ensures err { IsOkUnless result Refusal.Memory }
     {
-        if let Change::Keep = change {
-            return Ok(Undone::Nothing);
-        }
-        if let Change::Point(name, place) = change {
-            return Ok(self.set_pointer(name.as_slice(), *place));
-        }
-        match mem::replace(change, Change::Keep) {
-            Change::Put(name, form) => self.define(name.as_slice(), form),
-            other => self.change_all(beginning, other),
-        }
+        let alloc = *self.output.allocator();
+        let arguments = arguments_at(&self.text, &self.marks, beginning);
+        change_forms(&mut self.store, alloc, &arguments, change)
     }
 
     // Ends the call whose change of forms and blocks is made: its function is gone, what it prints is printed, and its value

@@ -1,4 +1,4 @@
--- What a change of forms and blocks needs, and what parts hold.
+-- Names that are known, forms and blocks before a call, and what parts hold.
 pub mod Changing
 pub mod Returning
 pub mod Loading

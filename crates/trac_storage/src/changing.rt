@@ -1,62 +1,107 @@
 //! Changing forms and blocks as a call planned it.
-ghost use Rattle.std.specs.Prelude.{◌≡◌, ◌≤◌, [], drop, length, is_some, IfOk, IfSome, IsOk, IsOkUnless, IsTrue, OnErr, OnOk, Some};
+ghost use Rattle.std.specs.Prelude.{◌≡◌, drop, is_some, IfOk, IfSome, IsOkUnless, IsTrue, OnErr, OnOk, Some};
 ghost use Rattle.std.specs.FinMap as finite;
-ghost use Rattle.std.specs.FinSet as set;
 ghost use Rattle.trac_rules.specs.Blocks.{block_at, erased, put_aside};
 ghost use Rattle.trac_rules.specs.Cuts.{cut_of};
 ghost use Rattle.trac_rules.specs.Handling.{without};
 ghost use Rattle.trac_rules.specs.Proper.{IsProperStorage};
-ghost use Rattle.trac_rules.specs.Undone.{Swap, block_lost, pointer_lost};
+ghost use Rattle.trac_rules.specs.Undone.{MoveOut, Swap, block_lost, pointer_lost};
 ghost use Rattle.trac_forms.specs.Stored.{storage_in};
 ghost use Rattle.trac_change.specs.Changes.{NamesGiven, cut_lost, undone_of};
 ghost use Rattle.trac_change.specs.Changed.{changed, cut_in, pointed, with_form};
 ghost use Rattle.trac_text.specs.Framing.{texts_of};
-ghost use Rattle.trac_storage.specs.Changing.{AreAmong, AreMadeFor, HasPlaceFor};
+ghost use Rattle.trac_storage.specs.Changing.{AreAmong};
 ghost use Rattle.trac_change.specs.Undone.{undone_in};
 
 use crate::blocking::move_into;
-use crate::leaving::{replace_each, take_each};
-use crate::places::Places;
+use crate::leaving::{bring, delete_all, delete_each};
 use std::alloc::Allocator;
+use std::mem;
 use trac_change::{Change, Undone, after};
 use trac_forms::{Block, Cut, Form, Store};
 use trac_rules::refusal::Refusal;
 use trac_text::Args;
 
-/// Changes forms and blocks as a call of these arguments planned it, and returns what that destroyed; what leaves the store
-/// goes into what was made for this change. It takes no memory, and forgets no name (this project's profile).
+/// Changes forms and blocks as a call of these arguments planned it, and returns what that destroyed. All memory that this
+/// takes is taken before anything changes, and no name is forgotten (this project's profile). What stands in `change` after
+/// it is not claimed: what was planned may have been taken out of there, also where it is refused.
+/// Refused with `Memory` where the allocator refuses, and then forms and blocks are as before.
 pub fn change_forms<A: Allocator + Copy>(
     store: &mut Store<A>,
+    alloc: A,
+    arguments: &Args<'_>,
+    change: &mut Change<A>,
+) -> Result<Undone<A>, Refusal>
+    requires given { NamesGiven arguments.now (storage_in store.old) change.old }
+    requires proper { IsProperStorage (storage_in store.old) }
+    ensures storage { OnOk result (storage_in store.new ≡ changed arguments.now change.old (storage_in store.old)) }
+    ensures undone { IfOk result (λ undone. undone_in undone ≡ undone_of change.old (storage_in store.old)) }
+    ensures unchanged { OnErr result (storage_in store.new ≡ storage_in store.old) }
+    ensures names { AreAmong store.old.known store.new.known }
+    ensures err { IsOkUnless result Refusal.Memory }
+{
+    // Most calls change nothing, and of the others most set a pointer or define a form: these are made at once, and the first
+    // two of them leave the change where it stands.
+    if let Change::Keep = change {
+        return Ok(Undone::Nothing);
+    }
+    if let Change::Point(name, place) = change {
+        return Ok(set_pointer(store, name.as_slice(), *place));
+    }
+    match mem::replace(change, Change::Keep) {
+        Change::Put(name, form) => put_form(store, name.as_slice(), form),
+        other => change_any(store, alloc, arguments, other),
+    }
+}
+
+// Makes any change, as `change_forms` says. It is compiled apart, since it is seldom called and clears room for all that it may
+// make.
+#[inline(never)]
+fn change_any<A: Allocator + Copy>(
+    store: &mut Store<A>,
+    alloc: A,
     arguments: &Args<'_>,
     change: Change<A>,
-    places: Places<A>,
-) -> Undone<A>
-    requires place { HasPlaceFor change store.old.known store.old.spare }
-    requires made { AreMadeFor change store.old.forms places }
+) -> Result<Undone<A>, Refusal>
     requires given { NamesGiven arguments.now (storage_in store.old) change }
     requires proper { IsProperStorage (storage_in store.old) }
-    ensures storage { storage_in store.new ≡ changed arguments.now change (storage_in store.old) }
-    ensures undone { undone_in result ≡ undone_of change (storage_in store.old) }
-    ensures names { store.new.known ≡ store.old.known }
+    ensures storage { OnOk result (storage_in store.new ≡ changed arguments.now change (storage_in store.old)) }
+    ensures undone { IfOk result (λ undone. undone_in undone ≡ undone_of change (storage_in store.old)) }
+    ensures unchanged { OnErr result (storage_in store.new ≡ storage_in store.old) }
+    ensures names { AreAmong store.old.known store.new.known }
+    ensures err { IsOkUnless result Refusal.Memory }
 {
     match change {
-        Change::Keep => Undone::Nothing,
-        Change::Put(name, form) => Undone::Swap(store.put(name.as_slice(), form)),
-        Change::Cut(name, cut) => cut_out(store, arguments, name.as_slice(), cut),
-        Change::Remove(names) => Undone::Restore(take_each(store, names, places.forms)),
-        Change::Clear => Undone::Restore(take_each(store, places.names, places.forms)),
-        Change::Point(name, place) => set_pointer(store, name.as_slice(), place),
+        Change::Keep => Ok(Undone::Nothing),
+        Change::Put(name, form) => put_form(store, name.as_slice(), form),
+        Change::Cut(name, cut) => Ok(cut_out(store, arguments, name.as_slice(), cut)),
+        Change::Remove(names) => delete_each(store, alloc, names),
+        Change::Clear => delete_all(store, alloc),
+        Change::Point(name, place) => Ok(set_pointer(store, name.as_slice(), place)),
         Change::MoveIn {
             held,
             name,
             address,
-        } => Undone::MoveOut(put_aside(store, held, name.as_slice(), address, places.block)),
-        Change::Bring { number, forms } => Undone::Unbring {
-            number,
-            replaced: replace_each(store, forms, places.forms),
-        },
-        Change::Erase { number, name } => erase(store, number, name.as_slice()),
+        } => put_aside(store, alloc, held, name.as_slice(), address),
+        Change::Bring { number, forms } => bring(store, alloc, number, forms),
+        Change::Erase { number, name } => Ok(erase(store, number, name.as_slice())),
     }
+}
+
+// Puts a form under a name, in place of an earlier one. Returns what that destroyed, which is the earlier one. It takes memory
+// only where the name is not known.
+fn put_form<A: Allocator + Copy>(
+    store: &mut Store<A>,
+    name: &[u8],
+    form: Form<A>,
+) -> Result<Undone<A>, Refusal>
+    ensures storage { OnOk result (storage_in store.new ≡ with_form name.now form (storage_in store.old)) }
+    ensures undone { IfOk result (λ undone. undone_in undone ≡ Swap (finite.get store.old.forms name.now)) }
+    ensures unchanged { OnErr result (storage_in store.new ≡ storage_in store.old) }
+    ensures names { AreAmong store.old.known store.new.known }
+    ensures err { IsOkUnless result Refusal.Memory }
+{
+    Ok(Undone::Swap(store.insert(name, form)?))
 }
 
 // Cuts the texts that the arguments give after the name out of the form of this name, if there is one:
@@ -78,13 +123,9 @@ fn cut_out<A: Allocator + Copy>(
     }
 }
 
-/// Sets the pointer of the form of this name, if there is one: before the item at this place, or at the end where the form has
-/// none there. Returns what that destroyed, which is where the pointer stood. It takes no memory (this project's profile).
-pub fn set_pointer<A: Allocator + Copy>(
-    store: &mut Store<A>,
-    name: &[u8],
-    place: usize,
-) -> Undone<A>
+// Sets the pointer of the form of this name, if there is one: before the item at this place, or at the end where the form has
+// none there. Returns what that destroyed, which is where the pointer stood.
+fn set_pointer<A: Allocator + Copy>(store: &mut Store<A>, name: &[u8], place: usize) -> Undone<A>
     ensures storage { storage_in store.new ≡ pointed name.now place (finite.get store.old.forms name.now) (storage_in store.old) }
     ensures undone { undone_in result ≡ pointer_lost (finite.get store.old.forms name.now) }
     ensures names { store.new.known ≡ store.old.known }
@@ -95,43 +136,28 @@ pub fn set_pointer<A: Allocator + Copy>(
     }
 }
 
-/// Puts a form under a name, in place of an earlier one. Returns what that destroyed, which is the earlier one. It takes memory
-/// only where the name is not known, and forgets no name (this project's profile).
-/// Refused with `Memory` where the allocator refuses, and then nothing has changed.
-pub fn define<A: Allocator + Copy>(
-    store: &mut Store<A>,
-    name: &[u8],
-    form: Form<A>,
-) -> Result<Undone<A>, Refusal>
-    ensures storage { OnOk result (storage_in store.new ≡ with_form name.now form (storage_in store.old)) }
-    ensures undone { IfOk result (λ undone. undone_in undone ≡ Swap (finite.get store.old.forms name.now)) }
-    ensures unchanged { OnErr result (store.new ≡ store.old) }
-    ensures names { AreAmong store.old.known store.new.known }
-    ensures err { IsOkUnless result Refusal.Memory }
-    ensures again { IsTrue (set.contains store.old.known name.now) → IsOk result }
-{
-    Ok(Undone::Swap(store.insert(name, form)?))
-}
-
-// Moves the forms of these names into a new block, puts its address under a name, and returns what that replaces.
+// Moves the forms of these names into a new block, and puts its address under a name. Returns what that destroyed, which is
+// what the address replaces. It takes memory for the block, for its place, and where the name is not known, all before any form
+// leaves.
 fn put_aside<A: Allocator + Copy>(
     store: &mut Store<A>,
+    alloc: A,
     held: Vec<Vec<u8, A>, A>,
     name: &[u8],
     address: Form<A>,
-    mut block: Block<A>,
-) -> Option<Form<A>>
-    requires known { IsTrue (set.contains store.old.known name.now) }
-    requires spare { 1 ≤ store.old.spare }
-    requires none { block.held ≡ [] }
-    requires room { length held.items ≤ block.room }
-    ensures storage { storage_in store.new ≡ with_form name.now address (put_aside (texts_of held.items) (storage_in store.old)) }
-    ensures replaced { result ≡ finite.get (without (texts_of held.items) store.old.forms) name.now }
-    ensures names { store.new.known ≡ store.old.known }
+) -> Result<Undone<A>, Refusal>
+    ensures storage { OnOk result (storage_in store.new ≡ with_form name.now address (put_aside (texts_of held.items) (storage_in store.old))) }
+    ensures undone { IfOk result (λ undone. undone_in undone ≡ MoveOut (finite.get (without (texts_of held.items) store.old.forms) name.now)) }
+    ensures unchanged { OnErr result (storage_in store.new ≡ storage_in store.old) }
+    ensures names { AreAmong store.old.known store.new.known }
+    ensures err { IsOkUnless result Refusal.Memory }
 {
+    let mut block = Block::with_room(alloc, held.len())?;
+    store.know(name)?;
+    store.reserve_blocks(1)?;
     move_into(store, held, &mut block);
     store.push_block(block);
-    store.put(name, address)
+    Ok(Undone::MoveOut(store.put(name, address)))
 }
 
 // Erases the block of this number, which is not erased, and deletes the form of this name.

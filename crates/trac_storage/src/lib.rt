@@ -5,12 +5,10 @@ mod blocking;
 mod changing;
 mod leaving;
 mod parts;
-mod places;
 mod storage_back;
 mod storing;
 
-pub use changing::{change_forms, define, set_pointer};
+pub use changing::change_forms;
 pub use parts::{Parts, lengths_within};
-pub use places::{Places, make_place, places_for};
 pub use storage_back::put_storage;
 pub use storing::stored;

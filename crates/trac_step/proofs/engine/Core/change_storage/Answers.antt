@@ -1,37 +1,69 @@
-use Rattle.std.proofs.Common.{ℕ, List, sym, ap, ◌∙◌, subst}
-use Rattle.std.specs.FinMap as finite
-use Rattle.trac_rules.specs.Proper.{IsProperStorage}
+-- Forms and blocks change, or stay; all else stays.
+use Rattle.std.proofs.Common.{◌≡◌, List, ℕ, sym, ap, ◌∙◌, subst}
+use Rattle.std.specs.Prelude.{IfOk, OnOk}
+use Rattle.std.proofs.lemmas.Result.{on_err_weaker, on_ok_weaker}
 use Rattle.trac_rules.specs.Scanning.{scan}
-use Rattle.trac_rules.specs.State.{storage_of}
-use Rattle.trac_rules.specs.Undone.{pointer_lost}
-use Rattle.trac_change.specs.Changed.{changed, pointed}
-use Rattle.trac_change.specs.Changes.{undone_of}
+use Rattle.trac_rules.specs.State.{Storage, storage_of}
+use Rattle.trac_forms.specs.Stored.{storage_in}
+use Rattle.trac_change.specs.Changes.{NamesGiven, undone_of}
+use Rattle.trac_change.specs.Changed.{changed}
+use Rattle.trac_change.specs.Undone.{undone_in}
 use Rattle.trac_step.specs.Calling.{arguments_in, with_storage}
-use Rattle.trac_step.specs.Layout.{Shown}
-use Rattle.trac_step.proofs.Storages.{nothing_changed, nothing_undone}
+use Rattle.trac_step.specs.Layout.{parts_of, Shown}
+use Rattle.trac_step.proofs.Finishing.{begun_here, given_here}
+use Rattle.trac_step.proofs.Storages.{changed_shows, proper_either, stored_sound}
 use Rattle.trac_step.proofs.engine.Core.change_storage.Goals as goal
 
-pub returns-in-Keep-clause-changed : goal.returns-in-Keep-clause-changed
-returns-in-Keep-clause-changed g c = nothing_changed c.args.change.now c.args.self.now.state c.in-Keep.is
+pub arguments_at-arguments-requires : goal.arguments_at-arguments-requires
+arguments_at-arguments-requires g c =
+    let i = c.self.inside in
+    begun_here (parts_of (g.E.TwoEnds.ends i.text) (g.M.TwoEnds.ends i.marks) i.store i.meta i.trace i.position i.output) c.args.self.now c.args.beginning c.self.invariant.sound c.self.view_is c.requires.begins
 
-pub returns-in-Keep-clause-undone : goal.returns-in-Keep-clause-undone
-returns-in-Keep-clause-undone g c = nothing_undone c.args.change.now (storage_of c.args.self.now.state) c.in-Keep.is
+pub change_forms-requires-clause-given : goal.change_forms-requires-clause-given
+change_forms-requires-clause-given g c =
+    let i = c.self.inside in
+    let given = c.arguments_at-arguments.ensures ∙ given_here (parts_of (g.E.TwoEnds.ends i.text) (g.M.TwoEnds.ends i.marks) i.store i.meta i.trace i.position i.output) c.args.self.now c.args.beginning c.self.invariant.sound c.self.view_is c.requires.begins c.requires.front in
+    subst (λ (texts : List (List ℕ)). NamesGiven texts (storage_in i.store) c.args.change.now) (sym given)
+    (subst (λ (m : Shown). NamesGiven (arguments_in (scan c.args.self.now.state)) (storage_of m.state) c.args.change.now) (sym c.self.view_is) c.requires.given)
 
-pub set_pointer-requires : goal.set_pointer-requires
-set_pointer-requires g c =
+pub invariant_of-self : goal.invariant_of-self
+invariant_of-self g c =
+    let i = c.self.inside in
     let s = c.args.self.now.state in
-    subst (λ (name : List ℕ). IsProperStorage (pointed name c.in-Point.place (finite.get s.forms name) (storage_of s))) (sym c.as_slice.ensures.value)
-    (subst (λ x. IsProperStorage (changed (arguments_in (scan s)) x (storage_of s))) c.in-Point.is c.requires.proper)
+    let change = c.args.change.now in
+    let p = parts_of (g.E.TwoEnds.ends i.text) (g.M.TwoEnds.ends i.marks) i.store i.meta i.trace i.position i.output in
+    let given = c.arguments_at-arguments.ensures ∙ given_here p c.args.self.now c.args.beginning c.self.invariant.sound c.self.view_is c.requires.begins c.requires.front in
+    let after = c.change_forms.new.store in
+    let made = changed (arguments_in (scan s)) change (storage_of s) in
+    let done = subst (λ (storage : Storage). OnOk c.change_forms.result (storage_in after ≡ storage)) (λ j. changed (given j) change (storage_of (c.self.view_is j).state)) c.change_forms.ensures.storage in
+    record {
+      sound =
+          stored_sound p (storage_in after) after.known after.spare c.self.invariant.sound
+          (proper_either c.change_forms.result (storage_in i.store) (storage_in after) made done c.change_forms.ensures.unchanged c.self.invariant.sound.storage c.requires.proper);
+      counted = c.self.invariant.counted;
+    }
 
-pub returns-in-Point-clause-changed : goal.returns-in-Point-clause-changed
-returns-in-Point-clause-changed g c =
+pub returns-clause-changed : goal.returns-clause-changed
+returns-clause-changed g c =
+    let i = c.self.inside in
     let s = c.args.self.now.state in
-    ap (λ (m : Shown). m.state) c.set_pointer.ensures.changed
-    ∙ ap (λ (name : List ℕ). with_storage (pointed name c.in-Point.place (finite.get s.forms name) (storage_of s)) s) c.as_slice.ensures.value
-    ∙ ap (λ x. with_storage (changed (arguments_in (scan s)) x (storage_of s)) s) (sym c.in-Point.is)
+    let change = c.args.change.now in
+    let p = parts_of (g.E.TwoEnds.ends i.text) (g.M.TwoEnds.ends i.marks) i.store i.meta i.trace i.position i.output in
+    let given = c.arguments_at-arguments.ensures ∙ given_here p c.args.self.now c.args.beginning c.self.invariant.sound c.self.view_is c.requires.begins c.requires.front in
+    let shows = changed_shows (g.E.TwoEnds.ends i.text) (g.M.TwoEnds.ends i.marks) i.store c.change_forms.new.store i.meta i.trace i.position i.output c.args.self.now c.self.view_is in
+    on_ok_weaker c.change_forms.result
+    (λ is. ap (λ (m : Shown). m.state) shows ∙ ap (λ (storage : Storage). with_storage storage s) (is ∙ (λ j. changed (given j) change (storage_of (c.self.view_is j).state))))
+    c.change_forms.ensures.storage
 
-pub returns-in-Point-clause-undone : goal.returns-in-Point-clause-undone
-returns-in-Point-clause-undone g c =
+pub returns-clause-undone : goal.returns-clause-undone
+returns-clause-undone g c =
+    subst (λ (m : Shown). IfOk c.change_forms.result (λ undone. undone_in undone ≡ undone_of c.args.change.now (storage_of m.state))) c.self.view_is c.change_forms.ensures.undone
+
+pub returns-clause-unchanged : goal.returns-clause-unchanged
+returns-clause-unchanged g c =
+    let i = c.self.inside in
     let s = c.args.self.now.state in
-    c.set_pointer.ensures.undone ∙ ap (λ (name : List ℕ). pointer_lost (finite.get s.forms name)) c.as_slice.ensures.value
-    ∙ ap (λ x. undone_of x (storage_of s)) (sym c.in-Point.is)
+    let shows = changed_shows (g.E.TwoEnds.ends i.text) (g.M.TwoEnds.ends i.marks) i.store c.change_forms.new.store i.meta i.trace i.position i.output c.args.self.now c.self.view_is in
+    on_err_weaker c.change_forms.result
+    (λ is. ap (λ (m : Shown). m.state) shows ∙ ap (λ (storage : Storage). with_storage storage s) (is ∙ ap (λ (m : Shown). storage_of m.state) c.self.view_is))
+    c.change_forms.ensures.unchanged
