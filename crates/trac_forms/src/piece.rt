@@ -206,7 +206,11 @@ fn segment_among(items: &[PackedItem]) -> Reached
     ensures within { result.items ≤ length items.now }
 {
     let bytes = run_len(items);
-    let items = if bytes < items.len() { bytes + 1 } else { bytes };
+    let items = if bytes < items.len() {
+        bytes + 1
+    } else {
+        bytes
+    };
     Reached { items, bytes }
 }
 

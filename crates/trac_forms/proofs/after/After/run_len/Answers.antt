@@ -1,5 +1,5 @@
 -- A text has no gap; items are looked at as they stand.
-use Rattle.std.proofs.Common.{◌≡◌, ◌-◌, List, take, drop, sym, ap, ◌∙◌, arith}
+use Rattle.std.proofs.Common.{◌-◌, List, take, drop, sym, ap, ◌∙◌, arith}
 use Rattle.std.specs.List.{position_or_len}
 use Rattle.trac_rules.specs.declared.item.Item.{Item}
 use Rattle.trac_rules.specs.Pieces.{is_gap}
