@@ -17,8 +17,8 @@ use trac_streams::writing::{finish, flush, write_whole};
 pub use trac_streams::{BUDGET_LIMIT, DEFAULT_BUDGET, Options, READ_SIZE, budget_of};
 
 // How much the records of a run may weigh before it commits. An item of a form takes 8 bytes and weighs one, so these are some
-// 43 MiB of forms. A run never goes back, so it keeps them for nothing.
-const JOURNAL_WEIGHT: u64 = 64 * 1024 * 1024 / 12;
+// 5 MiB of forms. A run never goes back, so it keeps them for nothing; and memory that is soon used again costs less than new.
+const JOURNAL_WEIGHT: u64 = 8 * 1024 * 1024 / 12;
 
 // After how many steps a run commits at the latest. It never goes back, and a short journal stays in the processor's caches.
 const TURN_STEPS: u64 = 8192;
