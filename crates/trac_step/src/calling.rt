@@ -178,7 +178,7 @@ impl<E: TwoEnds<u8, A>, M: TwoEnds<Mark, A>, A: Allocator + Copy> Core<E, M, A> 
     }
 
     // Changes forms and blocks as the call planned it, while its arguments still stand in the neutral text. Returns what was
-    // destroyed. It is refused memory alone, and then the state stays. What stands in `change` after it is not told.
+    // destroyed. It is refused memory alone, and then the state stays. What stands in `change` after it is not claimed.
     fn change_storage(
         &mut self,
         beginning: Beginning,

@@ -1,14 +1,12 @@
--- Forms that are moved into a block one after another, and names that are known for forms to come.
-use Rattle.std.proofs.Common.{◌≡◌, ℕ, ◌+◌, ◌<◌, Bool, true, false, cond, ◌||◌, List, [], ◌∷◌, ◌++◌, length, take, get_or, refl, sym, ap, subst, ◌∙◌, ⊎_elim, IsTrue}
+-- Forms that are moved into a block one after another.
+use Rattle.std.proofs.Common.{◌≡◌, ℕ, Bool, true, false, cond, ◌||◌, List, [], ◌∷◌, ◌++◌, refl, sym, ap, subst, ◌∙◌, ⊎_elim}
 use Rattle.std.specs.Prelude.{None, Some, bytes_eq, Vec}
 use Rattle.std.specs.FinMap as finite
-use Rattle.std.specs.FinSet as set
 use Rattle.std.specs.List.{list_any}
 use Rattle.std.proofs.lemmas.Bool.{cases_Bool}
-use Rattle.std.proofs.lemmas.List.{append_assoc, map-append, take_more}
+use Rattle.std.proofs.lemmas.List.{append_assoc}
 use Rattle.std.proofs.lemmas.List.Folds.{list_any-append}
 use Rattle.trac_forms.specs.Stored.{Names, Stored}
-use Rattle.trac_change.specs.Changed.{named_forms}
 use Rattle.trac_text.specs.Framing.{texts_of}
 use Rattle.trac_rules.specs.Blocks.{moved_out, with_name}
 use Rattle.trac_rules.specs.Form.{Form}
@@ -101,23 +99,7 @@ module _ {A : Type 0} (store taken : Stored) (items rest : List (Vec ℕ A)) (na
       (subst (λ (s : Stored). HaveLeft (held ++ (name.items, form) ∷ []) s.forms) (sym gone)
       (subst (λ n. HaveLeft (held ++ (n, form) ∷ []) (finite.remove store.forms now)) is (left_too held store.forms now form left)))
 
--- ---- names that are known
-
+-- names that are known stay so
 pub knows_still : (held : Held) (known more : Names) → AreAmong known more → KnowsNamed held known → KnowsNamed held more
 knows_still [] known more among knows = tt
 knows_still (entry ∷ held) known more among knows = (among entry.0 knows.0, knows_still held known more among knows.1)
-
-knows_more : (held : Held) (known : Names) (entry : List ℕ × Form) → KnowsNamed held known → IsTrue (set.contains known entry.0) → KnowsNamed (held ++ entry ∷ []) known
-knows_more [] known entry knows here = (here, tt)
-knows_more (first ∷ held) known entry knows here = (knows.0, knows_more held known entry knows.1 here)
-
--- one more name is known
-pub knows_next : {A : Type 0} (all : List (Vec ℕ A × Form)) (i : ℕ) (entry : Vec ℕ A × Form) (known more : Names) → i < length all → entry ≡ get_or all i entry → AreAmong known more →
-    IsTrue (set.contains more entry.0.items) → KnowsNamed (named_forms (take i all)) known → KnowsNamed (named_forms (take (i + 1) all)) more
-knows_next {A} all i entry known more within is among here knows =
-    subst (λ (held : Held). KnowsNamed held more)
-    (sym (
-    ap named_forms (take_more all i entry within ∙ ap (λ (e : Vec ℕ A × Form). take i all ++ e ∷ []) (sym is))
-    ∙ map-append (λ (e : Vec ℕ A × Form). (e.0.items, e.1)) (take i all) (entry ∷ [])
-    ))
-    (knows_more (named_forms (take i all)) more (entry.0.items, entry.1) (knows_still (named_forms (take i all)) known more among knows) here)

@@ -1,11 +1,11 @@
-//! Moving forms into a block, and bringing copies of them back, as a call planned it.
-ghost use Rattle.std.specs.Prelude.{◌≡◌, ◌≤◌, [], length, IsOkUnless, OnOk};
+//! Many forms at once: places for them are made, they move into a block, or are put under their names.
+ghost use Rattle.std.specs.Prelude.{◌≡◌, ◌≤◌, [], length, IsOkUnless, OnErr, OnOk};
 ghost use Rattle.trac_rules.specs.Blocks.{moved_out, with_all};
 ghost use Rattle.trac_rules.specs.Handling.{without};
-ghost use Rattle.trac_forms.specs.Stored.{storage_in};
+ghost use Rattle.trac_rules.specs.Undone.{names_in};
 ghost use Rattle.trac_change.specs.Changed.{named_forms};
 ghost use Rattle.trac_text.specs.Framing.{texts_of};
-ghost use Rattle.trac_storage.specs.Changing.{AreAmong, KnowsNamed};
+ghost use Rattle.trac_storage.specs.Changing.{KnowsNamed, KnowsSome, knowing};
 
 use std::alloc::Allocator;
 use trac_forms::{Block, Form, FormError, Store};
@@ -18,9 +18,9 @@ pub(crate) fn know_each<A: Allocator + Copy>(
     store: &mut Store<A>,
     forms: &[Named<A>],
 ) -> Result<(), FormError>
-    ensures known { OnOk result (KnowsNamed (named_forms forms.now) store.new.known) }
-    ensures kept { storage_in store.new ≡ storage_in store.old }
-    ensures names { AreAmong store.old.known store.new.known }
+    ensures names { OnOk result (store.new.known ≡ knowing (names_in (named_forms forms.now)) store.old.known) }
+    ensures some { OnErr result (KnowsSome (names_in (named_forms forms.now)) store.old.known store.new.known) }
+    ensures stays { store.new ≡ record store.old { known = store.new.known } }
     ensures err { IsOkUnless result FormError.Memory }
 {
     for (name, _form) in forms {

@@ -1,6 +1,7 @@
 //! Changing forms and blocks as a call planned it.
-ghost use Rattle.std.specs.Prelude.{◌≡◌, drop, is_some, IfOk, IfSome, IsOkUnless, IsTrue, OnErr, OnOk, Some};
+ghost use Rattle.std.specs.Prelude.{◌≡◌, ◌≤◌, ◌+◌, drop, is_some, IfOk, IfSome, IsOk, IsOkUnless, IsTrue, OnErr, OnOk, Some};
 ghost use Rattle.std.specs.FinMap as finite;
+ghost use Rattle.std.specs.FinSet as set;
 ghost use Rattle.trac_rules.specs.Blocks.{block_at, erased, put_aside};
 ghost use Rattle.trac_rules.specs.Cuts.{cut_of};
 ghost use Rattle.trac_rules.specs.Handling.{without};
@@ -10,7 +11,7 @@ ghost use Rattle.trac_forms.specs.Stored.{storage_in};
 ghost use Rattle.trac_change.specs.Changes.{NamesGiven, cut_lost, undone_of};
 ghost use Rattle.trac_change.specs.Changed.{changed, cut_in, pointed, with_form};
 ghost use Rattle.trac_text.specs.Framing.{texts_of};
-ghost use Rattle.trac_storage.specs.Changing.{AreAmong};
+ghost use Rattle.trac_storage.specs.Changing.{HasPlaces, IsOther, KnowsSome, TakesNone, knowing, names_put};
 ghost use Rattle.trac_change.specs.Undone.{undone_in};
 
 use crate::blocking::move_into;
@@ -22,10 +23,12 @@ use trac_forms::{Block, Cut, Form, Store};
 use trac_rules::refusal::Refusal;
 use trac_text::Args;
 
-/// Changes forms and blocks as a call of these arguments planned it, and returns what that destroyed. All memory that this
-/// takes is taken before anything changes, and no name is forgotten (this project's profile). What stands in `change` after
-/// it is not claimed: what was planned may have been taken out of there, also where it is refused.
-/// Refused with `Memory` where the allocator refuses, and then forms and blocks are as before.
+/// Changes forms and blocks as a call of these arguments planned it, and returns what that destroyed. The names under which it
+/// puts forms are known then, and no other name becomes known or is forgotten (this project's profile). What stands in `change`
+/// after it is not claimed: what was planned may have been taken out of there, also where it is refused.
+///
+/// Refused with `Memory` where the allocator refuses, and then forms and blocks are as before. Setting a pointer, cutting and
+/// erasing take no memory, and putting a form takes some only where its name is not known: else these are never refused.
 pub fn change_forms<A: Allocator + Copy>(
     store: &mut Store<A>,
     alloc: A,
@@ -37,47 +40,49 @@ pub fn change_forms<A: Allocator + Copy>(
     ensures storage { OnOk result (storage_in store.new ≡ changed arguments.now change.old (storage_in store.old)) }
     ensures undone { IfOk result (λ undone. undone_in undone ≡ undone_of change.old (storage_in store.old)) }
     ensures unchanged { OnErr result (storage_in store.new ≡ storage_in store.old) }
-    ensures names { AreAmong store.old.known store.new.known }
+    ensures names { OnOk result (store.new.known ≡ knowing (names_put change.old) store.old.known) }
+    ensures some { OnErr result (KnowsSome (names_put change.old) store.old.known store.new.known) }
+    ensures places { HasPlaces change.old store.old.spare store.new.spare }
+    ensures free { TakesNone store.old.known change.old → IsOk result }
     ensures err { IsOkUnless result Refusal.Memory }
 {
-    // Most calls change nothing, and of the others most set a pointer or define a form: these are made at once, and the first
-    // two of them leave the change where it stands.
-    if let Change::Keep = change {
-        return Ok(Undone::Nothing);
-    }
+    // Most changes set a pointer or define a form: these are made at once, and the first leaves the change where it stands.
     if let Change::Point(name, place) = change {
         return Ok(set_pointer(store, name.as_slice(), *place));
     }
     match mem::replace(change, Change::Keep) {
         Change::Put(name, form) => put_form(store, name.as_slice(), form),
-        other => change_any(store, alloc, arguments, other),
+        other => change_other(store, alloc, arguments, other),
     }
 }
 
-// Makes any change, as `change_forms` says. It is compiled apart, since it is seldom called and clears room for all that it may
-// make.
+// Makes any of the other changes, as `change_forms` says. It is compiled apart, since it is seldom called and clears room for all
+// that it may make.
 #[inline(never)]
-fn change_any<A: Allocator + Copy>(
+fn change_other<A: Allocator + Copy>(
     store: &mut Store<A>,
     alloc: A,
     arguments: &Args<'_>,
     change: Change<A>,
 ) -> Result<Undone<A>, Refusal>
+    requires other { IsOther change }
     requires given { NamesGiven arguments.now (storage_in store.old) change }
     requires proper { IsProperStorage (storage_in store.old) }
     ensures storage { OnOk result (storage_in store.new ≡ changed arguments.now change (storage_in store.old)) }
     ensures undone { IfOk result (λ undone. undone_in undone ≡ undone_of change (storage_in store.old)) }
     ensures unchanged { OnErr result (storage_in store.new ≡ storage_in store.old) }
-    ensures names { AreAmong store.old.known store.new.known }
+    ensures names { OnOk result (store.new.known ≡ knowing (names_put change) store.old.known) }
+    ensures some { OnErr result (KnowsSome (names_put change) store.old.known store.new.known) }
+    ensures places { HasPlaces change store.old.spare store.new.spare }
+    ensures free { TakesNone store.old.known change → IsOk result }
     ensures err { IsOkUnless result Refusal.Memory }
 {
     match change {
+        Change::Put(_, _) | Change::Point(_, _) => unreachable!(),
         Change::Keep => Ok(Undone::Nothing),
-        Change::Put(name, form) => put_form(store, name.as_slice(), form),
         Change::Cut(name, cut) => Ok(cut_out(store, arguments, name.as_slice(), cut)),
         Change::Remove(names) => delete_each(store, alloc, names),
         Change::Clear => delete_all(store, alloc),
-        Change::Point(name, place) => Ok(set_pointer(store, name.as_slice(), place)),
         Change::MoveIn {
             held,
             name,
@@ -88,17 +93,17 @@ fn change_any<A: Allocator + Copy>(
     }
 }
 
-// Puts a form under a name, in place of an earlier one. Returns what that destroyed, which is the earlier one. It takes memory
-// only where the name is not known.
+// Puts a form under a name, in place of an earlier one. Returns what that destroyed, which is the earlier one.
 fn put_form<A: Allocator + Copy>(
     store: &mut Store<A>,
     name: &[u8],
     form: Form<A>,
 ) -> Result<Undone<A>, Refusal>
-    ensures storage { OnOk result (storage_in store.new ≡ with_form name.now form (storage_in store.old)) }
+    ensures put { OnOk result (store.new ≡ record store.old { forms = finite.insert store.old.forms name.now form; known = set.insert store.old.known name.now }) }
     ensures undone { IfOk result (λ undone. undone_in undone ≡ Swap (finite.get store.old.forms name.now)) }
-    ensures unchanged { OnErr result (storage_in store.new ≡ storage_in store.old) }
-    ensures names { AreAmong store.old.known store.new.known }
+    ensures unchanged { OnErr result (store.new ≡ store.old) }
+    ensures places { store.new.spare ≡ store.old.spare }
+    ensures again { IsTrue (set.contains store.old.known name.now) → IsOk result }
     ensures err { IsOkUnless result Refusal.Memory }
 {
     Ok(Undone::Swap(store.insert(name, form)?))
@@ -116,6 +121,7 @@ fn cut_out<A: Allocator + Copy>(
     ensures storage { storage_in store.new ≡ cut_in name.now (drop 2 arguments.now) (finite.get store.old.forms name.now) (storage_in store.old) }
     ensures undone { undone_in result ≡ cut_lost cut (finite.get store.old.forms name.now) }
     ensures names { store.new.known ≡ store.old.known }
+    ensures places { store.new.spare ≡ store.old.spare }
 {
     match store.segment(name, &cut, &after(arguments, 2)) {
         Some(pointer) => Undone::Join { cut, pointer },
@@ -129,6 +135,7 @@ fn set_pointer<A: Allocator + Copy>(store: &mut Store<A>, name: &[u8], place: us
     ensures storage { storage_in store.new ≡ pointed name.now place (finite.get store.old.forms name.now) (storage_in store.old) }
     ensures undone { undone_in result ≡ pointer_lost (finite.get store.old.forms name.now) }
     ensures names { store.new.known ≡ store.old.known }
+    ensures places { store.new.spare ≡ store.old.spare }
 {
     match store.set_pointer(name, place) {
         Some(old) => Undone::Point(old),
@@ -149,12 +156,14 @@ fn put_aside<A: Allocator + Copy>(
     ensures storage { OnOk result (storage_in store.new ≡ with_form name.now address (put_aside (texts_of held.items) (storage_in store.old))) }
     ensures undone { IfOk result (λ undone. undone_in undone ≡ MoveOut (finite.get (without (texts_of held.items) store.old.forms) name.now)) }
     ensures unchanged { OnErr result (storage_in store.new ≡ storage_in store.old) }
-    ensures names { AreAmong store.old.known store.new.known }
+    ensures names { OnOk result (store.new.known ≡ set.insert store.old.known name.now) }
+    ensures same { OnErr result (store.new.known ≡ store.old.known) }
+    ensures places { store.old.spare ≤ store.new.spare + 1 }
     ensures err { IsOkUnless result Refusal.Memory }
 {
     let mut block = Block::with_room(alloc, held.len())?;
-    store.know(name)?;
     store.reserve_blocks(1)?;
+    store.know(name)?;
     move_into(store, held, &mut block);
     store.push_block(block);
     Ok(Undone::MoveOut(store.put(name, address)))
@@ -166,6 +175,7 @@ fn erase<A: Allocator + Copy>(store: &mut Store<A>, number: usize, name: &[u8]) 
     ensures storage { storage_in store.new ≡ erased number name.now (storage_in store.old) }
     ensures undone { undone_in result ≡ block_lost (Some number) (finite.get store.old.forms name.now) store.old.blocks }
     ensures names { store.new.known ≡ store.old.known }
+    ensures places { store.new.spare ≡ store.old.spare }
 {
     let Some(block) = store.take_block(number) else {
         unreachable!()

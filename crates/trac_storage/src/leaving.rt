@@ -9,7 +9,7 @@ ghost use Rattle.trac_change.specs.Changed.{named_forms};
 ghost use Rattle.trac_change.specs.Undone.{undone_in};
 ghost use Rattle.trac_text.specs.Framing.{texts_of};
 ghost use Rattle.trac_rules.specs.Undone.{Restore, Unbring, names_in};
-ghost use Rattle.trac_storage.specs.Changing.{AreAmong, KnowsNamed};
+ghost use Rattle.trac_storage.specs.Changing.{KnowsNamed, KnowsSome, knowing};
 
 use crate::blocking::{Named, know_each};
 use std::alloc::Allocator;
@@ -28,6 +28,7 @@ pub(crate) fn delete_each<A: Allocator + Copy>(
     ensures undone { IfOk result (λ undone. undone_in undone ≡ Restore (moved_out (texts_of names.items) store.old.forms)) }
     ensures unchanged { OnErr result (storage_in store.new ≡ storage_in store.old) }
     ensures names { store.new.known ≡ store.old.known }
+    ensures places { store.new.spare ≡ store.old.spare }
     ensures err { IsOkUnless result Refusal.Memory }
 {
     let taken = Vec::with_capacity(alloc, names.len())?;
@@ -43,6 +44,7 @@ pub(crate) fn delete_all<A: Allocator + Copy>(
     ensures undone { IfOk result (λ undone. undone_in undone ≡ Restore (finite.entries store.old.forms)) }
     ensures unchanged { OnErr result (storage_in store.new ≡ storage_in store.old) }
     ensures names { store.new.known ≡ store.old.known }
+    ensures places { store.new.spare ≡ store.old.spare }
     ensures err { IsOkUnless result Refusal.Memory }
 {
     let names = all_names(alloc, store)?;
@@ -89,7 +91,9 @@ pub(crate) fn bring<A: Allocator + Copy>(
     ensures storage { OnOk result (storage_in store.new ≡ keeping (with_all (named_forms forms.items) store.old.forms) (storage_in store.old)) }
     ensures undone { IfOk result (λ undone. undone_in undone ≡ Unbring number (moved_out (names_in (named_forms forms.items)) store.old.forms)) }
     ensures unchanged { OnErr result (storage_in store.new ≡ storage_in store.old) }
-    ensures names { AreAmong store.old.known store.new.known }
+    ensures names { OnOk result (store.new.known ≡ knowing (names_in (named_forms forms.items)) store.old.known) }
+    ensures some { OnErr result (KnowsSome (names_in (named_forms forms.items)) store.old.known store.new.known) }
+    ensures places { store.new.spare ≡ store.old.spare }
     ensures err { IsOkUnless result Refusal.Memory }
 {
     let room = Vec::with_capacity(alloc, forms.len())?;
@@ -99,7 +103,7 @@ pub(crate) fn bring<A: Allocator + Copy>(
 }
 
 // Takes the forms of these names out of the store, and lists them with their names; a name without a form is passed over.
-// The list has room for so many, and holds nothing.
+// The list has room for so many, and is empty.
 fn take_each<A: Allocator + Copy>(
     store: &mut Store<A>,
     names: Vec<Vec<u8, A>, A>,
@@ -119,7 +123,7 @@ fn take_each<A: Allocator + Copy>(
 }
 
 // Puts forms under their names, which are known and each different, and lists those that they replace, with their names. The
-// list has room for so many, and holds nothing.
+// list has room for so many, and is empty.
 fn replace_each<A: Allocator + Copy>(
     store: &mut Store<A>,
     forms: Vec<Named<A>, A>,

@@ -64,7 +64,7 @@ fn are_within(text: usize, marks: usize, output: usize) -> bool
     text <= TEXT_LIMIT && marks <= MARK_LIMIT && output <= OUTPUT_LIMIT
 }
 
-// Whether texts, marks and output of parts are.
+// Whether the texts, marks and output of parts are within the limits.
 fn texts_within<A: Allocator + Copy>(parts: &Parts<A>) -> bool
     requires { EachGathers parts.now.frames.items }
     ensures { result ≡ texts_fit (state_in parts.now) }
@@ -80,14 +80,14 @@ fn texts_within<A: Allocator + Copy>(parts: &Parts<A>) -> bool
     )
 }
 
-// Whether the rooms are that they ask for.
+// Whether the rooms that parts ask for are within the limits.
 fn rooms_within<A: Allocator + Copy>(parts: &Parts<A>) -> bool
     ensures { result ≡ rooms_fit parts.now }
 {
     are_within(parts.text_room, parts.mark_room, parts.output_room)
 }
 
-// Whether names are.
+// Whether each of these names is within the limit.
 fn names_within<A: Allocator + Copy>(names: &[Vec<u8, A>]) -> bool
     ensures { result ≡ names_fit (texts_of names.now) }
 {
@@ -99,7 +99,7 @@ fn names_within<A: Allocator + Copy>(names: &[Vec<u8, A>]) -> bool
     true
 }
 
-// Whether the name of a form is. The form itself always is.
+// Whether the name of a form is within the limit. The form itself always is.
 fn entry_within<A: Allocator + Copy>(name: &[u8], form: &Form<A>) -> bool
     ensures fits { result ≡ nat_le (length name.now) NAME_LIMIT }
     ensures proper { IsTrue result → IsProperForm name.now form.now }
@@ -109,7 +109,7 @@ fn entry_within<A: Allocator + Copy>(name: &[u8], form: &Form<A>) -> bool
     name.len() <= NAME_LIMIT
 }
 
-// Whether the names of forms are.
+// Whether the name of each of these forms is within the limit.
 fn entries_within<A: Allocator + Copy>(forms: &[Named<A>]) -> bool
     ensures fits { result ≡ entries_fit (named_forms forms.now) }
     ensures proper { IsTrue result → AreProperEntries (named_forms forms.now) }
@@ -122,7 +122,7 @@ fn entries_within<A: Allocator + Copy>(forms: &[Named<A>]) -> bool
     true
 }
 
-// Whether the names of the forms of a block are.
+// Whether the name of each form of a block is within the limit.
 fn block_within<A: Allocator + Copy>(block: &Option<Vec<Named<A>, A>>) -> bool
     ensures fits { result ≡ block_entries_fit block.now }
     ensures proper { IsTrue result → IsProperList block.now }
@@ -133,7 +133,7 @@ fn block_within<A: Allocator + Copy>(block: &Option<Vec<Named<A>, A>>) -> bool
     }
 }
 
-// Whether blocks are: their number, and the names of the forms of each.
+// Whether blocks are within the limits: their number, and the names of the forms of each.
 fn blocks_within<A: Allocator + Copy>(blocks: &[Option<Vec<Named<A>, A>>]) -> bool
     ensures fits { result ≡ blocks_fit blocks.now }
     ensures proper { IsTrue result → All IsProperList blocks.now }

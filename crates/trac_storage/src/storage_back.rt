@@ -15,19 +15,20 @@ use trac_change::{Undone, after};
 use trac_forms::{Block, Form, Store};
 use trac_text::Args;
 
-/// Puts back what a call of these arguments destroyed of forms and blocks. It takes no memory, and forgets no name; the names
-/// of the forms before have to be known (this project's profile: T-64 says nothing of ways back).
+/// Puts back what a call of these arguments destroyed of forms and blocks. It takes no memory, and forgets no name. There have
+/// to be forms and blocks before the call (`storage_before`), and the names of these forms have to be known (this project's
+/// profile: T-64 says nothing of ways back).
 pub fn put_storage<A: Allocator + Copy>(
     store: &mut Store<A>,
     arguments: &Args<'_>,
-    change: Undone<A>,
+    undone: Undone<A>,
 )
-    requires { KnowsBefore store.old.known (storage_before arguments.now (undone_in change) (storage_in store.old)) }
-    ensures storage { storage_before arguments.now (undone_in change) (storage_in store.old) ≡ Some (storage_in store.new) }
+    requires { KnowsBefore store.old.known (storage_before arguments.now (undone_in undone) (storage_in store.old)) }
+    ensures storage { storage_before arguments.now (undone_in undone) (storage_in store.old) ≡ Some (storage_in store.new) }
     ensures names { store.new.known ≡ store.old.known }
 {
     let name = arguments.get(1);
-    match change {
+    match undone {
         Undone::Nothing => {}
         Undone::Point(place) => {
             store.set_pointer(name, place);

@@ -1,12 +1,12 @@
 -- The names so far are known, and no form has changed.
-use Rattle.std.proofs.Common.{◌≡◌, take}
-use Rattle.trac_forms.specs.Stored.{storage_in}
+use Rattle.std.proofs.Common.{◌≡◌, drop}
+use Rattle.trac_rules.specs.Undone.{names_in}
 use Rattle.trac_change.specs.Changed.{named_forms}
-use Rattle.trac_storage.specs.Changing.{AreAmong, KnowsNamed}
+use Rattle.trac_storage.specs.Changing.{AreAmong, knowing}
 use Rattle.trac_storage.proofs.blocking.know_each.Given as goal
 
 abbrev pub invariant-loop-name : goal.invariant-loop-name
 invariant-loop-name g l =
-    KnowsNamed (named_forms (take l.name-index l.forms)) l.store.known
-    × (storage_in l.store ≡ storage_in l.fn.store)
+    (knowing (names_in (named_forms (drop l.name-index l.forms))) l.store.known ≡ knowing (names_in (named_forms l.forms)) l.fn.store.known)
     × AreAmong l.fn.store.known l.store.known
+    × (l.store ≡ record l.fn.store { known = l.store.known })

@@ -1,16 +1,13 @@
 -- A change that stays in its place, under the name that the call gave.
-use Rattle.std.proofs.Common.{ap, ◌∙◌, refl}
+use Rattle.std.proofs.Common.{List, ℕ, [], ◌∷◌, ap, sym, subst, ◌∙◌, IsTrue}
 use Rattle.std.specs.FinMap as finite
+use Rattle.std.specs.FinSet as set
+use Rattle.std.proofs.lemmas.Result.{on_err_weaker, on_ok_weaker}
 use Rattle.trac_rules.specs.Undone.{pointer_lost}
 use Rattle.trac_change.specs.Changed.{pointed}
-use Rattle.trac_forms.specs.Stored.{storage_in}
+use Rattle.trac_forms.specs.Stored.{Stored, storage_in}
+use Rattle.trac_storage.proofs.Known.{knows_same}
 use Rattle.trac_storage.proofs.changing.change_forms.Goals as goal
-
-pub returns-in-Keep-clause-storage : goal.returns-in-Keep-clause-storage
-returns-in-Keep-clause-storage g c = rw c.in-Keep.is refl
-
-pub returns-in-Keep-clause-undone : goal.returns-in-Keep-clause-undone
-returns-in-Keep-clause-undone g c = rw c.in-Keep.is refl
 
 pub returns-in-Point-clause-storage : goal.returns-in-Point-clause-storage
 returns-in-Point-clause-storage g c =
@@ -22,3 +19,28 @@ pub returns-in-Point-clause-undone : goal.returns-in-Point-clause-undone
 returns-in-Point-clause-undone g c =
     rw c.in-Point.is
     (c.set_pointer.ensures.undone ∙ ap (λ n. pointer_lost (finite.get c.args.store.now.forms n)) c.as_slice.ensures.value)
+
+pub returns-in-Point-clause-names : goal.returns-in-Point-clause-names
+returns-in-Point-clause-names g c = rw c.in-Point.is c.set_pointer.ensures.names
+
+pub returns-in-Point-clause-places : goal.returns-in-Point-clause-places
+returns-in-Point-clause-places g c = rw c.in-Point.is c.set_pointer.ensures.places
+
+pub returns-in-Put-clause-names : goal.returns-in-Put-clause-names
+returns-in-Put-clause-names g c =
+    rw (sym c.replace.ensures.value ∙ c.in-Put.is)
+    (on_ok_weaker c.put_form.result (λ is. ap (λ (s : Stored). s.known) is ∙ ap (set.insert c.args.store.now.known) c.as_slice-in-Put.ensures.value) c.put_form.ensures.put)
+
+pub returns-in-Put-clause-some : goal.returns-in-Put-clause-some
+returns-in-Put-clause-some g c =
+    let known = c.args.store.now.known in
+    rw (sym c.replace.ensures.value ∙ c.in-Put.is)
+    (on_err_weaker c.put_form.result (λ is. knows_same (c.in-Put.name.items ∷ []) known c.put_form.new.store.known (ap (λ (s : Stored). s.known) is)) c.put_form.ensures.unchanged)
+
+pub returns-in-Put-clause-places : goal.returns-in-Put-clause-places
+returns-in-Put-clause-places g c = rw (sym c.replace.ensures.value ∙ c.in-Put.is) c.put_form.ensures.places
+
+pub returns-in-Put-clause-free : goal.returns-in-Put-clause-free
+returns-in-Put-clause-free g c =
+    rw (sym c.replace.ensures.value ∙ c.in-Put.is)
+    (λ known. c.put_form.ensures.again (subst (λ (n : List ℕ). IsTrue (set.contains c.args.store.now.known n)) (sym c.as_slice-in-Put.ensures.value) known))

@@ -1,5 +1,5 @@
 -- The forms leave, the block comes last, and its address stands among what is left.
-use Rattle.std.proofs.Common.{◌≡◌, ◌≤◌, ℕ, sym, ap, subst, ◌∙◌, ◌++◌, [], ◌∷◌}
+use Rattle.std.proofs.Common.{◌≡◌, ◌≤◌, ℕ, arith, sym, ap, subst, ◌∙◌, ◌++◌, [], ◌∷◌}
 use Rattle.std.specs.Prelude.{Some}
 use Rattle.std.specs.FinMap as finite
 use Rattle.std.specs.FinSet as set
@@ -11,32 +11,26 @@ use Rattle.trac_forms.specs.Stored.{Stored, storage_in}
 use Rattle.trac_forms.proofs.Tables.{known_then}
 use Rattle.trac_change.specs.Changed.{with_form}
 use Rattle.trac_text.specs.Framing.{texts_of}
-use Rattle.trac_storage.proofs.Known.{among_more}
 use Rattle.trac_storage.proofs.changing.put_aside.Goals as goal
 
-pub returns-in_err-reserve_blocks-clause-names : goal.returns-in_err-reserve_blocks-clause-names
-returns-in_err-reserve_blocks-clause-names g c =
-    among_more c.args.store.now.known c.reserve_blocks.new.self.known c.args.name.now
-    (ap (λ (s : Stored). s.known) c.reserve_blocks.ensures.stays ∙ ap (λ (s : Stored). s.known) c.in_ok-know.ensures.known)
-
 pub push_block-requires : goal.push_block-requires
-push_block-requires g c = subst (λ (n : ℕ). 1 ≤ n) (sym (ap (λ (s : Stored). s.spare) c.move_into.ensures.store)) c.in_ok-reserve_blocks.ensures.room
+push_block-requires g c =
+    subst (λ (n : ℕ). 1 ≤ n) (sym (ap (λ (s : Stored). s.spare) c.move_into.ensures.store ∙ ap (λ (s : Stored). s.spare) c.in_ok-know.ensures.known)) c.in_ok-reserve_blocks.ensures.room
 
 pub put-requires : goal.put-requires
 put-requires g c =
     let name = c.args.name.now in
     ap (λ (s : Stored). set.contains s.known name) c.push_block.ensures
     ∙ ap (λ (s : Stored). set.contains s.known name) c.move_into.ensures.store
-    ∙ ap (λ (s : Stored). set.contains s.known name) c.reserve_blocks.ensures.stays
     ∙ ap (λ (s : Stored). set.contains s.known name) c.in_ok-know.ensures.known
-    ∙ known_then c.args.store.now.known name
+    ∙ known_then c.reserve_blocks.new.self.known name
 
 pub returns-clause-storage : goal.returns-clause-storage
 returns-clause-storage g c =
     let name = c.args.name.now in
     let address = c.args.address in
     let names = texts_of c.args.held.items in
-    let kept : storage_in c.reserve_blocks.new.self ≡ storage_in c.args.store.now = ap storage_in c.reserve_blocks.ensures.stays ∙ ap storage_in c.in_ok-know.ensures.known in
+    let kept : storage_in c.know.new.self ≡ storage_in c.args.store.now = ap storage_in c.in_ok-know.ensures.known ∙ ap storage_in c.reserve_blocks.ensures.stays in
     ap storage_in c.put.ensures.put
     ∙ ap (λ (s : Stored). with_form name address (storage_in s)) c.push_block.ensures
     ∙ (λ i. with_form name address (record { forms = (c.move_into.ensures.store i).forms; blocks = (c.move_into.ensures.store i).blocks ++ Some (c.move_into.ensures.block i) ∷ [] }))
@@ -46,7 +40,7 @@ pub returns-clause-undone : goal.returns-clause-undone
 returns-clause-undone g c =
     let name = c.args.name.now in
     let names = texts_of c.args.held.items in
-    let kept : storage_in c.reserve_blocks.new.self ≡ storage_in c.args.store.now = ap storage_in c.reserve_blocks.ensures.stays ∙ ap storage_in c.in_ok-know.ensures.known in
+    let kept : storage_in c.know.new.self ≡ storage_in c.args.store.now = ap storage_in c.in_ok-know.ensures.known ∙ ap storage_in c.reserve_blocks.ensures.stays in
     ap MoveOut (
     c.put.ensures.replaced
     ∙ ap (λ (s : Stored). finite.get s.forms name) c.push_block.ensures
@@ -56,10 +50,19 @@ returns-clause-undone g c =
 
 pub returns-clause-names : goal.returns-clause-names
 returns-clause-names g c =
-    among_more c.args.store.now.known c.put.new.self.known c.args.name.now (
     ap (λ (s : Stored). s.known) c.put.ensures.put
     ∙ ap (λ (s : Stored). s.known) c.push_block.ensures
     ∙ ap (λ (s : Stored). s.known) c.move_into.ensures.store
-    ∙ ap (λ (s : Stored). s.known) c.reserve_blocks.ensures.stays
     ∙ ap (λ (s : Stored). s.known) c.in_ok-know.ensures.known
+    ∙ ap (λ (s : Stored). set.insert s.known c.args.name.now) c.reserve_blocks.ensures.stays
+
+pub returns-clause-places : goal.returns-clause-places
+returns-clause-places g c =
+    omega (
+      arith,
+      ap (λ (s : Stored). s.spare) c.put.ensures.put,
+      ap (λ (s : Stored). s.spare) c.push_block.ensures,
+      ap (λ (s : Stored). s.spare) c.move_into.ensures.store,
+      ap (λ (s : Stored). s.spare) c.in_ok-know.ensures.known,
+      c.reserve_blocks.ensures.no_less,
     )

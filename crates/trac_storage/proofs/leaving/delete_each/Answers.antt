@@ -11,3 +11,6 @@ returns-clause-undone g c = ap Restore c.take_each.ensures.taken
 
 pub returns-clause-names : goal.returns-clause-names
 returns-clause-names g c = ap (λ (s : Stored). s.known) c.take_each.ensures.store
+
+pub returns-clause-places : goal.returns-clause-places
+returns-clause-places g c = ap (λ (s : Stored). s.spare) c.take_each.ensures.store

@@ -23,16 +23,16 @@ put_each-requires g c =
     let held = named_forms c.in-Restore.forms.items in
     knows_each held store.known store.forms
     (tested (are_deleted (primitive_of (argument 0 arguments)) arguments store.forms && are_free (names_in held) store.forms) store.known _
-    (subst (λ change. KnowsBefore store.known (storage_before arguments (undone_in change) (storage_in store))) c.in-Restore.is c.requires)).1
+    (subst (λ undone. KnowsBefore store.known (storage_before arguments (undone_in undone) (storage_in store))) c.in-Restore.is c.requires)).1
 
 pub returns-in-Restore-clause-storage : goal.returns-in-Restore-clause-storage
 returns-in-Restore-clause-storage g c =
     let store = c.args.store.now in
     let arguments = c.args.arguments.now in
     let held = named_forms c.in-Restore.forms.items in
-    ap (λ change. storage_before arguments (undone_in change) (storage_in store)) c.in-Restore.is
+    ap (λ undone. storage_before arguments (undone_in undone) (storage_in store)) c.in-Restore.is
     ∙ (tested (are_deleted (primitive_of (argument 0 arguments)) arguments store.forms && are_free (names_in held) store.forms) store.known _
-    (subst (λ change. KnowsBefore store.known (storage_before arguments (undone_in change) (storage_in store))) c.in-Restore.is c.requires)).2
+    (subst (λ undone. KnowsBefore store.known (storage_before arguments (undone_in undone) (storage_in store))) c.in-Restore.is c.requires)).2
     ∙ ap (λ s. Some (storage_in s)) (sym c.put_each.ensures)
 
 pub returns-in-Point-clause-storage : goal.returns-in-Point-clause-storage
@@ -40,9 +40,9 @@ returns-in-Point-clause-storage g c =
     let store = c.args.store.now in
     let arguments = c.args.arguments.now in
     let name = argument 1 arguments in
-    ap (λ change. storage_before arguments (undone_in change) (storage_in store)) c.in-Point.is
+    ap (λ undone. storage_before arguments (undone_in undone) (storage_in store)) c.in-Point.is
     ∙ pointed_again store.known name c.in-Point.place (storage_in store) (finite.get store.forms name)
-    (subst (λ change. KnowsBefore store.known (storage_before arguments (undone_in change) (storage_in store))) c.in-Point.is c.requires)
+    (subst (λ undone. KnowsBefore store.known (storage_before arguments (undone_in undone) (storage_in store))) c.in-Point.is c.requires)
     ∙ ap (λ (n : List ℕ). Some (pointed n c.in-Point.place (finite.get store.forms n) (storage_in store))) (sym c.get-name.ensures)
     ∙ ap Some (sym (pointed_there store c.set_pointer.new.self c.get-name.result.now c.in-Point.place c.set_pointer.ensures.set))
 
@@ -54,7 +54,7 @@ unsegment-requires g c =
     subst (λ (n : List ℕ). IfSome (finite.get store.forms n) (λ form. IsTrue (is_some (joined c.after.result c.in-Join.cut (all_items form))))) (sym c.get-name.ensures)
     (subst (λ (texts : List (List ℕ)). IfSome (finite.get store.forms name) (λ form. IsTrue (is_some (joined texts c.in-Join.cut (all_items form))))) (sym c.after.ensures)
     (can_join (drop 2 arguments) c.in-Join.cut name c.in-Join.pointer store (finite.get store.forms name)
-    (subst (λ change. KnowsBefore store.known (storage_before arguments (undone_in change) (storage_in store))) c.in-Join.is c.requires)))
+    (subst (λ undone. KnowsBefore store.known (storage_before arguments (undone_in undone) (storage_in store))) c.in-Join.is c.requires)))
 
 pub returns-in-Join-clause-storage : goal.returns-in-Join-clause-storage
 returns-in-Join-clause-storage g c =
@@ -62,9 +62,9 @@ returns-in-Join-clause-storage g c =
     let arguments = c.args.arguments.now in
     let name = argument 1 arguments in
     let after = λ (ts : List (List ℕ)) (n : List ℕ). Some (storage_in (record store { forms = changed_at n (λ form. unsegmented ts c.in-Join.cut c.in-Join.pointer form) store.forms })) in
-    ap (λ change. storage_before arguments (undone_in change) (storage_in store)) c.in-Join.is
+    ap (λ undone. storage_before arguments (undone_in undone) (storage_in store)) c.in-Join.is
     ∙ joins_again (drop 2 arguments) c.in-Join.cut name c.in-Join.pointer store (finite.get store.forms name)
-    (subst (λ change. KnowsBefore store.known (storage_before arguments (undone_in change) (storage_in store))) c.in-Join.is c.requires)
+    (subst (λ undone. KnowsBefore store.known (storage_before arguments (undone_in undone) (storage_in store))) c.in-Join.is c.requires)
     ∙ ap (λ (ts : List (List ℕ)). after ts name) (sym c.after.ensures)
     ∙ ap (λ (n : List ℕ). after c.after.result n) (sym c.get-name.ensures)
     ∙ ap (λ s. Some (storage_in s)) (sym c.unsegment.ensures)
@@ -75,14 +75,14 @@ swap-requires g c =
     let arguments = c.args.arguments.now in
     subst (λ (n : List ℕ). KnowsBefore store.known (Some (keeping (swapped_back n c.in-Swap.old store.forms) (storage_in store)))) (sym c.get-name.ensures)
     (tested (is_some (finite.get store.forms (argument 1 arguments))) store.known _
-    (subst (λ change. KnowsBefore store.known (storage_before arguments (undone_in change) (storage_in store))) c.in-Swap.is c.requires)).1
+    (subst (λ undone. KnowsBefore store.known (storage_before arguments (undone_in undone) (storage_in store))) c.in-Swap.is c.requires)).1
 
 pub returns-in-Swap-clause-storage : goal.returns-in-Swap-clause-storage
 returns-in-Swap-clause-storage g c =
     let store = c.args.store.now in
     let arguments = c.args.arguments.now in
-    ap (λ change. storage_before arguments (undone_in change) (storage_in store)) c.in-Swap.is
+    ap (λ undone. storage_before arguments (undone_in undone) (storage_in store)) c.in-Swap.is
     ∙ (tested (is_some (finite.get store.forms (argument 1 arguments))) store.known _
-    (subst (λ change. KnowsBefore store.known (storage_before arguments (undone_in change) (storage_in store))) c.in-Swap.is c.requires)).2
+    (subst (λ undone. KnowsBefore store.known (storage_before arguments (undone_in undone) (storage_in store))) c.in-Swap.is c.requires)).2
     ∙ ap (λ (n : List ℕ). Some (keeping (swapped_back n c.in-Swap.old store.forms) (storage_in store))) (sym c.get-name.ensures)
     ∙ ap (λ s. Some (storage_in s)) (sym c.swap.ensures)

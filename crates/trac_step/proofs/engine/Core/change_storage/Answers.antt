@@ -1,5 +1,5 @@
 -- Forms and blocks change, or stay; all else stays.
-use Rattle.std.proofs.Common.{◌≡◌, List, ℕ, sym, ap, ◌∙◌, subst}
+use Rattle.std.proofs.Common.{◌≡◌, List, ℕ, sym, ap, ◌∙◌, arith, subst}
 use Rattle.std.specs.Prelude.{IfOk, OnOk}
 use Rattle.std.proofs.lemmas.Result.{on_err_weaker, on_ok_weaker}
 use Rattle.trac_rules.specs.Scanning.{scan}
@@ -8,9 +8,12 @@ use Rattle.trac_forms.specs.Stored.{storage_in}
 use Rattle.trac_change.specs.Changes.{NamesGiven, undone_of}
 use Rattle.trac_change.specs.Changed.{changed}
 use Rattle.trac_change.specs.Undone.{undone_in}
+use Rattle.trac_storage.specs.Changing.{names_put}
+use Rattle.trac_storage.proofs.Known.{none_forgotten}
 use Rattle.trac_step.specs.Calling.{arguments_in, with_storage}
 use Rattle.trac_step.specs.Layout.{parts_of, Shown}
 use Rattle.trac_step.proofs.Finishing.{begun_here, given_here}
+use Rattle.trac_step.proofs.Rooms.{IsNoLess-parts}
 use Rattle.trac_step.proofs.Storages.{changed_shows, proper_either, stored_sound}
 use Rattle.trac_step.proofs.engine.Core.change_storage.Goals as goal
 
@@ -67,3 +70,11 @@ returns-clause-unchanged g c =
     on_err_weaker c.change_forms.result
     (λ is. ap (λ (m : Shown). m.state) shows ∙ ap (λ (storage : Storage). with_storage storage s) (is ∙ ap (λ (m : Shown). storage_of m.state) c.self.view_is))
     c.change_forms.ensures.unchanged
+
+pub returns-clause-room : goal.returns-clause-room
+returns-clause-room g c =
+    let i = c.self.inside in
+    let p = parts_of (g.E.TwoEnds.ends i.text) (g.M.TwoEnds.ends i.marks) i.store i.meta i.trace i.position i.output in
+    let after = c.change_forms.new.store in
+    IsNoLess-parts p (record p { storage = storage_in after; known = after.known; spare = after.spare }) c.args.self.now c.self.view_is (omega arith) (omega arith) (omega arith)
+    (none_forgotten c.change_forms.result (names_put c.args.change.now) i.store.known after.known c.change_forms.ensures.names c.change_forms.ensures.some)
