@@ -1,15 +1,15 @@
 -- The call that scanning asks for, and the outcome of a step that performs it.
 use Rattle.std.proofs.Common.{◌≡◌, ◌∷◌, List, refl, subst, sym, ap, ◌∙◌}
-use Rattle.std.specs.Prelude.{Result, Ok, Err, Some}
+use Rattle.std.specs.Prelude.{Result, Ok, Err}
 use Rattle.trac_rules.specs.declared.refusal.Refusal.{Refusal}
 use Rattle.trac_rules.specs.declared.scan.Front.TheVariants.{Closing}
-use Rattle.trac_rules.specs.Effect.{Effect, argument}
+use Rattle.trac_rules.specs.Effect.{Effect}
 use Rattle.trac_rules.specs.Limits.{texts_fit}
 use Rattle.trac_rules.specs.State.{Environment, Frame, State}
 use Rattle.trac_rules.specs.Scanning.{Call, Calls, front_of, scan, closing_in, deleted}
 use Rattle.trac_rules.specs.Performing.{after_call, performed}
 use Rattle.trac_rules.specs.Outcomes.{limited, MayAnswer, MayRefuse}
-use Rattle.trac_rules.specs.Stepping.{call_at, carried_out, name_called, step}
+use Rattle.trac_rules.specs.Stepping.{carried_out, step}
 use Rattle.trac_rules.proofs.Outcomes.{limited-seen_as}
 use Rattle.trac_text.specs.Frames.{all_arguments}
 use Rattle.trac_prims.specs.Plans.{fits_after}
@@ -22,10 +22,6 @@ call_of s f fs = record { kind = f.kind; arguments = all_arguments f; state = re
 
 pub scan_call : (s : State) (f : Frame) (fs : List Frame) → front_of s.active ≡ Closing → s.frames ≡ f ∷ fs → scan s ≡ Calls (call_of s f fs)
 scan_call s f fs front is = scan_front s Closing front ∙ ap (λ (xs : List Frame). closing_in xs (deleted 1 s)) is
-
--- the state stands at the call of its innermost function
-pub call_at_first : (s : State) (f : Frame) (fs : List Frame) → front_of s.active ≡ Closing → s.frames ≡ f ∷ fs → call_at s ≡ Some (argument 0 (all_arguments f))
-call_at_first s f fs front is = ap name_called (scan_call s f fs front is)
 
 module _ (environment : Environment) (s : State) (f : Frame) (fs : List Frame) (front : front_of s.active ≡ Closing) (is : s.frames ≡ f ∷ fs) where
   -- what is to be planned

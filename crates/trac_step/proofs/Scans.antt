@@ -4,9 +4,9 @@ use Rattle.std.proofs.lemmas.Bool.{eqb-true}
 use Rattle.std.specs.Prelude.{◌==◌, None}
 use Rattle.trac_rules.specs.declared.scan.Front.{Front}
 use Rattle.trac_rules.specs.declared.scan.Front.TheVariants.{Nothing, Opening, Layout, Comma, ActiveCall, NeutralCall, Sharp, Closing, Plain}
+use Rattle.trac_rules.specs.Goals.{call_asked, next_call}
 use Rattle.trac_rules.specs.State.{Frame, State}
 use Rattle.trac_rules.specs.Scanning.{Scanned, Moves, Calls, front_of, scan, scan_at, closing_in, deleted}
-use Rattle.trac_rules.specs.Stepping.{call_at, name_called}
 use Rattle.trac_step.specs.Calling.{IsMove}
 
 pub scan_front : (s : State) (front : _) → front_of s.active ≡ front → scan s ≡ scan_at front s
@@ -41,13 +41,13 @@ pub some_frames : (fs : List Frame) (b : Bool) → b ≡ (length fs == 0) → no
 some_frames [] b is h = absurd (let none : not b ≡ false = ap not is in cc)
 some_frames (f ∷ fs) b is h = omega arith
 
--- ---- the call at which a state stands
+-- ---- the call that the next step would perform
 
 -- where the active text does not begin with `)`, there is none
-pub no_call_before : (s : State) (front : Front) → front ≡ front_of s.active → (front ≡ Closing → ⊥) → call_at s ≡ None
-no_call_before s front at other = ap name_called (scan_front s front (sym at)) ∙ none_at front other
+pub no_call_before : (s : State) (front : Front) → front ≡ front_of s.active → (front ≡ Closing → ⊥) → next_call s ≡ None
+no_call_before s front at other = ap call_asked (scan_front s front (sym at)) ∙ none_at front other
   where
-    none_at : (front : Front) → (front ≡ Closing → ⊥) → name_called (scan_at front s) ≡ None
+    none_at : (front : Front) → (front ≡ Closing → ⊥) → call_asked (scan_at front s) ≡ None
     none_at Closing other = absurd (other refl)
     none_at Nothing other = refl
     none_at Opening other = refl
@@ -59,5 +59,5 @@ no_call_before s front at other = ap name_called (scan_front s front (sym at)) �
     none_at Plain other = refl
 
 -- nor outside any function
-pub no_call_outside : (s : State) → front_of s.active ≡ Closing → s.frames ≡ [] → call_at s ≡ None
-no_call_outside s at none = ap name_called (scan_front s Closing at) ∙ ap (λ fs. name_called (closing_in fs (deleted 1 s))) none
+pub no_call_outside : (s : State) → front_of s.active ≡ Closing → s.frames ≡ [] → next_call s ≡ None
+no_call_outside s at none = ap call_asked (scan_front s Closing at) ∙ ap (λ fs. call_asked (closing_in fs (deleted 1 s))) none

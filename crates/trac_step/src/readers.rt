@@ -9,8 +9,6 @@ use crate::engine::Core;
 use std::alloc::Allocator;
 use trac_forms::Store;
 use trac_gap::TwoEnds;
-use trac_rules::scan::Front;
-use trac_text::front::front_at;
 use trac_text::{Args, BegunFunctions, Kind, Mark, NeutralText};
 
 impl<E: TwoEnds<u8, A>, M: TwoEnds<Mark, A>, A: Allocator + Copy> Core<E, M, A> {
@@ -73,11 +71,8 @@ impl<E: TwoEnds<u8, A>, M: TwoEnds<Mark, A>, A: Allocator + Copy> Core<E, M, A> 
     pub fn at_call(&self) -> Option<&[u8]>
         ensures { MatchOption result (call_at self.now.state ≡ None) (λ name. call_at self.now.state ≡ Some name.now) }
     {
-        if front_at(self.active()) != Front::Closing {
-            return None;
-        }
-        let function = self.neutral().innermost()?;
-        Some(function.arguments.get(0))
+        let (_kind, arguments) = self.next_call()?;
+        Some(arguments.get(0))
     }
 
     /// The forms by their names, the blocks, the names that have a place, and how many more blocks have one

@@ -1,33 +1,10 @@
-use Rattle.std.proofs.Common.{◌≡◌, ℕ, List, sym, ap, ◌∙◌, true, false, not}
+use Rattle.std.proofs.Common.{sym, ap, ◌∙◌}
 use Rattle.std.specs.Prelude.{Some}
-use denote.Enum.Bare.{sameb}
-use Rattle.trac_rules.specs.contracts.scan.Front.{the_type}
-use Rattle.trac_rules.specs.declared.scan.Front.{Front}
-use Rattle.trac_rules.specs.declared.scan.Front.TheVariants.{Closing}
-use Rattle.trac_rules.specs.Scanning.{front_of}
-use Rattle.trac_rules.specs.Effect.{argument}
-use Rattle.trac_text.specs.Neutral.{Neutral, cut_back, neutral_of}
-use Rattle.trac_step.proofs.Calls.{call_at_first}
-use Rattle.trac_step.proofs.NextCalls.{closing_unless_other}
-use Rattle.trac_step.proofs.Scans.{no_call_before, no_call_outside}
+use Rattle.trac_step.proofs.NextCalls.{first_named, none_named}
 use Rattle.trac_step.proofs.engine.Core.at_call.Goals as goal
 
-pub returns-then-ne : goal.returns-then-ne
-returns-then-ne g c =
-    no_call_before c.args.self.now.state c.front_at.result (c.front_at.ensures ∙ ap front_of c.active.ensures)
-    (λ is. absurd (let unset : true ≡ false = sym c.if-ne.true ∙ c.ne.ensures ∙ ap (λ (f : Front). not (sameb the_type f Closing)) is in cc))
-
-pub returns-in_err-function : goal.returns-in_err-function
-returns-in_err-function g c =
-    let front = sym (c.front_at.ensures ∙ ap front_of c.active.ensures) ∙ closing_unless_other c.front_at.result (sym c.ne.ensures ∙ c.if-ne.false) in
-    rw c.from_residual.ensures
-    (no_call_outside c.args.self.now.state front (ap (λ (n : Neutral). n.frames) (sym c.neutral.ensures) ∙ c.in_err-function.ensures))
+pub returns-in_err-_kind : goal.returns-in_err-_kind
+returns-in_err-_kind g c = rw c.from_residual.ensures (none_named c.args.self.now.state c.in_err-_kind.ensures)
 
 pub returns : goal.returns
-returns g c =
-    let front = sym (c.front_at.ensures ∙ ap front_of c.active.ensures) ∙ closing_unless_other c.front_at.result (sym c.ne.ensures ∙ c.if-ne.false) in
-    let inner = c.in_ok-function.ensures in
-    let f = c.in_ok-function.function in
-    call_at_first c.args.self.now.state inner.frame (neutral_of (cut_back f.number f.place c.neutral.result)).frames front
-    (ap (λ (n : Neutral). n.frames) (sym c.neutral.ensures) ∙ inner.frames_are)
-    ∙ ap (λ (texts : List (List ℕ)). Some (argument 0 texts)) inner.arguments_are ∙ ap Some (sym c.get.ensures)
+returns g c = first_named c.args.self.now.state _ _ c.in_ok-_kind.ensures ∙ ap Some (sym c.get.ensures)
