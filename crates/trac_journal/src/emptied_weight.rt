@@ -1,6 +1,6 @@
-//! What idle steps emptied weighs.
-ghost use Rattle.std.specs.Prelude.{◌≡◌, ◌+◌, ◌<◌, ◌^◌, length};
-ghost use Rattle.std.specs.List.{concat};
+//! What the arguments of functions weigh, and what idle steps emptied.
+ghost use Rattle.std.specs.Prelude.{◌≡◌, ◌+◌, ◌-◌, ◌<◌, ◌^◌, length};
+ghost use Rattle.trac_rules.specs.Limits.{total_length};
 ghost use Rattle.trac_rules.specs.Weights.{frames_weight};
 ghost use Rattle.trac_text.specs.Pieces.{all_texts, frames_in};
 
@@ -20,10 +20,11 @@ impl<A: Allocator + Copy> Emptied<A> {
     }
 }
 
-// The bytes of all arguments, and one for each `,` between them.
-fn weigh_pieces<A: Allocator + Copy>(arguments: &Pieces<A>) -> usize
-    requires { length (concat (all_texts arguments.now)) + length arguments.now.finished < 2 ^ 64 }
-    ensures { result ≡ length (concat (all_texts arguments.now)) + length arguments.now.finished }
+/// What the arguments of a function weigh: the bytes of all of them, and one for each `,` between them. The sum has to fit a
+/// `usize`.
+pub fn weigh_pieces<A: Allocator + Copy>(arguments: &Pieces<A>) -> usize
+    requires { total_length (all_texts arguments.now) + (length (all_texts arguments.now) - 1) < 2 ^ 64 }
+    ensures { result ≡ total_length (all_texts arguments.now) + (length (all_texts arguments.now) - 1) }
 {
     let lent = arguments.lend();
     lent.text().len() + lent.commas().len()

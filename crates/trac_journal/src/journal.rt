@@ -329,10 +329,10 @@ fn short_in(kept: Kept) -> Option<Short>
     }
 }
 
-// What the record of a call weighs whose arguments have so many bytes and commas together, which set the meta character where
-// there is one here, and which destroyed this of forms and blocks.
+/// What the record of a call weighs whose arguments have so many bytes and commas together, which set the meta character where
+/// there is one here, and which destroyed this of forms and blocks. The sum has to fit a `u64`.
 #[inline(always)]
-fn weigh_call<A: Allocator + Copy>(len: usize, meta: Option<u8>, undone: &Undone<A>) -> u64
+pub fn weigh_call<A: Allocator + Copy>(len: usize, meta: Option<u8>, undone: &Undone<A>) -> u64
     requires { len + meta_weight meta + undone_weight (undone_in undone.now) < 2 ^ 64 }
     ensures { result ≡ len + meta_weight meta + undone_weight (undone_in undone.now) }
 {

@@ -13,10 +13,10 @@ pub mod lists;
 pub use called::{Called, LentCall, Short};
 pub use dropping::Passed;
 pub use emptied::Emptied;
-pub use emptied_weight::weigh_functions;
+pub use emptied_weight::{weigh_functions, weigh_pieces};
 #[doc(hidden)]
 pub use entry::{CallEntry, Entry, Kept};
-pub use journal::Journal;
+pub use journal::{Journal, weigh_call};
 #[doc(hidden)]
 pub use lists::Lists;
 pub use trac_change::{Undone, undone};

@@ -20,6 +20,5 @@ pub mod ScanningBack
 pub mod CallsUndone
 pub mod Counted
 pub mod GoneBack
-pub mod Weighed
 pub mod IdleBack
 pub mod LoadedMachines

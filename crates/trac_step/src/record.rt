@@ -1,8 +1,7 @@
 //! What a step leaves for the way back, and going back.
-ghost use Rattle.std.specs.Prelude.{◌≡◌, ◌+◌, ◌-◌, ◌<◌, ◌^◌, length, IsSomeAnd, Some};
-ghost use Rattle.trac_rules.specs.Limits.{total_length};
+ghost use Rattle.std.specs.Prelude.{◌≡◌, ◌<◌, ◌^◌, IsSomeAnd, Some};
 ghost use Rattle.trac_rules.specs.Records as rules;
-ghost use Rattle.trac_rules.specs.Weights.{meta_weight, undone_weight, weight};
+ghost use Rattle.trac_rules.specs.Weights.{weight};
 ghost use Rattle.trac_text.specs.Pieces.{all_texts};
 ghost use Rattle.trac_journal.specs.Told.{record_with, said_by};
 ghost use Rattle.trac_change.specs.Undone.{undone_in};
@@ -12,8 +11,8 @@ ghost use Rattle.trac_step.specs.Room.{HasRoom, IsNoLess};
 use crate::engine::Core;
 use std::alloc::{Allocator, Global};
 use trac_gap::TwoEnds;
-use trac_journal::{Called, Short, Undone, weigh_functions};
-use trac_text::{Kind, Mark, Pieces, PiecesRef};
+use trac_journal::{Called, Short, Undone, weigh_call, weigh_functions, weigh_pieces};
+use trac_text::{Kind, Mark, Pieces};
 
 /// What one step of a machine destroyed, by which any machine that shows the state after it can go back. What a
 /// step only moved is not kept: a record says how much it was, counted from the end of the text to which it
@@ -114,33 +113,8 @@ impl<A: Allocator + Copy> Record<A> {
                 meta,
                 change,
                 ..
-            } => weigh_call(&arguments.lend(), *meta, change),
+            } => weigh_call(weigh_pieces(arguments), *meta, change) as usize,
         }
-    }
-}
-
-// The bytes of all arguments, and one for each `,` between them.
-fn weigh_arguments(arguments: &PiecesRef<'_>) -> usize
-    requires { total_length (all_texts arguments.now) + (length (all_texts arguments.now) - 1) < 2 ^ 64 }
-    ensures { result ≡ total_length (all_texts arguments.now) + (length (all_texts arguments.now) - 1) }
-{
-    arguments.text().len() + arguments.commas().len()
-}
-
-// What a call destroyed: its arguments and the commas between them, one for a meta character, and what is kept of forms and
-// blocks.
-fn weigh_call<A: Allocator + Copy>(
-    arguments: &PiecesRef<'_>,
-    meta: Option<u8>,
-    change: &Undone<A>,
-) -> usize
-    requires { total_length (all_texts arguments.now) + (length (all_texts arguments.now) - 1) + meta_weight meta + undone_weight (undone_in change.now) < 2 ^ 64 }
-    ensures { result ≡ total_length (all_texts arguments.now) + (length (all_texts arguments.now) - 1) + meta_weight meta + undone_weight (undone_in change.now) }
-{
-    let kept = weigh_arguments(arguments) + change.weight();
-    match meta {
-        Some(_byte) => kept + 1,
-        None => kept,
     }
 }
 
