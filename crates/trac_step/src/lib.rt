@@ -18,7 +18,7 @@ pub use engine::{Core, Machine};
 pub use loading::Parts;
 pub use record::Record;
 pub use trac_forms::Store;
-pub use trac_journal::{Journal, Short, Undone};
+pub use trac_journal::{Journal, Undone};
 pub use trac_prims::Tape;
 pub use trac_rules::kind::Kind;
 pub use trac_rules::refusal::Refusal;

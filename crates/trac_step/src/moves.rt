@@ -63,7 +63,10 @@ impl<E: TwoEnds<u8, A>, M: TwoEnds<Mark, A>, A: Allocator + Copy> Core<E, M, A> 
                 self.mark(3, Some(Kind::Neutral))?;
                 Ok(Short::Begun)
             }
-            Front::Sharp | Front::Plain => Ok(self.gather_first()),
+            Front::Sharp | Front::Plain => {
+                self.gather_first();
+                Ok(Short::Moved)
+            }
         }
     }
 

@@ -5,7 +5,7 @@ ghost use Rattle.trac_rules.specs.Scanning.{protect, deleted, comma_in, gather_f
 ghost use Rattle.trac_rules.specs.Limits.{marks};
 ghost use Rattle.trac_rules.specs.PlainRuns.{BeginsPlain, is_plain, moved_on};
 ghost use Rattle.trac_rules.specs.Proper.{IsProper};
-ghost use Rattle.trac_rules.specs.Records.{Moved, comma_recorded};
+ghost use Rattle.trac_rules.specs.Records.{comma_recorded};
 ghost use Rattle.trac_step.specs.Calling.{with_mark};
 ghost use Rattle.trac_journal.specs.Told.{said_by};
 ghost use Rattle.trac_step.specs.Room.{HasRoom, IsNoLess};
@@ -88,14 +88,12 @@ impl<E: TwoEnds<u8, A>, M: TwoEnds<Mark, A>, A: Allocator + Copy> Core<E, M, A> 
         Ok(())
     }
 
-    // The first byte of the active text goes to the current text. Returns the record of that.
-    pub(crate) fn gather_first(&mut self) -> Short
+    // The first byte of the active text goes to the current text.
+    pub(crate) fn gather_first(&mut self)
         requires { 0 < length self.old.state.active }
-        ensures shown { self.new ≡ record self.old { state = gather_first self.old.state } }
-        ensures recorded { said_by result ≡ Moved }
+        ensures { self.new ≡ record self.old { state = gather_first self.old.state } }
     {
         self.text.shift_left(1);
-        Short::Moved
     }
 
     /// Moves the plain bytes with which the active text begins, counted up to `most`, to the current text, and returns how

@@ -1,4 +1,4 @@
-use Rattle.std.proofs.Common.{ℕ, take, drop, refl, sym, ap, ◌∙◌, subst, arith}
+use Rattle.std.proofs.Common.{ℕ, take, drop, sym, ap, ◌∙◌, subst, arith}
 use Rattle.std.proofs.lemmas.List.{length-take, length-drop}
 use Rattle.trac_gap.specs.Ends.{Ends}
 use Rattle.trac_rules.specs.State.{State}
@@ -19,14 +19,11 @@ invariant_of-self g c =
       counted = c.self.invariant.counted;
     }
 
-pub returns-clause-shown : goal.returns-clause-shown
-returns-clause-shown g c =
+pub returns : goal.returns
+returns g c =
     let old = g.E.TwoEnds.ends c.self.inside.text in
     let p = parts_of old (g.M.TwoEnds.ends c.self.inside.marks) c.self.inside.store c.self.inside.meta c.self.inside.trace c.self.inside.position c.self.inside.output in
     let moved = λ (e : Ends ℕ). parts_of e (g.M.TwoEnds.ends c.self.inside.marks) c.self.inside.store c.self.inside.meta c.self.inside.trace c.self.inside.position c.self.inside.output in
     ap (λ (e : Ends ℕ). shown_by c.self.inside.width (moved e)) c.shift_left.ensures
     ∙ ap (λ (s : State). record (shown_by c.self.inside.width p) { state = s }) (gather_parts p (drop 1 old.right) (take 1 old.right) c.self.invariant.sound)
     ∙ ap (λ (m : Shown). record m { state = gather_first m.state }) c.self.view_is
-
-pub returns-clause-recorded : goal.returns-clause-recorded
-returns-clause-recorded g c = refl

@@ -69,8 +69,8 @@ returns-in_err-mark-in-NeutralCall-clause-lacking g c =
 
 pub returns-in-Sharp-clause-ok : goal.returns-in-Sharp-clause-ok
 returns-in-Sharp-clause-ok g c = elim c.in-Sharp.is [
-  | inl is ↦ scan_front c.args.self.now.state Sharp (sym c.requires.front ∙ is) ∙ ap (λ (m : Shown). Moves m.state) (sym c.gather_first.ensures.shown)
-  | inr is ↦ scan_front c.args.self.now.state Plain (sym c.requires.front ∙ is) ∙ ap (λ (m : Shown). Moves m.state) (sym c.gather_first.ensures.shown)
+  | inl is ↦ scan_front c.args.self.now.state Sharp (sym c.requires.front ∙ is) ∙ ap (λ (m : Shown). Moves m.state) (sym c.gather_first.ensures)
+  | inr is ↦ scan_front c.args.self.now.state Plain (sym c.requires.front ∙ is) ∙ ap (λ (m : Shown). Moves m.state) (sym c.gather_first.ensures)
 ]
 
 pub returns-in-Layout-clause-ok : goal.returns-in-Layout-clause-ok

@@ -40,9 +40,9 @@ returns-in-Nothing-clause-unchanged g c =
 pub returns-in-Sharp-clause-taken : goal.returns-in-Sharp-clause-taken
 returns-in-Sharp-clause-taken g c = λ environment. elim c.in-Sharp.is [
   | inl is ↦ move_taken environment c.args.self.now.state c.gather_first.new.self.state
-      (scan_front c.args.self.now.state Sharp (sym c.requires.front ∙ is) ∙ ap (λ (m : Shown). Moves m.state) (sym c.gather_first.ensures.shown)) c.if-not-move_fits.ensures
+      (scan_front c.args.self.now.state Sharp (sym c.requires.front ∙ is) ∙ ap (λ (m : Shown). Moves m.state) (sym c.gather_first.ensures)) c.if-not-move_fits.ensures
   | inr is ↦ move_taken environment c.args.self.now.state c.gather_first.new.self.state
-      (scan_front c.args.self.now.state Plain (sym c.requires.front ∙ is) ∙ ap (λ (m : Shown). Moves m.state) (sym c.gather_first.ensures.shown)) c.if-not-move_fits.ensures
+      (scan_front c.args.self.now.state Plain (sym c.requires.front ∙ is) ∙ ap (λ (m : Shown). Moves m.state) (sym c.gather_first.ensures)) c.if-not-move_fits.ensures
 ]
 
 pub returns-in-Sharp-clause-kept : goal.returns-in-Sharp-clause-kept
