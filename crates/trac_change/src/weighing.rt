@@ -1,5 +1,6 @@
 //! What is destroyed of forms and blocks weighs.
-ghost use Rattle.std.specs.Prelude.{◌≡◌, ◌<◌, ◌^◌};
+ghost use Rattle.std.specs.Prelude.{◌≡◌, ◌+◌, ◌<◌, ◌^◌, length};
+ghost use Rattle.trac_rules.specs.Form.{all_items};
 ghost use Rattle.trac_rules.specs.Weights.{form_weight, held_weight, undone_weight};
 ghost use Rattle.trac_change.specs.Changed.{named_forms};
 ghost use Rattle.trac_change.specs.Undone.{undone_in};
@@ -44,14 +45,22 @@ fn weigh_form<A: Allocator + Copy>(old: &Option<Form<A>>) -> usize
     }
 }
 
-// Forms with their names: the items of each, the bytes of its name, and one.
+// A form with its name: its items, the bytes of its name, and one.
+fn weigh_named<A: Allocator + Copy>(name: &[u8], form: &Form<A>) -> usize
+    requires { length (all_items form.now) + length name.now + 1 < 2 ^ 64 }
+    ensures { result ≡ length (all_items form.now) + length name.now + 1 }
+{
+    form.len() + name.len() + 1
+}
+
+// Forms with their names.
 fn weigh_forms<A: Allocator + Copy>(forms: &[(Vec<u8, A>, Form<A>)]) -> usize
     requires { held_weight (named_forms forms.now) < 2 ^ 64 }
     ensures { result ≡ held_weight (named_forms forms.now) }
 {
     let mut weight = 0;
     for (name, form) in forms {
-        weight += form.len() + name.len() + 1;
+        weight += weigh_named(name.as_slice(), form);
     }
     weight
 }
@@ -66,7 +75,7 @@ fn weigh_block<A: Allocator + Copy>(block: &Block<A>) -> usize
         let Some((name, form)) = block.get(i) else {
             unreachable!()
         };
-        weight += form.len() + name.len() + 1;
+        weight += weigh_named(name, form);
     }
     weight
 }
