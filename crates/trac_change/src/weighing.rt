@@ -10,8 +10,9 @@ use std::alloc::Allocator;
 use trac_forms::{Block, Form};
 
 impl<A: Allocator + Copy> Undone<A> {
-    /// What this weighs: items of forms and places of gaps, bytes of names, and one for each name. Places are not weighed.
-    /// The sum has to fit a `usize`. It takes time for the forms alone, whatever their length.
+    /// What this weighs: items of forms, one for each gap that was made, bytes of names, and one for each name. Old pointers
+    /// and numbers of blocks are not weighed (this project's profile). The sum has to fit a `usize`. It takes time for the
+    /// forms alone, whatever their length.
     #[inline(always)]
     pub fn weight(&self) -> usize
         requires { undone_weight (undone_in self.now) < 2 ^ 64 }

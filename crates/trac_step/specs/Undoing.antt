@@ -1,4 +1,4 @@
--- Going back over a step of scanning.
+-- Going back over a step.
 use Rattle.std.specs.Prelude.{◌≡◌, ℕ, ◌<◌, List, length, Option, Some, IsSomeAnd}
 use Rattle.trac_rules.specs.Proper.{IsProper, IsProperStorage}
 use Rattle.trac_rules.specs.declared.scan.Front.TheVariants.{Closing}

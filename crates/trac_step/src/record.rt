@@ -80,8 +80,8 @@ impl<A: Allocator + Copy> Record<A> {
     }
 
     // The record of a call, from what it says beside its arguments, these, and what the call destroyed of forms and blocks.
-    pub(crate) fn of_call(called: Called, arguments: Pieces<A>, change: Undone<A>) -> Self
-        ensures { recorded_by result ≡ rules.Called (record_with called (all_texts arguments) (undone_in change)) }
+    pub(crate) fn of_call(called: Called, arguments: Pieces<A>, undone: Undone<A>) -> Self
+        ensures { recorded_by result ≡ rules.Called (record_with called (all_texts arguments) (undone_in undone)) }
     {
         Record::Call {
             kind: called.kind,
@@ -92,14 +92,14 @@ impl<A: Allocator + Copy> Record<A> {
             read: called.read,
             meta: called.meta,
             trace: called.trace,
-            change,
+            change: undone,
         }
     }
 
-    /// What the record keeps: bytes of texts and names, items of forms and places of gaps, and one for each `,`, begun
-    /// function, name and meta character. Lengths, places and flags are not weighed. This is this project's profile. The sum
-    /// has to fit a `usize`, as it does for every record of a step. It takes no memory, and time for the begun functions and
-    /// the forms alone, whatever their length.
+    /// What the record keeps: bytes of texts and names, items of forms, and one for each gap that was made, `,`, begun
+    /// function, name and meta character. Lengths, old pointers, numbers of blocks and flags are not weighed. This is this
+    /// project's profile. The sum has to fit a `usize`, as it does for every record of a step. It takes no memory, and time for
+    /// the begun functions and the forms alone, whatever their length.
     pub fn weight(&self) -> usize
         requires { weight (recorded_by self.now) < 2 ^ 64 }
         ensures { result ≡ weight (recorded_by self.now) }
@@ -111,9 +111,9 @@ impl<A: Allocator + Copy> Record<A> {
             Record::Call {
                 arguments,
                 meta,
-                change,
+                change: undone,
                 ..
-            } => weigh_call(weigh_pieces(arguments), *meta, change) as usize,
+            } => weigh_call(weigh_pieces(arguments), *meta, undone) as usize,
         }
     }
 }
@@ -145,7 +145,7 @@ impl<E: TwoEnds<u8, A>, M: TwoEnds<Mark, A>, A: Allocator + Copy> Core<E, M, A> 
                 read,
                 meta,
                 trace,
-                change,
+                change: undone,
             } => {
                 let called = Called {
                     kind,
@@ -158,7 +158,7 @@ impl<E: TwoEnds<u8, A>, M: TwoEnds<Mark, A>, A: Allocator + Copy> Core<E, M, A> 
                 };
                 self.is_in_its_room();
                 self.begin_again(called, &arguments.lend());
-                self.restore_storage(change);
+                self.restore_storage(undone);
             }
         }
     }

@@ -1,4 +1,4 @@
-//! The way back over the rules of scanning, each on the machine's own parts.
+//! The way back over each kind of step, on the machine's own parts.
 ghost use Rattle.std.specs.Prelude.{◌≡◌, IsSome, Some};
 ghost use Rattle.trac_rules.specs.Records as rules;
 ghost use Rattle.trac_rules.specs.Records.{Begun, Comma, Deleted, Quoted, moved_back, restored};
@@ -88,14 +88,14 @@ impl<E: TwoEnds<u8, A>, M: TwoEnds<Mark, A>, A: Allocator + Copy> Core<E, M, A> 
     }
 
     // Forms and blocks are as they were before the call at which the machine stands again.
-    pub(crate) fn restore_storage(&mut self, change: Undone<A>)
-        requires { CanRestore (undone_in change) self.old }
-        ensures { IsRestored (undone_in change) self.old self.new }
+    pub(crate) fn restore_storage(&mut self, undone: Undone<A>)
+        requires { CanRestore (undone_in undone) self.old }
+        ensures { IsRestored (undone_in undone) self.old self.new }
     {
         let text = NeutralText::new(self.text.left(), self.marks.left(), self.functions);
         let Some(function) = text.innermost() else {
             unreachable!()
         };
-        put_storage(&mut self.store, &function.arguments, change);
+        put_storage(&mut self.store, &function.arguments, undone);
     }
 }

@@ -40,10 +40,10 @@ put_storage-requires g c =
     let read = ap neutral_of (c.new-text.ensures ∙ marked_same _ _ _ _ c.left.ensures.left c.left-2.ensures.left) ∙ ap (λ (t : State). let n : Neutral = record { base = t.base; frames = t.frames } in n) state_is in
     let f = c.in-Some.function in
     let given = arguments_found s c.new-text.result f.number f.place f.kind f.arguments c.requires.front read c.in-Some.ensures in
-    let same : storage_before f.arguments (undone_in c.args.change) (storage_in i.store) ≡ storage_before (arguments_in (scan s)) (undone_in c.args.change) (storage_of s) =
-    λ j. storage_before (given j) (undone_in c.args.change) (storage_of (state_is j)) in
+    let same : storage_before f.arguments (undone_in c.args.undone) (storage_in i.store) ≡ storage_before (arguments_in (scan s)) (undone_in c.args.undone) (storage_of s) =
+    λ j. storage_before (given j) (undone_in c.args.undone) (storage_of (state_is j)) in
     known_before i.store.known _ _ same
-    (subst (λ (m : Shown). IsSomeAnd (storage_before (arguments_in (scan s)) (undone_in c.args.change) (storage_of s)) (λ storage. KnowsAll m.known storage.forms × IsProperStorage storage)) (sym c.self.view_is) c.requires.there)
+    (subst (λ (m : Shown). IsSomeAnd (storage_before (arguments_in (scan s)) (undone_in c.args.undone) (storage_of s)) (λ storage. KnowsAll m.known storage.forms × IsProperStorage storage)) (sym c.self.view_is) c.requires.there)
 
 pub invariant_of-self : goal.invariant_of-self
 invariant_of-self g c =
@@ -53,8 +53,8 @@ invariant_of-self g c =
     let read = ap neutral_of (c.new-text.ensures ∙ marked_same _ _ _ _ c.left.ensures.left c.left-2.ensures.left) ∙ ap (λ (t : State). let n : Neutral = record { base = t.base; frames = t.frames } in n) state_is in
     let f = c.in-Some.function in
     let given = arguments_found s c.new-text.result f.number f.place f.kind f.arguments c.requires.front read c.in-Some.ensures in
-    let same : storage_before f.arguments (undone_in c.args.change) (storage_in i.store) ≡ storage_before (arguments_in (scan s)) (undone_in c.args.change) (storage_of s) =
-    λ j. storage_before (given j) (undone_in c.args.change) (storage_of (state_is j)) in
+    let same : storage_before f.arguments (undone_in c.args.undone) (storage_in i.store) ≡ storage_before (arguments_in (scan s)) (undone_in c.args.undone) (storage_of s) =
+    λ j. storage_before (given j) (undone_in c.args.undone) (storage_of (state_is j)) in
     let after = c.put_storage.new.store in
     record {
       sound =
@@ -71,8 +71,8 @@ returns g c =
     let read = ap neutral_of (c.new-text.ensures ∙ marked_same _ _ _ _ c.left.ensures.left c.left-2.ensures.left) ∙ ap (λ (t : State). let n : Neutral = record { base = t.base; frames = t.frames } in n) state_is in
     let f = c.in-Some.function in
     let given = arguments_found s c.new-text.result f.number f.place f.kind f.arguments c.requires.front read c.in-Some.ensures in
-    let same : storage_before f.arguments (undone_in c.args.change) (storage_in i.store) ≡ storage_before (arguments_in (scan s)) (undone_in c.args.change) (storage_of s) =
-    λ j. storage_before (given j) (undone_in c.args.change) (storage_of (state_is j)) in
+    let same : storage_before f.arguments (undone_in c.args.undone) (storage_in i.store) ≡ storage_before (arguments_in (scan s)) (undone_in c.args.undone) (storage_of s) =
+    λ j. storage_before (given j) (undone_in c.args.undone) (storage_of (state_is j)) in
     record {
       back = sym same ∙ c.put_storage.ensures.storage;
       others =

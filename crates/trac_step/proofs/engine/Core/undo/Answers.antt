@@ -84,7 +84,7 @@ pub begin_again-requires : goal.begin_again-requires
 begin_again-requires g c =
     let k = c.in-Call in
     let said = told k.kind k.value k.scanned k.printed k.read k.meta k.trace in
-    let undone = undone_in k.change in
+    let undone = undone_in k.undone in
     let is = lends (recorded_by c.args.taken) said k.arguments c.lend.result undone (ap (λ x. recorded_by x) k.is) c.lend.ensures in
     can_begin said (all_texts c.lend.result) undone c.args.self.now c.is_in_its_room.ensures.proper c.is_in_its_room.ensures.room (can_show_known (recorded_by c.args.taken) _ is c.args.self.now c.requires)
 
@@ -92,7 +92,7 @@ pub restore_storage-requires : goal.restore_storage-requires
 restore_storage-requires g c =
     let k = c.in-Call in
     let said = told k.kind k.value k.scanned k.printed k.read k.meta k.trace in
-    let undone = undone_in k.change in
+    let undone = undone_in k.undone in
     let is = lends (recorded_by c.args.taken) said k.arguments c.lend.result undone (ap (λ x. recorded_by x) k.is) c.lend.ensures in
     can_restore said (all_texts c.lend.result) undone c.args.self.now c.is_in_its_room.ensures.proper c.is_in_its_room.ensures.room
     (can_show_known (recorded_by c.args.taken) _ is c.args.self.now c.requires) c.begin_again.new.self c.begin_again.ensures
@@ -102,7 +102,7 @@ returns-in-Call g c =
     let m = c.args.self.now in
     let k = c.in-Call in
     let said = told k.kind k.value k.scanned k.printed k.read k.meta k.trace in
-    let undone = undone_in k.change in
+    let undone = undone_in k.undone in
     let is = lends (recorded_by c.args.taken) said k.arguments c.lend.result undone (ap (λ x. recorded_by x) k.is) c.lend.ensures in
     let proper = c.is_in_its_room.ensures.proper in
     let room = c.is_in_its_room.ensures.room in
