@@ -2,12 +2,15 @@
 use Rattle.std.proofs.Common.{◌≡◌, ℕ, zero, suc, ◌+◌, ◌-◌, ◌<◌, ◌≤◌, Bool, true, false, cond, ltb, eqb, List, [], ◌∷◌, ◌++◌, length, map, get_or, set, swap, take, position, refl, sym, ap, subst, ◌∙◌, arith, is_some, filter, ⊎_elim, Result, Ok, Err, OnOk, OnErr}
 use Rattle.std.specs.Prelude.{Option, None, Some}
 use Rattle.std.specs.Map.{keys_of, values_of, set_value}
-use Rattle.std.proofs.lemmas.Bool.{cases_Bool, cond-true, cond-false}
+use Rattle.std.specs.List.{position_or_len}
+use Rattle.std.proofs.lemmas.Bool.{cases_Bool, cond-true, cond-false, lt-ltb}
 use Rattle.std.proofs.lemmas.Bool.Decides.{nat_tests}
-use Rattle.std.proofs.lemmas.List.{get_or-set_same, get_or-set_other, get_or-take, get_or_past, length-set, length-take, take-map, map_push}
+use Rattle.std.proofs.lemmas.List.{get_or-set_same, get_or-set_other, get_or-take, get_or_past, length-set, length-take, length-append, take-map, map_push}
 use Rattle.std.proofs.lemmas.List.Quantifiers.{position-Some}
-use Rattle.std.proofs.lemmas.Map.Entries.{length-values_of}
+use Rattle.std.proofs.lemmas.List.Folds.{position_or_len_push}
+use Rattle.std.proofs.lemmas.Map.Entries.{length-keys_of, length-values_of}
 use Rattle.indexmap.specs.IndexMap.{set_value_at}
+use Rattle.indexmap.proofs.MapLemmas.{Missing-position}
 use Rattle.indexmap.proofs.ReorderLemmas.{exchange, get_or-swap, map-swap}
 use Rattle.trac_forms.specs.Table.{IsParted}
 
@@ -83,6 +86,18 @@ module _ {K X : Type 0} where
   written_first t (e ∷ es) i w found =
       let p = position-Some t (keys_of (e ∷ es)) i e.0 found in
       at_first t (e ∷ es) i w e.0 p.0 p.1 p.2
+
+  -- a new key has the last place
+  pub new_last : (t : K → Bool) (es : List (K × X)) (k : K) (w : X) → position t (keys_of es) ≡ None → t k ≡ true → position t (keys_of (es ++ (k, w) ∷ [])) ≡ Some (length es)
+  new_last t es k w none passes =
+      let ks = keys_of es ++ k ∷ [] in
+      let long = length-keys_of es in
+      let absent = (Missing-position t es none).or_len in
+      let put = position_or_len_push t (keys_of es) k in
+      let at : position_or_len t ks ≡ length es = grind (arith, nat_tests) in
+      ap (position t) (map_push (λ e. e.0) es (k, w))
+      ∙ ap (λ n. cond (ltb n (length ks)) (Some n) None) at
+      ∙ ap (λ b. cond b (Some (length es)) None) (lt-ltb (length es) (length ks) (omega (arith, long, length-append (keys_of es) (k ∷ []))))
 
 module _ {K X : Type 0} (es : List (K × Option X)) (n : ℕ) (parted : IsParted es n) where
   -- there are no fewer entries

@@ -28,7 +28,7 @@ use Rattle.trac_rules.specs.State.{Forms}
 use Rattle.trac_forms.specs.Stored.{KnowsAll, Names, Stored, changed_at, changing, swept}
 use Rattle.trac_forms.specs.Table.{IsParted, Kept, named, with_entry, forms_of, known_of, stored}
 use Rattle.trac_forms.proofs.Parted.{parted_kept, written_first}
-use Rattle.std.proofs.lemmas.List.{length-map}
+use Rattle.std.proofs.lemmas.List.{length-map, map_push}
 
 -- entries of a table of forms
 abbrev pub Entries : Type 0
@@ -202,14 +202,10 @@ flatten-new (e ∷ es) name q =
 pub forms_known : (es : Entries) (name : List ℕ) → forms_of (es ++ (name, None) ∷ []) ≡ forms_of es
 forms_known es name = forms_alike (es ++ (name, None) ∷ []) es (flatten-new es name)
 
-keys_push : (es : Entries) (name : List ℕ) (w : Option Form) → keys_of (es ++ (name, w) ∷ []) ≡ keys_of es ++ name ∷ []
-keys_push [] name w = refl
-keys_push (e ∷ es) name w = ap (λ r. e.0 ∷ r) (keys_push es name w)
-
 -- and is known from then on
 pub known_more : (es : Entries) (name : List ℕ) → known_of (es ++ (name, None) ∷ []) ≡ set.insert (known_of es) name
 known_more es name =
-    ap (λ (ks : List (List ℕ)). let s : Names = set.from_list ks in s) (keys_push es name None)
+    ap (λ (ks : List (List ℕ)). let s : Names = set.from_list ks in s) (map_push (λ e. e.0) es (name, None))
     ∙ set.from_list_push nat_list_cmp_total only_equal_tie (keys_of es) name
 
 -- a name that is known already
@@ -378,17 +374,13 @@ module _ {K : Type 0} (name : K → List ℕ) (es : List (K × Option Form)) (bs
       ∙ ap (λ (forms : Forms). let t : Stored = record s { forms = forms } in t) (with_changed q change s.forms)
 
   -- a new name, which has no form
-  pub made_known : (k : K) (q : List ℕ) (new : List (K × Option Form)) → name k ≡ q → new ≡ es ++ (k, None) ∷ [] → stored (named name new) bs ≡ record s { known = set.insert s.known q }
-  made_known k q new called e =
-      let same : named name new ≡ named name es ++ (q, None) ∷ [] = ap (named name) e ∙ pushed es ∙ ap (λ (n : List ℕ). named name es ++ (n, None) ∷ []) called in
-      ap (λ xs. stored xs bs) same
+  pub made_known : (k : K) (new : List (K × Option Form)) → new ≡ es ++ (k, None) ∷ [] → stored (named name new) bs ≡ record s { known = set.insert s.known (name k) }
+  made_known k new e =
+      let q = name k in
+      ap (λ xs. stored xs bs) (ap (named name) e ∙ map_push (λ x. (name x.0, x.1)) es (k, None))
       ∙ ap (λ (f : Forms). let t : Stored = record { forms = f; blocks = bs.blocks; spare = bs.spare; known = known_of (named name es ++ (q, None) ∷ []) } in t) (forms_known (named name es) q)
       ∙ ap (λ (n : Names). let t : Stored = record { forms = forms_of (named name es); blocks = bs.blocks; spare = bs.spare; known = n } in t) (known_more (named name es) q)
       ∙ ap (λ (t : Stored). let u : Stored = record t { known = set.insert t.known q } in u) is
-    where
-      pushed : (xs : List (K × Option Form)) → named name (xs ++ (k, None) ∷ []) ≡ named name xs ++ (name k, None) ∷ []
-      pushed [] = refl
-      pushed (x ∷ xs) = ap (λ r. (name x.0, x.1) ∷ r) (pushed xs)
 
   -- entries without a form dropped
   pub emptied : (new : List (K × Option Form)) → new ≡ filter (λ e. is_some e.1) es → IsDistinct (λ x y. bytes_eq (name x) (name y)) (keys_of es) → stored (named name new) bs ≡ swept s

@@ -152,8 +152,7 @@ impl<A: Allocator + Copy> Store<A> {
         if self.table.contains_key(name) {
             return Ok(());
         }
-        let key = Name::new(*self.table.allocator(), name)?;
-        add_entry(&mut self.table, key, None)
+        add_name(&mut self.table, name)
     }
 
     /// Puts a form under a name that is known, and returns the one that it replaces. It takes no memory
@@ -181,12 +180,13 @@ impl<A: Allocator + Copy> Store<A> {
         // Of a name that is known already nothing is asked of the allocator.
         ensures again { IsTrue (set.contains self.old.known name.now) → IsOk result }
     {
-        // A known name is looked up once.
+        // A known name is looked up once, and a new one twice.
         if let Some(i) = self.table.get_index_of(name) {
             return Ok(put_at(&mut self.table, &mut self.live, i, form));
         }
-        self.know(name)?;
-        Ok(self.put(name, form))
+        add_name(&mut self.table, name)?;
+        let last = self.table.len() - 1;
+        Ok(put_at(&mut self.table, &mut self.live, last, form))
     }
 
     /// Takes the form of this name away, if there is one, and returns it. The name stays known. It takes no memory
@@ -324,18 +324,15 @@ impl<A: Allocator + Copy> Store<A> {
     }
 }
 
-// Puts an entry after all others.
-pub(crate) fn add_entry<A: Allocator + Copy>(
-    table: &mut Table<A>,
-    name: Name<A>,
-    form: Option<Form<A>>,
-) -> Result<(), FormError>
-    requires { get_by (λ k. bytes_eq name k) table.old ≡ None }
-    ensures added { OnOk result (table.new.entries ≡ table.old.entries ++ (name, form) ∷ []) }
+// Puts an entry without a form after all others, under a name that has none.
+fn add_name<A: Allocator + Copy>(table: &mut Table<A>, name: &[u8]) -> Result<(), FormError>
+    requires { get_by (λ k. bytes_eq name.now k) table.old ≡ None }
+    ensures added { OnOk result (table.new.entries ≡ table.old.entries ++ (name.now, None) ∷ []) }
     ensures unchanged { OnErr result (table.new.entries ≡ table.old.entries) }
     ensures err { IsOkUnless result FormError.Memory }
 {
-    match table.insert(name, form) {
+    let key = Name::new(*table.allocator(), name)?;
+    match table.insert(key, None) {
         Ok(_) => Ok(()),
         Err(_) => Err(FormError::Memory),
     }

@@ -1,8 +1,6 @@
 -- A name is known where it has an entry, and a new one gets the last.
 use Rattle.std.proofs.Common.{sym, ap, ◌∙◌, ◌≡◌, true}
 use Rattle.std.specs.FinSet as set
-use Rattle.std.specs.Map.{lookup}
-use Rattle.std.specs.Str.{bytes_eq}
 use Rattle.std.proofs.lemmas.Bool.{false≢true}
 use Rattle.std.proofs.lemmas.Result.{on_ok_weaker}
 use Rattle.trac_forms.proofs.Parted.{parted_added}
@@ -15,19 +13,14 @@ returns-then-contains_key-clause-known g c =
     name_found (λ k. k) c.self.inside.table.entries _ c.args.self.now c.self.view_is c.args.name.now ∙ sym c.if-contains_key.ensures in
     ap (λ names. record c.args.self.now { known = names }) (sym (known_again c.args.self.now.known c.args.name.now there))
 
-pub returns-in_err-key-clause-again : goal.returns-in_err-key-clause-again
-returns-in_err-key-clause-again g c = λ there.
-    absurd (false≢true (c.if-contains_key.ensures ∙ sym (name_found (λ k. k) c.self.inside.table.entries _ c.args.self.now c.self.view_is c.args.name.now) ∙ there))
-
-pub add_entry-requires : goal.add_entry-requires
-add_entry-requires g c =
-    ap (λ name. lookup (λ k. bytes_eq name k) c.self.inside.table.entries) c.in_ok-key.ensures.name ∙ none_of_false _ (sym c.if-contains_key.ensures)
+pub add_name-requires : goal.add_name-requires
+add_name-requires g c = none_of_false _ (sym c.if-contains_key.ensures)
 
 pub returns-clause-known : goal.returns-clause-known
 returns-clause-known g c =
-    on_ok_weaker c.add_entry.result
-    (λ e. made_known (λ k. k) c.self.inside.table.entries _ c.args.self.now c.self.view_is c.in_ok-key.key c.args.name.now _ c.in_ok-key.ensures.name e)
-    c.add_entry.ensures.added
+    on_ok_weaker c.add_name.result
+    (made_known (λ k. k) c.self.inside.table.entries _ c.args.self.now c.self.view_is c.args.name.now _)
+    c.add_name.ensures.added
 
 pub returns-clause-again : goal.returns-clause-again
 returns-clause-again g c = λ there.
@@ -35,4 +28,4 @@ returns-clause-again g c = λ there.
 
 pub invariant_of-self : goal.invariant_of-self
 invariant_of-self g c =
-    parted_added c.add_entry.result c.self.inside.table.entries c.add_entry.new.table.entries c.self.inside.live c.in_ok-key.key c.self.invariant c.add_entry.ensures.added c.add_entry.ensures.unchanged
+    parted_added c.add_name.result c.self.inside.table.entries c.add_name.new.table.entries c.self.inside.live c.args.name.now c.self.invariant c.add_name.ensures.added c.add_name.ensures.unchanged
