@@ -10,7 +10,8 @@ use Rattle.trac_rules.specs.Form.{as_items, extent}
 use Rattle.trac_rules.specs.Fronts.{IsFrontOf}
 use Rattle.trac_rules.specs.Pieces.{byte_of, bytes_in, is_gap}
 use Rattle.trac_rules.specs.Weights.{gap_count}
-use Rattle.trac_rules.proofs.Cutting.{extent-append}
+use Rattle.trac_rules.proofs.Cutting.{extent-append, filled-as_items}
+use Rattle.trac_rules.proofs.Items.{length-as_items}
 use Rattle.trac_forms.proofs.Segments.{gap_count-append, gaps_more}
 
 -- a byte is no gap
@@ -55,6 +56,10 @@ run_items [] h = refl
 run_items (Byte b ∷ run) h = ap (λ (xs : List Item). Byte b ∷ xs) (run_items run h)
 run_items (Gap k w ∷ run) h = let none : ⊥ = omega (arith, h) in absurd none
 
+-- and there are as many
+pub plain_count : (run : List Item) → gap_count run ≡ 0 → length (bytes_in run) ≡ length run
+plain_count run h = sym (length-as_items (bytes_in run)) ∙ ap length (run_items run h)
+
 -- items have no more bytes than they stand for
 bytes_within : (items : List Item) → length (bytes_in items) ≤ extent items
 bytes_within [] = omega arith
@@ -66,14 +71,10 @@ run_within items run after seam = omega (arith, bytes_within run, extent-append 
 
 -- what a run gives in a call are its bytes, whatever the texts are
 pub run_filled : (texts : List (List ℕ)) (run : List Item) → gap_count run ≡ 0 → all_filled texts run ≡ bytes_in run
-run_filled texts [] h = refl
-run_filled texts (Byte b ∷ run) h = ap (λ (xs : List ℕ). b ∷ xs) (run_filled texts run h)
-run_filled texts (Gap k w ∷ run) h = let none : ⊥ = omega (arith, h) in absurd none
+run_filled texts run h = ap (all_filled texts) (sym (run_items run h)) ∙ filled-as_items texts (bytes_in run)
 
-pub run_length : (texts : List (List ℕ)) (run : List Item) → gap_count run ≡ 0 → length (all_filled texts run) ≡ length run
-run_length texts [] h = refl
-run_length texts (Byte b ∷ run) h = omega (arith, run_length texts run h)
-run_length texts (Gap k w ∷ run) h = omega (arith, h)
+run_length : (texts : List (List ℕ)) (run : List Item) → gap_count run ≡ 0 → length (all_filled texts run) ≡ length run
+run_length texts run h = ap length (run_filled texts run h) ∙ plain_count run h
 
 -- what items give that a run begins
 module _ (texts : List (List ℕ)) (items run after : List Item) (seam : items ≡ run ++ after) (bytes : gap_count run ≡ 0) where

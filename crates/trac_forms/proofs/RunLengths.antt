@@ -2,7 +2,9 @@
 use Rattle.std.proofs.Common.{◌≡◌, ℕ, zero, suc, ◌+◌, ◌-◌, ◌<◌, ◌≤◌, true, false, List, [], ◌∷◌, ◌++◌, length, take, drop, get_or, min, not, refl, sym, ap, ◌∙◌, arith}
 use Rattle.std.specs.List.{position, position_or_len}
 use Rattle.std.proofs.lemmas.Bool.{false≢true}
-use Rattle.std.proofs.lemmas.List.{drop-append-le, length-drop, length-take-le}
+use Rattle.std.proofs.lemmas.Bool.Decides.{nat_tests}
+use Rattle.std.proofs.lemmas.List.{drop-append-le, drop-map, length-drop, length-take-le, take-map}
+use Rattle.std.proofs.lemmas.List.Folds.{prefix_len-append}
 use Rattle.std.proofs.lemmas.List.Sums.{fails_before_first, passes_at_first, prefix_len-le-length}
 use Rattle.std.proofs.Math.Seq.{drop-append-add}
 use Rattle.trac_rules.specs.declared.item.Item.{Item}
@@ -11,6 +13,7 @@ use Rattle.trac_rules.specs.Cuts.{begins_with_gap}
 use Rattle.trac_rules.specs.Form.{as_items}
 use Rattle.trac_rules.specs.Pieces.{is_gap, segment_items}
 use Rattle.trac_rules.specs.Weights.{gap_count}
+use Rattle.trac_forms.proofs.ByteRuns.{plain_count}
 use Rattle.trac_forms.proofs.Passing.{count, count_gap, count_next, segment_to_gap, segment_whole}
 
 -- as many as are bytes, where a gap comes next or the end
@@ -23,11 +26,6 @@ run_is (Gap k w ∷ items) zero l none gap = refl
 run_is (Gap k w ∷ items) (suc n) l none gap = absurd (omega (arith, none))
 
 -- ---- a segment: the run with the gap that ends it, where there is one
-
-plain_count : (run : List Item) → gap_count run ≡ 0 → count run ≡ length run
-plain_count [] h = refl
-plain_count (Byte b ∷ run) h = omega (arith, plain_count run h)
-plain_count (Gap k w ∷ run) h = absurd (omega (arith, h))
 
 module _ (items : List Item) (run : ℕ) (within : run ≤ length items) (bytes : gap_count (take run items) ≡ 0) (gap : run < length items → begins_with_gap (drop run items) ≡ true) where
   place : run ≡ position_or_len is_gap items
@@ -54,16 +52,6 @@ module _ (items : List Item) (run : ℕ) (within : run ≤ length items) (bytes 
 
 -- ---- two lists, one after the other
 
-pub run_in_front : (xs ys : List Item) → position_or_len is_gap xs < length xs → position_or_len is_gap xs ≡ position_or_len is_gap (xs ++ ys)
-run_in_front [] ys l = absurd (omega (arith, l))
-run_in_front (Byte b ∷ xs) ys l = omega (arith, run_in_front xs ys (omega (arith, l)))
-run_in_front (Gap k w ∷ xs) ys l = refl
-
-pub run_past_front : (xs ys : List Item) → length xs ≤ position_or_len is_gap xs → length xs + position_or_len is_gap ys ≡ position_or_len is_gap (xs ++ ys)
-run_past_front [] ys l = omega arith
-run_past_front (Byte b ∷ xs) ys l = omega (arith, run_past_front xs ys (omega (arith, l)))
-run_past_front (Gap k w ∷ xs) ys l = absurd (omega (arith, l))
-
 -- the items of both from one place on, up to another
 taken_both : (xs ys : List Item) (to m n : ℕ) → m ≡ min to (length xs) → n ≡ to - length xs → take m xs ++ take n ys ≡ take to (xs ++ ys)
 taken_both [] ys to zero n e f = ap (λ k. take k ys) (omega (arith, f))
@@ -83,20 +71,16 @@ spanned xs ys from to m n within e f order =
 -- a run that begins in the first list
 module _ (xs ys : List Item) (from to m n run : ℕ) (within : from ≤ length xs) (e : m ≡ min to (length xs) - from) (f : n ≡ to - length xs) (order : from ≤ to)
     (is : run ≡ position_or_len is_gap (take m (drop from xs))) where
+  joined : position_or_len is_gap (take m (drop from xs) ++ take n ys) ≡ position_or_len is_gap (take (to - from) (drop from (xs ++ ys)))
+  joined = ap (position_or_len is_gap) (spanned xs ys from to m n within e f order)
+
   pub run_stops : run < length (take m (drop from xs)) → run ≡ position_or_len is_gap (take (to - from) (drop from (xs ++ ys)))
-  run_stops l = is ∙ run_in_front (take m (drop from xs)) (take n ys) (omega (arith, is, l)) ∙ ap (position_or_len is_gap) (spanned xs ys from to m n within e f order)
+  run_stops l = grind (arith, nat_tests, is, l, prefix_len-append (λ item. not (is_gap item)) (take m (drop from xs)) (take n ys), joined)
 
   pub run_goes_on : (more : ℕ) → length (take m (drop from xs)) ≤ run → more ≡ position_or_len is_gap (take n ys) → run + more ≡ position_or_len is_gap (take (to - from) (drop from (xs ++ ys)))
   run_goes_on more l rest =
-      omega (
-        arith,
-        is,
-        rest,
-        l,
-        prefix_len-le-length (λ item. not (is_gap item)) (take m (drop from xs)),
-        run_past_front (take m (drop from xs)) (take n ys) (omega (arith, is, l)),
-        ap (position_or_len is_gap) (spanned xs ys from to m n within e f order),
-      )
+      let most = prefix_len-le-length (λ item. not (is_gap item)) (take m (drop from xs)) in
+      grind (arith, nat_tests, prefix_len-append (λ item. not (is_gap item)) (take m (drop from xs)) (take n ys), joined)
 
 -- a run that begins in the second
 pub run_after : (xs ys : List Item) (from to : ℕ) → length xs ≤ from →
@@ -108,12 +92,17 @@ run_after xs ys from to after =
 
 -- ---- the bytes of a text
 
-front_run : (text : List ℕ) (n : ℕ) → n ≤ length text → n ≡ position_or_len is_gap (take n (as_items text))
-front_run text zero l = refl
-front_run [] (suc n) l = absurd (omega (arith, l))
-front_run (b ∷ text) (suc n) l = omega (arith, front_run text n (omega (arith, l)))
+plain_run : (text : List ℕ) → position_or_len is_gap (as_items text) ≡ length text
+plain_run [] = refl
+plain_run (b ∷ text) = omega (arith, plain_run text)
 
 pub text_run : (text : List ℕ) (from n : ℕ) → from + n ≤ length text → n ≡ position_or_len is_gap (take n (drop from (as_items text)))
-text_run text zero n l = front_run text n (omega (arith, l))
-text_run [] (suc from) n l = absurd (omega (arith, l))
-text_run (b ∷ text) (suc from) n l = text_run text from n (omega (arith, l))
+text_run text from n l =
+    omega (
+      arith,
+      l,
+      length-drop from text,
+      length-take-le n (drop from text),
+      plain_run (take n (drop from text)),
+      ap (position_or_len is_gap) (ap (take n) (drop-map Byte from text) ∙ take-map Byte n (drop from text)),
+    )
