@@ -19,10 +19,22 @@ no_gap : (item : Item) → is_gap item ≡ false → gap_count (item ∷ []) ≡
 no_gap (Byte b) h = refl
 no_gap (Gap k w) h = absurd cc
 
--- a byte more
-pub byte_passed : (items : List Item) (n m : ℕ) (item : Item) → m ≡ n + 1 → n < length items → gap_count (take n items) ≡ 0 → item ≡ get_or items n item → is_gap item ≡ false → gap_count (take m items) ≡ 0
-byte_passed items n m item e l before is h =
-    omega (arith, ap (λ k. gap_count (take k items)) e, gaps_more items n item l, before, ap (λ (x : Item). gap_count (x ∷ [])) is, no_gap item h)
+one_gap : (item : Item) → is_gap item ≡ true → gap_count (item ∷ []) ≡ 1
+one_gap (Byte b) h = absurd cc
+one_gap (Gap k w) h = refl
+
+-- an item more
+module _ (items : List Item) (n m : ℕ) (item : Item) (e : m ≡ n + 1) (l : n < length items) (is : item ≡ get_or items n item) where
+  one_more : gap_count (take m items) ≡ gap_count (take n items) + gap_count (item ∷ [])
+  one_more = omega (arith, ap (λ k. gap_count (take k items)) e, gaps_more items n item l, ap (λ (x : Item). gap_count (x ∷ [])) is)
+
+  pub byte_passed : gap_count (take n items) ≡ 0 → is_gap item ≡ false → gap_count (take m items) ≡ 0
+  byte_passed before h = omega (arith, one_more, before, no_gap item h)
+
+  -- a gap was met, or is met now
+  pub gap_met : (met : Bool) → (met ≡ true → 0 < gap_count (take n items)) → (met || is_gap item) ≡ true → 0 < gap_count (take m items)
+  gap_met true before h = omega (arith, one_more, before refl)
+  gap_met false before h = omega (arith, one_more, one_gap item h)
 
 -- a run in two parts
 module _ (run front left : List Item) (seam : run ≡ front ++ left) where

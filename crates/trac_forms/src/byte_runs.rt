@@ -53,6 +53,7 @@ fn far_run_len(items: &[PackedItem], from: usize) -> usize
     ensures from { from ≤ result }
     ensures within { result ≤ length items.now }
     ensures bytes { gap_count (take result items.now) ≡ 0 }
+    ensures far { result + CHUNK ≤ length items.now → 0 < gap_count (take (result + CHUNK) items.now) }
 {
     let mut run = from;
     'chunks: while CHUNK <= items.len() - run {
@@ -67,7 +68,8 @@ fn far_run_len(items: &[PackedItem], from: usize) -> usize
 // Whether there is a gap among so many items from this place on.
 fn has_gap<const N: usize>(items: &[PackedItem], at: usize) -> bool
     requires { at + N ≤ length items.now }
-    ensures { result ≡ false → gap_count (take at items.now) ≡ 0 → gap_count (take (at + N) items.now) ≡ 0 }
+    ensures none { result ≡ false → gap_count (take at items.now) ≡ 0 → gap_count (take (at + N) items.now) ≡ 0 }
+    ensures some { result ≡ true → 0 < gap_count (take (at + N) items.now) }
 {
     let mut gap = false;
     for i in 0..N {

@@ -9,7 +9,7 @@ use Rattle.trac_forms.proofs.byte_runs.run_len.Goals as goal
 pub items-preserved : goal.items-preserved
 items-preserved c = (
   omega (arith, c.items-test.true),
-  byte_passed c.args.items.now c.items.run (c.items.run + 1) c.index-items-run.result (omega arith) c.items-test.true c.items.invariant.1 c.index-items-run.is (sym c.is_gap.ensures ∙ c.if-is_gap.false),
+  byte_passed c.args.items.now c.items.run (c.items.run + 1) c.index-items-run.result (omega arith) c.items-test.true c.index-items-run.is c.items.invariant.1 (sym c.is_gap.ensures ∙ c.if-is_gap.false),
 )
 
 pub returns-then-is_gap-clause-gap : goal.returns-then-is_gap-clause-gap
