@@ -1,14 +1,14 @@
 -- Walks forward that stop where the records weigh enough.
-use Rattle.std.proofs.Common.{◌≡◌, ℕ, ◌+◌, ◌<◌, ◌≤◌, List, [], ◌∷◌, drop, refl, sym, ap, ◌∙◌, arith}
+use Rattle.std.proofs.Common.{◌≡◌, ℕ, ◌+◌, ◌<◌, ◌≤◌, List, [], ◌∷◌, drop, refl, ap, arith}
 use Rattle.std.specs.Prelude.{None, Some}
 use Rattle.trac_rules.specs.declared.refusal.Refusal.{Refusal}
 use Rattle.trac_rules.specs.declared.reply.Reply.TheVariants.{Refused}
 use Rattle.trac_rules.specs.State.{State}
 use Rattle.trac_rules.specs.Session.{PlainSession, Step, Answers, answer, done, no_goal, repeated}
-use Rattle.trac_rules.specs.Weights.{step_weight, weights_from}
+use Rattle.trac_rules.specs.Weights.{weights_from}
 use Rattle.trac_rules.proofs.Replies.{Step_done}
 use Rattle.trac_session.specs.Within.{IsWalkWithin}
-use Rattle.trac_session.proofs.Walked.{GoesOn, Step_refused_same, goes_on_far, goes_on_first, goes_on_more, stopped_walk, whole_walk}
+use Rattle.trac_session.proofs.Walked.{GoesOn, Step_refused_same, goes_on_far, goes_on_more, stopped_walk, whole_walk}
 
 -- without the newest of them states weigh no more
 lighter : (states : List State) → weights_from (drop 1 states) ≤ weights_from states
@@ -39,6 +39,7 @@ within_refused most n steps old p q refusal going l refused =
       walk = stopped_walk Step no_goal n steps old p q refusal going.on l same refused;
       heavy = λ fewer. absurd (omega (arith, fewer));
       light = λ some. omega (arith, lighter q.earlier, going.light (omega (arith, some)), ap (λ (s : PlainSession). weights_from s.earlier) same);
+      refused = λ some. omega (arith, going.light some, ap (λ (s : PlainSession). weights_from s.earlier) same);
     }
 
 -- the records weigh too much
@@ -52,6 +53,7 @@ within_heavy most n steps old p q going l taken heavy =
       walk = whole_walk Step no_goal (steps + 1) old q (goes_on_more Step no_goal old p q steps going.on taken refl);
       heavy = λ fewer. (omega arith, heavy);
       light = λ some. omega (arith, going.light (omega (arith, some)), ap (λ (states : List State). weights_from (drop 1 states)) next);
+      refused = tt;
     }
 
 -- all steps are taken
@@ -62,4 +64,5 @@ within_whole most n steps old q going all = record {
   walk = whole_walk Step no_goal steps old q going.on;
   heavy = λ fewer. absurd (omega (arith, fewer, all));
   light = λ some. omega (arith, lighter q.earlier, going.light (omega (arith, some)));
+  refused = tt;
 }

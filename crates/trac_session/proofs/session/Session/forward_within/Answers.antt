@@ -1,4 +1,4 @@
-use Rattle.std.proofs.Common.{◌+◌, arith}
+use Rattle.std.proofs.Common.{arith}
 use Rattle.trac_session.proofs.Heavy.{light_further, within_heavy, within_refused, within_whole}
 use Rattle.trac_session.proofs.session.Session.forward_within.Goals as goal
 
