@@ -1,5 +1,5 @@
 -- The newest record of a journal, by its kind: looked at, and taken out.
-use Rattle.std.proofs.Common.{◌≡◌, ℕ, zero, suc, ◌+◌, ◌-◌, ◌≤◌, List, [], ◌∷◌, ◌++◌, drop, refl, sym, ap, subst, ◌∙◌}
+use Rattle.std.proofs.Common.{◌≡◌, ℕ, zero, suc, ◌+◌, ◌-◌, ◌≤◌, List, [], ◌∷◌, ◌++◌, drop, refl, sym, ap, subst, ◌∙◌, arith}
 use Rattle.std.specs.Prelude.{reverse}
 use Rattle.trac_rules.specs.Records.{Called, CallRecord, Record, Idle, Moved}
 use Rattle.trac_rules.specs.State.{Frame}
@@ -7,7 +7,7 @@ use Rattle.trac_rules.specs.Undone.{Undone}
 use Rattle.trac_rules.specs.Weights.{undone_weight, weight}
 use Rattle.trac_journal.specs.Journaled.{unpacked, AreListed}
 use Rattle.trac_journal.specs.Listed.{Listed, call_of, idle_of, newest_in, newest_undone, nothing_listed, older_in, older_undone, without_call, HasCall, Holds, IsBrief}
-use Rattle.trac_journal.specs.Told.{HasCallOut, IsCallFirst}
+use Rattle.trac_journal.specs.Told.{HasCallOut, IsCallFirst, IsMovedFirst}
 use Rattle.trac_journal.specs.declared.entry.CallEntry.{CallEntry}
 use Rattle.trac_journal.specs.declared.entry.Entry.{Entry}
 use Rattle.trac_journal.specs.declared.entry.Kept.{Kept}
@@ -20,6 +20,34 @@ pub none_moved : (IsFirst : List Record → Type 0) → ((older : List Record) �
 none_moved IsFirst other zero entries l first = refl
 none_moved IsFirst other (suc moved) [] l first = absurd (other _ first)
 none_moved IsFirst other (suc moved) (e ∷ entries) l first = absurd (other _ first)
+
+-- ---- one of a moved byte
+
+-- a call has a record of its own
+call_unmoved : (calls : List CallEntry) (undone : Undone) (bytes commas : List ℕ) (older : List Record) → HasCall calls bytes commas →
+    IsMovedFirst (call_of calls undone bytes commas ∷ older) → ⊥
+call_unmoved [] undone bytes commas older has first = has
+call_unmoved (c ∷ calls) undone bytes commas older has first = first
+
+-- and so has a step that emptied all texts
+idle_unmoved : (emptied : List (List ℕ × List Frame)) (older : List Record) → IsMovedFirst (idle_of emptied ∷ older) → ⊥
+idle_unmoved [] older first = first
+idle_unmoved (texts ∷ emptied) older first = first
+
+-- no entry keeps one
+entry_unmoved : (k : Kept) (l : Listed) (older : List Record) → Holds k l → IsMovedFirst (newest_in k l ∷ older) → ⊥
+entry_unmoved kept.Call l older there first = call_unmoved l.calls (newest_undone kept.Call l.undone) l.bytes l.commas older there first
+entry_unmoved (kept.Pointed place) l older there first =
+    call_unmoved l.calls (newest_undone (kept.Pointed place) l.undone) l.bytes l.commas older there first
+entry_unmoved kept.Changed l older there first = call_unmoved l.calls (newest_undone kept.Changed l.undone) l.bytes l.commas older there.0 first
+entry_unmoved kept.Idle l older there first = idle_unmoved l.emptied older first
+entry_unmoved k l older there first = first
+
+-- so where none was moved after the newest entry, the newest record is of something else
+pub moved_out : (moved : ℕ) (entries : List Entry) (l : Listed) → moved ≡ 0 → AreListed entries l → IsMovedFirst (unpacked moved entries l) → ⊥
+moved_out zero [] l none listed first = first
+moved_out zero (e ∷ entries) l none listed first = entry_unmoved e.kept l (unpacked e.moved entries (older_in e.kept l)) listed.0 first
+moved_out (suc moved) entries l none listed first = absurd (omega (arith, none))
 
 -- ---- a short one
 

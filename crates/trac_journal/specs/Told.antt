@@ -54,6 +54,12 @@ IsIdleFirst [] = ⊥
 IsIdleFirst (Idle base frames ∷ older) = Unit {0}
 IsIdleFirst (newest ∷ older) = ⊥
 
+-- it is of a byte that was moved
+abbrev pub IsMovedFirst : List Record → Type 0
+IsMovedFirst [] = ⊥
+IsMovedFirst (Moved ∷ older) = Unit {0}
+IsMovedFirst (newest ∷ older) = ⊥
+
 -- it is of a call of these arguments, and this is said beside them
 pub record HasCallFirst (called : code.Called) (arguments : List (List ℕ)) (records : List Record) : Type 0 where
   pub undone : rules.Undone

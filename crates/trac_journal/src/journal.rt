@@ -8,7 +8,7 @@ ghost use Rattle.trac_rules.specs.Weights.{meta_weight, undone_weight, weight};
 ghost use Rattle.trac_journal.specs.Journaled.{HasPlaceForCall, HasPlaceForIdle, IsLight};
 ghost use Rattle.trac_journal.specs.Listed.{newest_in, nothing_listed, AreSmall, IsBrief};
 ghost use Rattle.trac_text.specs.Pieces.{all_texts, frames_in};
-ghost use Rattle.trac_journal.specs.Told.{record_with, said_by, sum_by, FitsEntry, HasCallFirst, HasCallOut, IsCallFirst, IsIdleFirst, IsShortFirst};
+ghost use Rattle.trac_journal.specs.Told.{record_with, said_by, sum_by, FitsEntry, HasCallFirst, HasCallOut, IsCallFirst, IsIdleFirst, IsMovedFirst, IsShortFirst};
 ghost use Rattle.trac_change.specs.Undone.{undone_in};
 
 use crate::called::{Called, LentCall, Short};
@@ -289,10 +289,12 @@ impl<A: Allocator + Copy> Journal<A> {
         Some(emptied)
     }
 
-    /// Takes out the records of the bytes that were moved last, up to `most` of them, and returns how many these are.
+    /// Takes out the records of the bytes that were moved last, up to `most` of them, and returns how many these are: fewer than
+    /// `most` only where the newest record then is of another kind, or there is none.
     pub fn pop_moved(&mut self, most: usize) -> usize
         ensures taken { self.old.records ≡ replicate result Moved ++ self.new.records }
         ensures most { result ≤ most }
+        ensures end { result < most → IsMovedFirst self.new.records → ⊥ }
     {
         let count = self.moved.min(most);
         self.moved -= count;

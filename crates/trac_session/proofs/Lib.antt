@@ -2,6 +2,7 @@ pub mod Journaled
 pub mod Summed
 pub mod Walked
 pub mod Passed
+pub mod RunsEnd
 pub mod Performed
 pub mod Windowed
 pub mod Told

@@ -31,7 +31,7 @@ use Rattle.trac_session.proofs.Walked.{repeated-from}
 -- ---- records of moved bytes
 
 -- so many of them are so many more
-length-moved : (old new : List Record) (n : ℕ) → new ≡ replicate n Moved ++ old → length new ≡ n + length old
+pub length-moved : (old new : List Record) (n : ℕ) → new ≡ replicate n Moved ++ old → length new ≡ n + length old
 length-moved old new n kept =
     omega (arith, ap (λ (records : List Record). length records) kept, length-append (replicate n Moved) old, length-replicate n Moved)
 

@@ -1,8 +1,8 @@
 //! Runs of plain bytes, which a session passes at once.
-ghost use Rattle.std.specs.Prelude.{◌≡◌, ◌≤◌, Some};
+ghost use Rattle.std.specs.Prelude.{◌≡◌, ◌<◌, ◌≤◌, Some};
 ghost use Rattle.trac_rules.specs.Session.{Step, Back, repeated};
 ghost use Rattle.trac_rules.specs.Weights.{weights_from};
-ghost use Rattle.trac_session.specs.Runs.{HasMovedBack};
+ghost use Rattle.trac_session.specs.Runs.{HasMovedBack, HasNotMovedLast};
 
 use crate::session::Session;
 use std::alloc::Allocator;
@@ -23,12 +23,13 @@ impl<A: Allocator + Copy> Session<A> {
     }
 
     /// Goes back over steps that moved a byte each to the current text, up to `most` of them, until one that did something
-    /// else. Returns how many these are. It takes the same time however many they are, but for moving the bytes, and no
-    /// memory (this project's profile).
+    /// else. Returns how many these are: fewer than `most` only where the step before did something else, or there is none. It
+    /// takes the same time however many they are, but for moving the bytes, and no memory (this project's profile).
     pub fn pass_back(&mut self, most: u64) -> u64
         ensures passed { repeated Back result self.old ≡ Some self.new }
         ensures moved { HasMovedBack result self.old self.new }
         ensures most { result ≤ most }
+        ensures end { result < most → HasNotMovedLast self.new.earlier }
     {
         let records = self.journal.len();
         let count = self.journal.pop_moved(most.min(records as u64) as usize);
