@@ -1,6 +1,6 @@
 //! A session whose last steps are kept, with counts of what is forgotten.
-ghost use Rattle.std.specs.Prelude.{◌≡◌, ◌+◌, ◌^◌, ◌<◌, ◌≤◌, length, IfErr, OnOk};
-ghost use Rattle.trac_rules.specs.Session.{first_kept};
+ghost use Rattle.std.specs.Prelude.{◌≡◌, ◌+◌, ◌-◌, ◌^◌, ◌<◌, ◌≤◌, length, IfErr, IfOk, OnOk};
+ghost use Rattle.trac_rules.specs.Session.{Commit, answer, done, first_kept};
 ghost use Rattle.trac_window.specs.Refused.{MayRefuseProgram};
 
 use std::alloc::Allocator;
@@ -29,6 +29,7 @@ impl<A: Allocator + Copy> Window<A> {
         requires some_records { 1 ≤ limit }
         requires most_records { limit ≤ JOURNAL_LIMIT }
         ensures made { OnOk result (length tape.now ≤ TAPE_LIMIT) }
+        ensures fresh { IfOk result (λ w. (w.forgotten ≡ 0) × (w.released ≡ 0)) }
         ensures refused { IfErr result (MayRefuseProgram tape.now) }
     {
         if tape.len() > TAPE_LIMIT {
@@ -47,6 +48,8 @@ impl<A: Allocator + Copy> Window<A> {
     /// Forgets all steps but the last, so many of them, and counts these, and the bytes of the output that are forgotten with
     /// them.
     pub fn keep_steps(&mut self, keep: usize)
+        ensures kept { answer (Commit keep) self.old.session ≡ done self.new.session }
+        ensures steps { self.old.forgotten + (length self.old.session.earlier - keep) < 2 ^ 64 → self.new.forgotten ≡ self.old.forgotten + (length self.old.session.earlier - keep) }
         ensures counted { self.old.released + length (first_kept keep self.old.session).output < 2 ^ 64 → self.new.released ≡ self.old.released + length (first_kept keep self.old.session).output }
     {
         let steps = self.session.len().saturating_sub(keep);
@@ -81,7 +84,8 @@ fn fed<A: Allocator + Copy>(mut session: Session<A>, tape: &[u8]) -> Result<Sess
 // Keeps so many steps, and returns how many bytes of the output are forgotten with the others: those of the first state that
 // stays.
 fn forget_before<A: Allocator + Copy>(session: &mut Session<A>, keep: usize) -> usize
-    ensures { result ≡ length (first_kept keep session.old).output }
+    ensures printed { result ≡ length (first_kept keep session.old).output }
+    ensures kept { answer (Commit keep) session.old ≡ done session.new }
 {
     let released = session.pending_before(keep).len();
     session.commit(keep);
