@@ -15,7 +15,9 @@ mod way;
 pub use calls::{Lengths, call_line, outcome_into};
 pub use form_list::{form_into, list_into};
 pub use glance::{Glance, glance_at};
-pub use notes::{NO_PRIMITIVE, Stop, no_end_into, refused, stop_into, window_into};
+pub use notes::{
+    Forgetting, NO_PRIMITIVE, SEARCH_LIMIT, Stop, no_end_into, refused, stop_into, window_into,
+};
 pub use printing::lacks_output_room;
 pub use screen::{Reach, screen_into};
 pub use screen_line::ScreenLine;

@@ -4,6 +4,9 @@ use crate::screen_line::ScreenLine;
 use std::alloc::{AllocError, Allocator};
 use trac_rules::refusal::Refusal;
 
+/// A search forward stops after so many steps (this project's profile).
+pub const SEARCH_LIMIT: u64 = 10_000_000;
+
 /// Why a move stopped before its goal.
 #[derive(Clone, Copy)]
 pub enum Stop {
@@ -11,8 +14,10 @@ pub enum Stop {
     Refused(Refusal),
     /// A step forward was refused so before the call was met that was looked for.
     Unmet(Refusal),
-    /// The steps of a search were spent.
+    /// The steps of a search were spent, which can go on from there.
     Spent,
+    /// The steps of a search were spent, which looked for the end of a call. The same command would be about another call there.
+    Unended,
     /// There is no step to go back over.
     AtFirst,
     /// What was looked for is not met on the way back.
@@ -21,8 +26,12 @@ pub enum Stop {
     NoForm,
     /// No function is begun.
     Outside,
+    /// The function that the next step performs is the outermost one.
+    Outermost,
     /// The value of no function ends here.
     NoValue,
+    /// Nor of one that was performed since the first step that one can go back to; which were performed before is not known.
+    NoValueSince,
     /// Byte 0 was named, of the output, of a form or of an argument; the first is number 1.
     FromOne,
     /// An empty text was given, and its last byte is wanted.
@@ -60,13 +69,7 @@ pub fn stop_into<A: Allocator + Copy>(
     out: &mut Vec<u8, A>,
 ) -> Result<(), AllocError> {
     let mut line = ScreenLine::new(alloc);
-    if matches!(stop, Stop::Unmet(_)) {
-        line.say(b"not met; ")?;
-    }
-    line.say(reason(stop))?;
-    if is_about_reach(stop) {
-        line.count(first_step)?;
-    }
+    say_stop(first_step, stop, &mut line)?;
     line.end_into(out)?;
     match stop {
         Stop::NoForm => out.extend_from_slice(NO_FORM),
@@ -74,29 +77,53 @@ pub fn stop_into<A: Allocator + Copy>(
     }
 }
 
-// Whether the reason ends with the first step that one can go back to.
-fn is_about_reach(stop: Stop) -> bool {
+// Why a move stopped, in words.
+fn say_stop<A: Allocator + Copy>(
+    first_step: u64,
+    stop: Stop,
+    line: &mut ScreenLine<A>,
+) -> Result<(), AllocError> {
+    if matches!(stop, Stop::Unmet(_)) {
+        line.say(b"not met; ")?;
+    }
+    line.say(reason(stop))?;
     match stop {
-        Stop::AtFirst | Stop::NotMet | Stop::NoForm => true,
-        Stop::NotPrintedSince | Stop::PrintedEarlier => true,
-        _ => false,
+        Stop::Spent => say_count(SEARCH_LIMIT, b" steps; an empty line goes on", line),
+        Stop::Unended => say_count(SEARCH_LIMIT, b" steps; s N goes on by N steps", line),
+        Stop::AtFirst | Stop::NotMet | Stop::NoForm => line.count(first_step),
+        Stop::NoValueSince | Stop::NotPrintedSince | Stop::PrintedEarlier => line.count(first_step),
+        _ => Ok(()),
     }
 }
 
-// Why a move stopped, in words.
+// A number, and words after it.
+fn say_count<A: Allocator + Copy>(
+    number: u64,
+    words: &[u8],
+    line: &mut ScreenLine<A>,
+) -> Result<(), AllocError> {
+    line.count(number)?;
+    line.say(words)
+}
+
+// Why a move stopped, up to the number that is said with it, where one is.
 fn reason(stop: Stop) -> &'static [u8] {
     match stop {
         Stop::Refused(refusal) | Stop::Unmet(refusal) => refused(refusal),
-        Stop::Spent => b"not met in 10000000 steps; an empty line goes on",
-        Stop::AtFirst => b"the way back ends here, at step ",
-        Stop::NotMet | Stop::NoForm => b"not met on the way back, which ends at step ",
+        Stop::Spent => b"not met after ",
+        Stop::Unended => b"the call has not ended after ",
+        Stop::AtFirst => b"this is the first step that is kept, step ",
+        Stop::NotMet | Stop::NoForm => b"not met since the first step that is kept, step ",
         Stop::Outside => b"no call is begun here",
+        Stop::Outermost => b"no call is begun around this one",
         Stop::NoValue => b"the value of no call ends here",
+        Stop::NoValueSince =>
+            b"the value of no call ends here since the first step that is kept, step ",
         Stop::FromOne => b"bytes are counted from 1",
         Stop::EmptyText => b"an empty text has no last byte",
         Stop::NotPrinted => b"that was not printed up to here",
-        Stop::NotPrintedSince => b"that was not printed since the way back begins, at step ",
-        Stop::PrintedEarlier => b"that was printed before the way back begins, at step ",
+        Stop::NotPrintedSince => b"that was not printed since the first step that is kept, step ",
+        Stop::PrintedEarlier => b"that was printed before the first step that is kept, step ",
         Stop::NoByte => b"no byte stands there",
         Stop::NoName => b"no byte of the name of this call is scanned",
         Stop::NoSuchForm => b"there is no form of this name",
@@ -110,7 +137,7 @@ pub fn refused(refusal: Refusal) -> &'static [u8] {
         Refusal::NeedInput => b"the program waits for input: i TEXT feeds a line, e ends the input",
         Refusal::Ended => b"the program has ended",
         Refusal::TooLong =>
-            b"a limit is passed: a text, a form, the input or the output is too long",
+            b"a limit is passed: too much text, or too many calls, forms or blocks",
         Refusal::Memory => b"there is no memory for this",
         Refusal::Closed => b"the input has ended",
         Refusal::JournalFull => b"the way back is full",
@@ -119,23 +146,38 @@ pub fn refused(refusal: Refusal) -> &'static [u8] {
     }
 }
 
-/// Puts a line at the end of a text that says that the way back goes to this step from now on, and why: to make room for the
-/// output, or because so many steps are kept.
+/// Why steps are forgotten.
+#[derive(Clone, Copy)]
+pub enum Forgetting {
+    /// To make room for the output.
+    ForOutput,
+    /// So many are kept, and `--journal` can keep more.
+    ForSteps,
+    /// So many are kept, and no more can be.
+    ForMostSteps,
+}
+
+/// Puts a line at the end of a text that says that this is the first step that is kept from now on, and why. The error is that
+/// memory was refused.
 pub fn window_into<A: Allocator + Copy>(
     alloc: A,
     first_step: u64,
-    is_for_output: bool,
+    why: Forgetting,
     out: &mut Vec<u8, A>,
 ) -> Result<(), AllocError> {
     let mut line = ScreenLine::new(alloc);
     line.say(b"steps before ")?;
-    line.count(first_step)?;
-    line.say(if is_for_output {
-        b" are forgotten, to make room for the output"
-    } else {
-        b" are forgotten; --journal keeps more"
-    })?;
+    say_count(first_step, forgotten(why), &mut line)?;
     line.end_into(out)
+}
+
+// That steps are forgotten, and why.
+fn forgotten(why: Forgetting) -> &'static [u8] {
+    match why {
+        Forgetting::ForOutput => b" are forgotten, to make room for the output",
+        Forgetting::ForSteps => b" are forgotten; --journal keeps more",
+        Forgetting::ForMostSteps => b" are forgotten",
+    }
 }
 
 /// Puts a line at the end of a text that says that a line of input does not end the text that `rs` reads, since it has no meta

@@ -75,11 +75,8 @@ fn anywhere_into<A: Allocator + Copy>(
         ),
         [b'#', b'(', ..] => quoted_into(b"\"#(\" begins a call: ", active, line),
         [b'#', b'#', b'(', ..] => quoted_into(b"\"##(\" begins a call: ", active, line),
-        [b'\r' | b'\n' | b'\t', rest @ ..] => quoted_into(
-            b"layout is deleted, before: ",
-            rest,
-            line,
-        ),
+        [b'\r' | b'\n', rest @ ..] => quoted_into(b"a line end is deleted, before: ", rest, line),
+        [b'\t', rest @ ..] => quoted_into(b"a tab is deleted, before: ", rest, line),
         active => taken_into(active, line),
     }
 }

@@ -20,7 +20,7 @@ pub enum Treatment {
     Puts,
     /// A call gave it in its value.
     Gives,
-    /// The way back ends here, so.
+    /// The way of the byte ends here, so.
     Ends(Origin),
 }
 
@@ -33,7 +33,7 @@ pub enum Origin {
     Read(u64, u64),
     /// A call read it, as the byte of this number, counted from 1, of the input after the program.
     ReadFed(u64),
-    /// The way back begins after the step that brought it here.
+    /// It stood there already at the first step that is kept.
     There,
 }
 
@@ -94,7 +94,7 @@ fn fed_into<A: Allocator + Copy>(number: u64, line: &mut ScreenLine<A>) -> Resul
     line.say(b" after FILE")
 }
 
-/// Puts where a byte comes from at the end of a line; the way back ends at the step of this number.
+/// Puts where a byte comes from at the end of a line; its way ends at the step of this number.
 pub fn origin_into<A: Allocator + Copy>(
     origin: Origin,
     step: u64,

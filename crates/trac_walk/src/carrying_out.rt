@@ -5,13 +5,11 @@ use crate::walker::Walker;
 use memchr::memmem;
 use std::alloc::Allocator;
 use trac_orders::Move;
-use trac_screen::{Glance, Stop};
+use trac_screen::{Glance, SEARCH_LIMIT, Stop};
 use trac_session::Refusal;
 
-/// A search forward stops after so many steps (this project's profile).
-pub const SEARCH_LIMIT: u64 = 10_000_000;
-
-/// Carries out a move, and says why it stopped before its goal, where it did. It takes no memory but for steps.
+/// Carries out a move, and says why it stopped before its goal, where it did. It takes no memory but for steps, and for a copy
+/// of the form of which the last change is looked for.
 pub fn carry_out<A: Allocator + Copy>(walker: &mut Walker<A>, way: Move<'_>) -> Option<Stop> {
     match way {
         Move::Forward(steps) => stop_ahead(walker.forward(steps)),
@@ -29,10 +27,15 @@ pub fn carry_out<A: Allocator + Copy>(walker: &mut Walker<A>, way: Move<'_>) -> 
     }
 }
 
-// Why a walk forward stopped.
+// Why a walk forward stopped that has no goal.
 fn stop_ahead(why: Option<Refusal>) -> Option<Stop> {
+    Some(Stop::Refused(why?))
+}
+
+// Why a walk forward to the end of a call stopped, or over what is left of its value.
+fn stop_before_end(why: Option<Refusal>) -> Option<Stop> {
     match why? {
-        Refusal::NotMet => Some(Stop::Spent),
+        Refusal::NotMet => Some(Stop::Unended),
         refusal => Some(Stop::Refused(refusal)),
     }
 }
@@ -89,7 +92,7 @@ fn over<A: Allocator + Copy>(walker: &mut Walker<A>) -> Option<Stop> {
     let here = walker.glance();
     if here.beginning > 0 {
         let inside = here.depth.saturating_add(1);
-        let ended = stop_ahead(walker.forward_to(Aim::End(inside), SEARCH_LIMIT));
+        let ended = stop_before_end(walker.forward_to(Aim::End(inside), SEARCH_LIMIT));
         if ended.is_some() {
             return ended;
         }
@@ -119,7 +122,7 @@ fn over_call<A: Allocator + Copy>(walker: &mut Walker<A>) -> Option<Stop> {
     if stopped.is_some() || walker.glance().rest <= rest {
         return stopped;
     }
-    stop_ahead(walker.forward_to(Aim::Rest(rest), SEARCH_LIMIT))
+    stop_before_end(walker.forward_to(Aim::Rest(rest), SEARCH_LIMIT))
 }
 
 // Back to where the function began whose value ends here, the way over it back; forward again where there is none.
@@ -136,13 +139,14 @@ fn over_back<A: Allocator + Copy>(walker: &mut Walker<A>) -> Option<Stop> {
 // to scan here was left after the `)` that ended it, and until here no less was left.
 fn to_beginning<A: Allocator + Copy>(walker: &mut Walker<A>, here: u64) -> Option<Stop> {
     let rest = walker.glance().rest;
-    match walker.return_to(Aim::Rest(rest)) {
-        None => {}
+    let unmet = match walker.return_to(Aim::Rest(rest)) {
+        None => Stop::NoValue,
         Some(Refusal::NotMet) => {
             let _ = walker.back(u64::MAX);
+            no_value_since(walker.first_step())
         }
         Some(refusal) => return Some(Stop::Refused(refusal)),
-    }
+    };
     for _ in walker.step()..here {
         let now = walker.glance();
         if is_call_before(now, rest) {
@@ -153,7 +157,16 @@ fn to_beginning<A: Allocator + Copy>(walker: &mut Walker<A>, here: u64) -> Optio
             return stopped;
         }
     }
-    Some(Stop::NoValue)
+    Some(unmet)
+}
+
+// That the value of no call ends here, as far as is known from this step on.
+fn no_value_since(first_step: u64) -> Stop {
+    if first_step == 0 {
+        Stop::NoValue
+    } else {
+        Stop::NoValueSince
+    }
 }
 
 // Whether the next step performs a call, with so many bytes left after its `)`.
@@ -164,11 +177,14 @@ fn is_call_before(now: Glance, rest: usize) -> bool {
 // To the end of the innermost begun function; from there to that of the one around it.
 fn out<A: Allocator + Copy>(walker: &mut Walker<A>) -> Option<Stop> {
     let here = walker.glance();
-    let inside = here.depth.saturating_sub(usize::from(here.performs));
-    if inside == 0 {
+    if here.depth == 0 {
         return Some(Stop::Outside);
     }
-    stop_ahead(walker.forward_to(Aim::End(inside), SEARCH_LIMIT))
+    let inside = here.depth - usize::from(here.performs);
+    if inside == 0 {
+        return Some(Stop::Outermost);
+    }
+    stop_before_end(walker.forward_to(Aim::End(inside), SEARCH_LIMIT))
 }
 
 // To the beginning of the innermost begun function.

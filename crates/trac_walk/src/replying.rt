@@ -193,11 +193,11 @@ fn tell<A: Allocator + Copy>(
         return Ok(());
     }
     *told = true;
-    window_into(alloc, first_step, walker.has_made_output_room(), out)
+    window_into(alloc, first_step, walker.forgetting(), out)
 }
 
-// Feeds a line, and says where it stands, or why the line was refused. Where a text is read, it also says that the line does not end
-// one.
+// Feeds a line, and says where it stands, or why the line was refused. Where a text is read that neither the line nor what was
+// unread before it ends, it also says that.
 fn feed<A: Allocator + Copy>(
     alloc: A,
     walker: &mut Walker<A>,
@@ -209,7 +209,7 @@ fn feed<A: Allocator + Copy>(
         return out.extend_from_slice(b"\n");
     }
     let meta = walker.sight().meta;
-    if reads_text(&walker.sight()) && !text.contains(&meta) {
+    if reads_text(&walker.sight()) && !walker.unread().contains(&meta) {
         no_end_into(alloc, meta, out)?;
     }
     stand_into(alloc, walker, out)

@@ -9,7 +9,7 @@ use trac_forms::{Form, FormError, Store};
 use trac_rules::byte::LINE_FEED;
 use trac_rules::limit::{JOURNAL_LIMIT, TAPE_LIMIT};
 use trac_rules::width::Width;
-use trac_screen::{Glance, Reach, Sight, glance_at, lacks_output_room, sight_of};
+use trac_screen::{Forgetting, Glance, Reach, Sight, glance_at, lacks_output_room, sight_of};
 use trac_session::{Goal, Machine, Refusal, Return, Session, Walk};
 use trac_streams::Ending;
 use trac_window::Window;
@@ -92,9 +92,20 @@ impl<A: Allocator + Copy> Walker<A> {
         self.window.released
     }
 
-    /// Whether steps were forgotten to make room for the output.
-    pub fn has_made_output_room(&self) -> bool {
-        self.has_made_output_room
+    /// What is not read of the input.
+    pub fn unread(&self) -> &[u8] {
+        self.window.session.unread()
+    }
+
+    /// Why steps are forgotten.
+    pub fn forgetting(&self) -> Forgetting {
+        if self.has_made_output_room {
+            Forgetting::ForOutput
+        } else if self.limit < JOURNAL_LIMIT {
+            Forgetting::ForSteps
+        } else {
+            Forgetting::ForMostSteps
+        }
     }
 
     /// How far it has come.
