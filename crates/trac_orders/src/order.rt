@@ -9,6 +9,9 @@ pub const CALL_COUNT: u64 = 10;
 /// What is said of a line that is not understood.
 pub const NOT_UNDERSTOOD: &[u8] = b"not understood; h lists the commands\n";
 
+// What is said of a command that stands alone, with other words after it.
+const STANDS_ALONE: &[u8] = b"not understood; nothing stands after this command\n";
+
 /// The commands, on one screen.
 pub const HELP: &[u8] = b"\
 s [N]      N steps forward, or 1         b [N]      N steps back, or 1
@@ -28,7 +31,7 @@ p          the state on one screen       p all      all of it
 f          the forms                     f NAME     one form
 t [N]      the last N calls (1 or more), or 10, with their values
 h          this list; or help, ?         q          the end; or quit, exit
-An empty line repeats the last move. A word with blanks stands in quotes; in
+An empty line repeats the last move or y. Words with blanks stand in quotes; in
 those \\n is a line feed, and \\xHH the byte of that hexadecimal number.
 ";
 
@@ -128,6 +131,26 @@ pub fn order_of<'a>(words: &'a [&'a [u8]], quoted: bool) -> Option<Order<'a>> {
     }
 }
 
+/// What is said of words that ask for nothing, in a line: what their command takes, where it is one.
+pub fn misunderstood(words: &[&[u8]]) -> &'static [u8] {
+    let Some((command, _)) = words.split_first() else {
+        return NOT_UNDERSTOOD;
+    };
+    match *command {
+        b"s" | b"b" => b"not understood; s and b take a number of 12 digits at most, or nothing\n",
+        b"g" => b"not understood; g takes a number of 12 digits at most\n",
+        b"t" => b"not understood; t takes a number from 1 on, of 12 digits at most, or nothing\n",
+        b"w" => b"not understood; w takes NAME, #K or \"TEXT\"\n",
+        b"y" => b"not understood; y takes \"TEXT\", #K, #, NAME K, . A K, or nothing\n",
+        b"i" => b"not understood; i takes TEXT, which in quotes is one word\n",
+        b"p" => b"not understood; p takes all, or nothing\n",
+        b"f" => b"not understood; f takes NAME, or nothing\n",
+        b"n" | b"N" | b"o" | b"O" | b"l" | b"e" => STANDS_ALONE,
+        b"h" | b"help" | b"?" | b"q" | b"quit" | b"exit" => STANDS_ALONE,
+        _ => NOT_UNDERSTOOD,
+    }
+}
+
 // The move that these words say, if they say one.
 fn move_of<'a>(command: &[u8], rest: &'a [&'a [u8]], quoted: bool) -> Option<Move<'a>> {
     match command {
@@ -139,14 +162,14 @@ fn move_of<'a>(command: &[u8], rest: &'a [&'a [u8]], quoted: bool) -> Option<Mov
         b"O" => alone(rest, Move::OutBack),
         b"u" => Some(Move::Until(rest)),
         b"r" => Some(Move::Return(rest)),
-        b"w" => origin_of(rest, quoted),
+        b"w" => looked_for(rest, quoted),
         b"g" => Some(Move::To(number(one_in(rest)?)?)),
         _ => None,
     }
 }
 
-// What `w` looks for: the origin of a form, of a byte or of a text.
-fn origin_of<'a>(rest: &[&'a [u8]], quoted: bool) -> Option<Move<'a>> {
+// What `w` looks for: the call that changed a form, or that printed a byte or a text.
+fn looked_for<'a>(rest: &[&'a [u8]], quoted: bool) -> Option<Move<'a>> {
     let word = one_in(rest)?;
     if quoted {
         return Some(Move::PrintedText(word));

@@ -7,7 +7,8 @@ use crate::standing::stand_into;
 use crate::walker::Walker;
 use std::alloc::{AllocError, Allocator};
 use trac_orders::{
-    HELP, Move, NOT_UNDERSTOOD, Order, Word, is_second_quoted, order_of, texts_of, words_of,
+    HELP, Move, NOT_UNDERSTOOD, Order, Spot, Word, is_second_quoted, misunderstood, order_of,
+    texts_of, words_of,
 };
 use trac_prims::primitive_named;
 use trac_rules::primitive::Primitive;
@@ -22,7 +23,7 @@ use trac_show::machine_lines;
 pub struct Memo<'p, A: Allocator + Copy> {
     // the program
     program: &'p [u8],
-    // the line of the last move; empty before the first
+    // the line of the last move or of the last byte that was followed; empty before the first
     last: Vec<u8, A>,
     // whether it was said that steps are forgotten
     told: bool,
@@ -40,7 +41,8 @@ impl<'p, A: Allocator + Copy> Memo<'p, A> {
 }
 
 /// Does what a line asks for, and puts what is to be said of it at the end of a text; whether the dialogue goes on. An empty
-/// line asks for the last move again. The error is that memory was refused, here and below.
+/// line asks for the last move again, or to follow a byte as the last line that did. The error is that memory was refused, here
+/// and below.
 pub fn reply_into<A: Allocator + Copy>(
     alloc: A,
     walker: &mut Walker<A>,
@@ -59,7 +61,7 @@ pub fn reply_into<A: Allocator + Copy>(
     obey_words(alloc, walker, memo, line, &words, out)
 }
 
-// Does what the line of the last move asks for again; before the first move it says where it stands.
+// Does what the line that is kept asks for again; where none is yet it says where it stands.
 fn repeat<A: Allocator + Copy>(
     alloc: A,
     walker: &mut Walker<A>,
@@ -73,7 +75,7 @@ fn repeat<A: Allocator + Copy>(
     repeat_line(alloc, walker, memo, last.as_slice(), out)
 }
 
-// Does what the line of a move asks for.
+// Does what a line asks for that was understood before.
 fn repeat_line<A: Allocator + Copy>(
     alloc: A,
     walker: &mut Walker<A>,
@@ -100,13 +102,16 @@ fn obey_words<A: Allocator + Copy>(
     let texts = texts_of(alloc, words)?;
     match order_of(texts.as_slice(), is_second_quoted(words)) {
         Some(order) => obey(alloc, walker, memo, line, order, out),
-        None => not_understood(out),
+        None => not_understood(texts.as_slice(), out),
     }
 }
 
-// Says that a line is not understood. The dialogue goes on.
-fn not_understood<A: Allocator>(out: &mut Vec<u8, A>) -> Result<bool, AllocError> {
-    out.extend_from_slice(NOT_UNDERSTOOD)?;
+// Says that these words are not understood. The dialogue goes on.
+fn not_understood<A: Allocator>(
+    words: &[&[u8]],
+    out: &mut Vec<u8, A>,
+) -> Result<bool, AllocError> {
+    out.extend_from_slice(misunderstood(words))?;
     Ok(true)
 }
 
@@ -122,7 +127,7 @@ fn obey<A: Allocator + Copy>(
     match order {
         Order::Quit => return Ok(false),
         Order::Go(way) => go(alloc, walker, memo, line, way, out)?,
-        Order::Follow(spot) => way_into(alloc, walker, memo.program, spot, out)?,
+        Order::Follow(spot) => follow(alloc, walker, memo, line, spot, out)?,
         Order::Locate => written_into(alloc, walker, memo.program, out)?,
         order => serve(alloc, walker, order, out)?,
     }
@@ -160,6 +165,19 @@ fn go<A: Allocator + Copy>(
         out.extend_from_slice(NO_PRIMITIVE)?;
     }
     stand_into(alloc, walker, out)
+}
+
+// Follows the byte back that a line asks for, which is kept.
+fn follow<A: Allocator + Copy>(
+    alloc: A,
+    walker: &mut Walker<A>,
+    memo: &mut Memo<'_, A>,
+    line: &[u8],
+    spot: Spot<'_>,
+    out: &mut Vec<u8, A>,
+) -> Result<(), AllocError> {
+    memo.last = Vec::from_slice(alloc, line)?;
+    way_into(alloc, walker, memo.program, spot, out)
 }
 
 // Whether a move stopped because what it looked for is not met.
