@@ -18,7 +18,8 @@ pub record Gives (old new : Option (List ℕ)) : Type 0 where
 abbrev pub IsFault : Ending → Type 0
 IsFault ending = (ending ≡ Memory) ⊎ (ending ≡ Write)
 
--- how a dialogue may end that was begun: not for a line that is not understood; its turns are as many as a number of 64 bits counts
+-- how a dialogue may end that was begun: not for a line that is not understood, nor for a limit. This says which endings
+-- there are, and not when they come
 abbrev pub IsStop : Ending → Type 0
 IsStop Ended = Unit {0}
 IsStop Budget = Unit {0}

@@ -49,9 +49,10 @@ impl<'p, A: Allocator + Copy> Replier<A> for Guide<'p, A> {
 /// Walks through a program, forwards and backwards, for a person: it reads lines, does what each asks for, and writes where
 /// it stands then, which is flushed before more is read. A line that is not understood gets one line, and changes nothing.
 ///
-/// It ends with `Ended` at the end of the lines, and where it is asked to; with `Limit`, and nothing written, where the
-/// program has more than 33,554,432 bytes; with `Read` and `Write` where the reader or the writer fails; and with `Memory` where
-/// there is no memory for the session, for a line or for what is to be written.
+/// It ends with `Ended` at the end of the lines, and where it is asked to; with `Limit`, and nothing read or written, where the
+/// program has more than 33,554,432 bytes; with `Read` and `Write` where the reader or the writer fails; with `Memory` where
+/// there is no memory for the session, for a line or for what is to be written; and with `Budget` after as many lines as a
+/// number of 64 bits counts.
 #[tactic(auto, using(crate::proofs::Ended::takes_none, crate::proofs::Ended::gives_none, crate::proofs::Ended::stop_may_end, crate::proofs::Ended::stop_is_within, crate::proofs::Ended::refused_may_end, crate::proofs::Ended::refused_too_long))]
 pub fn walk<R: Read, W: Write, A: Allocator + Copy>(
     alloc: A,
@@ -66,7 +67,8 @@ pub fn walk<R: Read, W: Write, A: Allocator + Copy>(
     ensures gave { Gives (W.contents output.old) (W.contents output.new) }
     ensures ends { MayEnd result }
     ensures too_long { (result ≡ Ending.Limit) ↔ (TAPE_LIMIT < length tape.now) }
-    ensures unread { result ≡ Ending.Limit → Keeps (W.contents output.old) (W.contents output.new) }
+    ensures unread { result ≡ Ending.Limit → Keeps (R.remaining input.old) (R.remaining input.new) }
+    ensures unwritten { result ≡ Ending.Limit → Keeps (W.contents output.old) (W.contents output.new) }
 {
     match Walker::new(alloc, tape, settings.journal, settings.decimals) {
         Ok(walker) => walk_from(alloc, walker, tape, settings.prompt, input, output),
