@@ -40,6 +40,11 @@ pub fn words_of<A: Allocator + Copy>(
     Ok(Some(words))
 }
 
+/// Whether a line has words.
+pub fn has_words(line: &[u8]) -> bool {
+    !without_blanks(line).is_empty()
+}
+
 /// The bytes of words. The error is that memory was refused.
 pub fn texts_of<'w, A: Allocator + Copy>(
     alloc: A,

@@ -3,7 +3,9 @@
 
 use std::alloc::Allocator;
 use trac_gap::TwoEnds;
+use trac_rules::scan::Front;
 use trac_step::{Core, Machine, Mark};
+use trac_text::front::front_at;
 
 /// Where scanning stands.
 #[derive(Clone, Copy)]
@@ -12,8 +14,6 @@ pub struct Glance {
     pub depth: usize,
     /// How many bytes are left to scan.
     pub rest: usize,
-    /// How many bytes of the output are not released.
-    pub unreleased: usize,
     /// How many bytes at the front of the active text begin a function by the next step; 0 where it begins none.
     pub beginning: usize,
     /// Whether the next step performs a function.
@@ -33,7 +33,6 @@ fn glance_of<E: TwoEnds<u8, A>, M: TwoEnds<Mark, A>, A: Allocator + Copy>(
     Glance {
         depth: machine.depth(),
         rest: active.len(),
-        unreleased: machine.output().len(),
         beginning: beginning_of(active),
         performs: machine.at_call().is_some(),
     }
@@ -41,9 +40,9 @@ fn glance_of<E: TwoEnds<u8, A>, M: TwoEnds<Mark, A>, A: Allocator + Copy>(
 
 // How many bytes at the front of these begin a function.
 fn beginning_of(active: &[u8]) -> usize {
-    match active {
-        [b'#', b'(', ..] => 2,
-        [b'#', b'#', b'(', ..] => 3,
+    match front_at(active) {
+        Front::ActiveCall => 2,
+        Front::NeutralCall => 3,
         _ => 0,
     }
 }

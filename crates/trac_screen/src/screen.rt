@@ -2,12 +2,13 @@
 ghost use Rattle.std.specs.Prelude.{◌≤◌, length};
 
 use crate::screen_line::{ScreenLine, shown_tail, tail};
-use crate::standing_line::{begun_into, sharps};
+use crate::standing_line::begun_into;
 use std::alloc::{AllocError, Allocator};
 use trac_gap::TwoEnds;
 use trac_rules::byte::LINE_FEED;
 use trac_step::{Args, Core, Kind, Machine, Mark};
 use trac_streams::escaped_into;
+use trac_text::front::beginning_of;
 
 // So many begun functions are shown at most: the outermost and the innermost of them.
 const OUTER_ROWS: usize = 3;
@@ -180,7 +181,7 @@ fn frame_end_into<E: TwoEnds<u8, A>, M: TwoEnds<Mark, A>, A: Allocator + Copy>(
     let Some((kind, arguments)) = machine.frame(i) else {
         return Ok(());
     };
-    shown.extend_from_slice(sharps(kind))?;
+    shown.extend_from_slice(beginning_of(kind))?;
     let count = arguments.count();
     for number in count.saturating_sub(SCANNED + 1)..count {
         if number > 0 {

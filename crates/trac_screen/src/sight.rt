@@ -4,6 +4,8 @@
 use std::alloc::Allocator;
 use trac_forms::Store;
 use trac_gap::TwoEnds;
+use trac_prims::primitive_named;
+use trac_rules::primitive::Primitive;
 use trac_step::{Args, Core, Kind, Machine, Mark};
 
 /// What is seen of a machine. It is lent, and takes no memory.
@@ -73,7 +75,7 @@ fn performed_in<'s, 'm, A: Allocator + Copy>(sight: &'s Sight<'m, A>) -> Option<
 /// Whether the next step performs `rs`, which reads a text up to the meta character.
 pub fn reads_text<A: Allocator + Copy>(sight: &Sight<'_, A>) -> bool {
     match performed_in(sight) {
-        Some(arguments) => matches!(arguments.get(0), [b'r' | b'R', b's' | b'S']),
+        Some(arguments) => primitive_named(arguments.get(0)) == Primitive::ReadString,
         None => false,
     }
 }

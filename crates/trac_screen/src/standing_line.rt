@@ -4,6 +4,7 @@ use crate::screen_line::{ScreenLine, front};
 use crate::sight::Sight;
 use std::alloc::{AllocError, Allocator};
 use trac_step::{Args, Kind};
+use trac_text::front::beginning_of;
 
 /// Puts a line at the end of a text: the number of the next step, which is this, and what that step does. The error is that
 /// memory was refused, here and below.
@@ -117,7 +118,7 @@ pub fn begun_into<A: Allocator + Copy>(
     arguments: &Args<'_>,
     line: &mut ScreenLine<A>,
 ) -> Result<(), AllocError> {
-    line.say(sharps(kind))?;
+    line.say(beginning_of(kind))?;
     for i in 0..arguments.count() {
         if line.is_full() {
             return Ok(());
@@ -128,12 +129,4 @@ pub fn begun_into<A: Allocator + Copy>(
         line.show(arguments.get(i))?;
     }
     Ok(())
-}
-
-/// How a function of this kind begins.
-pub fn sharps(kind: Kind) -> &'static [u8] {
-    match kind {
-        Kind::Active => b"#(",
-        Kind::Neutral => b"##(",
-    }
 }

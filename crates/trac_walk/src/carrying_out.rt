@@ -1,8 +1,8 @@
 //! Moves, carried out.
 
 use crate::aim::Aim;
+use crate::output::{printed, printed_text};
 use crate::walker::Walker;
-use memchr::memmem;
 use std::alloc::Allocator;
 use trac_orders::Move;
 use trac_screen::{Glance, SEARCH_LIMIT, Stop};
@@ -22,8 +22,8 @@ pub fn carry_out<A: Allocator + Copy>(walker: &mut Walker<A>, way: Move<'_>) -> 
         Move::Until(call) => until(walker, call),
         Move::Return(call) => stop_back(walker.return_to(call_aim(call))),
         Move::Changed(name) => to_change(walker, name),
-        Move::Printed(number) => to_printed(walker, number),
-        Move::PrintedText(text) => to_printed_text(walker, text),
+        Move::Printed(number) => to_unprinted(printed(walker, number), walker),
+        Move::PrintedText(text) => to_unprinted(printed_text(walker, text), walker),
     }
 }
 
@@ -196,39 +196,13 @@ fn out_back<A: Allocator + Copy>(walker: &mut Walker<A>) -> Option<Stop> {
     stop_back(walker.return_to(Aim::Shallower(inside)))
 }
 
-// Back to where the byte of this number was not printed yet, counted from 1.
-fn to_printed<A: Allocator + Copy>(walker: &mut Walker<A>, number: u64) -> Option<Stop> {
-    let before = walker.released();
-    if number == 0 {
-        return Some(Stop::FromOne);
+// Back to where the byte at this place of the output was not printed yet.
+fn to_unprinted<A: Allocator + Copy>(
+    place: Result<usize, Stop>,
+    walker: &mut Walker<A>,
+) -> Option<Stop> {
+    match place {
+        Ok(place) => stop_back(walker.return_to(Aim::Unprinted(place))),
+        Err(stop) => Some(stop),
     }
-    if number <= before {
-        return Some(Stop::PrintedEarlier);
-    }
-    let place = number - before - 1;
-    if place >= walker.glance().unreleased as u64 {
-        return Some(Stop::NotPrinted);
-    }
-    stop_back(walker.return_to(Aim::Unprinted(place as usize)))
-}
-
-// Why a text is not met in the output.
-fn not_printed<A: Allocator + Copy>(walker: &Walker<A>) -> Stop {
-    if walker.released() == 0 {
-        Stop::NotPrinted
-    } else {
-        Stop::NotPrintedSince
-    }
-}
-
-// Back to where the last occurrence of a text was not printed whole yet.
-fn to_printed_text<A: Allocator + Copy>(walker: &mut Walker<A>, text: &[u8]) -> Option<Stop> {
-    if text.is_empty() {
-        return Some(Stop::EmptyText);
-    }
-    let Some(place) = memmem::rfind(walker.pending(), text) else {
-        return Some(not_printed(walker));
-    };
-    let last = place.saturating_add(text.len() - 1);
-    stop_back(walker.return_to(Aim::Unprinted(last)))
 }

@@ -6,6 +6,7 @@ mod aim;
 mod call_list;
 mod carrying_out;
 mod origins;
+mod output;
 mod replying;
 mod standing;
 mod walker;

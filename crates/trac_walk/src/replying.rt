@@ -7,8 +7,8 @@ use crate::standing::stand_into;
 use crate::walker::Walker;
 use std::alloc::{AllocError, Allocator};
 use trac_orders::{
-    HELP, Move, NOT_UNDERSTOOD, Order, Spot, Word, is_second_quoted, misunderstood, order_of,
-    texts_of, words_of,
+    HELP, Move, NOT_UNDERSTOOD, Order, Spot, Word, has_words, is_second_quoted, misunderstood,
+    order_of, texts_of, words_of,
 };
 use trac_prims::primitive_named;
 use trac_rules::primitive::Primitive;
@@ -41,9 +41,28 @@ impl<'p, A: Allocator + Copy> Memo<'p, A> {
 }
 
 /// Does what a line asks for, and puts what is to be said of it at the end of a text; whether the dialogue goes on. An empty
-/// line asks for the last move again, or to follow a byte as the last line that did. The error is that memory was refused, here
-/// and below.
+/// line asks for the last move again, or to follow a byte as the last line that did; before the first of these it says where
+/// the walk stands. The error is that memory was refused, here and below.
 pub fn reply_into<A: Allocator + Copy>(
+    alloc: A,
+    walker: &mut Walker<A>,
+    memo: &mut Memo<'_, A>,
+    line: &[u8],
+    out: &mut Vec<u8, A>,
+) -> Result<bool, AllocError> {
+    if has_words(line) {
+        return obey_line(alloc, walker, memo, line, out);
+    }
+    if memo.last.is_empty() {
+        stand_into(alloc, walker, out)?;
+        return Ok(true);
+    }
+    let last = Vec::from_slice(alloc, memo.last.as_slice())?;
+    obey_line(alloc, walker, memo, last.as_slice(), out)
+}
+
+// Does what a line asks for that has words; whether the dialogue goes on.
+fn obey_line<A: Allocator + Copy>(
     alloc: A,
     walker: &mut Walker<A>,
     memo: &mut Memo<'_, A>,
@@ -54,40 +73,7 @@ pub fn reply_into<A: Allocator + Copy>(
         out.extend_from_slice(NOT_UNDERSTOOD)?;
         return Ok(true);
     };
-    if words.is_empty() {
-        repeat(alloc, walker, memo, out)?;
-        return Ok(true);
-    }
     obey_words(alloc, walker, memo, line, &words, out)
-}
-
-// Does what the line that is kept asks for again; where none is yet it says where it stands.
-fn repeat<A: Allocator + Copy>(
-    alloc: A,
-    walker: &mut Walker<A>,
-    memo: &mut Memo<'_, A>,
-    out: &mut Vec<u8, A>,
-) -> Result<(), AllocError> {
-    if memo.last.is_empty() {
-        return stand_into(alloc, walker, out);
-    }
-    let last = Vec::from_slice(alloc, memo.last.as_slice())?;
-    repeat_line(alloc, walker, memo, last.as_slice(), out)
-}
-
-// Does what a line asks for that was understood before.
-fn repeat_line<A: Allocator + Copy>(
-    alloc: A,
-    walker: &mut Walker<A>,
-    memo: &mut Memo<'_, A>,
-    line: &[u8],
-    out: &mut Vec<u8, A>,
-) -> Result<(), AllocError> {
-    let Some(words) = words_of(alloc, line)? else {
-        return Ok(());
-    };
-    let _ = obey_words(alloc, walker, memo, line, &words, out)?;
-    Ok(())
 }
 
 // Does what the words of a line ask for; whether the dialogue goes on.
@@ -129,24 +115,16 @@ fn obey<A: Allocator + Copy>(
         Order::Go(way) => go(alloc, walker, memo, line, way, out)?,
         Order::Follow(spot) => follow(alloc, walker, memo, line, spot, out)?,
         Order::Locate => written_into(alloc, walker, memo.program, out)?,
-        order => serve(alloc, walker, order, out)?,
+        Order::Feed(text) => feed(alloc, walker, text, out)?,
+        Order::EndInput => end_input(alloc, walker, out)?,
+        Order::Calls(count) => list_calls(alloc, walker, count, out)?,
+        Order::Print => screen_into(alloc, walker.machine(), walker.reach(), out)?,
+        Order::PrintAll => print_all(alloc, walker, out)?,
+        Order::Forms => list_into(alloc, walker.sight().store, out)?,
+        Order::Form(name) => form_into(walker.sight().store, name, out)?,
+        Order::Help => out.extend_from_slice(HELP)?,
     }
     Ok(true)
-}
-
-// Carries out an order that is no move.
-fn serve<A: Allocator + Copy>(
-    alloc: A,
-    walker: &mut Walker<A>,
-    order: Order<'_>,
-    out: &mut Vec<u8, A>,
-) -> Result<(), AllocError> {
-    match order {
-        Order::Feed(text) => feed(alloc, walker, text, out),
-        Order::EndInput => end_input(alloc, walker, out),
-        Order::Calls(count) => list_calls(alloc, walker, count, out),
-        order => show(alloc, walker, order, out),
-    }
 }
 
 // Carries out the move that a line asks for, which is kept, and says where it has come to.
@@ -256,22 +234,12 @@ fn list_calls<A: Allocator + Copy>(
     stand_into(alloc, walker, out)
 }
 
-// Carries out an order that only shows something.
-fn show<A: Allocator + Copy>(
+// Shows all of the state.
+fn print_all<A: Allocator + Copy>(
     alloc: A,
     walker: &Walker<A>,
-    order: Order<'_>,
     out: &mut Vec<u8, A>,
 ) -> Result<(), AllocError> {
-    match order {
-        Order::Print => screen_into(alloc, walker.machine(), walker.reach(), out),
-        Order::PrintAll => {
-            let lines = machine_lines(alloc, walker.machine(), walker.steps_back())?;
-            out.extend_from_slice(lines.as_slice())
-        }
-        Order::Forms => list_into(alloc, walker.sight().store, out),
-        Order::Form(name) => form_into(walker.sight().store, name, out),
-        Order::Help => out.extend_from_slice(HELP),
-        _ => Ok(()),
-    }
+    let lines = machine_lines(alloc, walker.machine(), walker.steps_back())?;
+    out.extend_from_slice(lines.as_slice())
 }
