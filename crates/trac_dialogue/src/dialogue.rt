@@ -32,13 +32,13 @@ struct Taking {
     passing: bool,
 }
 
-/// Reads lines, and writes the reply to each, which is flushed before more is read. A line of more than 4,096 bytes is said not
-/// to be understood, and nobody is asked (this project's profile). Before each line the replier's number is written where a
-/// prompt is wanted.
+/// Reads lines, and writes the reply to each, which is flushed before more is read. A line of more than 4,096 bytes is said
+/// not to be understood, and nobody is asked (this project's profile). Before each line the replier's number is written
+/// where a prompt is wanted.
 ///
-/// It ends with `Ended` at the end of the lines, and where the replier ends it; with `Read` and `Write` where the reader or the
-/// writer fails; with `Memory` where there is no memory for a line or for what is to be written; and with `Budget` after as many
-/// lines as a number of 64 bits counts.
+/// It ends with `Ended` at the end of the lines, and where the replier ends it; with `Read` and `Write` where the reader or
+/// the writer fails; with `Memory` where there is no memory for a line or for what is to be written; and with `Budget` after
+/// as many lines as a number of 64 bits counts.
 #[tactic(auto, using(crate::proofs::Talked::takes_none, crate::proofs::Talked::gives_none, crate::proofs::Talked::takes_both, crate::proofs::Talked::gives_both))]
 pub fn converse<R: Read, W: Write, A: Allocator + Copy, T: Replier<A>>(
     alloc: A,

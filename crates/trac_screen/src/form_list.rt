@@ -6,9 +6,9 @@ use trac_forms::{Form, Store};
 use trac_rules::item::Item;
 use trac_streams::{escaped_into, number_into};
 
-/// Puts a line for each form at the end of a text, by the bytes of the names: how many items the form has, and its name. It begins
-/// with a word, so that it is not taken for a line that says where the walker stands, nor for a prompt. The error is that memory
-/// was refused, here and below.
+/// Puts a line for each form at the end of a text, by the bytes of the names: how many items the form has, and its name. It
+/// begins with a word, so that it is not taken for a line that says where the walker stands, nor for a prompt. The error is
+/// that memory was refused, here and below.
 pub fn list_into<A: Allocator + Copy>(
     alloc: A,
     store: &Store<A>,
@@ -53,8 +53,8 @@ fn say_length<A: Allocator + Copy>(
     line.show(name)
 }
 
-/// Puts the form of a name at the end of a text, all of it, in one line: a gap of number k as `[k]`, and the pointer as `[^]`.
-/// The bytes are shown as `trac debug` shows them, so none of them is taken for these.
+/// Puts the form of a name at the end of a text, all of it, in one line: a gap of number k as `[k]`, and the pointer as
+/// `[^]`. The bytes are shown as `trac debug` shows them, so none of them is taken for these.
 pub fn form_into<A: Allocator + Copy>(
     store: &Store<A>,
     name: &[u8],

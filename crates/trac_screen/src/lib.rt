@@ -1,4 +1,5 @@
-//! What a person is shown of a machine: the step that comes next, calls with their values, forms, and all of it on one screen.
+//! What a person is shown of a machine: the step that comes next, calls with their values, forms, and all of it on one
+//! screen.
 #![tactic(auto)]
 
 mod calls;

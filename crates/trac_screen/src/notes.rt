@@ -16,7 +16,8 @@ pub enum Stop {
     Unmet(Refusal),
     /// The steps of a search were spent, which can go on from there.
     Spent,
-    /// The steps of a search were spent, which looked for the end of a call. The same command would be about another call there.
+    /// The steps of a search were spent, which looked for the end of a call. The same command would be about another call
+    /// there.
     Unended,
     /// There is no step to go back over.
     AtFirst,
@@ -60,8 +61,8 @@ const NO_FORM: &[u8] =
 pub const NO_PRIMITIVE: &[u8] =
     b"no primitive has this name; a form is met by its call: u cl NAME, r cl NAME\n";
 
-/// Puts a line at the end of a text that says why a move stopped, where one can go back to this step. The error is that memory
-/// was refused, here and below.
+/// Puts a line at the end of a text that says why a move stopped, where one can go back to this step. The error is that
+/// memory was refused, here and below.
 pub fn stop_into<A: Allocator + Copy>(
     alloc: A,
     first_step: u64,
@@ -157,8 +158,8 @@ pub enum Forgetting {
     ForMostSteps,
 }
 
-/// Puts a line at the end of a text that says that this is the first step that is kept from now on, and why. The error is that
-/// memory was refused.
+/// Puts a line at the end of a text that says that this is the first step that is kept from now on, and why. The error is
+/// that memory was refused.
 pub fn window_into<A: Allocator + Copy>(
     alloc: A,
     first_step: u64,
@@ -180,8 +181,8 @@ fn forgotten(why: Forgetting) -> &'static [u8] {
     }
 }
 
-/// Puts a line at the end of a text that says that a line of input does not end the text that `rs` reads, since it has no meta
-/// character, which is this one. The error is that memory was refused.
+/// Puts a line at the end of a text that says that a line of input does not end the text that `rs` reads, since it has no
+/// meta character, which is this one. The error is that memory was refused.
 pub fn no_end_into<A: Allocator + Copy>(
     alloc: A,
     meta: u8,

@@ -15,8 +15,8 @@ const OUTER_ROWS: usize = 3;
 
 const INNER_ROWS: usize = 8;
 
-// So many columns of scanned text stand left of the mark at most. A function that is begun takes two of them at least, so the
-// innermost of so many fill them.
+// So many columns of scanned text stand left of the mark at most. A function that is begun takes two of them at least, so
+// the innermost of so many fill them.
 const SCANNED: usize = 34;
 
 const SCANNED_ROWS: usize = SCANNED / 2 + 1;

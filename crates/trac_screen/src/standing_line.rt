@@ -19,7 +19,8 @@ pub fn standing_into<A: Allocator + Copy>(
     line.end_into(out)
 }
 
-/// The number of the next step, which is this, and what that step does: the call that it performs, or the rule of scanning that it follows.
+/// The number of the next step, which is this, and what that step does: the call that it performs, or the rule of scanning
+/// that it follows.
 pub fn next_into<A: Allocator + Copy>(
     step: u64,
     sight: &Sight<'_, A>,

@@ -90,9 +90,10 @@ impl<A: Allocator + Copy> Witness<A> for Unsaid {
     }
 }
 
-/// Goes back to the step that made a byte, or read it, and puts the way there at the end of a text: a line for each call that
-/// carried it, the latest first, and then where it stands. Of a byte of the program it says the line and the column. It takes
-/// memory for the lines alone. The error is that memory was refused, here and below, or that the name of a form could not be kept.
+/// Goes back to the step that made a byte, or read it, and puts the way there at the end of a text: a line for each call
+/// that carried it, the latest first, and then where it stands. Of a byte of the program it says the line and the column. It
+/// takes memory for the lines alone. The error is that memory was refused, here and below, or that the name of a form could
+/// not be kept.
 pub fn way_into<A: Allocator + Copy>(
     alloc: A,
     walker: &mut Walker<A>,
@@ -123,9 +124,9 @@ pub fn way_into<A: Allocator + Copy>(
     stand_into(alloc, walker, out)
 }
 
-/// Puts a line at the end of a text that says where it stands, and where the name of the call that comes next was written. For
-/// that it goes back, as `way_into` does, and forward again; where a step is refused on the way there, for memory alone, that is
-/// said, and it stands there.
+/// Puts a line at the end of a text that says where it stands, and where the name of the call that comes next was written.
+/// For that it goes back, as `way_into` does, and forward again; where a step is refused on the way there, for memory alone,
+/// that is said, and it stands there.
 pub fn written_into<A: Allocator + Copy>(
     alloc: A,
     walker: &mut Walker<A>,

@@ -192,8 +192,8 @@ fn tell<A: Allocator + Copy>(
     window_into(alloc, first_step, walker.forgetting(), out)
 }
 
-// Feeds a line, and says where it stands, or why the line was refused. Where a text is read that neither the line nor what was
-// unread before it ends, it also says that.
+// Feeds a line, and says where it stands, or why the line was refused. Where a text is read that neither the line nor what
+// was unread before it ends, it also says that.
 fn feed<A: Allocator + Copy>(
     alloc: A,
     walker: &mut Walker<A>,

@@ -14,8 +14,8 @@ use trac_session::{Goal, Machine, Refusal, Return, Session, Walk};
 use trac_streams::Ending;
 use trac_window::Window;
 
-/// A session over a program, and how far it is from the start. Where the journal is full, and where there is no room for more
-/// output, the walker forgets the older half of the steps, with what they printed, and goes on.
+/// A session over a program, and how far it is from the start. Where the journal is full, and where there is no room for
+/// more output, the walker forgets the older half of the steps, with what they printed, and goes on.
 #[derive(Drop)]
 pub struct Walker<A: Allocator + Copy> {
     // the session, and what of it is forgotten
@@ -139,7 +139,8 @@ impl<A: Allocator + Copy> Walker<A> {
         self.fed.saturating_sub(there).saturating_add(n as u64)
     }
 
-    /// Goes back to where the byte at a place comes from, or the item of a form, and tells a witness of each call on the way.
+    /// Goes back to where the byte at a place comes from, or the item of a form, and tells a witness of each call on the
+    /// way.
     pub fn trace<W: Witness<A>>(&mut self, place: Place<'_>, witness: &mut W) -> End {
         let most = self.window.session.len() as u64;
         end_of(&mut self.window.session, self.width, place, most, witness)
@@ -155,8 +156,8 @@ impl<A: Allocator + Copy> Walker<A> {
         self.go(None, most)
     }
 
-    /// Goes forward to a goal, by so many steps at most, until one is refused, which is returned; `NotMet` where the steps were
-    /// taken and the goal was not met.
+    /// Goes forward to a goal, by so many steps at most, until one is refused, which is returned; `NotMet` where the steps
+    /// were taken and the goal was not met.
     pub fn forward_to(&mut self, aim: Aim<'_>, most: u64) -> Option<Refusal> {
         self.go(Some(aim), most)
     }
@@ -195,8 +196,8 @@ impl<A: Allocator + Copy> Walker<A> {
         self.window.session.back(steps).why
     }
 
-    /// Goes back to a goal, and forward again where it is not met on the way back: then `NotMet` is returned. Where a step was
-    /// refused on the way forward again, the walker stands there, and that refusal is returned.
+    /// Goes back to a goal, and forward again where it is not met on the way back: then `NotMet` is returned. Where a step
+    /// was refused on the way forward again, the walker stands there, and that refusal is returned.
     pub fn return_to(&mut self, aim: Aim<'_>) -> Option<Refusal> {
         refusal_of(self.window.session.return_to(goal_for(aim)))
     }
@@ -218,8 +219,8 @@ impl<A: Allocator + Copy> Walker<A> {
         }
     }
 
-    // Forgets the older half of the journal where that is why the next step is refused: what it prints has no room. Whether it
-    // did; it may take several times, until the output of the steps that are left is short enough.
+    // Forgets the older half of the journal where that is why the next step is refused: what it prints has no room. Whether
+    // it did; it may take several times, until the output of the steps that are left is short enough.
     fn make_output_room(&mut self) -> bool {
         let len = self.window.session.len();
         if len == 0 || !lacks_output_room(self.window.session.machine()) {

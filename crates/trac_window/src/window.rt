@@ -21,8 +21,8 @@ pub struct Window<A: Allocator + Copy> {
 }
 
 impl<A: Allocator + Copy> Window<A> {
-    /// At the start of the program, which is the whole input so far. The journal holds so many steps at most, and numbers are so
-    /// wide.
+    /// At the start of the program, which is the whole input so far. The journal holds so many steps at most, and numbers
+    /// are so wide.
     ///
     /// `Ending::Limit`: the program has more than 33,554,432 bytes. `Ending::Memory`: memory was refused.
     pub fn over(alloc: A, tape: &[u8], limit: usize, width: Width) -> Result<Self, Ending>
@@ -45,8 +45,8 @@ impl<A: Allocator + Copy> Window<A> {
         })
     }
 
-    /// Forgets all steps but the last, so many of them, and counts these, and the bytes of the output that are forgotten with
-    /// them.
+    /// Forgets all steps but the last, so many of them, and counts these, and the bytes of the output that are forgotten
+    /// with them.
     pub fn keep_steps(&mut self, keep: usize)
         ensures kept { answer (Commit keep) self.old.session ≡ done self.new.session }
         ensures steps { self.old.forgotten + (length self.old.session.earlier - keep) < 2 ^ 64 → self.new.forgotten ≡ self.old.forgotten + (length self.old.session.earlier - keep) }
@@ -59,8 +59,8 @@ impl<A: Allocator + Copy> Window<A> {
     }
 }
 
-// A session over this tape. It promises nothing, so that whoever calls it has no clause of sessions in his proof. The error is
-// that memory was refused.
+// A session over this tape. It promises nothing, so that whoever calls it has no clause of sessions in his proof. The error
+// is that memory was refused.
 fn session_over<A: Allocator + Copy>(
     alloc: A,
     tape: &[u8],

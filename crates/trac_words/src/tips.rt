@@ -56,8 +56,8 @@ fn tip_for(text: &str) -> &'static str {
     }
 }
 
-/// This text of clap, which says of a command that reads a FILE that it was given a word that it does not know, with a tip in
-/// place of clap's own. That one would have a letter of the word, or the option's name, as the FILE.
+/// This text of clap, which says of a command that reads a FILE that it was given a word that it does not know, with a tip
+/// in place of clap's own. That one would have a letter of the word, or the option's name, as the FILE.
 pub(crate) fn with_file_tip(
     alloc: Global,
     words: &[&str],
