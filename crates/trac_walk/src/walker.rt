@@ -113,7 +113,7 @@ impl<A: Allocator + Copy> Walker<A> {
         Reach {
             step: self.step(),
             first_step: self.window.forgotten,
-            unread: self.window.session.unread().len() as u64,
+            unread: self.unread().len() as u64,
             printed: self
                 .window
                 .released
@@ -135,7 +135,7 @@ impl<A: Allocator + Copy> Walker<A> {
     /// Which byte of all input that of this number of the tape is, the first being number 0.
     pub fn input_number(&self, n: usize) -> u64 {
         let read = self.sight().position as u64;
-        let there = read.saturating_add(self.window.session.unread().len() as u64);
+        let there = read.saturating_add(self.unread().len() as u64);
         self.fed.saturating_sub(there).saturating_add(n as u64)
     }
 

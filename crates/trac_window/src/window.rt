@@ -1,6 +1,6 @@
 //! A session whose last steps are kept, with counts of what is forgotten.
 ghost use Rattle.std.specs.Prelude.{◌≡◌, ◌+◌, ◌-◌, ◌^◌, ◌<◌, ◌≤◌, length, IfErr, IfOk, OnOk};
-ghost use Rattle.trac_rules.specs.Session.{Commit, answer, done, first_kept};
+ghost use Rattle.trac_rules.specs.Session.{Commit, Feed, answer, done, first_kept, new_session};
 ghost use Rattle.trac_window.specs.Refused.{MayRefuseProgram};
 
 use std::alloc::Allocator;
@@ -29,6 +29,7 @@ impl<A: Allocator + Copy> Window<A> {
         requires some_records { 1 ≤ limit }
         requires most_records { limit ≤ JOURNAL_LIMIT }
         ensures made { OnOk result (length tape.now ≤ TAPE_LIMIT) }
+        ensures begun { IfOk result (λ w. answer (Feed tape.now) (new_session limit width) ≡ done w.session) }
         ensures fresh { IfOk result (λ w. (w.forgotten ≡ 0) × (w.released ≡ 0)) }
         ensures refused { IfErr result (MayRefuseProgram tape.now) }
     {
@@ -59,8 +60,7 @@ impl<A: Allocator + Copy> Window<A> {
     }
 }
 
-// A session over this tape. It promises nothing, so that whoever calls it has no clause of sessions in his proof. The error
-// is that memory was refused.
+// A session over this tape. The error is that memory was refused.
 fn session_over<A: Allocator + Copy>(
     alloc: A,
     tape: &[u8],
@@ -69,12 +69,15 @@ fn session_over<A: Allocator + Copy>(
 ) -> Result<Session<A>, Refusal>
     requires some_records { 1 ≤ limit }
     requires most_records { limit ≤ JOURNAL_LIMIT }
+    ensures { IfOk result (λ s. answer (Feed tape.now) (new_session limit width) ≡ done s) }
 {
     fed(Session::new(alloc, limit, width)?, tape)
 }
 
 // A session with this tape.
-fn fed<A: Allocator + Copy>(mut session: Session<A>, tape: &[u8]) -> Result<Session<A>, Refusal> {
+fn fed<A: Allocator + Copy>(mut session: Session<A>, tape: &[u8]) -> Result<Session<A>, Refusal>
+    ensures { IfOk result (λ s. answer (Feed tape.now) session ≡ done s) }
+{
     match session.feed(tape) {
         Ok(()) => Ok(session),
         Err(refusal) => Err(refusal),
