@@ -18,25 +18,11 @@ use Rattle.trac_rules.specs.Segmenting.{segmented}
 use Rattle.trac_rules.proofs.Cuts.{IsCut, done, kept, made, between_kept, between_made, cut_extent, cut_wide, fits_gap, mapped_some, one_after, same_items, segmented_is_cut}
 use Rattle.trac_rules.proofs.Cutting.{count_within_extent, extent-append, extent-segmented, wide-segmented_from}
 use Rattle.trac_forms.specs.Layout.{IsKept, divided}
-use Rattle.trac_forms.proofs.Divided.{kept_again}
+use Rattle.trac_forms.proofs.Divided.{kept_again, kept_there}
 
 -- no gap at all
 abbrev pub no_cut_gap : CutGap
 no_cut_gap = record { place = 0; ordinal = 0 }
-
--- ---- all items on one side
-
--- all items on the left go to the right
-module _ (old new : Ends Item) (n : ℕ) (count : n ≡ length old.left)
-    (moved : new ≡ record old { left = take (length old.left - n) old.left; right = drop (length old.left - n) old.left ++ old.right }) where
-  none_left : length old.left - n ≡ 0
-  none_left = omega arith
-
-  pub left_is : new.left ≡ []
-  left_is = ap (λ (e : Ends Item). e.left) moved ∙ ap (λ k. take k old.left) none_left
-
-  pub right_is : new.right ≡ old.left ++ old.right
-  right_is = ap (λ (e : Ends Item). e.right) moved ∙ ap (λ k. drop k old.left ++ old.right) none_left
 
 -- ---- the next gap that is made
 
@@ -218,13 +204,9 @@ cut_ends texts form old items gaps i l so_far left right =
 -- a segmented form is kept where the form was
 pub cut_kept : (texts : List (List ℕ)) (old new : Ends Item) → divided new ≡ segmented texts (divided old) → new.capacity ≡ old.capacity → IsKept old → IsKept new
 cut_kept texts old new same capacity fits =
-    let all : new.left ++ new.right ≡ all_items (segmented texts (divided old)) = ap all_items same in
-    let size : extent (new.left ++ new.right) ≡ extent (old.left ++ old.right) = ap extent all ∙ extent-segmented texts (divided old) in
-    record {
-      within = omega (arith, size, fits.within);
-      wide = subst (λ (xs : List Item). All IsWide xs) (sym all) (wide-segmented_from 1 texts (old.left ++ old.right) fits.wide);
-      room = omega (arith, size, fits.room, capacity);
-    }
+    let size = extent-segmented texts (divided old) in
+    kept_there new (all_items (segmented texts (divided old))) (ap all_items same) (omega (arith, size, fits.within)) (wide-segmented_from 1 texts (old.left ++ old.right) fits.wide)
+    (omega (arith, size, fits.room, capacity))
 
 -- ---- the next gap that is filled
 
@@ -398,18 +380,15 @@ module _ {texts : List (List ℕ)} {full : List Item} {place : ℕ} {old : Ends 
     pub fill_more : IsFilledSoFar texts full (gap.place + 1) items cut
     fill_more =
         let filling = as_items (text_numbered gap.ordinal texts) in
-        let size : extent (items.left ++ items.right) ≡ extent (old.left ++ old.right) = ap extent filled_same ∙ filled_extent in
         record {
           rest = hole.full_rest;
           whole =
               ap (λ (xs : List Item). xs ++ hole.full_rest) filled_left ∙ append_assoc old.left (hole.front ++ filling) hole.full_rest
               ∙ ap (λ (xs : List Item). old.left ++ xs) (append_assoc hole.front filling hole.full_rest ∙ sym hole.full_is) ∙ so_far.whole;
           ahead = ap (λ (xs : List Item). joined_from texts (gap.place + 1) cut xs) filled_right ∙ hole.after;
-          held = record {
-            within = omega (arith, size, so_far.held.within);
-            wide = subst (λ (xs : List Item). All IsWide xs) (sym filled_same) filled_wide;
-            room = omega (arith, size, so_far.held.room, ap (λ (e : Ends Item). e.capacity) moved);
-          };
+          held =
+              kept_there items filled_all filled_same (omega (arith, filled_extent, so_far.held.within)) filled_wide
+              (omega (arith, filled_extent, so_far.held.room, ap (λ (e : Ends Item). e.capacity) moved));
           counted = omega (arith, filled_counted, ap length filled_right);
         }
 
@@ -428,6 +407,3 @@ module _ (texts : List (List ℕ)) (form : Form) (place : ℕ) (old items : Ends
   fill_ends =
       let same : at_start (unwrap_or (joined texts all_gaps (all_items form)) []) ≡ divided items = λ j. record { before = sym left j; after = sym all_filled j } in
       ap (option_map at_start) (there_is (joined texts all_gaps (all_items form)) there) ∙ ap Some same
-
-  pub fill_kept : items.capacity ≡ old.capacity → IsKept items
-  fill_kept capacity = kept_again old items (λ j. left j ++ right j) (omega (arith, capacity)) so_far.held

@@ -11,13 +11,17 @@ use Rattle.trac_rules.specs.Form.{Form, IsWide, all_items, as_items, defined, ex
 use Rattle.trac_forms.specs.Layout.{IsHeld, IsKept, divided, with_text}
 use Rattle.trac_rules.proofs.Cutting.{count_within_extent, extent-append, extent-as_items, wide-as_items}
 
+-- items that are no more than a form may have, in places for all bytes that they stand for
+pub kept_there : (items : Ends Item) (all : List Item) → items.left ++ items.right ≡ all → extent all ≤ FORM_LIMIT → All IsWide all → extent all ≤ items.capacity → IsKept items
+kept_there items all same fits wide roomy = record {
+  within = omega (arith, ap extent same, fits);
+  wide = subst (λ (xs : List Item). All IsWide xs) (sym same) wide;
+  room = omega (arith, ap extent same, roomy);
+}
+
 -- the same items in as many places are kept as well
 pub kept_again : (old new : Ends Item) → new.left ++ new.right ≡ old.left ++ old.right → old.capacity ≤ new.capacity → IsKept old → IsKept new
-kept_again old new same roomy kept = record {
-  within = omega (arith, ap extent same, kept.within);
-  wide = subst (λ (xs : List Item). All IsWide xs) (sym same) kept.wide;
-  room = omega (arith, ap extent same, kept.room, roomy);
-}
+kept_again old new same roomy kept = kept_there new (old.left ++ old.right) same kept.within kept.wide (omega (arith, kept.room, roomy))
 
 -- the last n items before the pointer go after it
 module _ (old new : Ends Item) (place n : ℕ) (within : place ≤ length old.left) (count : n ≡ length old.left - place)
@@ -68,16 +72,6 @@ module _ (old new : Ends Item) (place n : ℕ) (count : place ≡ length old.lef
       let back : new.right ≡ drop place both = right_on ∙ sym (drop-append-add old.left old.right n) ∙ ap (λ k. drop k both) (sym count) in
       λ i. record { before = front i; after = back i }
 
--- a text's bytes, where there is room for them
-pub kept_text : (items : Ends Item) (text : List ℕ) → divided items ≡ defined text → length text ≤ FORM_LIMIT → length text ≤ items.capacity → IsKept items
-kept_text items text e short roomy =
-    let all : items.left ++ items.right ≡ as_items text = ap all_items e in
-    record {
-      within = omega (arith, ap extent all, extent-as_items text);
-      wide = subst (λ (xs : List Item). All IsWide xs) (sym all) (wide-as_items text);
-      room = omega (arith, ap extent all, extent-as_items text);
-    }
-
 -- a text that is kept as one, or as items
 module _ (text kept packed : List ℕ) (items : Ends Item) (parted : ((kept ≡ text) × (packed ≡ [])) ⊎ ((kept ≡ []) × (packed ≡ text))) (bytes : divided items ≡ defined packed) where
   back : items.right ≡ as_items packed
@@ -98,24 +92,28 @@ module _ (text kept packed : List ℕ) (items : Ends Item) (parted : ((kept ≡ 
 
   pub held_new : length text ≤ FORM_LIMIT → length text ≤ items.capacity → IsHeld kept items
   held_new short roomy = record {
-    kept = kept_text (with_text kept items) text defined_held short roomy;
+    kept = kept_there (with_text kept items) (as_items text) (ap all_items defined_held) (omega (arith, short, extent-as_items text)) (wide-as_items text) (omega (arith, roomy, extent-as_items text));
     either = ⊎_elim
         (λ (one : (kept ≡ text) × (packed ≡ [])). inr (back ∙ ap as_items one.1))
         (λ (each : (kept ≡ []) × (packed ≡ text)). inl each.0)
         parted;
   }
 
--- all bytes of a text go after the pointer
-module _ (old new : Ends Item) (text : List ℕ) (whole : old.left ≡ as_items text) (right : old.right ≡ [])
-    (moved : new ≡ record old { left = take (length old.left - length text) old.left; right = drop (length old.left - length text) old.left ++ old.right }) where
-  none : length old.left - length text ≡ 0
-  none = omega (arith, ap length whole, length-map text Byte)
+-- all items go after the pointer
+module _ (old new : Ends Item) (n : ℕ) (count : n ≡ length old.left)
+    (moved : new ≡ record old { left = take (length old.left - n) old.left; right = drop (length old.left - n) old.left ++ old.right }) where
+  pub none_before : new.left ≡ []
+  none_before = ap (λ (form : Form). form.before) (pointed_back old new 0 n (omega arith) (omega (arith, count)) moved)
 
-  pub defined_after : divided new ≡ defined text
-  defined_after =
-      let front : new.left ≡ [] = ap (λ (e : Ends Item). e.left) moved ∙ ap (λ k. take k old.left) none in
-      let back : new.right ≡ as_items text = ap (λ (e : Ends Item). e.right) moved ∙ (λ j. drop (none j) (whole j) ++ right j) ∙ append-nil (as_items text) in
-      λ j. record { before = front j; after = back j }
+  pub all_after : new.right ≡ old.left ++ old.right
+  all_after = ap (λ (form : Form). form.after) (pointed_back old new 0 n (omega arith) (omega (arith, count)) moved)
+
+-- as the bytes of a text
+pub defined_after : (old new : Ends Item) (text : List ℕ) → old.left ≡ as_items text → old.right ≡ [] →
+    new ≡ record old { left = take (length old.left - length text) old.left; right = drop (length old.left - length text) old.left ++ old.right } → divided new ≡ defined text
+defined_after old new text whole right moved =
+    pointed_back old new 0 (length text) (omega arith) (omega (arith, ap length whole, length-map text Byte)) moved
+    ∙ ap (pointed_at 0) ((λ i. whole i ++ right i) ∙ append-nil (as_items text))
 
 -- wide items are no more than the bytes that they stand for
 pub count_within : (before after : List Item) (bytes : ℕ) → bytes ≡ extent (before ++ after) → All IsWide (before ++ after) → length before + length after ≤ bytes
@@ -125,31 +123,21 @@ count_within before after bytes e wide = omega (arith, e, count_within_extent (b
 module _ (start first second out : Ends Item) (before after : List Item) (no_left : start.left ≡ []) (no_right : start.right ≡ [])
     (put : first ≡ record start { left = start.left ++ before }) (more : second ≡ record first { left = first.left ++ after })
     (moved : out ≡ record second { left = take (length second.left - length after) second.left; right = drop (length second.left - length after) second.left ++ second.right }) where
-  pub both_put : second.left ≡ before ++ after
+  both_put : second.left ≡ before ++ after
   both_put =
       ap (λ (e : Ends Item). e.left) more ∙ ap (λ (e : Ends Item). e.left ++ after) put ∙ ap (λ (xs : List Item). (xs ++ before) ++ after) no_left
-
-  seam : length second.left - length after ≡ length before
-  seam = omega (arith, ap length both_put, length-append before after)
 
   nothing_after : second.right ≡ []
   nothing_after = ap (λ (e : Ends Item). e.right) more ∙ ap (λ (e : Ends Item). e.right) put ∙ no_right
 
+  counted : length second.left ≡ length before + length after
+  counted = ap length both_put ∙ length-append before after
+
   pub divided_put : divided out ≡ record { before = before; after = after }
   divided_put =
-      let front : out.left ≡ before = ap (λ (e : Ends Item). e.left) moved ∙ (λ i. take (seam i) (both_put i)) ∙ take-append_seam before after in
-      let back : out.right ≡ after =
-      ap (λ (e : Ends Item). e.right) moved ∙ (λ i. drop (seam i) (both_put i) ++ nothing_after i) ∙ append-nil (drop (length before) (before ++ after)) ∙ drop-append_seam before after in
-      λ i. record { before = front i; after = back i }
-
-  pub kept_put : (bytes : ℕ) → bytes ≡ extent (before ++ after) → bytes ≤ FORM_LIMIT → All IsWide (before ++ after) → bytes ≤ start.capacity → IsKept out
-  kept_put bytes is fits wide room =
-      let same : out.left ++ out.right ≡ before ++ after = ap all_items divided_put in
-      record {
-        within = omega (arith, ap extent same, is, fits);
-        wide = subst (λ (xs : List Item). All IsWide xs) (sym same) wide;
-        room = omega (arith, ap extent same, is, room, ap (λ (e : Ends Item). e.capacity) moved, ap (λ (e : Ends Item). e.capacity) more, ap (λ (e : Ends Item). e.capacity) put);
-      }
+      pointed_back second out (length before) (length after) (omega (arith, counted)) (omega (arith, counted)) moved
+      ∙ ap (pointed_at (length before)) ((λ i. both_put i ++ nothing_after i) ∙ append-nil (before ++ after))
+      ∙ (λ i. record { before = take-append_seam before after i; after = drop-append_seam before after i })
 
 -- ---- the bytes of a text go among the items
 

@@ -4,7 +4,8 @@ use Rattle.trac_gap.specs.Ends.{Ends}
 use Rattle.trac_rules.specs.declared.item.Item.{Item}
 use Rattle.trac_rules.proofs.Cutting.{extent-segmented}
 use Rattle.trac_forms.specs.Layout.{divided}
-use Rattle.trac_forms.proofs.CutWalks.{cut_begins, cut_ends, cut_kept, cut_more, gap_to_come, left_is, made_after, made_fits, made_some, made_there, right_is}
+use Rattle.trac_forms.proofs.CutWalks.{cut_begins, cut_ends, cut_kept, cut_more, gap_to_come, made_after, made_fits, made_some, made_there}
+use Rattle.trac_forms.proofs.Divided.{all_after, none_before}
 use Rattle.trac_forms.proofs.cut.cut_gaps.Goals as goal
 
 pub loop-gap-init : goal.loop-gap-init
@@ -12,8 +13,8 @@ loop-gap-init g c =
     let n = ap length c.left-before.ensures.left in
     record {
       cut =
-          cut_begins (g.T.Texts.texts c.args.texts.now) (divided c.args.items.now) c.shift_right.new.self c.args.gaps.now (left_is c.args.items.now c.shift_right.new.self _ n c.shift_right.ensures)
-          (right_is c.args.items.now c.shift_right.new.self _ n c.shift_right.ensures) c.requires.cut;
+          cut_begins (g.T.Texts.texts c.args.texts.now) (divided c.args.items.now) c.shift_right.new.self c.args.gaps.now (none_before c.args.items.now c.shift_right.new.self _ n c.shift_right.ensures)
+          (all_after c.args.items.now c.shift_right.new.self _ n c.shift_right.ensures) c.requires.cut;
       capacity = ap (λ (e : Ends Item). e.capacity) c.shift_right.ensures;
     }
 
@@ -43,7 +44,7 @@ pub returns-clause-cut : goal.returns-clause-cut
 returns-clause-cut g c =
     let n = ap length c.left-made.ensures.left in
     cut_ends (g.T.Texts.texts c.args.texts.now) (divided c.args.items.now) c.loop-gap.items c.shift_right-2.new.self c.args.gaps.now c.loop-gap.gap-index (omega (arith, c.loop-gap-test.false)) c.loop-gap.invariant.cut
-    (left_is c.loop-gap.items c.shift_right-2.new.self _ n c.shift_right-2.ensures) (right_is c.loop-gap.items c.shift_right-2.new.self _ n c.shift_right-2.ensures)
+    (none_before c.loop-gap.items c.shift_right-2.new.self _ n c.shift_right-2.ensures) (all_after c.loop-gap.items c.shift_right-2.new.self _ n c.shift_right-2.ensures)
 
 pub returns-clause-kept : goal.returns-clause-kept
 returns-clause-kept g c =

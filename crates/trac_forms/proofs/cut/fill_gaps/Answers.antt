@@ -1,16 +1,17 @@
 -- Gap by gap.
-use Rattle.std.proofs.Common.{ap, arith, length}
+use Rattle.std.proofs.Common.{◌++◌, ap, arith, length}
 use Rattle.trac_gap.specs.Ends.{Ends}
 use Rattle.trac_rules.specs.declared.item.Item.{Item}
 use Rattle.trac_forms.specs.Layout.{divided}
-use Rattle.trac_forms.proofs.CutWalks.{fill_begins, fill_ends, fill_kept, fill_more, filled_after, filled_counted, filled_room, filled_there, gap_to_fill, left_is, right_is}
+use Rattle.trac_forms.proofs.CutWalks.{fill_begins, fill_ends, fill_more, filled_after, filled_counted, filled_room, filled_there, gap_to_fill}
+use Rattle.trac_forms.proofs.Divided.{all_after, kept_again, none_before}
 use Rattle.trac_forms.proofs.cut.fill_gaps.Goals as goal
 
 pub loop-gap-init : goal.loop-gap-init
 loop-gap-init g c =
     let n = ap length c.left-before.ensures.left in
-    fill_begins (g.T.Texts.texts c.args.texts.now) c.args.items.now c.shift_right.new.self c.args.gaps.now (left_is c.args.items.now c.shift_right.new.self _ n c.shift_right.ensures)
-    (right_is c.args.items.now c.shift_right.new.self _ n c.shift_right.ensures) (ap (λ (e : Ends Item). e.capacity) c.shift_right.ensures) c.requires.kept c.requires.there
+    fill_begins (g.T.Texts.texts c.args.texts.now) c.args.items.now c.shift_right.new.self c.args.gaps.now (none_before c.args.items.now c.shift_right.new.self _ n c.shift_right.ensures)
+    (all_after c.args.items.now c.shift_right.new.self _ n c.shift_right.ensures) (ap (λ (e : Ends Item). e.capacity) c.shift_right.ensures) c.requires.kept c.requires.there
 
 pub overflow_sub-gap : goal.overflow_sub-gap
 overflow_sub-gap g c = filled_after (gap_to_fill c.args.gaps.now c.loop-gap.gap-index c.loop-gap-test.true c.loop-gap.invariant)
@@ -32,12 +33,12 @@ pub returns-clause-filled : goal.returns-clause-filled
 returns-clause-filled g c =
     let n = ap length c.left-joined.ensures.left in
     fill_ends (g.T.Texts.texts c.args.texts.now) (divided c.args.items.now) c.loop-gap.place c.loop-gap.items c.shift_right-2.new.self c.args.gaps.now c.args.gaps.now c.loop-gap.gap-index
-    (omega (arith, c.loop-gap-test.false)) c.requires.there c.loop-gap.invariant (left_is c.loop-gap.items c.shift_right-2.new.self _ n c.shift_right-2.ensures)
-    (right_is c.loop-gap.items c.shift_right-2.new.self _ n c.shift_right-2.ensures)
+    (omega (arith, c.loop-gap-test.false)) c.requires.there c.loop-gap.invariant (none_before c.loop-gap.items c.shift_right-2.new.self _ n c.shift_right-2.ensures)
+    (all_after c.loop-gap.items c.shift_right-2.new.self _ n c.shift_right-2.ensures)
 
 pub returns-clause-kept : goal.returns-clause-kept
 returns-clause-kept g c =
     let n = ap length c.left-joined.ensures.left in
-    fill_kept (g.T.Texts.texts c.args.texts.now) (divided c.args.items.now) c.loop-gap.place c.loop-gap.items c.shift_right-2.new.self c.args.gaps.now c.args.gaps.now c.loop-gap.gap-index
-    (omega (arith, c.loop-gap-test.false)) c.requires.there c.loop-gap.invariant (left_is c.loop-gap.items c.shift_right-2.new.self _ n c.shift_right-2.ensures)
-    (right_is c.loop-gap.items c.shift_right-2.new.self _ n c.shift_right-2.ensures) (ap (λ (e : Ends Item). e.capacity) c.shift_right-2.ensures)
+    kept_again c.loop-gap.items c.shift_right-2.new.self
+    (λ j. none_before c.loop-gap.items c.shift_right-2.new.self _ n c.shift_right-2.ensures j ++ all_after c.loop-gap.items c.shift_right-2.new.self _ n c.shift_right-2.ensures j)
+    (omega (arith, ap (λ (e : Ends Item). e.capacity) c.shift_right-2.ensures)) c.loop-gap.invariant.held
