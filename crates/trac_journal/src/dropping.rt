@@ -113,8 +113,7 @@ fn printed_by_first<A: Allocator + Copy>(
 
 // How many calls are an entry's own that keeps this.
 fn count_calls(kept: Kept) -> usize
-    ensures count { result ≡ calls_of kept }
-    ensures few { result ≤ 1 }
+    ensures { result ≡ calls_of kept }
 {
     match kept {
         Kept::Call | Kept::Pointed(_) | Kept::Changed => 1,

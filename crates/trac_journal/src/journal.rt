@@ -1,5 +1,5 @@
 //! The journal: a record for each step, packed.
-ghost use Rattle.std.specs.Prelude.{◌≡◌, ◌==◌, ◌+◌, ◌-◌, ◌<◌, ◌≤◌, ◌^◌, ◌++◌, ◌∷◌, [], length, replicate, IsOkUnless, MatchOption, OnErr, OnOk};
+ghost use Rattle.std.specs.Prelude.{◌≡◌, ◌+◌, ◌-◌, ◌<◌, ◌≤◌, ◌^◌, ◌++◌, ◌∷◌, [], length, replicate, IsOkUnless, MatchOption, OnErr, OnOk};
 ghost use Rattle.std.specs.List.{concat};
 ghost use Rattle.std.specs.VecDeque.{deque_capacity, deque_len};
 ghost use Rattle.trac_rules.specs.declared.limit.TheConstants.{JOURNAL_LIMIT};
@@ -81,13 +81,6 @@ impl<A: Allocator + Copy> Journal<A> {
         ensures { result ≡ length self.now.records }
     {
         self.len
-    }
-
-    /// Whether there is no record.
-    pub fn is_empty(&self) -> bool
-        ensures { result ≡ (length self.now.records == 0) }
-    {
-        self.len() == 0
     }
 
     /// What the records weigh together. It takes the same time however many there are.

@@ -1,21 +1,20 @@
 -- A window of the last records: what is dropped before it tells what is released, and the records that stay lead on as before.
 use Rattle.std.proofs.Common.{◌≡◌, ℕ, zero, suc, ◌+◌, ◌-◌, ◌≤◌, Bool, List, [], ◌∷◌, ◌++◌, length, map, take, drop, All, refl, sym, ap, subst, ◌∙◌, arith}
-use Rattle.std.specs.Prelude.{Option, Some}
+use Rattle.std.specs.Prelude.{Some}
 use Rattle.std.proofs.lemmas.List.{append-nil, append_assoc, length-append, length-drop, length-take, nil_from_length, take-append-drop, take-append-le, take_all}
 use Rattle.std.proofs.lemmas.List.Elements.{All-cons, All-nil}
 use Rattle.trac_rules.specs.declared.width.Width.{Width}
 use Rattle.trac_rules.specs.Fronts.{IsFrontOf}
 use Rattle.trac_rules.specs.Records.{Record, state_before}
-use Rattle.trac_rules.specs.Session.{PlainSession, Commit, answer, committed, done, first_kept, first_of, released, settled}
+use Rattle.trac_rules.specs.Session.{PlainSession, Commit, answer, done, first_kept, first_of, released, settled}
 use Rattle.trac_rules.specs.State.{State}
-use Rattle.trac_rules.specs.Weights.{step_weight}
 use Rattle.trac_rules.proofs.GoingOn.{settled_is}
 use Rattle.trac_rules.proofs.Released.{before-released, step_weight-released}
 use Rattle.trac_rules.proofs.Replies.{answer_Commit}
 use Rattle.trac_journal.specs.Told.{printed_by, read_by, sum_by}
 use Rattle.trac_step.specs.Layout.{Shown}
 use Rattle.trac_step.specs.Room.{HasRoom}
-use Rattle.trac_session.specs.Journal.{led_on, earlier_of, AreRecords, IsAtStart, IsOfStep, IsSound, IsWithinReach, plain_of}
+use Rattle.trac_session.specs.Journal.{earlier_of, AreRecords, IsAtStart, IsSound, IsWithinReach, plain_of}
 use Rattle.trac_session.proofs.Journaled.{led_on-Some}
 use Rattle.trac_session.proofs.Told.{Passes, record_passes}
 

@@ -9,7 +9,7 @@ use Rattle.trac_rules.specs.Weights.{step_weight, weight}
 use Rattle.trac_step.specs.Layout.{Shown}
 use Rattle.trac_step.specs.Room.{HasRoom}
 
--- ---- going left
+-- ---- going back
 
 -- a state where there is one, and what is led on from it
 abbrev pub led_on : Option State → (State → List State) → List State

@@ -21,8 +21,8 @@ pub enum Goal<'a, A: Allocator + Copy = Global> {
     /// The next step performs the begun function of this number, the outermost being number 1: it stands at its end. Where a
     /// text ends before its functions do, the idle program is loaded, and a later function that is begun so deep meets the goal.
     End(usize),
-    /// Fewer functions than so many are begun. On the way back from inside the function of this number this is met first before
-    /// it was begun.
+    /// Fewer than this many functions are begun. On the way back from inside function number N, the outermost being number 1,
+    /// `Shallower(N)` is first met at the state before that function was begun.
     Shallower(usize),
     /// At most so many bytes are left to scan.
     Rest(usize),

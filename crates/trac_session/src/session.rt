@@ -19,8 +19,8 @@ use trac_rules::refusal::Refusal;
 use trac_rules::width::Width;
 use trac_step::{Core, Machine, Mark, Tape};
 
-/// A processor with its input and a journal of its steps. It is seen as a tape and the list of states
-/// from the last commit on, the last of which is the machine's.
+/// A processor with its input and a journal of its steps. It is seen as its limit, the width of numbers, a tape, and a list of
+/// states, from the first one that the last commit kept, or from the initial one; the last is the machine's.
 #[derive(Drop)]
 pub struct Session<A: Allocator + Copy = Global> {
     pub(crate) tape: SlidingBuf<u8, A>,
@@ -93,8 +93,8 @@ impl<A: Allocator + Copy> Session<A> {
 
     /// Goes forward by one step.
     /// Refused, with nothing changed, as `JournalFull` where the journal holds as many records as it may; else as
-    /// `NeedInput` or `Ended` where the step reads input that is not there; else as `TooLong` where the state
-    /// after the step passes a limit; and with `Memory` where there is not enough of it.
+    /// `NeedInput` or `Ended` where the step reads input that is not there, and as `Ended` also where it performs `hl`;
+    /// else as `TooLong` where the state after the step passes a limit; and with `Memory` where there is not enough of it.
     #[inline(always)]
     pub(crate) fn step(&mut self) -> Result<(), Refusal>
         ensures { Answers Step self.old (reply_of result) self.new }
@@ -202,9 +202,9 @@ impl<A: Allocator + Copy> Session<A> {
         self.len() == 0
     }
 
-    /// What the records of the steps that can be gone back over weigh together: of what was destroyed bytes, items of forms
-    /// and places of gaps, and one for each comma, begun function, name and meta character. Lengths, places and flags are
-    /// not weighed (this project's profile). It takes no memory.
+    /// What the records of the steps that can be gone back over weigh together: of what was destroyed bytes and items of
+    /// forms, and one for each comma, begun function, name and meta character; and one for each gap that a call made, but
+    /// not its place. Lengths, places and flags are not weighed (this project's profile). It takes no memory.
     pub fn weight(&self) -> u64
         ensures together { result ≡ weights_from self.now.earlier }
         ensures within { result ≤ losses_from self.now.earlier }

@@ -8,7 +8,8 @@ pub struct Walk {
     /// How many steps were taken.
     pub done: u64,
     /// Why it went no further: the refusal that ended it, or `NotMet` where it looked for a goal, as a name, and did not meet it.
-    /// None where all the steps that were wanted were taken, or the goal was met.
+    /// None where all the steps that were wanted were taken, where the goal was met, or where `forward_within` stopped for what
+    /// the records weigh.
     pub why: Option<Refusal>,
 }
 

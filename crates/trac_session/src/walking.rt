@@ -14,7 +14,7 @@ use std::alloc::Allocator;
 use trac_rules::refusal::Refusal;
 
 // Which way a walk goes.
-#[derive(Clone, Copy, PartialEq, Eq)]
+#[derive(Clone, Copy)]
 enum Direction {
     Forward,
     Backward,
@@ -71,8 +71,8 @@ impl<A: Allocator + Copy> Session<A> {
         }
     }
 
-    // Goes this way by up to `n` steps, until one is refused, which the walk returns. It looks for no name, so bytes that a
-    // step each moves are passed at once.
+    // Goes this way by up to `n` steps, until one is refused, which the walk returns. It has no goal, so bytes that a step
+    // each moves are passed at once.
     fn go_far(&mut self, direction: Direction, n: u64) -> Walk
         ensures { IsWalk (command_towards direction) no_goal n self.old result.done result.why self.new }
     {

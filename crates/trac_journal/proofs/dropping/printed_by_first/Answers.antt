@@ -6,7 +6,7 @@ use Rattle.trac_journal.specs.Dropped.{calls_of, printed_first}
 use Rattle.trac_journal.specs.declared.entry.CallEntry.{CallEntry}
 use Rattle.trac_journal.specs.declared.entry.Entry.{Entry}
 use Rattle.trac_journal.proofs.Ends.{next_of}
-use Rattle.trac_journal.proofs.Printed.{printed_few, printed_more}
+use Rattle.trac_journal.proofs.Printed.{calls_few, printed_few, printed_more}
 use Rattle.trac_journal.proofs.dropping.printed_by_first.Given.{Over}
 use Rattle.trac_journal.proofs.dropping.printed_by_first.Goals as goal
 use Rattle.trac_journal.proofs.dropping.printed_by_first.Goals.{After-index-entry}
@@ -43,8 +43,8 @@ loop-i-preserved g c =
     let calls : List CallEntry = reverse c.args.lists.now.listed.calls in
     let rest : List Entry = drop (c.loop-i.i + 1) c.args.entries.now.items in
     let others : drop (calls_of c.index-entry.result.now.kept) (drop c.loop-i.at calls) ≡ drop (c.loop-i.at + c.count_calls-at.result) calls =
-    drop-drop (calls_of c.index-entry.result.now.kept) c.loop-i.at calls ∙ ap (λ k. drop (c.loop-i.at + k) calls) (sym c.count_calls-at.ensures.count) in (
-      omega (arith, c.loop-i.invariant.0, c.count_calls-at.ensures.few),
+    drop-drop (calls_of c.index-entry.result.now.kept) c.loop-i.at calls ∙ ap (λ k. drop (c.loop-i.at + k) calls) (sym c.count_calls-at.ensures) in (
+      omega (arith, c.loop-i.invariant.0, c.count_calls-at.ensures, calls_few c.index-entry.result.now.kept),
       omega (
         arith,
         c.loop-i.invariant.1,

@@ -1,5 +1,4 @@
 use Rattle.std.proofs.Common.{length}
-use Rattle.trac_session.specs.Journal.{IsWithinReach}
 use Rattle.trac_session.proofs.Journaled.{Back_start_of_fields, Back_of_fields, IsSound-back, IsSound-same, can_go_back}
 use Rattle.trac_session.proofs.session.Session.step_back.Goals as goal
 
