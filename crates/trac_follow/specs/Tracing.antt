@@ -1,5 +1,5 @@
 -- A byte that was followed back to where it comes from, in the words of `trac_origins`.
-use Rattle.std.specs.Prelude.{◌≡◌, ◌⊎◌, ℕ, List, [], ◌∷◌, ◌++◌, take}
+use Rattle.std.specs.Prelude.{◌≡◌, ◌⊎◌, ℕ, List, [], ◌∷◌, ◌++◌, take, true}
 use Rattle.trac_rules.specs.Effect.{argument}
 use Rattle.trac_rules.specs.Scanning.{Call, Calls, scan}
 use Rattle.trac_rules.specs.Session.{PlainSession, over}
@@ -12,7 +12,7 @@ use Rattle.trac_follow.specs.declared.tracing.Traced.{Traced}
 use Rattle.trac_follow.specs.Following.{IsOrigin, IsSource}
 use Rattle.trac_follow.specs.Kept.{IsLong}
 use Rattle.trac_follow.specs.Passing.{Passing, passings}
-use Rattle.trac_follow.specs.Places.{IsBare, place_of}
+use Rattle.trac_follow.specs.Places.{IsBare, is_in_storage, place_of}
 
 -- all of the last so many steps carried a byte
 abbrev pub AllCarried : PlainSession → Place → ℕ → Type 0
@@ -57,6 +57,11 @@ way_of old place steps = passings (over old.width old.tape) (take steps old.earl
 abbrev pub source_of : onwards.Onward → code.Source
 source_of (onwards.TheVariants.At there) = code.TheVariants.Passed there
 source_of (onwards.TheVariants.OfForm i) = code.TheVariants.OfForm i
+
+-- a byte that the call had from there stood in a form, or in one of a block
+abbrev pub IsOfStorage : onwards.Onward → Type 0
+IsOfStorage (onwards.TheVariants.At there) = is_in_storage (place_of there) ≡ true
+IsOfStorage (onwards.TheVariants.OfForm i) = Unit {0}
 
 -- the place from which it is followed further, and a form there that has a name of more than 256 bytes
 abbrev pub LeadsTo : State → onwards.Onward → Place → Type 0

@@ -1,8 +1,8 @@
 //! A place that keeps the name of its form.
-ghost use Rattle.std.specs.Prelude.{◌≡◌, ◌<◌, [], length, IfNone, IfSome};
+ghost use Rattle.std.specs.Prelude.{◌≡◌, ◌<◌, [], length, true, IfNone, IfSome, MatchOption};
 ghost use Rattle.trac_follow.specs.declared.kept.TheConstants.{SHORT_NAME};
 ghost use Rattle.trac_follow.specs.Kept.{IsFormless, IsLong, name_in, named};
-ghost use Rattle.trac_follow.specs.Places.{place_of};
+ghost use Rattle.trac_follow.specs.Places.{is_in_storage, place_of};
 
 use crate::place::Place;
 use arrayvec::ArrayVec;
@@ -42,7 +42,7 @@ pub(crate) enum KeptName<'n, A: Allocator + Copy> {
 #[derive(Drop)]
 pub(crate) struct Kept<'n, A: Allocator + Copy> {
     pub(crate) spot: Nameless,
-    // empty where it is in no form
+    // says nothing where the place is in no form
     pub(crate) name: KeptName<'n, A>,
 }
 
@@ -121,9 +121,9 @@ impl<'n, A: Allocator + Copy> Kept<'n, A> {
     }
 }
 
-/// A place that is in no form; else none.
+/// A place that is in no form; none just where it is in one, or in one of a block.
 pub(crate) fn formless(place: Place<'_>) -> Option<Nameless>
-    ensures { IfSome result (λ spot. IsFormless spot × (named spot [] ≡ place_of place.entry)) }
+    ensures { MatchOption result (is_in_storage (place_of place.entry) ≡ true) (λ spot. IsFormless spot × (named spot [] ≡ place_of place.entry)) }
 {
     match place {
         Place::Form(_, _) | Place::Held(_, _, _) => None,

@@ -1,11 +1,11 @@
 //! Following a byte back to where it comes from, past all calls that passed it on.
-ghost use Rattle.std.specs.Prelude.{◌≡◌, ◌≤◌, [], ⊤, IfErr, IfNone, IfOk, IfSome, OnErr, OnOk, Some};
+ghost use Rattle.std.specs.Prelude.{◌≡◌, ◌≤◌, [], ⊤, IfErr, IfNone, IfOk, IfSome, MatchOption, OnErr, OnOk, Some};
 ghost use Rattle.trac_follow.specs.declared.tracing.Onward.TheVariants.{OfForm};
 ghost use Rattle.trac_follow.specs.Following.{IsFollowed, IsKnown};
 ghost use Rattle.trac_follow.specs.Kept.{IsFormless, named};
 ghost use Rattle.trac_follow.specs.Passing.{Passing};
 ghost use Rattle.trac_follow.specs.Places.{place_of};
-ghost use Rattle.trac_follow.specs.Tracing.{EndsAs, IsTold, IsTraced, LeadsTo, LeadsToLong, source_of, way_of};
+ghost use Rattle.trac_follow.specs.Tracing.{EndsAs, IsOfStorage, IsTold, IsTraced, LeadsTo, LeadsToLong, source_of, way_of};
 ghost use Rattle.trac_rules.specs.Session.{Back, repeated};
 ghost use Rattle.trac_rules.specs.State.{State};
 ghost use Rattle.trac_rules.specs.Trails.{IsTrail};
@@ -20,8 +20,8 @@ use trac_session::{Machine, Session};
 
 /// Who is told of the calls on the way of a byte.
 pub trait Witness<A: Allocator + Copy> {
-    // From the first state it is told of the call, and is in the second one then; or it refuses, and is in that one. Of a witness
-    // that does not say when, anything may be.
+    // `passes` ties the witness before it is told of a call to the witness after; `refuses` does so where it refuses. A witness that
+    // gives neither promises nothing.
     ghost passes: { Self → Passing → Self → Type 0 } = { λ _ _ _. ⊤ };
 
     ghost refuses: { Self → Passing → Self → Type 0 } = { λ _ _ _. ⊤ };
@@ -156,9 +156,10 @@ fn had_from<'a>(source: Source<'a>) -> Result<Onward<'a>, End>
     }
 }
 
-// The place from which the call that comes next had a byte, where that is in no form; else none.
+// The place from which the call that comes next had a byte, where that is in no form; none just where it is in one, or in one of
+// a block.
 fn formless_from(from: Onward<'_>) -> Option<Nameless>
-    ensures { IfSome result (λ spot. IsFormless spot × ((s : State) → LeadsTo s from.entry (named spot []))) }
+    ensures { MatchOption result (IsOfStorage from.entry) (λ spot. IsFormless spot × ((s : State) → LeadsTo s from.entry (named spot []))) }
 {
     match from {
         Onward::At(there) => formless(there),
