@@ -137,8 +137,7 @@ pub fn refused(refusal: Refusal) -> &'static [u8] {
     match refusal {
         Refusal::NeedInput => b"the program waits for input: i TEXT feeds a line, e ends the input",
         Refusal::Ended => b"the program has ended",
-        Refusal::TooLong =>
-            b"a limit is passed: too much text, or too many calls, forms or blocks",
+        Refusal::TooLong => b"a limit is passed: too much text, or too many calls, forms or blocks",
         Refusal::Memory => b"there is no memory for this",
         Refusal::Closed => b"the input has ended",
         Refusal::JournalFull => b"the way back is full",

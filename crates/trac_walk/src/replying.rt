@@ -93,10 +93,7 @@ fn obey_words<A: Allocator + Copy>(
 }
 
 // Says that these words are not understood. The dialogue goes on.
-fn not_understood<A: Allocator>(
-    words: &[&[u8]],
-    out: &mut Vec<u8, A>,
-) -> Result<bool, AllocError> {
+fn not_understood<A: Allocator>(words: &[&[u8]], out: &mut Vec<u8, A>) -> Result<bool, AllocError> {
     out.extend_from_slice(misunderstood(words))?;
     Ok(true)
 }
