@@ -9,7 +9,7 @@ use Rattle.trac_rules.specs.PlainRuns.{moved_on, on_the_way}
 use Rattle.trac_rules.specs.Session.{PlainSession, Back, over, repeated}
 use Rattle.trac_rules.specs.State.{Environment, State}
 use Rattle.trac_rules.specs.Trails.{AreSteps}
-use Rattle.trac_rules.proofs.MovedOn.{moved_on-zero}
+use Rattle.trac_rules.proofs.MovedOn.{length-on_the_way, moved_on-zero}
 use Rattle.trac_origins.specs.Following.{Followed, followed}
 use Rattle.trac_origins.specs.Lengths.{before_moved}
 use Rattle.trac_origins.specs.Places.{Place, Carried, found_at}
@@ -22,10 +22,6 @@ use Rattle.trac_follow.specs.Passing.{IsUnpassed}
 use Rattle.trac_follow.specs.Following.{IsKnown}
 use Rattle.trac_follow.proofs.StepsBack.{GoesBack, followed_on}
 use Rattle.trac_follow.proofs.Unpassed.{run_unpassed, unpassed_on}
-
-length-way : (n : ℕ) (s : State) → length (on_the_way n s) ≡ n
-length-way zero s = refl
-length-way (suc n) s = omega (arith, length-way n s)
 
 -- of steps one after another, the last and the first
 pub last_steps : (environment : Environment) (way rest : List State) (t : State) → AreSteps environment (way ++ rest) t → AreSteps environment way t
@@ -78,7 +74,7 @@ module _ (width : Width) (old cur next : PlainSession) (place here there : Place
       ap (take (steps + n)) (whole_way)
       ∙ ap (λ k. take (k + n) (take steps old.earlier ++ (on_the_way n next.last ++ next.earlier))) (sym goes.count)
       ∙ take-append-add (take steps old.earlier) (on_the_way n next.last ++ next.earlier) n
-      ∙ ap (λ (states : List State). take steps old.earlier ++ states) (take_at (on_the_way n next.last) next.earlier n (length-way n next.last))
+      ∙ ap (λ (states : List State). take steps old.earlier ++ states) (take_at (on_the_way n next.last) next.earlier n (length-on_the_way n next.last))
 
   steps_there : IsKnown width old place → AreSteps environment (way ++ next.earlier) (moved_on n next.last)
   unfolding environment way
@@ -92,7 +88,7 @@ module _ (width : Width) (old cur next : PlainSession) (place here there : Place
     walked = repeated-from Back steps n old cur goes.walked ∙ h;
     same_width = ap (λ (p : PlainSession). p.width) moved.others ∙ goes.same_width;
     whole = whole_way ∙ sym (append_assoc pre way next.earlier) ∙ ap (λ (states : List State). states ++ next.earlier) (sym longer);
-    count = ap (λ (states : List State). length states) longer ∙ length-append pre way ∙ ap₂ (λ a b. a + b) goes.count (length-way n next.last);
+    count = ap (λ (states : List State). length states) longer ∙ length-append pre way ∙ ap₂ (λ a b. a + b) goes.count (length-on_the_way n next.last);
     stood = λ trail.
         let stood = goes.stood trail in
         let item : Item = stood.stands.0 in

@@ -126,7 +126,7 @@ plain_step e s b rest proper begins plain =
     ap (λ (at : Front). limited texts_fit (carried_out e (scan_at at s))) (ap front_of begins ∙ plain_front b rest plain)
     ∙ limited_within texts_fit (gather_first s) (first_fits s proper)
 
-length-on_the_way : (n : ℕ) (s : State) → length (on_the_way n s) ≡ n
+pub length-on_the_way : (n : ℕ) (s : State) → length (on_the_way n s) ≡ n
 length-on_the_way zero s = refl
 length-on_the_way (suc n) s = omega (arith, length-on_the_way n s)
 

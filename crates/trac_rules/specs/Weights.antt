@@ -1,5 +1,5 @@
 -- What a record weighs, by what it keeps, and what a step may cost the journal, by the state before it: bytes of texts and names, items of
--- forms, places of gaps, and one for each comma, frame and name. Lengths, flags, old pointers and numbers of blocks are not weighed.
+-- forms, and one for each gap that was made, comma, frame and name. Lengths, flags, old pointers and numbers of blocks are not weighed.
 use Rattle.std.specs.Prelude.{ℕ, ◌+◌, ◌-◌, List, [], ◌∷◌, ◌++◌, length, take, drop, Option, None, Some}
 use Rattle.std.specs.FinMap as finite
 use Rattle.std.specs.Option.{option_map_or}
