@@ -285,6 +285,25 @@ are_left old new gone count weighed n own cut at is counted =
 pub seen_left : {old seen new gone : List Record} {count weighed n own : ℕ} → old ≡ seen → AreLeft old new gone count weighed n own → AreLeft seen new gone count weighed n own
 seen_left {old} {seen} {new} {gone} {count} {weighed} {n} {own} is left = subst (λ (rs : List Record). AreLeft rs new gone count weighed n own) is left
 
+-- and where they are of moved bytes, their steps read and printed nothing
+pub moved_dropped : {old seen new : List Record} {count weighed n : ℕ} → old ≡ seen → 0 < n → AreLeft old new (replicate n Moved) count weighed n 0 →
+    record {
+      kept : new ≡ take (length new) seen;
+      some : length new < length seen;
+      most : length seen ≤ length new + n;
+      read : 0 ≡ sum_by read_by (drop (length new) seen);
+      printed : 0 ≡ sum_by printed_by (drop (length new) seen);
+    }
+moved_dropped {n = n} is some old_left =
+    let left = seen_left is old_left in
+    record {
+      kept = left.kept;
+      some = omega (arith, left.many, some);
+      most = omega (arith, left.many);
+      read = sym (ap (sum_by read_by) left.rest ∙ moved_sum read_by n refl);
+      printed = sym (ap (sum_by printed_by) left.rest ∙ moved_sum printed_by n refl);
+    }
+
 -- without an entry some moved bytes are left out
 module _ (moved n : ℕ) (entries now : List Entry) (l : Listed) (none : length entries ≡ 0) (still : length now ≡ 0) where
   pub last_listed : AreListed (reverse entries) l → AreListed (reverse now) l

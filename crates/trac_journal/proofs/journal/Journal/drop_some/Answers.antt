@@ -2,8 +2,7 @@
 use Rattle.std.proofs.Common.{length, refl, sym, ap, ◌∙◌, arith}
 use Rattle.trac_journal.specs.Journaled.{Journaled}
 use Rattle.trac_journal.specs.Told.{printed_by, read_by, sum_by}
-use Rattle.trac_journal.proofs.Counted.{moved_sum}
-use Rattle.trac_journal.proofs.Dropped.{entry_apart, entry_left, entry_listed, entry_printed, entry_read, last_left, last_listed, last_within, moved_left, moved_listed, oldest_light, same_weight, seen_left}
+use Rattle.trac_journal.proofs.Dropped.{entry_apart, entry_left, entry_listed, entry_printed, entry_read, last_left, last_listed, last_within, moved_dropped, moved_left, moved_listed, oldest_light, same_weight, seen_left}
 use Rattle.trac_journal.proofs.journal.Journal.drop_some.Goals as goal
 
 -- ---- without an entry
@@ -29,16 +28,9 @@ returns-in_default g c =
     let inside = c.self.inside in
     let none = sym inside.entries.ok.0 ∙ c.in_default.ensures.cases.0 in
     let still = sym c.pop_front.new.self.ok.0 ∙ c.in_default.ensures.cases.1 in
-    let left = seen_left (ap (λ (j : Journaled). j.records) c.self.view_is)
+    moved_dropped (ap (λ (j : Journaled). j.records) c.self.view_is) c.requires.some
     (last_left inside.moved c.args.most inside.entries.items c.pop_front.new.self.items inside.lists.listed none still
-    (omega (arith, ap (λ (j : Journaled). length j.records) c.self.view_is, c.requires.there)) c.self.invariant.1) in
-    record {
-      kept = left.kept;
-      some = omega (arith, left.many, c.requires.some);
-      most = omega (arith, left.many);
-      read = sym (ap (sum_by read_by) left.rest ∙ moved_sum read_by c.args.most refl);
-      printed = sym (ap (sum_by printed_by) left.rest ∙ moved_sum printed_by c.args.most refl);
-    }
+    (omega (arith, ap (λ (j : Journaled). length j.records) c.self.view_is, c.requires.there)) c.self.invariant.1)
 
 -- ---- before the oldest entry's own record
 
@@ -51,15 +43,8 @@ invariant_of-self-then-most-moved g c =
 
 pub returns-then-most-moved : goal.returns-then-most-moved
 returns-then-most-moved g c =
-    let left = seen_left (ap (λ (j : Journaled). j.records) c.self.view_is)
-    (moved_left c.self.inside.moved c.args.most c.self.inside.lists.listed c.in-Some.ensures.items c.push_front_reserved.ensures.items refl (omega (arith, c.if-most-moved.true)) c.self.invariant.0 c.self.invariant.1) in
-    record {
-      kept = left.kept;
-      some = omega (arith, left.many, c.requires.some);
-      most = omega (arith, left.many);
-      read = sym (ap (sum_by read_by) left.rest ∙ moved_sum read_by c.args.most refl);
-      printed = sym (ap (sum_by printed_by) left.rest ∙ moved_sum printed_by c.args.most refl);
-    }
+    moved_dropped (ap (λ (j : Journaled). j.records) c.self.view_is) c.requires.some
+    (moved_left c.self.inside.moved c.args.most c.self.inside.lists.listed c.in-Some.ensures.items c.push_front_reserved.ensures.items refl (omega (arith, c.if-most-moved.true)) c.self.invariant.0 c.self.invariant.1)
 
 -- ---- with it
 
