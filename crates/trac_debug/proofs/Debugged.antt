@@ -21,8 +21,9 @@ use Rattle.trac_streams.specs.Lines.{lines_of, is_within}
 use Rattle.trac_debug.specs.Commands.{LineCommand, command_of}
 use Rattle.trac_debug.specs.Replies.{Replies}
 use Rattle.trac_debug.specs.Debugging.{Turn, Passes, Does, Ends, Takes, MayWrite, MayFollow, FollowsFirst, MayShow, RepliesToFirst, ready, shown_where, turn_at, turn_of}
-use Rattle.trac_debug.specs.Debugs.{UnlessFault, UnlessWrite, Debugs, IsReady, MayRefuseTape, IsNotReplied, Settles, Stops, Advances, Halts}
+use Rattle.trac_debug.specs.Debugs.{UnlessFault, UnlessWrite, Debugs, IsReady, IsNotReplied, Settles, Stops, Advances, Halts}
 use Rattle.trac_streams.specs.Pending.{Pending}
+use Rattle.trac_streams.specs.Tape.{MayRefuseTape}
 use Rattle.trac_streams.specs.Reading.{HELD_LIMIT, IsFront, Gathers, MayFail}
 use Rattle.trac_debug.proofs.Existing.{some_reply, some_text}
 use Rattle.trac_streams.proofs.Splitting.{first_line}
@@ -459,7 +460,7 @@ debugged_not input output tape limit width ending why = record {
   at_end = λ over. absurd (false≢true over);
   front = λ more none. let any = some_shown tape limit width more in (any.0, any.1, any.2, front_of_nothing any.0);
   whole = λ more none. ⊎_elim
-      (λ (none_ : ending ≡ Memory). unless_Memory ending (MayShow tape limit width more [] ending) none_)
+      (λ (memory : (ending ≡ Memory) × (length tape ≤ TAPE_LIMIT)). unless_Memory ending (MayShow tape limit width more [] ending) memory.0)
       (λ (beyond : (ending ≡ Limit) × (TAPE_LIMIT < length tape)).
       unless_always ending (MayShow tape limit width more [] ending) (subst (λ stop. MayShow tape limit width more [] stop) (sym beyond.0) (shown_beyond tape limit width more beyond.1)))
       why;
@@ -467,6 +468,11 @@ debugged_not input output tape limit width ending why = record {
   few_lines = omega arith;
   replies = λ more none. always_unless ending (RepliesToFirst tape limit width 0 more []) (refl, refl);
 }
+
+-- over a tape that is too long it ends so
+pub refused_too_long : (tape : List ℕ) (ending : Ending) → MayRefuseTape tape ending → TAPE_LIMIT < length tape → ending ≡ Limit
+refused_too_long tape ending (inl why) long = absurd (omega (arith, why.1, long))
+refused_too_long tape ending (inr why) long = why.0
 
 -- ---- replies
 

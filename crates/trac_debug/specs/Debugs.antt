@@ -1,12 +1,12 @@
 -- What the debugger reads and writes.
-use Rattle.std.specs.Prelude.{◌≡◌, ◌⊎◌, ℕ, ◌+◌, ◌*◌, ◌<◌, ◌≤◌, Bool, true, List, [], ◌∷◌, ◌++◌, length, Option}
+use Rattle.std.specs.Prelude.{◌≡◌, ◌⊎◌, ℕ, ◌+◌, ◌*◌, ◌≤◌, Bool, true, List, [], ◌∷◌, ◌++◌, length, Option}
 use Rattle.std.specs.Io.KnownBytes.{Appends, Consumes, IsAtEnd, Keeps}
 use Rattle.trac_rules.specs.declared.width.Width.{Width}
 use Rattle.trac_rules.specs.declared.limit.TheConstants.{TAPE_LIMIT}
 use Rattle.trac_rules.specs.Fronts.{IsFrontOf}
 use Rattle.trac_rules.specs.Session.{PlainSession}
 use Rattle.trac_streams.specs.declared.ending.Ending.{Ending}
-use Rattle.trac_streams.specs.declared.ending.Ending.TheVariants.{Memory, Read, Write, Limit}
+use Rattle.trac_streams.specs.declared.ending.Ending.TheVariants.{Memory, Read, Write}
 use Rattle.trac_streams.specs.Lines.{lines_of}
 use Rattle.trac_debug.specs.Commands.{LineCommand}
 use Rattle.trac_debug.specs.Replies.{Replies}
@@ -58,10 +58,6 @@ pub record Debugs (in_old in_new out_old out_new : Option (List ℕ)) (Stated : 
 pub record IsReady (tape : List ℕ) (limit : ℕ) (width : Width) (p : PlainSession) : Type 0 where
   pub within : length tape ≤ TAPE_LIMIT
   pub is : p ≡ ready tape limit width
-
--- why there is none: memory was refused, or the tape is too long
-abbrev pub MayRefuseTape : List ℕ → Ending → Type 0
-MayRefuseTape tape ending = (ending ≡ Memory) ⊎ ((ending ≡ Limit) × (TAPE_LIMIT < length tape))
 
 -- a command is replied to: all of a reply was written
 pub record IsReplied (command : LineCommand) (old new : PlainSession) (out_old out_new : Option (List ℕ)) : Type 0 where

@@ -1,9 +1,10 @@
 //! A session of the debugger: commands from a reader, replies to a writer.
-ghost use Rattle.std.specs.Prelude.{◌≡◌, ◌≤◌, true, length, IfOk, IfErr, OnOk};
+ghost use Rattle.std.specs.Prelude.{◌≡◌, ◌<◌, ◌≤◌, true, length, IfOk, IfErr, OnOk};
 ghost use Rattle.std.specs.Io.KnownBytes.{IsAtEnd};
 ghost use Rattle.trac_debug.specs.Debugging.{FollowsFirst, MayFollow, MayShow, RepliesToFirst, turn_at, turn_of};
-ghost use Rattle.trac_debug.specs.Debugs.{Advances, Debugs, Halts, IsReady, MayRefuseTape, IsReplied, IsNotReplied, Settles, Stops};
+ghost use Rattle.trac_debug.specs.Debugs.{Advances, Debugs, Halts, IsReady, IsReplied, IsNotReplied, Settles, Stops};
 ghost use Rattle.trac_debug.specs.Views.{command_seen};
+ghost use Rattle.trac_streams.specs.Tape.{MayRefuseTape};
 
 use crate::command::{LineCommand, command_in};
 use crate::replies::reply_to;
@@ -33,8 +34,9 @@ pub fn debug<R: Read, W: Write, A: Allocator + Copy>(
 ) -> Ending
     requires some_records { 1 ≤ options.journal }
     requires most_records { options.journal ≤ JOURNAL_LIMIT }
-    ensures { Debugs (R.remaining commands.old) (R.remaining commands.new) (W.contents output.old) (W.contents output.new)
+    ensures debugs { Debugs (R.remaining commands.old) (R.remaining commands.new) (W.contents output.old) (W.contents output.new)
         (MayShow tape.now options.journal options.decimals) (RepliesToFirst tape.now options.journal options.decimals) result }
+    ensures too_long { TAPE_LIMIT < length tape.now → result ≡ Ending.Limit }
 {
     let mut session = match session_over(alloc, tape, options.journal, options.decimals) {
         Ok(session) => session,

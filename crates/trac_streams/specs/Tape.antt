@@ -1,5 +1,5 @@
--- A tape that is read.
-use Rattle.std.specs.Prelude.{◌≡◌, ◌⊎◌, ℕ, ◌+◌, ◌≤◌, List, ◌++◌, length, Option}
+-- A tape that is read, and why there is no session over one.
+use Rattle.std.specs.Prelude.{◌≡◌, ◌⊎◌, ℕ, ◌+◌, ◌<◌, ◌≤◌, List, ◌++◌, length, Option}
 use Rattle.std.specs.Io.KnownBytes.{Consumes, IsAtEnd}
 use Rattle.trac_rules.specs.declared.limit.TheConstants.{TAPE_LIMIT}
 use Rattle.trac_streams.specs.declared.ending.Ending.{Ending}
@@ -17,6 +17,10 @@ pub record IsNoTape (in_old in_new : Option (List ℕ)) (ending : Ending) : Type
   pub took : Consumes in_old in_new got
   pub most : length got ≤ TAPE_LIMIT + 1
   pub why : ((ending ≡ Limit) × (length got ≡ TAPE_LIMIT + 1)) ⊎ ((ending ≡ Memory) ⊎ (ending ≡ Read))
+
+-- why there is no session over a tape: the tape is too long; or it is not, and memory was refused
+abbrev pub MayRefuseTape : List ℕ → Ending → Type 0
+MayRefuseTape tape ending = ((ending ≡ Memory) × (length tape ≤ TAPE_LIMIT)) ⊎ ((ending ≡ Limit) × (TAPE_LIMIT < length tape))
 
 -- ---- one read
 
