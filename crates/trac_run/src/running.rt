@@ -12,9 +12,8 @@ use std::io::{Read, Write};
 use trac_rules::limit::{JOURNAL_LIMIT, TEXT_LIMIT};
 use trac_rules::refusal::Refusal;
 use trac_session::Session;
-use trac_streams::Ending;
 use trac_streams::writing::{finish, flush, write_whole};
-pub use trac_streams::{BUDGET_LIMIT, DEFAULT_BUDGET, Options, READ_SIZE, budget_of};
+use trac_streams::{BUDGET_LIMIT, Ending, Options, READ_SIZE};
 
 // How much the records of a run may weigh before it commits. An item of a form takes 8 bytes and weighs one, so these are some
 // 5 MiB of forms. A run never goes back, so it keeps them for nothing; and memory that is soon used again costs less than new.

@@ -22,19 +22,6 @@ pub struct Options {
     pub decimals: Width,
 }
 
-/// How many steps a run may take where so many are wanted: as many, within the range, or the default number where none is
-/// said (this project's profile).
-pub fn budget_of(asked: Option<u64>) -> u64
-    ensures some { 1 ≤ result }
-    ensures most { result ≤ BUDGET_LIMIT }
-    ensures asked { MatchOption asked (result ≡ DEFAULT_BUDGET) (λ budget. 1 ≤ budget → budget ≤ BUDGET_LIMIT → result ≡ budget) }
-{
-    match asked {
-        Some(budget) => budget.clamp(1, BUDGET_LIMIT),
-        None => DEFAULT_BUDGET,
-    }
-}
-
 /// Whether a number is one from 1 to the most.
 pub fn is_in_range(number: u64, most: u64) -> bool
     ensures { (result ≡ true) ↔ ((1 ≤ number) × (number ≤ most)) }
