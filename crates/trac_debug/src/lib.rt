@@ -10,4 +10,3 @@ pub use command::{LineCommand, command_in};
 pub use debugging::debug;
 pub use one_text::one_text_has_no_refused_memory;
 pub use replies::{reply_to, state_lines};
-pub use trac_streams::{LINE_LIMIT, Lines, NextLine, escaped_into, number_into, read_tape};

@@ -2,9 +2,9 @@
 use crate::faulty::{Failing, Fault, KINDS, NO_FAULT, reader_of};
 use std::alloc::Allocator;
 use std::io::Read;
-use trac_debug::read_tape;
 use trac_faults::Refusing;
 use trac_run::Ending;
+use trac_streams::read_tape;
 
 // Seven bytes: read one by one, the eighth read finds the end.
 const PROGRAM: &[u8; 7] = b"#(ps,A)";

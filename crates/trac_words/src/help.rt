@@ -94,6 +94,13 @@ pub const VERSION_TIP: &str = "the version is shown by: trac --version";
 pub const BUDGET_TIP: &str =
     "--budget is an option of trac run; here the commands say how far to go";
 
+/// The text for a line without a subcommand.
+pub const NO_SUBCOMMAND: &str = "\
+error: 'trac' requires a subcommand but one was not provided
+
+For more information, try '--help'.
+";
+
 /// The text for a word that is not UTF-8.
 pub const NOT_TEXT: &str = "\
 error: invalid UTF-8 was detected in one or more arguments

@@ -2,13 +2,12 @@
 ghost use Rattle.std.specs.Prelude.{◌≤◌, IfOk, IfSome};
 ghost use Rattle.trac_words.specs.Words.{IsLine, IsWithin};
 
-use crate::help::{DEBUG_USE, RUN_USAGE, RUN_USE, USE, VERSION};
+use crate::help::{DEBUG_USE, NO_SUBCOMMAND, RUN_USAGE, RUN_USE, USE, VERSION};
 use crate::tips::with_tip;
 use clap::error::ErrorKind;
 use clap::{Arg, ArgMatches, Command, Error};
 use std::alloc::{AllocError, Global};
 use trac_rules::limit::JOURNAL_LIMIT;
-use trac_rules::width::Width;
 use trac_streams::{BUDGET_LIMIT, DEFAULT_BUDGET, Options, decimals_of, is_in_range};
 
 /// How many records a run's journal may hold where nothing else is said (this project's profile).
@@ -53,18 +52,14 @@ fn line_without(alloc: Global, words: &[&str], error: &Error) -> Result<Line, Al
     }
 }
 
-// What a command line that was understood asks for.
+// What a command line that `clap` has taken asks for. It takes none without a subcommand; one would not be understood.
 fn line_of(alloc: Global, matches: &ArgMatches<'_>) -> Result<Line, AllocError>
     ensures { IfOk result IsLine }
 {
     match matches.subcommand() {
+        Some(("run", found)) => run_line(alloc, found),
         Some(("debug", found)) => debug_line(alloc, found),
-        Some((_, found)) => run_line(alloc, found),
-        None => Ok(Line::Run(Options {
-            budget: DEFAULT_BUDGET,
-            journal: DEFAULT_JOURNAL,
-            decimals: Width::W128,
-        })),
+        _ => Ok(Line::Bad(String::from_str(alloc, NO_SUBCOMMAND)?)),
     }
 }
 
@@ -221,7 +216,7 @@ fn run_command<'a>(alloc: Global) -> Result<Command<'a>, AllocError> {
     with_options(
         alloc,
         command.override_usage(RUN_USAGE).arg(budget(alloc))?,
-        "Output is written after N steps at the latest, and after 8192: 1 to 1048576 [default: 65536]",
+        "Output is written after N steps at the latest, or 8192 if N is more: 1 to 1048576 [default: 65536]",
     )
 }
 
