@@ -9,7 +9,7 @@ ghost use Rattle.trac_run.specs.Runs.{Runs, most_read, ending_of_feed as ending_
 use memchr::memchr;
 use std::alloc::Allocator;
 use std::io::{Read, Write};
-use trac_rules::limit::{JOURNAL_LIMIT, TEXT_LIMIT};
+use trac_rules::limit::JOURNAL_LIMIT;
 use trac_rules::refusal::Refusal;
 use trac_session::Session;
 use trac_streams::writing::{finish, flush, write_whole};

@@ -6,7 +6,7 @@ use Rattle.trac_streams.specs.declared.ending.Ending.{Ending}
 use Rattle.trac_streams.specs.declared.ending.Ending.TheVariants.{Ended, Budget, Limit, Memory, Read, Write, NotUnderstood}
 use Rattle.trac_dialogue.specs.Talks.{Gives, IsStop, Takes}
 use Rattle.trac_dialogue.proofs.Talked as talked
-use Rattle.trac_window.specs.Refused.{MayRefuseProgram}
+use Rattle.trac_streams.specs.Tape.{MayRefuseTape}
 use Rattle.trac_walk.specs.Ends.{MayEnd}
 
 -- nothing is read, and nothing is written
@@ -31,11 +31,11 @@ pub stop_is_within : (program : List ℕ) (e : Ending) → IsStop e → length p
 stop_is_within program e s within = (λ is. absurd (subst IsStop is s), λ long. absurd (omega (arith, within, long)))
 
 -- a dialogue that is refused may end so
-pub refused_may_end : (program : List ℕ) (e : Ending) → MayRefuseProgram program e → MayEnd e
+pub refused_may_end : (program : List ℕ) (e : Ending) → MayRefuseTape program e → MayEnd e
 refused_may_end program e (inl why) = subst MayEnd (sym why.0) tt
 refused_may_end program e (inr why) = subst MayEnd (sym why.0) tt
 
 -- it is refused as too long where the program is
-pub refused_too_long : (program : List ℕ) (e : Ending) → MayRefuseProgram program e → (e ≡ Limit) ↔ (TAPE_LIMIT < length program)
+pub refused_too_long : (program : List ℕ) (e : Ending) → MayRefuseTape program e → (e ≡ Limit) ↔ (TAPE_LIMIT < length program)
 refused_too_long program e (inl why) = (λ is. absurd (cc (why.0, is)), λ long. absurd (omega (arith, why.1, long)))
 refused_too_long program e (inr why) = (λ is. why.1, λ long. why.0)

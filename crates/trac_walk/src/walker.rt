@@ -1,6 +1,6 @@
 //! A walker: a session whose way back never stops a walk, and where it stands.
 ghost use Rattle.std.specs.Prelude.{◌≤◌, length, IfErr, OnOk};
-ghost use Rattle.trac_window.specs.Refused.{MayRefuseProgram};
+ghost use Rattle.trac_streams.specs.Tape.{MayRefuseTape};
 
 use crate::aim::{Aim, goal_for};
 use std::alloc::{AllocError, Allocator};
@@ -38,7 +38,7 @@ impl<A: Allocator + Copy> Walker<A> {
         requires some_records { 1 ≤ limit }
         requires most_records { limit ≤ JOURNAL_LIMIT }
         ensures made { OnOk result (length tape.now ≤ TAPE_LIMIT) }
-        ensures refused { IfErr result (MayRefuseProgram tape.now) }
+        ensures refused { IfErr result (MayRefuseTape tape.now) }
     {
         let window = Window::over(alloc, tape, limit, width)?;
         Ok(Walker {

@@ -1,7 +1,7 @@
 //! A session whose last steps are kept, with counts of what is forgotten.
 ghost use Rattle.std.specs.Prelude.{◌≡◌, ◌+◌, ◌-◌, ◌^◌, ◌<◌, ◌≤◌, length, IfErr, IfOk, OnOk};
 ghost use Rattle.trac_rules.specs.Session.{Commit, Feed, answer, done, first_kept, new_session};
-ghost use Rattle.trac_window.specs.Refused.{MayRefuseProgram};
+ghost use Rattle.trac_streams.specs.Tape.{MayRefuseTape};
 
 use std::alloc::Allocator;
 use trac_rules::limit::{JOURNAL_LIMIT, TAPE_LIMIT};
@@ -31,7 +31,7 @@ impl<A: Allocator + Copy> Window<A> {
         ensures made { OnOk result (length tape.now ≤ TAPE_LIMIT) }
         ensures begun { IfOk result (λ w. answer (Feed tape.now) (new_session limit width) ≡ done w.session) }
         ensures fresh { IfOk result (λ w. (w.forgotten ≡ 0) × (w.released ≡ 0)) }
-        ensures refused { IfErr result (MayRefuseProgram tape.now) }
+        ensures refused { IfErr result (MayRefuseTape tape.now) }
     {
         if tape.len() > TAPE_LIMIT {
             return Err(Ending::Limit);

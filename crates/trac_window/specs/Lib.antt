@@ -1,2 +1,0 @@
--- Why there is no session over a program.
-pub mod Refused
