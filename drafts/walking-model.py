@@ -145,7 +145,8 @@ def rule(s):
     if a[:1] == b"(": return '"(" protects what stands up to its ")": ' + esc(a)
     if a[:2] == b"#(": return '"#(" begins a call: ' + esc(a)
     if a[:3] == b"##(": return '"##(" begins a call: ' + esc(a)
-    if a[:1] in (b"\r", b"\n", b"\t"): return "layout is deleted, before: " + esc(a[1:])
+    if a[:1] in (b"\r", b"\n"): return "a line end is deleted, before: " + esc(a[1:])
+    if a[:1] == b"\t": return "a tab is deleted, before: " + esc(a[1:])
     return '"' + esc(a[:1]) + '" is taken as it is: ' + esc(a)
 
 # ---- calls
@@ -190,7 +191,7 @@ class Walk:
             why = w.on()
             if why: return why
             if goal and goal(w.s()): return None
-        return "not met in 10000000 steps; an empty line goes on" if goal else None
+        return "not met after 10000000 steps; an empty line goes on" if goal else None
 
     def behind(w, goal):
         """The last earlier state that meets the goal, in this run of states."""
@@ -198,7 +199,7 @@ class Walk:
             if goal(w.states[i]):
                 w.at = i
                 return None
-        return "not met on the way back, which ends at step %d" % w.first
+        return "not met since the first step that is kept, step %d" % w.first
 
     def where(w): return cut("%d  %s" % (w.at, rule(w.s())))
 
@@ -234,11 +235,11 @@ class Walk:
         why = None
         if c == "s": why = w.ahead(n)
         elif c == "b":
-            if n > w.at - w.first: why = "the way back ends here, at step %d" % w.first
+            if n > w.at - w.first: why = "this is the first step that is kept, step %d" % w.first
             w.at = max(w.first, w.at - n)
         elif c == "g":
             if n < w.at:
-                if n < w.first: why = "the way back ends here, at step %d" % w.first
+                if n < w.first: why = "this is the first step that is kept, step %d" % w.first
                 w.at = max(w.first, n)
             else: why = w.ahead(n - w.at)
         elif c in "ur":
@@ -260,7 +261,8 @@ class Walk:
                 if why: w.at = here
         elif c == "o":
             d = len(w.s().frames) - (call(w.s()) is not None)
-            why = "no call is begun here" if d == 0 else w.ahead(10**7, lambda s: call(s) is not None and len(s.frames) == d)
+            if d == 0: why = "no call is begun here" if not w.s().frames else "no call is begun around this one"
+            else: why = w.ahead(10**7, lambda s: call(s) is not None and len(s.frames) == d)
         elif c == "O":
             d = len(w.s().frames)
             why = "no call is begun here" if d == 0 else w.behind(lambda s: len(s.frames) < d)
@@ -268,11 +270,11 @@ class Walk:
             o = w.s().out
             if quoted:
                 i = o.rfind(rest[0].encode("latin1"))
-                if i < 0 or not rest[0]: why = "that was not printed" + (" since the way back begins, at step %d" % w.first if rest[0] and w.gone else " up to here")
+                if i < 0 or not rest[0]: why = "that was not printed" + (" since the first step that is kept, step %d" % w.first if rest[0] and w.gone else " up to here")
                 else: k = i + len(rest[0]) - 1; why = w.behind(lambda s: len(s.out) <= k)
             elif rest[0].startswith("#"):
                 k = int(rest[0][1:])
-                if k > 0 and k <= w.gone: why = "that was printed before the way back begins, at step %d" % w.first
+                if k > 0 and k <= w.gone: why = "that was printed before the first step that is kept, step %d" % w.first
                 elif k == 0 or k - w.gone > len(o): why = "that was not printed up to here"
                 else: why = w.behind(lambda s: len(s.out) <= k - w.gone - 1)
             else:
