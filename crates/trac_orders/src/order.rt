@@ -10,7 +10,7 @@ pub const CALL_COUNT: u64 = 10;
 pub const NOT_UNDERSTOOD: &[u8] = b"not understood; h lists the commands\n";
 
 // What is said of a command that stands alone, with other words after it.
-const STANDS_ALONE: &[u8] = b"not understood; nothing stands after this command\n";
+const STANDS_ALONE: &[u8] = b"not understood; this command takes no words after it\n";
 
 /// The commands, on one screen.
 pub const HELP: &[u8] = b"\
@@ -142,7 +142,7 @@ pub fn misunderstood(words: &[&[u8]]) -> &'static [u8] {
         b"t" => b"not understood; t takes a number from 1 on, of 12 digits at most, or nothing\n",
         b"w" => b"not understood; w takes NAME, #K or \"TEXT\"\n",
         b"y" => b"not understood; y takes \"TEXT\", #K, #, NAME K, . A K, or nothing\n",
-        b"i" => b"not understood; i takes TEXT, which in quotes is one word\n",
+        b"i" => b"not understood; i takes TEXT, or one word in quotes, or nothing\n",
         b"p" => b"not understood; p takes all, or nothing\n",
         b"f" => b"not understood; f takes NAME, or nothing\n",
         b"n" | b"N" | b"o" | b"O" | b"l" | b"e" => STANDS_ALONE,

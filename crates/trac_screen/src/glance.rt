@@ -33,13 +33,13 @@ fn glance_of<E: TwoEnds<u8, A>, M: TwoEnds<Mark, A>, A: Allocator + Copy>(
     Glance {
         depth: machine.depth(),
         rest: active.len(),
-        beginning: beginning_of(active),
+        beginning: beginning_len(active),
         performs: machine.at_call().is_some(),
     }
 }
 
 // How many bytes at the front of these begin a function.
-fn beginning_of(active: &[u8]) -> usize {
+fn beginning_len(active: &[u8]) -> usize {
     match front_at(active) {
         Front::ActiveCall => 2,
         Front::NeutralCall => 3,

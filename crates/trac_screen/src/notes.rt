@@ -92,7 +92,8 @@ fn say_stop<A: Allocator + Copy>(
         Stop::Spent => say_count(SEARCH_LIMIT, b" steps; an empty line goes on", line),
         Stop::Unended => say_count(SEARCH_LIMIT, b" steps; s N goes on by N steps", line),
         Stop::AtFirst | Stop::NotMet | Stop::NoForm => line.count(first_step),
-        Stop::NoValueSince | Stop::NotPrintedSince | Stop::PrintedEarlier => line.count(first_step),
+        Stop::NoValueSince => say_count(first_step, b", the first that is kept, ends here", line),
+        Stop::NotPrintedSince | Stop::PrintedEarlier => line.count(first_step),
         _ => Ok(()),
     }
 }
@@ -118,8 +119,7 @@ fn reason(stop: Stop) -> &'static [u8] {
         Stop::Outside => b"no call is begun here",
         Stop::Outermost => b"no call is begun around this one",
         Stop::NoValue => b"the value of no call ends here",
-        Stop::NoValueSince =>
-            b"the value of no call ends here since the first step that is kept, step ",
+        Stop::NoValueSince => b"no value of a call since step ",
         Stop::FromOne => b"bytes are counted from 1",
         Stop::EmptyText => b"an empty text has no last byte",
         Stop::NotPrinted => b"that was not printed up to here",
@@ -137,7 +137,8 @@ pub fn refused(refusal: Refusal) -> &'static [u8] {
     match refusal {
         Refusal::NeedInput => b"the program waits for input: i TEXT feeds a line, e ends the input",
         Refusal::Ended => b"the program has ended",
-        Refusal::TooLong => b"a limit is passed: too much text, or too many calls, forms or blocks",
+        Refusal::TooLong =>
+            b"a limit is passed: too much text, or too many arguments, forms or blocks",
         Refusal::Memory => b"there is no memory for this",
         Refusal::Closed => b"the input has ended",
         Refusal::JournalFull => b"the way back is full",
