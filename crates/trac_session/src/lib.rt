@@ -13,5 +13,5 @@ pub use goal::Goal;
 pub use session::Session;
 pub use trac_forms::Form;
 pub use trac_rules::refusal::Refusal;
-pub use trac_step::{Machine, Store, Width};
+pub use trac_step::{Args, Block, Item, Kind, Machine, Store, Texts, Width};
 pub use walk::{Return, Walk};

@@ -1,11 +1,12 @@
 -- Texts that are taken apart at line feeds and at spaces.
-use Rattle.std.proofs.Common.{◌≡◌, ℕ, suc, ◌+◌, ◌-◌, ◌==◌, ◌<◌, ◌≤◌, Bool, true, false, List, [], ◌∷◌, ◌++◌, length, map, take, drop, get_or, refl, sym, ap, subst, ◌∙◌, arith, ⊎_elim}
-use Rattle.std.specs.Prelude.{nat_eq, Some}
+use Rattle.std.proofs.Common.{◌≡◌, ℕ, zero, suc, ◌+◌, ◌-◌, ◌==◌, ◌<◌, ◌≤◌, Bool, true, false, List, [], ◌∷◌, ◌++◌, length, map, take, drop, get_or, refl, sym, ap, subst, ◌∙◌, arith, ⊎_elim}
+use Rattle.std.specs.Prelude.{nat_eq, Option, None, Some}
 use Rattle.std.specs.List.{ends_with, onto_first, slice_split}
 use Rattle.std.proofs.Math.Seq.{drop-cons}
-use Rattle.std.proofs.lemmas.Bool.{cond-false, cond-true, cases_Bool, ne_eqb}
+use Rattle.std.proofs.lemmas.Bool.{cond-false, cond-true, cases_Bool, eqb-true, false_from_ne_true}
 use Rattle.std.proofs.lemmas.Bool.Decides.{nat_tests}
-use Rattle.std.proofs.lemmas.List.{append-nil, append_assoc, length-append, length-take, length-take-le, take_more, take-append-drop, take-take, drop_all}
+use Rattle.std.proofs.lemmas.List.{append-nil, append_assoc, length-append, length-take, length-take-le, take_more, take-append-drop, take-take, take_all, drop_all}
+use Rattle.memchr.specs.Find.{IsFirstByte, is_byte}
 use Rattle.trac_rules.specs.declared.byte.TheConstants.{CARRIAGE_RETURN, LINE_FEED}
 use Rattle.trac_streams.specs.declared.lines.TheConstants.{LINE_LIMIT}
 use Rattle.trac_streams.specs.Lines.{between_feeds, lines_of, without_return}
@@ -31,6 +32,24 @@ pub cut_at : (xs : List ℕ) (i b : ℕ) → i < length xs → get_or xs i 0 ≡
 cut_at xs i b l here =
     let next : suc i ≡ i + 1 = omega arith in
     sym (take-append-drop i xs) ∙ ap (λ rest. take i xs ++ rest) (drop-cons xs i 0 l ∙ ap (λ h. h ∷ drop (suc i) xs) here ∙ ap (λ n. b ∷ drop n xs) next)
+
+-- none among the first n
+none_among : (test : ℕ → Bool) (xs : List ℕ) (n : ℕ) → n ≤ length xs → ((k : ℕ) → k < n → ¬ (test (get_or xs k 0) ≡ true)) → HasNone test (take n xs)
+none_among test xs zero within none = tt
+none_among test xs (suc n) within none =
+    let next : n + 1 ≡ suc n = omega arith in
+    subst (λ m. HasNone test (take m xs)) next
+    (HasNone-more test xs n (omega arith) (none_among test xs n (omega arith) (λ k l. none k (omega arith))) (false_from_ne_true (test (get_or xs n 0)) (none n (omega arith))))
+
+-- the place that a search finds
+pub place_found : (wanted : ℕ) (bytes : List ℕ) (place : Option ℕ) → IsFirstByte (is_byte wanted) bytes place → IsPlace wanted bytes place
+place_found wanted bytes None none =
+    subst (HasNone (λ b. b == wanted)) (take_all (length bytes) bytes (omega arith)) (none_among (λ b. b == wanted) bytes (length bytes) (omega arith) (λ k l. none k (omega arith) l))
+place_found wanted bytes (Some place) found = (
+  found.0.high,
+  none_among (λ b. b == wanted) bytes place (omega (arith, found.0.high)) (λ k l. found.0.before k (omega arith) l),
+  cut_at bytes place wanted found.0.high (eqb-true (get_or bytes place 0) wanted found.1),
+)
 
 -- ---- words
 
@@ -159,6 +178,3 @@ front_last bytes ended len some none over within cut = (
 
 pub some_of_test : (n : ℕ) (empty : Bool) → empty ≡ (n == 0) → empty ≡ false → 0 < n
 some_of_test n empty is no_ = grind (arith, nat_tests)
-
-pub not_same : (a b : ℕ) → (a ≡ b → ⊥) → (a == b) ≡ false
-not_same a b h = ne_eqb a b h

@@ -29,19 +29,14 @@ pub fn is_in_range(number: u64, most: u64) -> bool
     1 <= number && number <= most
 }
 
-/// How wide numbers are to be where this is wanted: of 128 bits where nothing is said. None where another width is wanted (this
-/// project's profile).
-pub fn decimals_of(asked: Option<&str>) -> Option<Width>
-    ensures { MatchOption asked.entry (result ≡ Some W128) (λ bits. result ≡ width_of bits.now) }
+/// How wide numbers are to be where so many bits are wanted, and of 128 bits where nothing is said. None where another width is
+/// wanted (this project's profile).
+pub fn decimals_of(asked: Option<u64>) -> Option<Width>
+    ensures { MatchOption asked (result ≡ Some W128) (λ bits. result ≡ width_of bits) }
 {
-    let Some(bits) = asked else {
-        return Some(Width::W128);
-    };
-    if bits == "64" {
-        return Some(Width::W64);
+    match asked {
+        None | Some(128) => Some(Width::W128),
+        Some(64) => Some(Width::W64),
+        _ => None,
     }
-    if bits == "128" {
-        return Some(Width::W128);
-    }
-    None
 }

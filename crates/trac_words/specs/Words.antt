@@ -5,8 +5,6 @@ use Rattle.trac_streams.specs.declared.options.TheConstants.{BUDGET_LIMIT}
 use Rattle.trac_streams.specs.declared.options.Options.{Options}
 use Rattle.trac_words.specs.declared.walk_words.WalkLine.{WalkLine}
 use Rattle.trac_words.specs.declared.walk_words.WalkLine.TheVariants as walks
-use Rattle.trac_words.specs.declared.words.Asked.{Asked}
-use Rattle.trac_words.specs.declared.words.Asked.TheVariants as asked
 use Rattle.trac_words.specs.declared.words.Line.{Line}
 use Rattle.trac_words.specs.declared.words.Line.TheVariants.{Run, Debug, Help, Bad}
 
@@ -22,11 +20,6 @@ IsLine (Run options) = AreWithin options
 IsLine (Debug path options) = AreWithin options
 IsLine (Help text) = Unit {0}
 IsLine (Bad text) = Unit {0}
-
--- the options that a command line gives, if they are understood, are within their ranges
-abbrev pub IsWithin : Asked → Type 0
-IsWithin (asked.Options options) = AreWithin options
-IsWithin (asked.Bad text) = Unit {0}
 
 -- so are those of a walk
 abbrev pub IsWalkLine : WalkLine → Type 0

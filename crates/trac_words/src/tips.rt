@@ -1,54 +1,87 @@
-//! Tips for mistakes that are often made, put into what clap says of a command line.
+//! Tips for mistakes that are often made, put into what clap says of a command line. Nothing here reads clap's sentences: which
+//! tip helps is told by the word that is not known, and where it goes by the blank lines of the text. The error of each function
+//! is that memory was refused.
 
 use crate::help::{BUDGET_TIP, PAGE_TIP, RUN_TIP, VERSION_TIP, WALK_TIP};
+use clap::Command;
 use clap::error::ErrorKind;
 use std::alloc::{AllocError, Global};
 
-/// What is said of a command line of `trac` that is not understood: this text of clap, with a tip where one helps. The error
-/// is that memory was refused, here and below.
+/// Whether an error of this kind says that a word is neither an argument nor a subcommand.
+pub(crate) fn is_unknown(kind: ErrorKind) -> bool {
+    kind == ErrorKind::UnknownArgument || kind == ErrorKind::InvalidSubcommand
+}
+
+/// The place of the first word of a command line that is neither an argument nor a subcommand: clap gives no more than a text of
+/// it, so it is the last one of the fewest words in which clap finds one. None where there is none.
+pub(crate) fn unknown_place<'a>(
+    mut command: Command<'a>,
+    words: &'a [&'a str],
+) -> Result<Option<usize>, AllocError> {
+    for place in 0..words.len() {
+        match refusal_of(&mut command, words.split_at(place + 1).0) {
+            Some(ErrorKind::OutOfMemory) => return Err(AllocError),
+            Some(kind) if is_unknown(kind) => return Ok(Some(place)),
+            _ => {}
+        }
+    }
+    Ok(None)
+}
+
+// Why clap does not take these words; none where it does.
+fn refusal_of<'a>(command: &mut Command<'a>, words: &'a [&'a str]) -> Option<ErrorKind> {
+    match command.try_get_matches_from_mut(words) {
+        Ok(_found) => None,
+        Err(error) => Some(error.kind()),
+    }
+}
+
+/// The word at a place that may be none; empty where there is none.
+pub(crate) fn word_at<'w>(words: &[&'w str], place: Option<usize>) -> &'w str {
+    match place {
+        Some(place) => words.get(place).copied().unwrap_or(""),
+        None => "",
+    }
+}
+
+/// What is said of a command line of `trac` in which this word is not known: this text of clap, with a tip where one helps.
 pub(crate) fn with_tip(
     alloc: Global,
     words: &[&str],
     kind: ErrorKind,
+    word: &str,
     text: String,
 ) -> Result<String, AllocError> {
-    let first = words.get(1).copied().unwrap_or("");
-    let is_unknown = kind == ErrorKind::UnknownArgument;
-    if is_unknown && first == "debug" {
-        return with_file_tip(alloc, words, &text, "trac debug");
+    if kind == ErrorKind::InvalidSubcommand {
+        return with_subcommand_tip(alloc, word, &text);
     }
-    if kind == ErrorKind::InvalidSubcommand || is_unknown && first == "run" && !is_option(&text) {
-        return with_first_tip(alloc, &text, tip_for(&text));
+    match words.get(1).copied().unwrap_or("") {
+        "run" if !is_option(word) => put_tip(alloc, &paragraphs_of(&text), Place::Last, RUN_TIP),
+        "debug" => with_file_tip(alloc, word, text, "trac debug"),
+        _ => Ok(text),
     }
-    Ok(text)
 }
 
-// This text of clap with a tip after the line that says what is wrong: before clap's own one, but after that of a subcommand
-// with a similar name, unless a file is named.
-fn with_first_tip(alloc: Global, text: &str, tip: &str) -> Result<String, AllocError> {
-    let Some((wrong, rest)) = text.split_once("\n\n") else {
-        return String::from_str(alloc, text);
+// Whether a word was meant for an option.
+fn is_option(word: &str) -> bool {
+    word.starts_with('-') && word != "-"
+}
+
+// What is said of a word that stands where a subcommand should. Clap may name a subcommand that is similar: that comes first,
+// unless the word names a file.
+fn with_subcommand_tip(alloc: Global, word: &str, text: &str) -> Result<String, AllocError> {
+    let names_file = word.contains('.') || word.contains('/');
+    let place = if names_file {
+        Place::First
+    } else {
+        Place::Last
     };
-    if !rest.starts_with("  tip: ") {
-        return format!(in alloc; "{wrong}\n\n  tip: {tip}\n\n{rest}");
-    }
-    match rest.split_once('\n') {
-        Some((similar, after)) if !names_file(text) => {
-            format!(in alloc; "{wrong}\n\n{similar}\n  tip: {tip}\n{after}")
-        }
-        _ => format!(in alloc; "{wrong}\n\n  tip: {tip}\n{rest}"),
-    }
+    put_tip(alloc, &paragraphs_of(text), place, tip_for(word))
 }
 
-// Whether the word that clap takes for a subcommand in this text looks like the name of a file.
-fn names_file(text: &str) -> bool {
-    let named = named_after(text, "subcommand '");
-    named.contains('.') || named.contains('/')
-}
-
-// The tip for what clap says of a subcommand that is not there, or of a word after `run`.
-fn tip_for(text: &str) -> &'static str {
-    match named_after(text, "subcommand '") {
+// The tip for a word that stands where a subcommand should.
+fn tip_for(word: &str) -> &'static str {
+    match word {
         "walk" | "trac-walk" => WALK_TIP,
         "page" | "trac-page" => PAGE_TIP,
         "version" => VERSION_TIP,
@@ -56,57 +89,77 @@ fn tip_for(text: &str) -> &'static str {
     }
 }
 
-/// This text of clap, which says of a command that reads a FILE that it was given a word that it does not know, with a tip
-/// in place of clap's own. That one would have a letter of the word, or the option's name, as the FILE.
+/// What is said of a command that reads a FILE and was given this word, which it does not know: this text of clap. A tip stands in
+/// the place of clap's own one to write a word after --: that has a letter of the word, or an option's name, as the FILE.
 pub(crate) fn with_file_tip(
     alloc: Global,
-    words: &[&str],
-    text: &str,
+    word: &str,
+    text: String,
     command: &str,
 ) -> Result<String, AllocError> {
-    let Some((before, tip)) = text.split_once("\n  tip: to pass '") else {
-        return String::from_str(alloc, text);
-    };
-    let Some((_, after)) = tip.split_once('\n') else {
-        return String::from_str(alloc, text);
-    };
-    let named = named_after(before, "argument '");
-    if named == "--budget" {
-        return format!(in alloc; "{before}\n  tip: {BUDGET_TIP}\n{after}");
+    let said = paragraphs_of(&text);
+    if word == "--budget" || word.starts_with("--budget=") {
+        return put_tip(alloc, &said, Place::Alone, BUDGET_TIP);
     }
-    if before.contains("tip: ") {
-        return format!(in alloc; "{before}\n{after}");
+    let is_after_dashes = said.tips.contains("'-- ");
+    if !is_after_dashes {
+        return Ok(text);
     }
-    let word = typed_for(words, named);
-    format!(in alloc;
-        "{before}\n  tip: a FILE whose name begins with - is written so: {command} ./{word}\n{after}"
-    )
+    let tip = format!(in alloc;
+        "a FILE whose name begins with - is written so: {command} ./{word}"
+    )?;
+    put_tip(alloc, &said, Place::Alone, &tip)
 }
 
-// Whether the word that clap names in this text is an option.
-fn is_option(text: &str) -> bool {
-    let named = named_after(text, "argument '");
-    named.starts_with('-') && named != "-"
+// The paragraphs of a text of clap. A blank line stands between two of them.
+#[derive(Clone, Copy)]
+struct Paragraphs<'t> {
+    // What is wrong.
+    wrong: &'t str,
+    // Its tips, each in a line that is set in. Empty where it has none.
+    tips: &'t str,
+    // How the command is used.
+    usage: &'t str,
 }
 
-// The word that clap names in this text after these words, as one that it does not know: of an argument that begins with a
-// single - only a letter. Empty where it names none.
-fn named_after<'a>(text: &'a str, words: &str) -> &'a str {
-    let Some((_, rest)) = text.split_once(words) else {
-        return "";
-    };
-    match rest.split_once('\'') {
-        Some((named, _)) => named,
-        None => "",
+fn paragraphs_of(text: &str) -> Paragraphs<'_> {
+    let (wrong, rest) = text.split_once("\n\n").unwrap_or((text, ""));
+    if !rest.starts_with(' ') {
+        return Paragraphs {
+            wrong,
+            tips: "",
+            usage: rest,
+        };
     }
+    let (tips, usage) = rest.split_once("\n\n").unwrap_or((rest, ""));
+    Paragraphs { wrong, tips, usage }
 }
 
-// The word of the command line that begins as clap names it, as it was typed.
-fn typed_for<'a>(words: &[&'a str], named: &'a str) -> &'a str {
-    for word in words {
-        if word.starts_with(named) {
-            return *word;
+// Where a tip goes.
+#[derive(Clone, Copy)]
+enum Place {
+    // Before those of clap.
+    First,
+    // After those of clap.
+    Last,
+    // In the place of those of clap.
+    Alone,
+}
+
+fn put_tip(
+    alloc: Global,
+    said: &Paragraphs<'_>,
+    place: Place,
+    tip: &str,
+) -> Result<String, AllocError> {
+    let Paragraphs { wrong, tips, usage } = *said;
+    match place {
+        Place::First if !tips.is_empty() => {
+            format!(in alloc; "{wrong}\n\n  tip: {tip}\n{tips}\n\n{usage}")
         }
+        Place::Last if !tips.is_empty() => {
+            format!(in alloc; "{wrong}\n\n{tips}\n  tip: {tip}\n\n{usage}")
+        }
+        _ => format!(in alloc; "{wrong}\n\n  tip: {tip}\n\n{usage}"),
     }
-    named
 }

@@ -3,8 +3,9 @@ ghost use Rattle.std.specs.Prelude.{IfOk};
 ghost use Rattle.trac_words.specs.Words.{IsWalkLine};
 
 use crate::help::{VERSION, WALK_USAGE, WALK_USE};
-use crate::tips::with_file_tip;
-use crate::words::{Asked, BACK, described, file, options_in, path_in, with_options};
+use crate::tips::{is_unknown, unknown_place, with_file_tip, word_at};
+use crate::words::{BACK, described, file, options_in, path_in, widths, with_options};
+use clap::builder::PossibleValue;
 use clap::error::ErrorKind;
 use clap::{Arg, ArgAction, ArgMatches, Command, Error};
 use std::alloc::{AllocError, Global};
@@ -26,7 +27,8 @@ pub enum WalkLine {
 pub fn read_walk_line(alloc: Global, words: &[&str]) -> Result<WalkLine, AllocError>
     ensures { IfOk result IsWalkLine }
 {
-    match walk_command(alloc)?.try_get_matches_from(words) {
+    let widths = widths();
+    match walk_command(alloc, &widths)?.try_get_matches_from(words) {
         Ok(matches) => walk_line(alloc, &matches),
         Err(error) => no_walk(alloc, words, &error),
     }
@@ -35,13 +37,9 @@ pub fn read_walk_line(alloc: Global, words: &[&str]) -> Result<WalkLine, AllocEr
 fn walk_line(alloc: Global, found: &ArgMatches<'_>) -> Result<WalkLine, AllocError>
     ensures { IfOk result IsWalkLine }
 {
-    match options_in(alloc, found, DEFAULT_BUDGET)? {
-        Asked::Options(options) => {
-            let path = path_in(alloc, found)?;
-            Ok(WalkLine::Walk(path, options, found.get_flag("prompt")))
-        }
-        Asked::Bad(text) => Ok(WalkLine::Bad(text)),
-    }
+    let path = path_in(alloc, found)?;
+    let options = options_in(found, DEFAULT_BUDGET);
+    Ok(WalkLine::Walk(path, options, found.get_flag("prompt")))
 }
 
 // What is said where a command line asks for no walk.
@@ -55,16 +53,27 @@ fn no_walk(alloc: Global, words: &[&str], error: &Error) -> Result<WalkLine, All
     let text = error.to_string(alloc)?;
     match kind {
         ErrorKind::DisplayHelp | ErrorKind::DisplayVersion => Ok(WalkLine::Help(text)),
-        ErrorKind::UnknownArgument => {
-            let said = with_file_tip(alloc, words, &text, "trac-walk")?;
+        kind if is_unknown(kind) => {
+            let word = unknown_in(alloc, words)?;
+            let said = with_file_tip(alloc, word, text, "trac-walk")?;
             Ok(WalkLine::Bad(said))
         }
         _ => Ok(WalkLine::Bad(text)),
     }
 }
 
-fn walk_command<'a>(alloc: Global) -> Result<Command<'a>, AllocError> {
-    with_options(alloc, bare_command(alloc).arg(file(alloc))?, BACK)?.arg(prompt(alloc))
+// The first word of a command line that `trac-walk` does not know.
+fn unknown_in<'w>(alloc: Global, words: &[&'w str]) -> Result<&'w str, AllocError> {
+    let widths = widths();
+    let place = unknown_place(walk_command(alloc, &widths)?, words)?;
+    Ok(word_at(words, place))
+}
+
+fn walk_command<'a>(
+    alloc: Global,
+    widths: &'a [PossibleValue<'a>],
+) -> Result<Command<'a>, AllocError> {
+    with_options(alloc, bare_command(alloc).arg(file(alloc))?, BACK, widths)?.arg(prompt(alloc))
 }
 
 // The command without its arguments.

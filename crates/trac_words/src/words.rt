@@ -1,13 +1,15 @@
 //! The command line.
-ghost use Rattle.std.specs.Prelude.{◌≤◌, IfOk, IfSome};
-ghost use Rattle.trac_words.specs.Words.{IsLine, IsWithin};
+ghost use Rattle.std.specs.Prelude.{◌≤◌, IfOk};
+ghost use Rattle.trac_words.specs.Words.{AreWithin, IsLine};
 
 use crate::help::{DEBUG_USE, NO_SUBCOMMAND, RUN_USAGE, RUN_USE, USE, VERSION};
-use crate::tips::with_tip;
+use crate::tips::{is_unknown, unknown_place, with_tip, word_at};
+use clap::builder::PossibleValue;
 use clap::error::ErrorKind;
-use clap::{Arg, ArgMatches, Command, Error};
+use clap::{Arg, ArgMatches, Command, Error, value_parser};
 use std::alloc::{AllocError, Global};
 use trac_rules::limit::JOURNAL_LIMIT;
+use trac_rules::width::Width;
 use trac_streams::{BUDGET_LIMIT, DEFAULT_BUDGET, Options, decimals_of, is_in_range};
 
 /// How many records a run's journal may hold where nothing else is said (this project's profile).
@@ -31,7 +33,8 @@ pub enum Line {
 pub fn read_line(alloc: Global, words: &[&str]) -> Result<Line, AllocError>
     ensures { IfOk result IsLine }
 {
-    match command(alloc)?.try_get_matches_from(words) {
+    let widths = widths();
+    match command(alloc, &widths)?.try_get_matches_from(words) {
         Ok(matches) => line_of(alloc, &matches),
         Err(error) => line_without(alloc, words, &error),
     }
@@ -48,8 +51,19 @@ fn line_without(alloc: Global, words: &[&str], error: &Error) -> Result<Line, Al
     let text = error.to_string(alloc)?;
     match kind {
         ErrorKind::DisplayHelp | ErrorKind::DisplayVersion => Ok(Line::Help(text)),
-        _ => Ok(Line::Bad(with_tip(alloc, words, kind, text)?)),
+        kind if is_unknown(kind) => {
+            let word = unknown_in(alloc, words)?;
+            Ok(Line::Bad(with_tip(alloc, words, kind, word, text)?))
+        }
+        _ => Ok(Line::Bad(text)),
     }
+}
+
+// The first word of a command line that `trac` does not know.
+fn unknown_in<'w>(alloc: Global, words: &[&'w str]) -> Result<&'w str, AllocError> {
+    let widths = widths();
+    let place = unknown_place(command(alloc, &widths)?, words)?;
+    Ok(word_at(words, place))
 }
 
 // What a command line that `clap` has taken asks for. It takes none without a subcommand; one would not be understood.
@@ -57,65 +71,33 @@ fn line_of(alloc: Global, matches: &ArgMatches<'_>) -> Result<Line, AllocError>
     ensures { IfOk result IsLine }
 {
     match matches.subcommand() {
-        Some(("run", found)) => run_line(alloc, found),
-        Some(("debug", found)) => debug_line(alloc, found),
+        Some(("run", found)) => Ok(Line::Run(run_options(found))),
+        Some(("debug", found)) => {
+            let path = path_in(alloc, found)?;
+            Ok(Line::Debug(path, options_in(found, DEFAULT_BUDGET)))
+        }
         _ => Ok(Line::Bad(String::from_str(alloc, NO_SUBCOMMAND)?)),
     }
 }
 
-fn run_line(alloc: Global, found: &ArgMatches<'_>) -> Result<Line, AllocError>
-    ensures { IfOk result IsLine }
+fn run_options(found: &ArgMatches<'_>) -> Options
+    ensures { AreWithin result }
 {
-    let Some(budget) = number_in(found, "budget", DEFAULT_BUDGET, BUDGET_LIMIT) else {
-        return Ok(Line::Bad(out_of_range(alloc, found, "budget", BUDGET_LIMIT)?));
-    };
-    match options_in(alloc, found, budget)? {
-        Asked::Options(options) => Ok(Line::Run(options)),
-        Asked::Bad(text) => Ok(Line::Bad(text)),
-    }
+    let budget = number_in(found, "budget", DEFAULT_BUDGET, BUDGET_LIMIT);
+    options_in(found, budget)
 }
 
-fn debug_line(alloc: Global, found: &ArgMatches<'_>) -> Result<Line, AllocError>
-    ensures { IfOk result IsLine }
-{
-    match options_in(alloc, found, DEFAULT_BUDGET)? {
-        Asked::Options(options) => Ok(Line::Debug(path_in(alloc, found)?, options)),
-        Asked::Bad(text) => Ok(Line::Bad(text)),
-    }
-}
-
-/// Options that a command line gives.
-#[derive(Drop)]
-pub(crate) enum Asked {
-    /// These, which are within their ranges.
-    Options(Options),
-    /// None that are understood: this text says why.
-    Bad(String),
-}
-
-/// The options that a command line gives, with this budget: 1 to 1,000,000,000,000 steps. The error is that memory was
-/// refused.
-pub(crate) fn options_in(
-    alloc: Global,
-    found: &ArgMatches<'_>,
-    budget: u64,
-) -> Result<Asked, AllocError>
+/// The options that a command line gives, with this budget: 1 to 1,000,000,000,000 steps.
+pub(crate) fn options_in(found: &ArgMatches<'_>, budget: u64) -> Options
     requires some { 1 ≤ budget }
     requires most { budget ≤ BUDGET_LIMIT }
-    ensures { IfOk result IsWithin }
+    ensures { AreWithin result }
 {
-    let Some(journal) = journal_in(found) else {
-        let text = out_of_range(alloc, found, "journal", JOURNAL_LIMIT as u64)?;
-        return Ok(Asked::Bad(text));
-    };
-    let Some(decimals) = decimals_of(found.get_str("decimals")) else {
-        return Ok(Asked::Bad(unknown_width(alloc, found)?));
-    };
-    Ok(Asked::Options(Options {
+    Options {
         budget,
-        journal,
-        decimals,
-    }))
+        journal: journal_in(found),
+        decimals: decimals_of(found.get_one("decimals")).unwrap_or(Width::W128),
+    }
 }
 
 /// The path of the file that is named. The error is that memory was refused.
@@ -123,64 +105,37 @@ pub(crate) fn path_in(alloc: Global, found: &ArgMatches<'_>) -> Result<String, A
     String::from_str(alloc, found.get_str("FILE").unwrap_or(""))
 }
 
-// How many records are wanted, or the default number; none where that is out of range.
-fn journal_in(found: &ArgMatches<'_>) -> Option<usize>
-    ensures { IfSome result (λ journal. (1 ≤ journal) × (journal ≤ JOURNAL_LIMIT)) }
+// How many records are wanted, or the default number.
+fn journal_in(found: &ArgMatches<'_>) -> usize
+    ensures some { 1 ≤ result }
+    ensures most { result ≤ JOURNAL_LIMIT }
 {
-    let journal = number_in(
+    number_in(
         found,
         "journal",
         DEFAULT_JOURNAL as u64,
         JOURNAL_LIMIT as u64,
-    )?;
-    Some(journal as usize)
+    ) as usize
 }
 
-// The number that this option has, or the default one where it is not given; none where it is no number from 1 to the most.
-fn number_in(found: &ArgMatches<'_>, option: &str, default: u64, most: u64) -> Option<u64>
+// The number that this option has, or the default one. `clap` takes no other than one from 1 to the most.
+fn number_in(found: &ArgMatches<'_>, option: &str, default: u64, most: u64) -> u64
     requires some { 1 ≤ default }
     requires within { default ≤ most }
-    ensures { IfSome result (λ number. (1 ≤ number) × (number ≤ most)) }
+    ensures some { 1 ≤ result }
+    ensures most { result ≤ most }
 {
-    if found.get_str(option).is_none() {
-        return Some(default);
+    match found.get_one(option) {
+        Some(number) if is_in_range(number, most) => number,
+        _ => default,
     }
-    let number = found.get_one::<u64>(option)?;
-    if is_in_range(number, most) {
-        Some(number)
-    } else {
-        None
-    }
-}
-
-// What is said of an option whose value is no number from 1 to the most.
-fn out_of_range(
-    alloc: Global,
-    found: &ArgMatches<'_>,
-    option: &str,
-    most: u64,
-) -> Result<String, AllocError> {
-    let value = found.get_str(option).unwrap_or("");
-    format!(in alloc;
-        "error: invalid value '{value}' for '--{option} <N>': it has to be a number from 1 to {most}\n\n\
-         For more information, try '--help'.\n"
-    )
-}
-
-// What is said of a width that is neither of the two.
-fn unknown_width(alloc: Global, found: &ArgMatches<'_>) -> Result<String, AllocError> {
-    let value = found.get_str("decimals").unwrap_or("");
-    format!(in alloc;
-        "error: invalid value '{value}' for '--decimals <BITS>': it has to be 64 or 128\n\n\
-         For more information, try '--help'.\n"
-    )
 }
 
 // The program's commands. Each is made by small functions: what a call of a command's own costs to prove grows with the ends
 // that still own one.
-fn command<'a>(alloc: Global) -> Result<Command<'a>, AllocError> {
-    let debug = debug_command(alloc)?;
-    match command_to_run(alloc) {
+fn command<'a>(alloc: Global, widths: &'a [PossibleValue<'a>]) -> Result<Command<'a>, AllocError> {
+    let debug = debug_command(alloc, widths)?;
+    match command_to_run(alloc, widths) {
         Ok(command) => command.subcommand(debug),
         Err(error) => {
             let_go(debug);
@@ -193,8 +148,11 @@ fn let_go(command: Command<'_>) {
     let _last = command;
 }
 
-fn command_to_run<'a>(alloc: Global) -> Result<Command<'a>, AllocError> {
-    let run = run_command(alloc)?;
+fn command_to_run<'a>(
+    alloc: Global,
+    widths: &'a [PossibleValue<'a>],
+) -> Result<Command<'a>, AllocError> {
+    let run = run_command(alloc, widths)?;
     whole_command(alloc).subcommand(run)
 }
 
@@ -207,7 +165,10 @@ fn whole_command<'a>(alloc: Global) -> Command<'a> {
         .subcommand_required(true)
 }
 
-fn run_command<'a>(alloc: Global) -> Result<Command<'a>, AllocError> {
+fn run_command<'a>(
+    alloc: Global,
+    widths: &'a [PossibleValue<'a>],
+) -> Result<Command<'a>, AllocError> {
     let command = described(
         subcommand_of_trac(alloc, "run")?,
         "Runs the program on standard input",
@@ -216,17 +177,21 @@ fn run_command<'a>(alloc: Global) -> Result<Command<'a>, AllocError> {
     with_options(
         alloc,
         command.override_usage(RUN_USAGE).arg(budget(alloc))?,
-        "Output is written after N steps at the latest, or 8192 if N is more: 1 to 1048576 [default: 65536]",
+        "Output is written after N steps at the latest, or 8192 if N is more: 1 to 1048576",
+        widths,
     )
 }
 
-fn debug_command<'a>(alloc: Global) -> Result<Command<'a>, AllocError> {
+fn debug_command<'a>(
+    alloc: Global,
+    widths: &'a [PossibleValue<'a>],
+) -> Result<Command<'a>, AllocError> {
     let command = described(
         subcommand_of_trac(alloc, "debug")?,
         "Steps through the program in FILE, forwards and backwards",
         DEBUG_USE,
     );
-    with_options(alloc, command.arg(file(alloc))?, BACK)
+    with_options(alloc, command.arg(file(alloc))?, BACK, widths)
 }
 
 // A subcommand of this name, shown as the program's.
@@ -239,17 +204,20 @@ pub(crate) fn described<'a>(command: Command<'a>, about: &'a str, last: &'a str)
     command.about(about).after_help(last)
 }
 
-/// The command with the options that each command has, of which `--journal` means this.
+/// The command with the options that each command has, of which `--journal` means this, and `--decimals` takes these values.
 pub(crate) fn with_options<'a>(
     alloc: Global,
     command: Command<'a>,
     records: &'a str,
+    widths: &'a [PossibleValue<'a>],
 ) -> Result<Command<'a>, AllocError> {
-    command.arg(journal(alloc, records))?.arg(decimals(alloc))
+    command
+        .arg(journal(alloc, records))?
+        .arg(decimals(alloc, widths))
 }
 
 /// What `--journal` means where steps are gone back over.
-pub(crate) const BACK: &str = "How many steps can be gone back over: 1 to 1048576 [default: 65536]";
+pub(crate) const BACK: &str = "How many steps can be gone back over: 1 to 1048576";
 
 pub(crate) fn file<'a>(alloc: Global) -> Arg<'a> {
     Arg::new(alloc, "FILE")
@@ -262,7 +230,9 @@ fn budget<'a>(alloc: Global) -> Arg<'a> {
     Arg::new(alloc, "budget")
         .long("budget")
         .value_name("N")
-        .help("How many steps the run may take: 1 to 1000000000000 [default: 1000000000]")
+        .help("How many steps the run may take: 1 to 1000000000000")
+        .default_value("1000000000")
+        .value_parser(value_parser!(u64).range(1..=BUDGET_LIMIT as i64))
 }
 
 // The option that says how many records a journal may hold, with what that means for this command.
@@ -271,12 +241,24 @@ fn journal<'a>(alloc: Global, help: &'a str) -> Arg<'a> {
         .long("journal")
         .value_name("N")
         .help(help)
+        .default_value("65536")
+        .value_parser(value_parser!(u64).range(1..=JOURNAL_LIMIT as i64))
 }
 
 // The option that says how wide numbers are.
-fn decimals<'a>(alloc: Global) -> Arg<'a> {
+fn decimals<'a>(alloc: Global, widths: &'a [PossibleValue<'a>]) -> Arg<'a> {
     Arg::new(alloc, "decimals")
         .long("decimals")
         .value_name("BITS")
-        .help("How wide numbers are: 64 or 128 bits [default: 128]")
+        .help("How wide numbers are, in bits")
+        .default_value("128")
+        .value_parser(widths)
+}
+
+/// The values of `--decimals`. As in the numbers of the other options, a sign may stand in front.
+pub(crate) fn widths<'a>() -> [PossibleValue<'a>; 2] {
+    [
+        PossibleValue::new("64").aliases(&["+64"]),
+        PossibleValue::new("128").aliases(&["+128"]),
+    ]
 }
