@@ -1,6 +1,6 @@
 -- A session of the debugger, line by line.
 use Rattle.std.proofs.Common.{◌≡◌, ℕ, ◌+◌, ◌-◌, ◌*◌, ◌==◌, ◌<◌, ◌≤◌, not, Bool, true, false, List, [], ◌∷◌, ◌++◌, length, take, drop, refl, sym, ap, subst, ◌∙◌, arith, inl, inr, ⊎_elim}
-use Rattle.std.specs.Prelude.{Option, Result, Ok, Err, IfErr, IsOkUnless, nat_le, if◌then◌else◌}
+use Rattle.std.specs.Prelude.{Option, None, Some, Result, Ok, Err, IfErr, IsOkUnless, nat_le, if◌then◌else◌}
 use Rattle.std.specs.Io.KnownBytes.{Appends, Consumes, IsAtEnd, Keeps}
 use Rattle.std.proofs.lemmas.Bool.{false≢true, cond-true, cond-false, le-leb, lt-leb, cases_lt}
 use Rattle.std.proofs.lemmas.Bool.Decides.{nat_tests}
@@ -18,14 +18,15 @@ use Rattle.trac_streams.proofs.Known.{Appends-nothing, Appends-both, Appends-kep
 use Rattle.trac_streams.specs.declared.lines.NextLine.TheVariants.{Line, TooLong}
 use Rattle.trac_streams.specs.declared.lines.TheConstants.{LINE_LIMIT, LINE_COUNT_LIMIT}
 use Rattle.trac_streams.specs.Lines.{lines_of, is_within}
-use Rattle.trac_debug.specs.Commands.{LineCommand, command_of}
+use Rattle.trac_debug.specs.Commands.{LineCommand, Forward, Back, Until, Return, Print, Commit, Quit, command_of}
 use Rattle.trac_debug.specs.Replies.{Replies}
 use Rattle.trac_debug.specs.Debugging.{Turn, Passes, Does, Ends, Takes, MayWrite, MayFollow, FollowsFirst, MayShow, RepliesToFirst, ready, shown_where, turn_at, turn_of}
-use Rattle.trac_debug.specs.Debugs.{UnlessFault, UnlessWrite, Debugs, IsReady, IsNotReplied, Settles, Stops, Advances, Halts}
+use Rattle.trac_debug.specs.Debugs.{UnlessFault, UnlessWrite, Debugs, DebugsBy, MOST_READ, IsReady, IsNotReplied, Settles, Stops, Advances, Halts}
 use Rattle.trac_streams.specs.Pending.{Pending}
 use Rattle.trac_streams.specs.Tape.{MayRefuseTape}
-use Rattle.trac_streams.specs.Reading.{HELD_LIMIT, IsFront, Gathers, MayFail}
+use Rattle.trac_streams.specs.Reading.{HELD_LIMIT, IsFront, Gathers, GathersBy, FailsBy, CameBy, end_reads, empty_reads, fault_reads}
 use Rattle.trac_debug.proofs.Existing.{some_reply, some_text}
+use Rattle.trac_streams.proofs.Gathered.{came_by_both, came_by_none, empty_reads_sound, end_reads_one, end_reads_open, reads_counted}
 use Rattle.trac_streams.proofs.Splitting.{first_line}
 
 -- ---- what becomes of a line
@@ -68,6 +69,41 @@ settled (Does command) p q a b over = record {
   takes = λ lines number text stop rest. (over.reply, q, text, over.replies, refl, rest);
 }
 settled (Ends stop) p q a b over = absurd over
+
+-- a session that a line ends, ends for no fault of the reader
+abbrev EndsSound : Turn → Type 0
+EndsSound Passes = Unit {0}
+EndsSound (Does command) = Unit {0}
+EndsSound (Ends stop) = fault_reads stop ≡ 0
+
+either_sound : (b : Bool) (x y : Turn) → EndsSound x → EndsSound y → EndsSound (if b then x else y)
+either_sound true x y one other = one
+either_sound false x y one other = other
+
+turn_of_sound : (number : ℕ) (command : Option LineCommand) → EndsSound (turn_of number command)
+turn_of_sound number None = refl
+turn_of_sound number (Some (Forward n)) = tt
+turn_of_sound number (Some (Back n)) = tt
+turn_of_sound number (Some (Until name n)) = tt
+turn_of_sound number (Some (Return name)) = tt
+turn_of_sound number (Some Print) = tt
+turn_of_sound number (Some (Commit keep)) = tt
+turn_of_sound number (Some Quit) = refl
+
+turn_sound : (number : ℕ) (line : List ℕ) → EndsSound (turn_at number line)
+turn_sound number [] = either_sound (nat_le number LINE_COUNT_LIMIT) Passes (Ends Budget) tt refl
+turn_sound number (b ∷ bs) =
+    either_sound (nat_le number LINE_COUNT_LIMIT) (if is_within (b ∷ bs) then turn_of number (command_of (b ∷ bs)) else Ends (NotUnderstood number)) (Ends Budget)
+    (either_sound (is_within (b ∷ bs)) (turn_of number (command_of (b ∷ bs))) (Ends (NotUnderstood number)) (turn_of_sound number (command_of (b ∷ bs))) refl) refl
+
+-- nor does one that ends in a reply
+stop_sound : (turn : Turn) (p : PlainSession) (a b : Option (List ℕ)) (ending : Ending) → EndsSound turn → Stops turn p a b ending → fault_reads ending ≡ 0
+stop_sound Passes p a b ending sound stops = absurd stops
+stop_sound (Does command) p a b ending sound stops = ⊎_elim
+    (λ (none : (ending ≡ Memory) × (stops.written ≡ [])). ap fault_reads none.0)
+    (λ (fault : ending ≡ Write). ap fault_reads fault)
+    stops.fault
+stop_sound (Ends stop) p a b ending sound stops = ap fault_reads stops.0 ∙ sound
 
 -- a turn in which the session ends: what was written is a front of what may be written, or, without a fault, all of it
 pub record IsStopped (turn : Turn) (p : PlainSession) (a b : Option (List ℕ)) (ending : Ending) : Type 0 where
@@ -157,10 +193,11 @@ held_after in_old in_new old mid read =
     )
 
 -- a line is done with, which is not too long
-pub advances : (in_old in_new out_old out_new : Option (List ℕ)) (number : ℕ) (old mid new : Pending) (p q : PlainSession) (len whole : ℕ) → len ≤ LINE_LIMIT →
-    Gathers in_old in_new old mid → IsFront mid.bytes mid.ended (Line len whole) → Settles (turn_at number (take len mid.bytes)) p q out_old out_new →
-    new ≡ record mid { bytes = drop whole mid.bytes } → Advances in_old in_new out_old out_new number old p new q
-advances in_old in_new out_old out_new number old mid new p q len whole short read front over_ after =
+pub advances : (in_old in_new out_old out_new : Option (List ℕ)) (reads_old reads_new number : ℕ) (old mid new : Pending) (p q : PlainSession) (len whole : ℕ) → len ≤ LINE_LIMIT →
+    GathersBy in_old in_new reads_old reads_new old mid → IsFront mid.bytes mid.ended (Line len whole) → Settles (turn_at number (take len mid.bytes)) p q out_old out_new →
+    new ≡ record mid { bytes = drop whole mid.bytes } → Advances in_old in_new out_old out_new reads_old reads_new number old p new q
+advances in_old in_new out_old out_new reads_old reads_new number old mid new p q len whole short by front over_ after =
+    let read : Gathers in_old in_new old mid = by.gathers in
     let line : List ℕ = take len mid.bytes in
     let held = held_after in_old in_new old mid read in
     let left : length new.bytes ≡ length mid.bytes - whole = ap (λ (l : Pending). length l.bytes) after ∙ length-drop whole mid.bytes in
@@ -180,6 +217,9 @@ advances in_old in_new out_old out_new number old mid new p q len whole short re
       rest = λ lines text stop rest_. turn.takes lines (number + 1) text stop rest_;
       few = omega (arith, held.0, left, short, front.3);
       held = λ old_held. omega (arith, held.1 old_held, left);
+      full = by.full;
+      came = by.came;
+      counted = omega (arith, by.counted, ap end_reads ended);
     }
 
 -- what is said of lines that are the same
@@ -188,10 +228,11 @@ unless_same : (ending : Ending) (number : ℕ) (p : PlainSession) (written : Lis
 unless_same ending number p written a b e fact = subst (λ ls. UnlessFault ending (MayWrite ls number p written ending)) e fact
 
 -- the session ends in a line
-pub halts_in : (in_old in_new out_old out_new : Option (List ℕ)) (number : ℕ) (old mid : Pending) (p : PlainSession) (len whole : ℕ) (ending : Ending) →
-    Gathers in_old in_new old mid → IsFront mid.bytes mid.ended (Line len whole) → Stops (turn_at number (take len mid.bytes)) p out_old out_new ending →
-    Halts in_old in_new out_old out_new number old p ending
-halts_in in_old in_new out_old out_new number old mid p len whole ending read front stops =
+pub halts_in : (in_old in_new out_old out_new : Option (List ℕ)) (reads_old reads_new number : ℕ) (old mid : Pending) (p : PlainSession) (len whole : ℕ) (ending : Ending) →
+    GathersBy in_old in_new reads_old reads_new old mid → IsFront mid.bytes mid.ended (Line len whole) → Stops (turn_at number (take len mid.bytes)) p out_old out_new ending →
+    Halts in_old in_new out_old out_new reads_old reads_new number old p ending
+halts_in in_old in_new out_old out_new reads_old reads_new number old mid p len whole ending by front stops =
+    let read : Gathers in_old in_new old mid = by.gathers in
     let line : List ℕ = take len mid.bytes in
     let turn : IsStopped (turn_at number line) p out_old out_new ending = stopped (turn_at number line) p out_old out_new ending stops in
     record {
@@ -213,12 +254,17 @@ halts_in in_old in_new out_old out_new number old mid p len whole ending read fr
           unless_same ending number p turn.written (line ∷ left) (lines_of (old.bytes ++ (read.got ++ more))) all (turn.whole left (number + 1));
       nothing = turn.nothing;
       held = λ old_held. let held_ = held_after in_old in_new old mid read in omega (arith, held_.0, held_.1 old_held);
+      full = by.full;
+      came = by.came;
+      counted = omega (arith, by.counted, empty_reads_sound mid.ended ending (stop_sound (turn_at number line) p out_old out_new ending (turn_sound number line) stops));
     }
 
 -- the session ends before a line, and nothing is written: the lines, whatever more there are, say that it ends so
-pub halts_before : (in_old in_new output : Option (List ℕ)) (number : ℕ) (old mid : Pending) (p : PlainSession) (ending : Ending) → Gathers in_old in_new old mid →
-    ((more : List ℕ) → (mid.ended ≡ true → more ≡ []) → MayWrite (lines_of (mid.bytes ++ more)) number p [] ending) → Halts in_old in_new output output number old p ending
-halts_before in_old in_new output number old mid p ending read says =
+pub halts_before : (in_old in_new output : Option (List ℕ)) (reads_old reads_new number : ℕ) (old mid : Pending) (p : PlainSession) (ending : Ending) → fault_reads ending ≡ 0 →
+    GathersBy in_old in_new reads_old reads_new old mid →
+    ((more : List ℕ) → (mid.ended ≡ true → more ≡ []) → MayWrite (lines_of (mid.bytes ++ more)) number p [] ending) → Halts in_old in_new output output reads_old reads_new number old p ending
+halts_before in_old in_new output reads_old reads_new number old mid p ending sound by says =
+    let read : Gathers in_old in_new old mid = by.gathers in
     let all : (more : List ℕ) → (mid.ended ≡ true → more ≡ []) → MayWrite (lines_of (old.bytes ++ (read.got ++ more))) number p [] ending =
     λ more none. subst (λ t. MayWrite (lines_of t) number p [] ending) (read_on old mid read.got more read.bytes) (says more none) in
     record {
@@ -233,6 +279,9 @@ halts_before in_old in_new output number old mid p ending read says =
       whole = λ more none. unless_always ending (MayWrite (lines_of (old.bytes ++ (read.got ++ more))) number p [] ending) (all more none);
       nothing = wrote_nothing ending [] refl;
       held = λ old_held. let held_ = held_after in_old in_new old mid read in omega (arith, held_.0, held_.1 old_held);
+      full = by.full;
+      came = by.came;
+      counted = omega (arith, by.counted, empty_reads_sound mid.ended ending sound);
     }
 
 -- at the end of the lines
@@ -274,32 +323,35 @@ halts_late number mid p late some more none =
     ends_first number p (lines_of (mid.bytes ++ more)) at.1 at.0 Budget at.2 (turn_late number at.0 late)
 
 -- a read failed: nothing is written, and more may come
-pub halts_unread : (in_old in_new output : Option (List ℕ)) (number : ℕ) (old new : Pending) (p : PlainSession) (ending : Ending) → MayFail in_old in_new old new ending →
-    Halts in_old in_new output output number old p ending
-halts_unread in_old in_new output number old new p ending failed = record {
-  got = failed.kept ++ failed.lost;
+pub halts_unread : (in_old in_new output : Option (List ℕ)) (reads_old reads_new number : ℕ) (old new : Pending) (p : PlainSession) (ending : Ending) →
+    FailsBy in_old in_new reads_old reads_new old new ending → Halts in_old in_new output output reads_old reads_new number old p ending
+halts_unread in_old in_new output reads_old reads_new number old new p ending by = record {
+  got = by.fails.kept ++ by.fails.lost;
   written = [];
   saw_end = false;
-  took = failed.took;
+  took = by.fails.took;
   gave = Appends-nothing output;
-  closed = λ over. absurd (false≢true (sym failed.open_ ∙ over));
+  closed = λ over. absurd (false≢true (sym by.fails.open_ ∙ over));
   at_end = λ over. absurd (false≢true over);
   front = λ more none.
-      let some = some_text (lines_of (old.bytes ++ ((failed.kept ++ failed.lost) ++ more))) number p in
+      let some = some_text (lines_of (old.bytes ++ ((by.fails.kept ++ by.fails.lost) ++ more))) number p in
       (some.0, some.1, some.2, front_of_nothing some.0);
   whole = λ more none. ⊎_elim
-      (λ (none_ : ending ≡ Memory). unless_Memory ending (MayWrite (lines_of (old.bytes ++ ((failed.kept ++ failed.lost) ++ more))) number p [] ending) none_)
-      (λ (fault : (ending ≡ Read) × (failed.lost ≡ [])). unless_Read ending (MayWrite (lines_of (old.bytes ++ ((failed.kept ++ failed.lost) ++ more))) number p [] ending) fault.0)
-      failed.fault;
+      (λ (none_ : ending ≡ Memory). unless_Memory ending (MayWrite (lines_of (old.bytes ++ ((by.fails.kept ++ by.fails.lost) ++ more))) number p [] ending) none_)
+      (λ (fault : (ending ≡ Read) × (by.fails.lost ≡ [])). unless_Read ending (MayWrite (lines_of (old.bytes ++ ((by.fails.kept ++ by.fails.lost) ++ more))) number p [] ending) fault.0)
+      by.fails.fault;
   nothing = wrote_nothing ending [] refl;
-  held = λ _. failed.few;
+  held = λ _. by.fails.few;
+  full = by.full;
+  came = by.came;
+  counted = omega (arith, by.counted, end_reads_open old.ended by.fails.open_);
 }
 
 -- ---- a whole session
 
 -- what a session has done so far: what was read, what was written, the lines that were replied to, and that what may be written from the
--- line of this number on is the rest. No more was read than these lines may have and is held
-pub record SoFar (in_old in_now out_old out_now : Option (List ℕ)) (start : PlainSession) (number : ℕ) (lines : Pending) (p : PlainSession) : Type 0 where
+-- line of this number on is the rest. No more was read than these lines may have and is held, and so often
+pub record SoFar (in_old in_now out_old out_now : Option (List ℕ)) (start : PlainSession) (reads number : ℕ) (lines : Pending) (p : PlainSession) : Type 0 where
   pub got : List ℕ
   pub written : List ℕ
   pub took : Consumes in_old in_now got
@@ -311,6 +363,9 @@ pub record SoFar (in_old in_now out_old out_now : Option (List ℕ)) (start : Pl
   pub count : length before + 1 ≡ number
   pub few : length got ≤ length before * (LINE_LIMIT + 2) + length lines.bytes
   pub held : length lines.bytes ≤ HELD_LIMIT
+  pub full : ℕ
+  pub came : CameBy full got
+  pub counted : reads ≡ full + end_reads lines.ended
 
 -- a tape that is not too long is gone over
 shown_within : (tape : List ℕ) (limit : ℕ) (width : Width) (commands text : List ℕ) (stop : Ending) → length tape ≤ TAPE_LIMIT →
@@ -324,7 +379,7 @@ shown_beyond tape limit width commands beyond =
     subst (λ fits. shown_where tape limit width commands [] Limit fits) (sym (lt-leb (length tape) TAPE_LIMIT beyond)) (refl, refl)
 
 -- at the beginning
-pub so_far_none : (input output : Option (List ℕ)) (lines : Pending) (p : PlainSession) → lines ≡ record { bytes = []; ended = false } → SoFar input input output output p 1 lines p
+pub so_far_none : (input output : Option (List ℕ)) (lines : Pending) (p : PlainSession) → lines ≡ record { bytes = []; ended = false } → SoFar input input output output p 0 1 lines p
 so_far_none input output lines p none = record {
   got = [];
   written = [];
@@ -337,13 +392,16 @@ so_far_none input output lines p none = record {
   count = refl;
   few = omega arith;
   held = omega (arith, ap (λ (l : Pending). length l.bytes) none);
+  full = 0;
+  came = came_by_none;
+  counted = omega (arith, end_reads_open lines.ended (ap (λ (l : Pending). l.ended) none));
 }
 
 -- a line more
-pub so_far_more : (in_old in_now in_new out_old out_now out_new : Option (List ℕ)) (start : PlainSession) (number : ℕ) (lines after : Pending) (p q : PlainSession) →
-    SoFar in_old in_now out_old out_now start number lines p → Advances in_now in_new out_now out_new number lines p after q →
-    SoFar in_old in_new out_old out_new start (number + 1) after q
-so_far_more in_old in_now in_new out_old out_now out_new start number lines after p q far on = record {
+pub so_far_more : (in_old in_now in_new out_old out_now out_new : Option (List ℕ)) (start : PlainSession) (reads_now reads_new number : ℕ) (lines after : Pending) (p q : PlainSession) →
+    SoFar in_old in_now out_old out_now start reads_now number lines p → Advances in_now in_new out_now out_new reads_now reads_new number lines p after q →
+    SoFar in_old in_new out_old out_new start reads_new (number + 1) after q
+so_far_more in_old in_now in_new out_old out_now out_new start reads_now reads_new number lines after p q far on = record {
   got = far.got ++ on.got;
   written = far.written ++ on.written;
   took = Consumes-both in_old in_now in_new far.got on.got far.took on.took;
@@ -360,7 +418,16 @@ so_far_more in_old in_now in_new out_old out_now out_new start number lines afte
   count = omega (arith, length-append far.before (on.line ∷ []), far.count);
   few = omega (arith, length-append far.got on.got, length-append far.before (on.line ∷ []), far.few, on.few);
   held = on.held far.held;
+  full = far.full + on.full;
+  came = came_by_both far.full on.full far.got on.got far.came on.came;
+  counted = omega (arith, far.counted, on.counted);
 }
+
+-- there were few reads: one for each byte at most, and one
+pub few_so_far : (in_old in_now out_old out_now : Option (List ℕ)) (start : PlainSession) (reads number : ℕ) (lines : Pending) (p : PlainSession) → number ≤ LINE_COUNT_LIMIT + 1 →
+    SoFar in_old in_now out_old out_now start reads number lines p → reads ≤ MOST_READ + 1
+few_so_far in_old in_now out_old out_now start reads number lines p few_lines far =
+    omega (arith, few_lines, far.counted, far.came.0, far.few, far.count, far.held, end_reads_one lines.ended)
 
 -- what is said of an ending without a fault, after what was written
 unless_also : (ending : Ending) (Fact Other : Type 0) → (Fact → Other) → UnlessFault ending Fact → UnlessFault ending Other
@@ -378,10 +445,11 @@ first_replied start before later lines written nothing splits none may =
     (subst (λ t. MayWrite (before ++ []) 1 start (written ++ t) Ended) (sym none) may)
 
 -- the end
-pub debugged : (in_old in_now in_new out_old out_now out_new : Option (List ℕ)) (start : PlainSession) (number : ℕ) (lines : Pending) (p : PlainSession) (ending : Ending) → number ≤ LINE_COUNT_LIMIT + 1 →
-    SoFar in_old in_now out_old out_now start number lines p → Halts in_now in_new out_now out_new number lines p ending →
-    Debugs in_old in_new out_old out_new (MayFollow start) (FollowsFirst start) ending
-debugged in_old in_now in_new out_old out_now out_new start number lines p ending few_lines far last =
+pub debugged : (in_old in_now in_new out_old out_now out_new : Option (List ℕ)) (start : PlainSession) (reads_now reads_new number count : ℕ) (lines : Pending) (p : PlainSession) (ending : Ending) →
+    number ≤ LINE_COUNT_LIMIT + 1 → count + 1 ≡ number →
+    SoFar in_old in_now out_old out_now start reads_now number lines p → Halts in_now in_new out_now out_new reads_now reads_new number lines p ending →
+    DebugsBy in_old in_new out_old out_new (MayFollow start) (FollowsFirst start) count reads_new ending
+debugged in_old in_now in_new out_old out_now out_new start reads_now reads_new number count lines p ending few_lines counts far last =
     let splits : (more : List ℕ) → (last.saw_end ≡ true → more ≡ []) → lines_of ((far.got ++ last.got) ++ more) ≡ far.before ++ lines_of (lines.bytes ++ (last.got ++ more)) =
     λ more none.
     ap lines_of (append_assoc far.got last.got more) ∙ far.splits (last.got ++ more) (λ over. let at = last.closed over in ap (λ g. g ++ more) at.0 ∙ none at.1) in
@@ -390,29 +458,41 @@ debugged in_old in_now in_new out_old out_now out_new start number lines p endin
     λ more none text stop may.
     subst (λ ls. MayWrite ls 1 start (far.written ++ text) stop) (sym (splits more none))
     (far.rest (lines_of (lines.bytes ++ (last.got ++ more))) text stop may) in
+    let lines_done : length far.before ≡ count = omega (arith, far.count, counts) in
     record {
-      got = far.got ++ last.got;
-      few = omega (arith, length-append far.got last.got, far.count, few_lines, far.few, last.held far.held);
-      written = far.written ++ last.written;
-      saw_end = last.saw_end;
-      took = Consumes-both in_old in_now in_new far.got last.got far.took last.took;
-      gave = Appends-both out_old out_now out_new far.written last.written far.gave last.gave;
-      at_end = last.at_end;
-      front = λ more none.
-          let some = last.front more none in
-          (far.written ++ some.0, some.1, all more none some.0 some.1 some.2, front_after far.written last.written some.0 some.3);
-      whole = λ more none.
-          unless_also ending (MayWrite (lines_of (lines.bytes ++ (last.got ++ more))) number p last.written ending)
-          (MayFollow start ((far.got ++ last.got) ++ more) (far.written ++ last.written) ending)
-          (λ may. all more none last.written ending may) (last.whole more none);
-      replied = length far.before;
-      few_lines = omega (arith, far.count, few_lines);
-      replies = λ more none.
-          also_unless ending (last.written ≡ []) (FollowsFirst start (length far.before) ((far.got ++ last.got) ++ more) (far.written ++ last.written))
-          (λ nothing. first_replied start far.before (lines_of (lines.bytes ++ (last.got ++ more))) (lines_of ((far.got ++ last.got) ++ more)) far.written last.written (splits more none) nothing
-          (far.rest [] [] Ended (refl, refl)))
-          last.nothing;
+      debugs = record {
+        got = far.got ++ last.got;
+        few = omega (arith, length-append far.got last.got, far.count, few_lines, far.few, last.held far.held);
+        written = far.written ++ last.written;
+        saw_end = last.saw_end;
+        took = Consumes-both in_old in_now in_new far.got last.got far.took last.took;
+        gave = Appends-both out_old out_now out_new far.written last.written far.gave last.gave;
+        at_end = last.at_end;
+        front = λ more none.
+            let some = last.front more none in
+            (far.written ++ some.0, some.1, all more none some.0 some.1 some.2, front_after far.written last.written some.0 some.3);
+        whole = λ more none.
+            unless_also ending (MayWrite (lines_of (lines.bytes ++ (last.got ++ more))) number p last.written ending)
+            (MayFollow start ((far.got ++ last.got) ++ more) (far.written ++ last.written) ending)
+            (λ may. all more none last.written ending may) (last.whole more none);
+        replied = length far.before;
+        few_lines = omega (arith, far.count, few_lines);
+        replies = λ more none.
+            also_unless ending (last.written ≡ []) (FollowsFirst start (length far.before) ((far.got ++ last.got) ++ more) (far.written ++ last.written))
+            (λ nothing. first_replied start far.before (lines_of (lines.bytes ++ (last.got ++ more))) (lines_of ((far.got ++ last.got) ++ more)) far.written last.written (splits more none) nothing
+            (far.rest [] [] Ended (refl, refl)))
+            last.nothing;
+      };
+      done_with = lines_done;
+      few = omega (arith, length-append far.got last.got, lines_done, far.few, last.held far.held);
+      counted = (far.full + last.full, came_by_both far.full last.full far.got last.got far.came last.came, omega (arith, far.counted, last.counted));
     }
+
+-- there were no more reads than there may be
+pub few_reads_by : (in_old in_new out_old out_new : Option (List ℕ)) (Stated : List ℕ → List ℕ → Ending → Type 0) (ToFirst : ℕ → List ℕ → List ℕ → Type 0) (lines reads : ℕ) (ending : Ending) →
+    DebugsBy in_old in_new out_old out_new Stated ToFirst lines reads ending → reads ≤ MOST_READ + 1
+few_reads_by in_old in_new out_old out_new Stated ToFirst lines reads ending by =
+    omega (arith, by.debugs.few, reads_counted reads by.debugs.got by.debugs.saw_end ending by.counted)
 
 -- the same over a tape that is not too long
 pub debugged_over : (in_old in_new out_old out_new : Option (List ℕ)) (tape : List ℕ) (limit : ℕ) (width : Width) (p : PlainSession) (ending : Ending) → IsReady tape limit width p →

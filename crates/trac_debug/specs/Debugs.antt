@@ -13,7 +13,7 @@ use Rattle.trac_debug.specs.Replies.{Replies}
 use Rattle.trac_debug.specs.Debugging.{Turn, Passes, Does, Ends, MayWrite, ready}
 use Rattle.trac_streams.specs.declared.lines.TheConstants.{LINE_LIMIT, LINE_COUNT_LIMIT}
 use Rattle.trac_streams.specs.Pending.{Pending}
-use Rattle.trac_streams.specs.Reading.{HELD_LIMIT}
+use Rattle.trac_streams.specs.Reading.{HELD_LIMIT, CameBy, CountsReads, end_reads, empty_reads}
 
 -- ---- a whole session
 
@@ -52,6 +52,14 @@ pub record Debugs (in_old in_new out_old out_new : Option (List ℕ)) (Stated : 
   pub few_lines : replied ≤ LINE_COUNT_LIMIT
   pub replies : (more : List ℕ) → (saw_end ≡ true → more ≡ []) → UnlessWrite ending (ToFirst replied (got ++ more) written)
 
+-- a session, of which what it did is counted: so many lines were done with, of which no more was read than they and what is held may have,
+-- and just so often
+pub record DebugsBy (in_old in_new out_old out_new : Option (List ℕ)) (Stated : List ℕ → List ℕ → Ending → Type 0) (ToFirst : ℕ → List ℕ → List ℕ → Type 0) (lines reads : ℕ) (ending : Ending) : Type 0 where
+  pub debugs : Debugs in_old in_new out_old out_new Stated ToFirst ending
+  pub done_with : debugs.replied ≡ lines
+  pub few : length debugs.got ≤ lines * (LINE_LIMIT + 2) + HELD_LIMIT
+  pub counted : CountsReads reads debugs.got debugs.saw_end ending
+
 -- ---- parts of a session
 
 -- a session over a tape that is not too long
@@ -89,7 +97,7 @@ Stops (Ends stop) old out_old out_new ending = (ending ≡ stop) × Keeps out_ol
 
 -- a line stands at the front of the text, whatever comes after it, and is taken with what ends it; and what may be written from the next line on, after what was
 -- written, may be written from the line of this number on
-pub record Advances (in_old in_new out_old out_new : Option (List ℕ)) (number : ℕ) (lines_old : Pending) (p : PlainSession) (lines_new : Pending) (q : PlainSession) : Type 0 where
+pub record Advances (in_old in_new out_old out_new : Option (List ℕ)) (reads_old reads_new number : ℕ) (lines_old : Pending) (p : PlainSession) (lines_new : Pending) (q : PlainSession) : Type 0 where
   pub got : List ℕ
   pub written : List ℕ
   pub took : Consumes in_old in_new got
@@ -101,10 +109,13 @@ pub record Advances (in_old in_new out_old out_new : Option (List ℕ)) (number 
   pub rest : (lines : List (List ℕ)) → (text : List ℕ) → (stop : Ending) → MayWrite lines (number + 1) q text stop → MayWrite (line ∷ lines) number p (written ++ text) stop
   pub few : length lines_old.bytes + length got ≤ length lines_new.bytes + (LINE_LIMIT + 2)
   pub held : length lines_old.bytes ≤ HELD_LIMIT → length lines_new.bytes ≤ HELD_LIMIT
+  pub full : ℕ
+  pub came : CameBy full got
+  pub counted : reads_new + end_reads lines_old.ended ≡ reads_old + full + end_reads lines_new.ended
 
 -- the session ends: a front was written of what may be written from the line of this number on, or, without a fault, the whole; and
 -- nothing, unless the writer failed
-pub record Halts (in_old in_new out_old out_new : Option (List ℕ)) (number : ℕ) (lines_old : Pending) (p : PlainSession) (ending : Ending) : Type 0 where
+pub record Halts (in_old in_new out_old out_new : Option (List ℕ)) (reads_old reads_new number : ℕ) (lines_old : Pending) (p : PlainSession) (ending : Ending) : Type 0 where
   pub got : List ℕ
   pub written : List ℕ
   pub saw_end : Bool
@@ -116,3 +127,6 @@ pub record Halts (in_old in_new out_old out_new : Option (List ℕ)) (number : �
   pub whole : (more : List ℕ) → (saw_end ≡ true → more ≡ []) → UnlessFault ending (MayWrite (lines_of (lines_old.bytes ++ (got ++ more))) number p written ending)
   pub nothing : UnlessWrite ending (written ≡ [])
   pub held : length lines_old.bytes ≤ HELD_LIMIT → length lines_old.bytes + length got ≤ HELD_LIMIT
+  pub full : ℕ
+  pub came : CameBy full got
+  pub counted : reads_new + end_reads lines_old.ended ≡ reads_old + full + empty_reads saw_end ending

@@ -1,8 +1,9 @@
 //! A session of the debugger: commands from a reader, replies to a writer.
-ghost use Rattle.std.specs.Prelude.{◌≡◌, ◌<◌, ◌≤◌, true, length, IfOk, IfErr, OnOk};
+ghost use Rattle.std.specs.Prelude.{◌≡◌, ◌+◌, ◌<◌, ◌≤◌, ℕ, List, Option, true, length, IfOk, IfErr, OnOk};
 ghost use Rattle.std.specs.Io.KnownBytes.{IsAtEnd};
+ghost use Rattle.trac_rules.specs.Session.{PlainSession};
 ghost use Rattle.trac_debug.specs.Debugging.{FollowsFirst, MayFollow, MayShow, RepliesToFirst, turn_at, turn_of};
-ghost use Rattle.trac_debug.specs.Debugs.{Advances, Debugs, Halts, IsReady, IsReplied, IsNotReplied, Settles, Stops};
+ghost use Rattle.trac_debug.specs.Debugs.{Advances, Debugs, DebugsBy, Halts, MOST_READ, IsReady, IsReplied, IsNotReplied, Settles, Stops};
 ghost use Rattle.trac_debug.specs.Views.{command_seen};
 ghost use Rattle.trac_streams.specs.Tape.{MayRefuseTape};
 
@@ -14,7 +15,20 @@ use trac_rules::limit::{JOURNAL_LIMIT, TAPE_LIMIT};
 use trac_rules::width::Width;
 use trac_session::Session;
 use trac_streams::writing::{flush, write_whole};
-use trac_streams::{Ending, LINE_COUNT_LIMIT, LINE_LIMIT, Lines, NextLine, Options};
+use trac_streams::{
+    Ending, LINE_COUNT_LIMIT, LINE_LIMIT, Lines, NextLine, Options, READ_COUNT_LIMIT,
+};
+
+/// How a session of the debugger ended, and what it did.
+#[derive(Clone, Copy, Debug, PartialEq, Eq)]
+pub struct DebugReport {
+    /// How it ended.
+    pub ending: Ending,
+    /// How many lines were done with: replied to, or empty. The line that ended the session is none of them.
+    pub lines: u64,
+    /// How often the commands were read, the last read too, which saw the end or failed.
+    pub reads: u64,
+}
 
 /// Goes forwards and backwards over a program, the tape being the whole of its input: it reads commands, one a line,
 /// carries each of them out, and writes the reply to it, which is flushed before more is read. The commands are read by
@@ -42,26 +56,55 @@ pub fn debug<R: Read, W: Write, A: Allocator + Copy>(
         Ok(session) => session,
         Err(ending) => return ending,
     };
-    take_lines(alloc, &mut session, commands, output)
+    debug_session(alloc, &mut session, commands, output).ending
 }
 
-// Takes line by line, until the session ends.
-fn take_lines<R: Read, W: Write, A: Allocator + Copy>(
+/// Takes the lines of the commands, as `debug` does, from the session as it stands, and counts what it does: there are at most
+/// 1,048,576 lines. Each read but the last gave a byte at least, and so did the last, unless it saw the end or failed.
+pub fn debug_session<R: Read, W: Write, A: Allocator + Copy>(
     alloc: A,
     session: &mut Session<A>,
     commands: &mut R,
     output: &mut W,
-) -> Ending
-    ensures { Debugs (R.remaining commands.old) (R.remaining commands.new) (W.contents output.old) (W.contents output.new)
-        (MayFollow session.old) (FollowsFirst session.old) result }
+) -> DebugReport
+    ensures debugs { DebugsBy (R.remaining commands.old) (R.remaining commands.new) (W.contents output.old) (W.contents output.new)
+        (MayFollow session.old) (FollowsFirst session.old) result.lines result.reads result.ending }
+    ensures few_lines { result.lines ≤ LINE_COUNT_LIMIT }
+    ensures few_reads { result.reads ≤ MOST_READ + 1 }
 {
     let mut lines = Lines::new(alloc);
+    let mut reads = 0;
     for number in 1..LINE_COUNT_LIMIT + 1 {
-        if let Err(ending) = take_line(alloc, number, session, &mut lines, commands, output) {
-            return ending;
+        if let Err(ending) = take_line(
+            alloc, number, session, &mut lines, commands, output, &mut reads,
+        ) {
+            return DebugReport {
+                ending,
+                lines: number - 1,
+                reads,
+            };
         }
     }
-    match lines.has_more(commands) {
+    let ending = last_ending(&mut lines, commands, &mut reads);
+    DebugReport {
+        ending,
+        lines: LINE_COUNT_LIMIT,
+        reads,
+    }
+}
+
+// How a session ends after as many lines as there may be: by whether there is any byte more.
+fn last_ending<R: Read, A: Allocator + Copy>(
+    lines: &mut Lines<A>,
+    commands: &mut R,
+    reads: &mut u64,
+) -> Ending
+    requires at_end { lines.old.ended ≡ true → IsAtEnd (R.remaining commands.old) }
+    requires few_reads { reads.old ≤ READ_COUNT_LIMIT }
+    ensures { (number : ℕ) → (output : Option (List ℕ)) → (p : PlainSession) → LINE_COUNT_LIMIT < number →
+        Halts (R.remaining commands.old) (R.remaining commands.new) output output reads.old reads.new number lines.old p result }
+{
+    match lines.has_more(commands, reads) {
         Ok(true) => Ending::Budget,
         Ok(false) => Ending::Ended,
         Err(ending) => ending,
@@ -101,15 +144,17 @@ fn take_line<R: Read, W: Write, A: Allocator + Copy>(
     lines: &mut Lines<A>,
     commands: &mut R,
     output: &mut W,
+    reads: &mut u64,
 ) -> Result<(), Ending>
     requires few { number ≤ LINE_COUNT_LIMIT }
     requires at_end { lines.old.ended ≡ true → IsAtEnd (R.remaining commands.old) }
+    requires few_reads { reads.old ≤ READ_COUNT_LIMIT }
     ensures ok { OnOk result (Advances (R.remaining commands.old) (R.remaining commands.new) (W.contents output.old) (W.contents output.new)
-        number lines.old session.old lines.new session.new) }
+        reads.old reads.new number lines.old session.old lines.new session.new) }
     ensures err { IfErr result (Halts (R.remaining commands.old) (R.remaining commands.new) (W.contents output.old) (W.contents output.new)
-        number lines.old session.old) }
+        reads.old reads.new number lines.old session.old) }
 {
-    match lines.seek(commands)? {
+    match lines.seek_counted(commands, reads)? {
         NextLine::End => Err(Ending::Ended),
         NextLine::TooLong => Err(Ending::NotUnderstood { line: number }),
         NextLine::Line { len, whole } => {

@@ -7,6 +7,6 @@ mod one_text;
 mod replies;
 
 pub use command::{LineCommand, command_in};
-pub use debugging::debug;
+pub use debugging::{DebugReport, debug, debug_session};
 pub use one_text::one_text_has_no_refused_memory;
 pub use replies::{reply_to, state_lines};

@@ -1,3 +1,4 @@
+pub mod Stepped
 pub mod Turned
 pub mod Taken
 pub mod Ran

@@ -1,5 +1,5 @@
 -- Input that is taken: what is pending is written, the session commits, and the reader is asked once.
-use Rattle.std.proofs.Common.{◌≡◌, ℕ, suc, ◌+◌, ◌-◌, ◌<◌, ◌≤◌, true, false, List, [], ◌++◌, length, take, drop, refl, sym, ap, subst, ◌∙◌, arith, ⊎_elim}
+use Rattle.std.proofs.Common.{◌≡◌, ℕ, suc, ◌+◌, ◌-◌, ◌*◌, ◌<◌, ◌≤◌, true, false, List, [], ◌++◌, length, take, drop, refl, sym, ap, subst, ◌∙◌, arith, ⊎_elim}
 use Rattle.std.specs.Prelude.{Option}
 use Rattle.std.specs.Io.KnownBytes.{Keeps, Appends, Consumes, IsAtEnd}
 use Rattle.std.proofs.lemmas.Bool.{false≢true}
@@ -15,11 +15,12 @@ use Rattle.trac_rules.proofs.Refusals.{wants_input_of_open}
 use Rattle.trac_rules.proofs.Replies.{Commit_done, End_done, Feed_done, Feed_refused, Step_refused_NeedInput}
 use Rattle.trac_streams.specs.declared.ending.Ending.{Ending}
 use Rattle.trac_streams.specs.declared.ending.Ending.TheVariants.{Ended, Budget, Limit, Memory, Read, Write, NotUnderstood}
+use Rattle.trac_streams.specs.Reading.{CameBy, end_reads, empty_reads, fault_reads}
 use Rattle.trac_streams.specs.Written.{WritesFront, Closes}
 use Rattle.trac_run.specs.Runs.{Shows, ending_of_feed, IsFresh, turns_left, unread_count, most_read, GoesOn, Finishes, EndsFor, TakesNone, TakesMore}
-use Rattle.trac_streams.proofs.Gathered.{if_ended, if_open}
+use Rattle.trac_streams.proofs.Gathered.{came_by_none, came_by_one, empty_reads_open, end_reads_ended, end_reads_open, fault_reads_one, if_ended, if_open}
 use Rattle.trac_streams.proofs.Known.{Appends-both, Appends-kept, Consumes-nothing, front_of_front, front_of_itself, empty_front}
-use Rattle.trac_run.proofs.Turned.{front_pending, Shows-Write, ended_after_Commit, end_turns, few_of_none, unread_after_Commit}
+use Rattle.trac_run.proofs.Turned.{closed_sound, front_pending, Shows-Write, ended_after_Commit, end_turns, few_of_none, few_reads_of_none, none_counted, unread_after_Commit, writer_sound}
 
 -- ---- one read
 
@@ -45,13 +46,25 @@ feed_ends p q got refusals.AtStart open_ few h = too_long_for p q got refusals.A
 feed_ends p q got refusals.Closed open_ few h = too_long_for p q got refusals.Closed open_ few h
 feed_ends p q got refusals.NotMet open_ few h = too_long_for p q got refusals.NotMet open_ few h
 
+-- it is no fault of the reader
+pub feed_sound : (refusal : Refusal) → fault_reads (ending_of_feed refusal) ≡ 0
+feed_sound refusals.Memory = refl
+feed_sound refusal = refl
+
 -- what was not fed
-pub takes_none : (in_old in_new : Option (List ℕ)) (p q : PlainSession) (buffer : List ℕ) (n : ℕ) (refusal : Refusal) (ending : Ending) → p.tape.ended ≡ false → n ≤ length buffer → length buffer ≤ 4096 →
+pub takes_none : (in_old in_new : Option (List ℕ)) (p q : PlainSession) (buffer : List ℕ) (n : ℕ) (refusal : Refusal) (ending : Ending) → p.tape.ended ≡ false → 0 < n → n ≤ length buffer → length buffer ≤ 4096 →
     ending ≡ ending_of_feed refusal → Consumes in_old in_new (take n buffer) → Answers (Feed (take n buffer)) p (Refused refusal) q → TakesNone in_old in_new p q ending
-takes_none in_old in_new p q buffer n refusal ending open_ l few is took h =
+takes_none in_old in_new p q buffer n refusal ending open_ some l few is took h =
     let few_ : length (take n buffer) ≤ 4096 = omega (arith, length-take-le n buffer l) in
     let at = feed_ends p q (take n buffer) refusal open_ few_ h in
-    record { got = take n buffer; few = few_; took = took; same = at.0; why = subst (λ e. EndsFor e p (take n buffer)) (sym is) at.1 }
+    record {
+      got = take n buffer;
+      few = few_;
+      came = subst (λ full. CameBy full (take n buffer)) (sym (ap (λ full. 1 - full) (ap fault_reads is ∙ feed_sound refusal))) (came_by_one buffer n some l few);
+      took = took;
+      same = at.0;
+      why = subst (λ e. EndsFor e p (take n buffer)) (sym is) at.1;
+    }
 
 -- ---- before the read
 
@@ -103,11 +116,22 @@ unread_taken in_old in_new q r s e taken =
     (omega (arith, longer, left.0, at), λ fits. omega (arith, longer, done_.2)))
     taken.fed
 
+-- how many reads gave bytes, of one that gave what was fed, or the end
+full_of : (in_old in_new : Option (List ℕ)) (q r s : PlainSession) → q.last.position ≤ length q.tape.bytes → answer (Commit 0) q ≡ done r → r.tape.ended ≡ false → (taken : TakesMore in_old in_new r s) →
+    (full : ℕ) × CameBy full taken.got × (1 ≡ full + end_reads s.tape.ended)
+full_of in_old in_new q r s on_tape e unended taken = ⊎_elim
+    (λ (end : (taken.got ≡ []) × IsAtEnd in_new × (answer End r ≡ done s)).
+    (0, subst (CameBy 0) (sym end.0) came_by_none, omega (arith, end_reads_ended s.tape.ended (after_End r s (on_tape_after_Commit q r e) end.2).4)))
+    (λ (fed : (0 < length taken.got) × (answer (Feed taken.got) r ≡ done s)).
+    (1, (omega (arith, fed.0), omega (arith, taken.few)), omega (arith, end_reads_open s.tape.ended (after_Feed r s taken.got (on_tape_after_Commit q r e) fed.1).4)))
+    taken.fed
+
 -- the session goes on from what the reader gave
-pub taken_on : (in_old in_new out_old out_new : Option (List ℕ)) (q r s : PlainSession) (n : ℕ) → answer Step q ≡ refused refusals.NeedInput q → q.last.position ≤ length q.tape.bytes → answer (Commit 0) q ≡ done r →
-    Appends out_old out_new q.last.output → TakesMore in_old in_new r s → GoesOn in_old in_new out_old out_new q n s n
-taken_on in_old in_new out_old out_new q r s n wanted on_tape e gave taken =
+pub taken_on : (in_old in_new out_old out_new : Option (List ℕ)) (reads_old reads_new : ℕ) (q r s : PlainSession) (n : ℕ) → answer Step q ≡ refused refusals.NeedInput q → q.last.position ≤ length q.tape.bytes → answer (Commit 0) q ≡ done r →
+    Appends out_old out_new q.last.output → TakesMore in_old in_new r s → reads_new ≡ reads_old + 1 → GoesOn in_old in_new out_old out_new reads_old reads_new q n s n
+taken_on in_old in_new out_old out_new reads_old reads_new q r s n wanted on_tape e gave taken once =
     let shut : q.tape.ended ≡ true → ⊥ = λ over. false≢true (sym (wanted_open q wanted) ∙ over) in
+    let full = full_of in_old in_new q r s on_tape e (wanted_open_after q r wanted e) taken in
     record {
       got = taken.got;
       written = q.last.output;
@@ -126,6 +150,9 @@ taken_on in_old in_new out_old out_new q r s n wanted on_tape e gave taken =
           taken.fed;
       fits = (unread_taken in_old in_new q r s e taken).1;
       few = λ fits. omega (arith, (unread_taken in_old in_new q r s e taken).0);
+      full = full.0;
+      came = full.1;
+      counted = omega (arith, once, full.2, end_reads_open q.tape.ended (wanted_open q wanted));
     }
 
 -- a session that is as fresh as the committed one
@@ -170,9 +197,9 @@ taken_fewer in_old in_new q r s n wanted e taken start =
 -- ---- the run ends
 
 -- a front of what is pending was written, and nothing read
-pub unwritten_finish : (input : Option (List ℕ)) (out_old out_new : Option (List ℕ)) (q : PlainSession) (n : ℕ) (ending : Ending) → answer Step q ≡ refused refusals.NeedInput q → ending ≡ Write →
-    WritesFront out_old out_new q.last.output → Finishes input input out_old out_new q n ending
-unwritten_finish input out_old out_new q n ending wanted fault front = record {
+pub unwritten_finish : (input : Option (List ℕ)) (out_old out_new : Option (List ℕ)) (reads : ℕ) (q : PlainSession) (n : ℕ) (ending : Ending) → answer Step q ≡ refused refusals.NeedInput q → ending ≡ Write →
+    WritesFront out_old out_new q.last.output → Finishes input input out_old out_new reads reads q n n ending
+unwritten_finish input out_old out_new reads q n ending wanted fault front = record {
   got = [];
   written = front.written;
   took = Consumes-nothing input;
@@ -181,14 +208,18 @@ unwritten_finish input out_old out_new q n ending wanted fault front = record {
   at_end = λ over. absurd (false≢true (sym (wanted_open q wanted) ∙ over));
   front = λ more none. front_of_front front.written q.last.output (going_on_from q more n).bytes front.front (front_pending q more n);
   shows = λ more none. Shows-Write ending front.written (going_on_from q more n) fault;
-  few = few_of_none q n;
+  few = few_of_none q n n (omega arith);
+  full = 0;
+  came = came_by_none;
+  counted = none_counted reads q ending (writer_sound ending fault);
+  few_reads = few_reads_of_none q n n ending (omega arith);
 }
 
 -- all that is pending was written, and a flush failed
-pub unflushed_finish : (input : Option (List ℕ)) (out_old out_mid out_new : Option (List ℕ)) (q : PlainSession) (n : ℕ) (ending : Ending) → answer Step q ≡ refused refusals.NeedInput q → ending ≡ Write →
-    Appends out_old out_mid q.last.output → Keeps out_mid out_new → Finishes input input out_old out_new q n ending
-unflushed_finish input out_old out_mid out_new q n ending wanted fault gave kept =
-    unwritten_finish input out_old out_new q n ending wanted fault (record {
+pub unflushed_finish : (input : Option (List ℕ)) (out_old out_mid out_new : Option (List ℕ)) (reads : ℕ) (q : PlainSession) (n : ℕ) (ending : Ending) → answer Step q ≡ refused refusals.NeedInput q → ending ≡ Write →
+    Appends out_old out_mid q.last.output → Keeps out_mid out_new → Finishes input input out_old out_new reads reads q n n ending
+unflushed_finish input out_old out_mid out_new reads q n ending wanted fault gave kept =
+    unwritten_finish input out_old out_new reads q n ending wanted fault (record {
       written = q.last.output;
       front = front_of_itself q.last.output;
       gave = Appends-kept out_old out_mid out_new q.last.output gave kept;
@@ -209,13 +240,24 @@ shows_unfed q r n got Write wanted on_tape e why more = absurd why
 shows_unfed q r n got (NotUnderstood line) wanted on_tape e why more = absurd why
 
 -- no more was read than one read gives
-pub few_of_read : (q : PlainSession) (n : ℕ) (got : List ℕ) → length got ≤ 4096 → length q.tape.bytes ≤ TAPE_LIMIT → length got + unread_count q ≤ most_read n
+pub few_of_read : (q : PlainSession) (n : ℕ) (got : List ℕ) → length got ≤ 4096 → length q.tape.bytes ≤ TAPE_LIMIT → length got + unread_count q + n * TAPE_LIMIT ≤ most_read n
 few_of_read q n got few fits = omega (arith, few, fits)
 
+-- the one read was counted, by whether it failed
+read_counted : (q : PlainSession) (reads_old reads_new : ℕ) (ending : Ending) → q.tape.ended ≡ false → reads_new ≡ reads_old + 1 →
+    reads_new + end_reads q.tape.ended ≡ reads_old + (1 - fault_reads ending) + empty_reads q.tape.ended ending
+read_counted q reads_old reads_new ending unended once =
+    omega (arith, once, end_reads_open q.tape.ended unended, empty_reads_open q.tape.ended ending unended, fault_reads_one ending)
+
+-- and is one
+few_reads_of_read : (q : PlainSession) (n : ℕ) (ending : Ending) → q.tape.ended ≡ false → length q.tape.bytes ≤ TAPE_LIMIT →
+    (1 - fault_reads ending) + empty_reads q.tape.ended ending + unread_count q + n * TAPE_LIMIT ≤ n * TAPE_LIMIT + (TAPE_LIMIT + 1)
+few_reads_of_read q n ending unended fits = omega (arith, fits, empty_reads_open q.tape.ended ending unended, fault_reads_one ending)
+
 -- all that is pending was written, and the run ends for what the reader gave or did not give
-pub unfed_finish : (in_old in_new out_old out_new : Option (List ℕ)) (q r s : PlainSession) (n : ℕ) (ending : Ending) → answer Step q ≡ refused refusals.NeedInput q → q.last.position ≤ length q.tape.bytes → answer (Commit 0) q ≡ done r →
-    Appends out_old out_new q.last.output → TakesNone in_old in_new r s ending → Finishes in_old in_new out_old out_new q (n + 1) ending
-unfed_finish in_old in_new out_old out_new q r s n ending wanted on_tape e gave taken =
+pub unfed_finish : (in_old in_new out_old out_new : Option (List ℕ)) (reads_old reads_new : ℕ) (q r s : PlainSession) (n : ℕ) (ending : Ending) → answer Step q ≡ refused refusals.NeedInput q → q.last.position ≤ length q.tape.bytes → answer (Commit 0) q ≡ done r →
+    Appends out_old out_new q.last.output → TakesNone in_old in_new r s ending → reads_new ≡ reads_old + 1 → Finishes in_old in_new out_old out_new reads_old reads_new q (n + 1) (n + 1) ending
+unfed_finish in_old in_new out_old out_new reads_old reads_new q r s n ending wanted on_tape e gave taken once =
     let shut : q.tape.ended ≡ true → ⊥ = λ over. false≢true (sym (wanted_open q wanted) ∙ over) in
     record {
       got = taken.got;
@@ -227,6 +269,10 @@ unfed_finish in_old in_new out_old out_new q r s n ending wanted on_tape e gave 
       front = λ more none. front_pending q (taken.got ++ more) (n + 1);
       shows = λ more none. shows_unfed q r n taken.got ending wanted on_tape e taken.why (taken.got ++ more);
       few = few_of_read q (n + 1) taken.got taken.few;
+      full = 1 - fault_reads ending;
+      came = taken.came;
+      counted = read_counted q reads_old reads_new ending (wanted_open q wanted) once;
+      few_reads = few_reads_of_read q (n + 1) ending (wanted_open q wanted);
     }
 
 -- what is written when the pending text is empty: nothing
@@ -236,9 +282,11 @@ closes_nothing out_old out_mid out_new x text ending result none gave closes =
     subst (Appends out_old out_new) (ap (λ t. x ++ t) empty ∙ append-nil x) (Appends-both out_old out_mid out_new x closes.written gave closes.gave)
 
 -- then the run ends, after a last flush
-pub unfed_closed : (in_old in_new out_old out_mid out_new : Option (List ℕ)) (q r s : PlainSession) (n : ℕ) (ending result : Ending) → answer Step q ≡ refused refusals.NeedInput q → q.last.position ≤ length q.tape.bytes →
-    answer (Commit 0) q ≡ done r → Appends out_old out_mid q.last.output → TakesNone in_old in_new r s ending → Closes out_mid out_new s.last.output ending result → Finishes in_old in_new out_old out_new q (n + 1) result
-unfed_closed in_old in_new out_old out_mid out_new q r s n ending result wanted on_tape e gave taken closes =
+pub unfed_closed : (in_old in_new out_old out_mid out_new : Option (List ℕ)) (reads_old reads_new : ℕ) (q r s : PlainSession) (n : ℕ) (ending result : Ending) → fault_reads ending ≡ 0 → answer Step q ≡ refused refusals.NeedInput q → q.last.position ≤ length q.tape.bytes →
+    answer (Commit 0) q ≡ done r → Appends out_old out_mid q.last.output → TakesNone in_old in_new r s ending → Closes out_mid out_new s.last.output ending result → reads_new ≡ reads_old + 1 →
+    Finishes in_old in_new out_old out_new reads_old reads_new q (n + 1) (n + 1) result
+unfed_closed in_old in_new out_old out_mid out_new reads_old reads_new q r s n ending result sound wanted on_tape e gave taken closes once =
+    let as_sound : fault_reads result ≡ fault_reads ending = closed_sound ending result closes.ends sound ∙ sym sound in
     let shut : q.tape.ended ≡ true → ⊥ = λ over. false≢true (sym (wanted_open q wanted) ∙ over) in
     let nothing : s.last.output ≡ [] = ap (λ (t : PlainSession). t.last.output) taken.same ∙ (after_Commit q r e).0 in
     record {
@@ -256,4 +304,8 @@ unfed_closed in_old in_new out_old out_mid out_new q r s n ending result wanted 
           (λ (fault : result ≡ Write). Shows-Write result q.last.output (going_on_from q (taken.got ++ more) (n + 1)) fault)
           closes.ends;
       few = few_of_read q (n + 1) taken.got taken.few;
+      full = 1 - fault_reads result;
+      came = subst (λ fault. CameBy (1 - fault) taken.got) (sym as_sound) taken.came;
+      counted = read_counted q reads_old reads_new result (wanted_open q wanted) once;
+      few_reads = few_reads_of_read q (n + 1) result (wanted_open q wanted);
     }

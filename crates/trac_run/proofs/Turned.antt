@@ -16,10 +16,12 @@ use Rattle.trac_rules.proofs.GoingOn.{after_repeated, going_on-repeated, after_C
 use Rattle.trac_rules.proofs.Replies.{Commit_done, Step_refused_JournalFull, Step_refusals}
 use Rattle.trac_session.specs.Within.{IsWalkWithin}
 use Rattle.trac_streams.specs.declared.ending.Ending.{Ending}
-use Rattle.trac_streams.specs.declared.ending.Ending.TheVariants.{Ended, Budget, Limit, Write}
+use Rattle.trac_streams.specs.declared.ending.Ending.TheVariants.{Ended, Budget, Limit, Read, Write}
 use Rattle.trac_rules.specs.Fronts.{IsFrontOf}
+use Rattle.trac_streams.specs.Reading.{end_reads, empty_reads, fault_reads}
 use Rattle.trac_streams.specs.Written.{WritesFront, Closes}
 use Rattle.trac_run.specs.Runs.{Shows, IsFresh, turns_left, unread_count, most_read, GoesOn, Finishes}
+use Rattle.trac_streams.proofs.Gathered.{came_by_none, empty_reads_one, empty_reads_sound}
 use Rattle.trac_streams.proofs.Known.{Consumes-nothing, front_of_front}
 
 -- ---- the walk
@@ -66,8 +68,33 @@ unread_by_walk p m zero q after fits = omega (arith, ap unread_count (after.unmo
 unread_by_walk p m (suc k) q after fits = omega (arith, fits)
 
 -- a run that ends with nothing read
-pub few_of_none : (p : PlainSession) (m : ℕ) → length p.tape.bytes ≤ TAPE_LIMIT → 0 + unread_count p ≤ most_read m
-few_of_none p m fits = omega (arith, fits)
+pub few_of_none : (p : PlainSession) (m n : ℕ) → n ≤ m → length p.tape.bytes ≤ TAPE_LIMIT → 0 + unread_count p + n * TAPE_LIMIT ≤ most_read m
+few_of_none p m n fewer fits = omega (arith, fewer, fits)
+
+-- and no more often
+pub few_reads_of_none : (p : PlainSession) (m n : ℕ) (ending : Ending) → n ≤ m → length p.tape.bytes ≤ TAPE_LIMIT →
+    0 + empty_reads p.tape.ended ending + unread_count p + n * TAPE_LIMIT ≤ m * TAPE_LIMIT + (TAPE_LIMIT + 1)
+few_reads_of_none p m n ending fewer fits = omega (arith, fewer, fits, empty_reads_one p.tape.ended ending)
+
+-- whatever is no fault of the reader
+pub sound_unless : (ending : Ending) → (ending ≡ Read → ⊥) → fault_reads ending ≡ 0
+sound_unless Read other = absurd (other refl)
+sound_unless ending other = refl
+
+-- a fault of the writer is none of the reader
+pub writer_sound : (ending : Ending) → ending ≡ Write → fault_reads ending ≡ 0
+writer_sound ending e = rw e refl
+
+-- nor is the ending that was to be
+pub closed_sound : {A : Type 0} (ending result : Ending) → ((result ≡ ending) × A) ⊎ (result ≡ Write) → fault_reads ending ≡ 0 → fault_reads result ≡ 0
+closed_sound {A} ending result ends sound = ⊎_elim
+    (λ (all : (result ≡ ending) × A). ap fault_reads all.0 ∙ sound)
+    (λ (fault : result ≡ Write). writer_sound result fault)
+    ends
+
+-- no read is counted where none is made
+pub none_counted : (reads : ℕ) (p : PlainSession) (ending : Ending) → fault_reads ending ≡ 0 → reads + end_reads p.tape.ended ≡ reads + 0 + empty_reads p.tape.ended ending
+none_counted reads p ending sound = omega (arith, empty_reads_sound p.tape.ended ending sound)
 
 -- what a commit leaves on the tape is what was unread
 pub unread_after_Commit : (q r : PlainSession) → answer (Commit 0) q ≡ done r → (length r.tape.bytes ≡ unread_count q) × (unread_count r ≡ unread_count q)
@@ -137,11 +164,11 @@ Shows-closed ending result written text o ends shows =
     ends
 
 -- a run that ends after the walk
-pub closed_run : (input : Option (List ℕ)) (out_old out_new : Option (List ℕ)) {p : PlainSession} {m k : ℕ} {q : PlainSession} (text : List ℕ) (ending result : Ending) →
-    AfterWalk p m k q → (p.tape.ended ≡ true → IsAtEnd input) → text ≡ q.last.output → Closes out_old out_new text ending result →
+pub closed_run : (input : Option (List ℕ)) (out_old out_new : Option (List ℕ)) (reads : ℕ) {p : PlainSession} {m k : ℕ} {q : PlainSession} (text : List ℕ) (ending result : Ending) →
+    fault_reads ending ≡ 0 → AfterWalk p m k q → (p.tape.ended ≡ true → IsAtEnd input) → text ≡ q.last.output → Closes out_old out_new text ending result →
     ((more : List ℕ) → (q.tape.ended ≡ true → more ≡ []) → Shows ending q.last.output (going_on_from q more (m - k))) →
-    Finishes input input out_old out_new p m result
-closed_run input out_old out_new {p} {m} {k} {q} text ending result after at_end pending closes shows = record {
+    Finishes input input out_old out_new reads reads p m (m - k) result
+closed_run input out_old out_new reads {p} {m} {k} {q} text ending result sound after at_end pending closes shows = record {
   got = [];
   written = closes.written;
   took = Consumes-nothing input;
@@ -153,7 +180,11 @@ closed_run input out_old out_new {p} {m} {k} {q} text ending result after at_end
   shows = λ more none. subst (λ (o : Output). Shows result closes.written o) (sym (after.rest more none))
       (Shows-closed ending result closes.written q.last.output (going_on_from q more (m - k))
       (subst (λ t. ((result ≡ ending) × (closes.written ≡ t)) ⊎ (result ≡ Write)) pending closes.ends) (shows more (none_after p q more after.tape none)));
-  few = few_of_none p m;
+  few = few_of_none p m (m - k) (omega arith);
+  full = 0;
+  came = came_by_none;
+  counted = none_counted reads p result (closed_sound ending result closes.ends sound);
+  few_reads = few_reads_of_none p m (m - k) result (omega arith);
 }
 
 -- the budget is spent
@@ -203,11 +234,11 @@ pub ended_after_Commit : (q r : PlainSession) → answer (Commit 0) q ≡ done r
 ended_after_Commit q r h = ap (λ (s : PlainSession). s.tape.ended) (Commit_done 0 q r h)
 
 -- a release
-pub released_on : (input : Option (List ℕ)) (out_old out_new : Option (List ℕ)) {p : PlainSession} {m k : ℕ} {q : PlainSession} (r : PlainSession) (result : Result (Unit {0}) Ending) →
+pub released_on : (input : Option (List ℕ)) (out_old out_new : Option (List ℕ)) (reads : ℕ) {p : PlainSession} {m k : ℕ} {q : PlainSession} (r : PlainSession) (result : Result (Unit {0}) Ending) →
     AfterWalk p m k q → (p.tape.ended ≡ true → IsAtEnd input) → OnOk result (Appends out_old out_new q.last.output) → OnOk result (answer (Commit 0) q ≡ done r) →
-    OnOk result (GoesOn input input out_old out_new p m r (m - k))
-released_on input out_old out_new {p} {m} {k} {q} r (Err e) after at_end gave h = tt
-released_on input out_old out_new {p} {m} {k} {q} r (Ok u) after at_end gave h =
+    OnOk result (GoesOn input input out_old out_new reads reads p m r (m - k))
+released_on input out_old out_new reads {p} {m} {k} {q} r (Err e) after at_end gave h = tt
+released_on input out_old out_new reads {p} {m} {k} {q} r (Ok u) after at_end gave h =
     let ended : r.tape.ended ≡ p.tape.ended = ended_after_Commit q r h ∙ ap (λ t. t.ended) after.tape in
     record {
       got = [];
@@ -219,12 +250,15 @@ released_on input out_old out_new {p} {m} {k} {q} r (Ok u) after at_end gave h =
       rest = λ more none. released_rest p m k q r after h more (λ over. none (ended ∙ over));
       fits = λ fits_. omega (arith, fits_, (unread_after_Commit q r h).0, tape_after_walk p m k q after);
       few = λ fits_. omega (arith, (unread_after_Commit q r h).1, unread_by_walk p m k q after fits_, after.within);
+      full = 0;
+      came = came_by_none;
+      counted = omega (arith, ap end_reads ended);
     }
 
 -- a front of what is pending was written
-pub finished_front : (input : Option (List ℕ)) (out_old out_new : Option (List ℕ)) (p : PlainSession) (m k : ℕ) (q : PlainSession) (ending : Ending) →
-    AfterWalk p m k q → (p.tape.ended ≡ true → IsAtEnd input) → ending ≡ Write → WritesFront out_old out_new q.last.output → Finishes input input out_old out_new p m ending
-finished_front input out_old out_new p m k q ending after at_end fault front = record {
+pub finished_front : (input : Option (List ℕ)) (out_old out_new : Option (List ℕ)) (reads : ℕ) (p : PlainSession) (m k : ℕ) (q : PlainSession) (ending : Ending) →
+    AfterWalk p m k q → (p.tape.ended ≡ true → IsAtEnd input) → ending ≡ Write → WritesFront out_old out_new q.last.output → Finishes input input out_old out_new reads reads p m (m - k) ending
+finished_front input out_old out_new reads p m k q ending after at_end fault front = record {
   got = [];
   written = front.written;
   took = Consumes-nothing input;
@@ -234,15 +268,19 @@ finished_front input out_old out_new p m k q ending after at_end fault front = r
   front = λ more none. subst (λ (o : Output). IsFrontOf front.written o.bytes) (sym (after.rest more none))
       (front_of_front front.written q.last.output (going_on_from q more (m - k)).bytes front.front (front_pending q more (m - k)));
   shows = λ more none. Shows-Write ending front.written (going_on_from p more m) fault;
-  few = few_of_none p m;
+  few = few_of_none p m (m - k) (omega arith);
+  full = 0;
+  came = came_by_none;
+  counted = none_counted reads p ending (writer_sound ending fault);
+  few_reads = few_reads_of_none p m (m - k) ending (omega arith);
 }
 
 -- a release that failed
-pub released_failed : (input : Option (List ℕ)) (out_old out_new : Option (List ℕ)) {p : PlainSession} {m k : ℕ} {q : PlainSession} (result : Result (Unit {0}) Ending) →
+pub released_failed : (input : Option (List ℕ)) (out_old out_new : Option (List ℕ)) (reads : ℕ) {p : PlainSession} {m k : ℕ} {q : PlainSession} (result : Result (Unit {0}) Ending) →
     AfterWalk p m k q → (p.tape.ended ≡ true → IsAtEnd input) → IfErr result (λ ending. (ending ≡ Write) × WritesFront out_old out_new q.last.output) →
-    IfErr result (Finishes input input out_old out_new p m)
-released_failed input out_old out_new {p} {m} {k} {q} (Ok u) after at_end failed = tt
-released_failed input out_old out_new {p} {m} {k} {q} (Err e) after at_end failed = finished_front input out_old out_new p m k q e after at_end failed.0 failed.1
+    IfErr result (Finishes input input out_old out_new reads reads p m (m - k))
+released_failed input out_old out_new reads {p} {m} {k} {q} (Ok u) after at_end failed = tt
+released_failed input out_old out_new reads {p} {m} {k} {q} (Err e) after at_end failed = finished_front input out_old out_new reads p m k q e after at_end failed.0 failed.1
 
 -- the committed session is fresh
 pub released_fresh : {p : PlainSession} {m k : ℕ} {q : PlainSession} (r : PlainSession) (result : Result (Unit {0}) Ending) → AfterWalk p m k q → OnOk result (answer (Commit 0) q ≡ done r) → OnOk result (IsFresh r)
@@ -279,10 +317,11 @@ taken_when_full {p} {q} {m} {k} after h = omega (arith, after.taken, after.some_
 -- ---- input after the walk
 
 -- going on from the session after the walk
-pub walked_on : (in_old in_new out_old out_new : Option (List ℕ)) {p : PlainSession} {m k : ℕ} {q : PlainSession} (r : PlainSession) (result : Result (Unit {0}) Ending) →
-    AfterWalk p m k q → OnOk result (GoesOn in_old in_new out_old out_new q (m - k) r (m - k)) → OnOk result (GoesOn in_old in_new out_old out_new p m r (m - k))
-walked_on in_old in_new out_old out_new {p} {m} {k} {q} r (Err e) after on = tt
-walked_on in_old in_new out_old out_new {p} {m} {k} {q} r (Ok u) after on =
+pub walked_on : (in_old in_new out_old out_new : Option (List ℕ)) (reads_old reads_new : ℕ) {p : PlainSession} {m k : ℕ} {q : PlainSession} (r : PlainSession) (result : Result (Unit {0}) Ending) →
+    AfterWalk p m k q → OnOk result (GoesOn in_old in_new out_old out_new reads_old reads_new q (m - k) r (m - k)) →
+    OnOk result (GoesOn in_old in_new out_old out_new reads_old reads_new p m r (m - k))
+walked_on in_old in_new out_old out_new reads_old reads_new {p} {m} {k} {q} r (Err e) after on = tt
+walked_on in_old in_new out_old out_new reads_old reads_new {p} {m} {k} {q} r (Ok u) after on =
     let ended : q.tape.ended ≡ p.tape.ended = ap (λ t. t.ended) after.tape in
     record {
       got = on.got;
@@ -296,13 +335,16 @@ walked_on in_old in_new out_old out_new {p} {m} {k} {q} r (Ok u) after on =
           ∙ on.rest more none;
       fits = λ fits_. on.fits (omega (arith, fits_, tape_after_walk p m k q after));
       few = λ fits_. omega (arith, on.few (omega (arith, fits_, tape_after_walk p m k q after)), unread_by_walk p m k q after fits_, after.within);
+      full = on.full;
+      came = on.came;
+      counted = omega (arith, on.counted, ap end_reads ended);
     }
 
 -- finishing from the session after the walk
-pub walked_finish : (in_old in_new out_old out_new : Option (List ℕ)) (p : PlainSession) (m k : ℕ) (q : PlainSession) (result : Result (Unit {0}) Ending) →
-    AfterWalk p m k q → IfErr result (Finishes in_old in_new out_old out_new q (m - k)) → IfErr result (Finishes in_old in_new out_old out_new p m)
-walked_finish in_old in_new out_old out_new p m k q (Ok u) after on = tt
-walked_finish in_old in_new out_old out_new p m k q (Err e) after on =
+pub walked_finish : (in_old in_new out_old out_new : Option (List ℕ)) (reads_old reads_new : ℕ) (p : PlainSession) (m k : ℕ) (q : PlainSession) (n : ℕ) (result : Result (Unit {0}) Ending) →
+    AfterWalk p m k q → IfErr result (Finishes in_old in_new out_old out_new reads_old reads_new q (m - k) n) → IfErr result (Finishes in_old in_new out_old out_new reads_old reads_new p m n)
+walked_finish in_old in_new out_old out_new reads_old reads_new p m k q n (Ok u) after on = tt
+walked_finish in_old in_new out_old out_new reads_old reads_new p m k q n (Err e) after on =
     let ended : q.tape.ended ≡ p.tape.ended = ap (λ t. t.ended) after.tape in
     let all : (more : List ℕ) → (p.tape.ended ≡ true → more ≡ []) → going_on_from p (on.got ++ more) m ≡ going_on_from q (on.got ++ more) (m - k) =
     λ more none. after.rest (on.got ++ more) (λ over. ap (λ g. g ++ more) (on.closed (ended ∙ over)) ∙ none over) in
@@ -316,15 +358,26 @@ walked_finish in_old in_new out_old out_new p m k q (Err e) after on =
       front = λ more none. subst (λ (o : Output). IsFrontOf on.written o.bytes) (sym (all more none)) (on.front more (λ over. none (sym ended ∙ over)));
       shows = λ more none. subst (λ (o : Output). Shows e on.written o) (sym (all more none)) (on.shows more (λ over. none (sym ended ∙ over)));
       few = λ fits_. omega (arith, on.few (omega (arith, fits_, tape_after_walk p m k q after)), unread_by_walk p m k q after fits_, after.within);
+      full = on.full;
+      came = on.came;
+      counted = omega (arith, on.counted, ap end_reads ended, ap (λ b. empty_reads b e) ended);
+      few_reads = λ fits_. omega (
+        arith,
+        on.few_reads (omega (arith, fits_, tape_after_walk p m k q after)),
+        ap (λ b. empty_reads b e) ended,
+        unread_by_walk p m k q after fits_,
+        after.within,
+      );
     }
 
 -- the same with at least one step left, which the input says with a number after it
-pub walked_finish_one : (in_old in_new out_old out_new : Option (List ℕ)) {p : PlainSession} {m k : ℕ} {q : PlainSession} (result : Result (Unit {0}) Ending) →
-    AfterWalk p m k q → k < m → ((n : ℕ) → IfErr result (Finishes in_old in_new out_old out_new q (n + 1))) → IfErr result (Finishes in_old in_new out_old out_new p m)
-walked_finish_one in_old in_new out_old out_new {p} {m} {k} {q} result after l on =
+pub walked_finish_one : (in_old in_new out_old out_new : Option (List ℕ)) (reads_old reads_new : ℕ) {p : PlainSession} {m k : ℕ} {q : PlainSession} (result : Result (Unit {0}) Ending) →
+    AfterWalk p m k q → k < m → ((n : ℕ) → IfErr result (Finishes in_old in_new out_old out_new reads_old reads_new q (n + 1) (n + 1))) →
+    IfErr result (Finishes in_old in_new out_old out_new reads_old reads_new p m (m - k))
+walked_finish_one in_old in_new out_old out_new reads_old reads_new {p} {m} {k} {q} result after l on =
     let count : (m - k - 1) + 1 ≡ m - k = omega arith in
-    walked_finish in_old in_new out_old out_new p m k q result after
-    (subst (λ (n : ℕ). IfErr result (Finishes in_old in_new out_old out_new q n)) count (on (m - k - 1)))
+    walked_finish in_old in_new out_old out_new reads_old reads_new p m k q (m - k) result after
+    (subst (λ (n : ℕ). IfErr result (Finishes in_old in_new out_old out_new reads_old reads_new q n n)) count (on (m - k - 1)))
 
 -- fewer turns after input
 pub walked_fewer : (p : PlainSession) (m k : ℕ) (q r : PlainSession) (result : Result (Unit {0}) Ending) → IsFresh p → AfterWalk p m k q →

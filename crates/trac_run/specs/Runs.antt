@@ -1,16 +1,17 @@
 -- What a run reads and writes.
-use Rattle.std.specs.Prelude.{◌≡◌, ℕ, ◌+◌, ◌-◌, ◌*◌, ◌<◌, ◌≤◌, Bool, true, if◌then◌else◌, List, [], ◌++◌, length, Option, ◌⊎◌}
+use Rattle.std.specs.Prelude.{◌≡◌, ℕ, ◌+◌, ◌-◌, ◌*◌, ◌<◌, ◌≤◌, Bool, true, if◌then◌else◌, List, [], ◌∷◌, ◌++◌, length, Option, ◌⊎◌}
 use Rattle.std.specs.Io.KnownBytes.{Appends, Consumes, IsAtEnd}
 use Rattle.trac_rules.specs.declared.limit.TheConstants.{TEXT_LIMIT, TAPE_LIMIT}
 use Rattle.trac_rules.specs.declared.refusal.Refusal.{Refusal}
 use Rattle.trac_rules.specs.declared.refusal.Refusal.TheVariants as refusals
-use Rattle.trac_rules.specs.Session.{PlainSession, Feed, End, Step, done, refused, answer}
+use Rattle.trac_rules.specs.Session.{PlainSession, Command, Feed, End, Step, Back, done, refused, answer}
 use Rattle.trac_rules.specs.Running.{Output, BudgetSpent, InputEnded, LimitPassed}
 use Rattle.trac_rules.specs.GoingOn.{prepended, going_on_from}
 use Rattle.trac_streams.specs.declared.ending.Ending.{Ending}
 use Rattle.trac_streams.specs.declared.input.TheConstants.{READ_SIZE}
 use Rattle.trac_streams.specs.declared.ending.Ending.TheVariants.{Ended, Budget, Limit, Memory, Read, Write, NotUnderstood}
 use Rattle.trac_rules.specs.Fronts.{IsFrontOf}
+use Rattle.trac_streams.specs.Reading.{CameBy, CountsReads, end_reads, empty_reads, fault_reads}
 
 -- ---- endings
 
@@ -51,6 +52,37 @@ pub record Runs (in_old in_new out_old out_new : Option (List ℕ)) (stated : Li
   pub front : (more : List ℕ) → (saw_end ≡ true → more ≡ []) → IsFrontOf written (stated (got ++ more)).bytes
   pub shows : (more : List ℕ) → (saw_end ≡ true → more ≡ []) → Shows ending written (stated (got ++ more))
 
+-- ---- what a run did
+
+-- a run of so many steps reads no more often than this: 33,554,433 times before each step and after the last
+abbrev pub most_reads : ℕ → ℕ
+most_reads steps = (steps + 1) * (TAPE_LIMIT + 1)
+
+-- a run, of which what it did is counted: it read no more bytes than so many steps may take, and just so often, by one read for each byte
+-- at most and one that gave nothing
+pub record RunsBy (in_old in_new out_old out_new : Option (List ℕ)) (stated : List ℕ → Output) (steps reads : ℕ) (ending : Ending) : Type 0 where
+  pub runs : Runs in_old in_new out_old out_new stated (most_read steps) ending
+  pub counted : CountsReads reads runs.got runs.saw_end ending
+  pub few_reads : reads ≤ most_reads steps
+
+-- how many of these commands are steps
+abbrev pub step_count : List Command → ℕ
+step_count [] = 0
+step_count (Step ∷ commands) = 1 + step_count commands
+step_count (command ∷ commands) = step_count commands
+
+-- each of these commands is done, one after another, and none of them is a step back
+abbrev pub AreDone : List Command → PlainSession → PlainSession → Type 0
+AreDone [] p q = q ≡ p
+AreDone (Back ∷ commands) p q = ⊥
+AreDone (command ∷ commands) p q = (r : PlainSession) × (answer command p ≡ done r) × AreDone commands r q
+
+-- one session became the other by so many accepted steps, with feeds, the end of the input and commits between them
+pub record TakesSteps (steps : ℕ) (p q : PlainSession) : Type 0 where
+  pub commands : List Command
+  pub are_done : AreDone commands p q
+  pub count : step_count commands ≡ steps
+
 -- ---- parts of a run
 
 -- a session at the beginning of a turn: nothing to go back over, nothing pending and nothing read
@@ -70,7 +102,7 @@ unread_count p = length p.tape.bytes - p.last.position
 
 -- what was to be written from one session on, is what was written and what is to be written from the other on. What was read is unread
 -- there, or steps took it, each no more than a tape may have
-pub record GoesOn (in_old in_new out_old out_new : Option (List ℕ)) (p : PlainSession) (m : ℕ) (q : PlainSession) (n : ℕ) : Type 0 where
+pub record GoesOn (in_old in_new out_old out_new : Option (List ℕ)) (reads_old reads_new : ℕ) (p : PlainSession) (m : ℕ) (q : PlainSession) (n : ℕ) : Type 0 where
   pub got : List ℕ
   pub written : List ℕ
   pub took : Consumes in_old in_new got
@@ -80,9 +112,13 @@ pub record GoesOn (in_old in_new out_old out_new : Option (List ℕ)) (p : Plain
   pub rest : (more : List ℕ) → (q.tape.ended ≡ true → more ≡ []) → going_on_from p (got ++ more) m ≡ prepended written (going_on_from q more n)
   pub fits : length p.tape.bytes ≤ TAPE_LIMIT → length q.tape.bytes ≤ TAPE_LIMIT
   pub few : length p.tape.bytes ≤ TAPE_LIMIT → length got + unread_count p + n * TAPE_LIMIT ≤ unread_count q + m * TAPE_LIMIT
+  pub full : ℕ
+  pub came : CameBy full got
+  pub counted : reads_new + end_reads p.tape.ended ≡ reads_old + full + end_reads q.tape.ended
 
--- what was written is a front of what was to be written from a session on, and the ending is the stated one. No more was read than may be
-pub record Finishes (in_old in_new out_old out_new : Option (List ℕ)) (p : PlainSession) (m : ℕ) (ending : Ending) : Type 0 where
+-- what was written is a front of what was to be written from a session on, and the ending is the stated one. No more was read than may be,
+-- with so many of the steps still left, and no more often
+pub record Finishes (in_old in_new out_old out_new : Option (List ℕ)) (reads_old reads_new : ℕ) (p : PlainSession) (m n : ℕ) (ending : Ending) : Type 0 where
   pub got : List ℕ
   pub written : List ℕ
   pub took : Consumes in_old in_new got
@@ -91,7 +127,12 @@ pub record Finishes (in_old in_new out_old out_new : Option (List ℕ)) (p : Pla
   pub at_end : p.tape.ended ≡ true → IsAtEnd in_new
   pub front : (more : List ℕ) → (p.tape.ended ≡ true → more ≡ []) → IsFrontOf written (going_on_from p (got ++ more) m).bytes
   pub shows : (more : List ℕ) → (p.tape.ended ≡ true → more ≡ []) → Shows ending written (going_on_from p (got ++ more) m)
-  pub few : length p.tape.bytes ≤ TAPE_LIMIT → length got + unread_count p ≤ most_read m
+  pub few : length p.tape.bytes ≤ TAPE_LIMIT → length got + unread_count p + n * TAPE_LIMIT ≤ most_read m
+  pub full : ℕ
+  pub came : CameBy full got
+  pub counted : reads_new + end_reads p.tape.ended ≡ reads_old + full + empty_reads p.tape.ended ending
+  pub few_reads : length p.tape.bytes ≤ TAPE_LIMIT →
+      full + empty_reads p.tape.ended ending + unread_count p + n * TAPE_LIMIT ≤ m * TAPE_LIMIT + (TAPE_LIMIT + 1)
 
 -- ---- one read
 
@@ -109,10 +150,11 @@ EndsFor Budget p got = ⊥
 EndsFor Write p got = ⊥
 EndsFor (NotUnderstood line) p got = ⊥
 
--- the reader took these bytes from its input, no more than one read gives, and the session stays as it was
+-- the reader took these bytes from its input, no more than one read gives, and none only where it failed; and the session stays as it was
 pub record TakesNone (in_old in_new : Option (List ℕ)) (p q : PlainSession) (ending : Ending) : Type 0 where
   pub got : List ℕ
   pub few : length got ≤ READ_SIZE
+  pub came : CameBy (1 - fault_reads ending) got
   pub took : Consumes in_old in_new got
   pub same : q ≡ p
   pub why : EndsFor ending p got
@@ -120,6 +162,7 @@ pub record TakesNone (in_old in_new : Option (List ℕ)) (p q : PlainSession) (e
 -- the reader gave more, or came to its end
 pub record TakesMore (in_old in_new : Option (List ℕ)) (p q : PlainSession) : Type 0 where
   pub got : List ℕ
+  pub few : length got ≤ READ_SIZE
   pub took : Consumes in_old in_new got
   pub fed : FeedsOrEnds p got q in_new
 

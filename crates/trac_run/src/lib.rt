@@ -3,5 +3,5 @@
 
 mod running;
 
-pub use running::run;
+pub use running::{RunReport, run, run_session};
 pub use trac_streams::{Ending, Options};

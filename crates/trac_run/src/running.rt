@@ -1,15 +1,15 @@
 //! A run: a program's input from a reader, its output to a writer.
-ghost use Rattle.std.specs.Prelude.{◌≡◌, ℕ, ◌+◌, ◌<◌, ◌≤◌, true, false, length, OnOk, IfOk, IfErr};
+ghost use Rattle.std.specs.Prelude.{◌≡◌, ℕ, ◌+◌, ◌-◌, ◌*◌, ◌<◌, ◌≤◌, true, false, length, OnOk, IfOk, IfErr};
 ghost use Rattle.std.specs.Io.KnownBytes.{Appends, IsAtEnd};
-ghost use Rattle.trac_rules.specs.Session.{PlainSession, Feed, Step, Commit, done, refused, answer};
+ghost use Rattle.trac_rules.specs.Session.{PlainSession, Feed, Step, Commit, done, new_session, refused, answer};
 ghost use Rattle.trac_rules.specs.Running.{output_of};
 ghost use Rattle.trac_streams.specs.Written.{WritesFront};
-ghost use Rattle.trac_run.specs.Runs.{Runs, most_read, ending_of_feed as ending_of, IsFresh, GoesOn, Finishes, TakesMore, TakesNone, StillWaits, turns_left};
+ghost use Rattle.trac_run.specs.Runs.{Runs, RunsBy, TakesSteps, most_read, most_reads, ending_of_feed as ending_of, IsFresh, GoesOn, Finishes, TakesMore, TakesNone, StillWaits, turns_left};
 
 use memchr::memchr;
 use std::alloc::Allocator;
 use std::io::{Read, Write};
-use trac_rules::limit::JOURNAL_LIMIT;
+use trac_rules::limit::{JOURNAL_LIMIT, TAPE_LIMIT};
 use trac_rules::refusal::Refusal;
 use trac_session::Session;
 use trac_streams::writing::{finish, flush, write_whole};
@@ -21,6 +21,18 @@ const JOURNAL_WEIGHT: u64 = 8 * 1024 * 1024 / 12;
 
 // After how many steps a run commits at the latest. It never goes back, and a short journal stays in the processor's caches.
 const TURN_STEPS: u64 = 8192;
+
+/// How a run ended, and what it did.
+#[derive(Clone, Copy, Debug, PartialEq, Eq)]
+pub struct RunReport {
+    /// How it ended.
+    pub ending: Ending,
+    /// How many steps were accepted.
+    pub steps: u64,
+    /// How often the reader was read, the last read too, which saw the end or failed. A run of as many steps as may be
+    /// allowed can read more often than 64 bits count.
+    pub reads: u128,
+}
 
 /// Runs what the reader gives, and writes what it prints, until the budget is spent, the input has ended, or a limit,
 /// memory, the reader or the writer ends it. Output is written and flushed before each read, and before the end.
@@ -42,10 +54,35 @@ pub fn run<R: Read, W: Write, A: Allocator + Copy>(
     let Ok(mut session) = Session::new(alloc, options.journal, options.decimals) else {
         return finish(output, &[], Ending::Memory);
     };
-    let mut left = options.budget;
+    run_session(&mut session, input, output, options.budget).ending
+}
+
+/// Runs a new session as `run` does, by so many steps at most, and counts what it does. The session is left as the last step
+/// or commit made it: it took just the steps that are counted. Each read but the last gave a byte at least, and so did the
+/// last, unless it saw the end or failed. For each step, and once more, there are at most 33,554,433 reads.
+pub fn run_session<R: Read, W: Write, A: Allocator + Copy>(
+    session: &mut Session<A>,
+    input: &mut R,
+    output: &mut W,
+    budget: u64,
+) -> RunReport
+    requires new { session.old ≡ new_session session.old.limit session.old.width }
+    requires some_records { 1 ≤ session.old.limit }
+    requires most_steps { budget ≤ BUDGET_LIMIT }
+    ensures runs { RunsBy (R.remaining input.old) (R.remaining input.new) (W.contents output.old) (W.contents output.new)
+        (λ text. output_of session.old.width text budget) result.steps result.reads result.ending }
+    ensures within { result.steps ≤ budget }
+    ensures steps { TakesSteps result.steps session.old session.new }
+{
+    let mut left = budget;
+    let mut reads = 0;
     loop {
-        if let Err(ending) = take_turn(&mut session, input, output, &mut left) {
-            return ending;
+        if let Err(ending) = take_turn(session, input, output, &mut left, &mut reads) {
+            return RunReport {
+                ending,
+                steps: budget - left,
+                reads,
+            };
         }
     }
 }
@@ -57,13 +94,18 @@ fn take_turn<R: Read, W: Write, A: Allocator + Copy>(
     input: &mut R,
     output: &mut W,
     left: &mut u64,
+    reads: &mut u128,
 ) -> Result<(), Ending>
     requires fresh { IsFresh session.old }
     requires at_end { session.old.tape.ended ≡ true → IsAtEnd (R.remaining input.old) }
+    requires fits { length session.old.tape.bytes ≤ TAPE_LIMIT }
+    requires few_reads { reads.old ≤ most_reads BUDGET_LIMIT }
     ensures ok { OnOk result (GoesOn (R.remaining input.old) (R.remaining input.new) (W.contents output.old) (W.contents output.new)
-        session.old left.old session.new left.new) }
+        reads.old reads.new session.old left.old session.new left.new) }
     ensures err { IfErr result (Finishes (R.remaining input.old) (R.remaining input.new) (W.contents output.old) (W.contents output.new)
-        session.old left.old) }
+        reads.old reads.new session.old left.old left.new) }
+    ensures within { left.new ≤ left.old }
+    ensures steps { TakesSteps (left.old - left.new) session.old session.new }
     ensures fresh { OnOk result (IsFresh session.new) }
     ensures fewer { OnOk result (turns_left session.new left.new < turns_left session.old left.old) }
 {
@@ -76,7 +118,7 @@ fn take_turn<R: Read, W: Write, A: Allocator + Copy>(
         return Err(finish(output, session.pending(), Ending::Budget));
     };
     match refusal {
-        Refusal::NeedInput => take_input(session, input, output),
+        Refusal::NeedInput => take_input(session, input, output, reads),
         Refusal::JournalFull => release(session, output),
         Refusal::TooLong if !session.is_empty() => release(session, output),
         Refusal::TooLong => Err(finish(output, session.pending(), Ending::Limit)),
@@ -94,6 +136,7 @@ fn release<W: Write, A: Allocator + Copy>(
     ensures ok { OnOk result (Appends (W.contents output.old) (W.contents output.new) session.old.last.output) }
     ensures committed { OnOk result (answer (Commit 0) session.old ≡ done session.new) }
     ensures err { IfErr result (λ ending. (ending ≡ Ending.Write) × WritesFront (W.contents output.old) (W.contents output.new) session.old.last.output) }
+    ensures steps { TakesSteps 0 session.old session.new }
 {
     write_whole(output, session.pending())?;
     session.commit(0);
@@ -106,20 +149,24 @@ fn take_input<R: Read, W: Write, A: Allocator + Copy>(
     session: &mut Session<A>,
     input: &mut R,
     output: &mut W,
+    reads: &mut u128,
 ) -> Result<(), Ending>
     requires wanted { answer Step session.old ≡ refused Refusal.NeedInput session.old }
     requires on_tape { session.old.last.position ≤ length session.old.tape.bytes }
+    requires fits { length session.old.tape.bytes ≤ TAPE_LIMIT }
     requires some_records { 1 ≤ session.old.limit }
+    requires few_reads { reads.old ≤ most_reads BUDGET_LIMIT }
     ensures ok { (n : ℕ) → OnOk result (GoesOn (R.remaining input.old) (R.remaining input.new) (W.contents output.old) (W.contents output.new)
-        session.old n session.new n) }
+        reads.old reads.new session.old n session.new n) }
     ensures err { (n : ℕ) → IfErr result (Finishes (R.remaining input.old) (R.remaining input.new) (W.contents output.old) (W.contents output.new)
-        session.old (n + 1)) }
+        reads.old reads.new session.old (n + 1) (n + 1)) }
+    ensures steps { TakesSteps 0 session.old session.new }
     ensures fresh { OnOk result (IsFresh session.new) }
     ensures fewer { (n : ℕ) → session.old.last.position ≡ 0 → OnOk result (turns_left session.new n < turns_left session.old n) }
 {
-    let mut waits = take_piece(session, input, output)?;
+    let mut waits = take_piece(session, input, output, reads)?;
     while waits {
-        waits = take_piece(session, input, output)?;
+        waits = take_piece(session, input, output, reads)?;
     }
     Ok(())
 }
@@ -129,14 +176,17 @@ fn take_piece<R: Read, W: Write, A: Allocator + Copy>(
     session: &mut Session<A>,
     input: &mut R,
     output: &mut W,
+    reads: &mut u128,
 ) -> Result<bool, Ending>
     requires wanted { answer Step session.old ≡ refused Refusal.NeedInput session.old }
     requires on_tape { session.old.last.position ≤ length session.old.tape.bytes }
     requires some_records { 1 ≤ session.old.limit }
+    requires few_reads { reads.old ≤ 2 * most_reads BUDGET_LIMIT }
     ensures ok { (n : ℕ) → OnOk result (GoesOn (R.remaining input.old) (R.remaining input.new) (W.contents output.old) (W.contents output.new)
-        session.old n session.new n) }
+        reads.old reads.new session.old n session.new n) }
     ensures err { (n : ℕ) → IfErr result (Finishes (R.remaining input.old) (R.remaining input.new) (W.contents output.old) (W.contents output.new)
-        session.old (n + 1)) }
+        reads.old reads.new session.old (n + 1) (n + 1)) }
+    ensures steps { TakesSteps 0 session.old session.new }
     ensures fresh { OnOk result (IsFresh session.new) }
     ensures fewer { (n : ℕ) → session.old.last.position ≡ 0 → OnOk result (turns_left session.new n < turns_left session.old n) }
     ensures waits { IfOk result (λ waits. waits ≡ true → answer Step session.new ≡ refused Refusal.NeedInput session.new) }
@@ -144,24 +194,31 @@ fn take_piece<R: Read, W: Write, A: Allocator + Copy>(
     write_whole(output, session.pending())?;
     flush(output)?;
     session.commit(0);
-    match read_more(session, input) {
-        Ok(waits) => Ok(waits),
-        Err(Ending::Read) => Err(Ending::Read),
-        Err(ending) => Err(finish(output, session.pending(), ending)),
+    let ending = match read_more(session, input, reads) {
+        Ok(waits) => return Ok(waits),
+        Err(ending) => ending,
+    };
+    match ending {
+        Ending::Read => Err(Ending::Read),
+        _ => Err(finish(output, session.pending(), ending)),
     }
 }
 
-// Reads once, and feeds what the reader gives; nothing is the end of the input. Returns whether a step that
+// Reads once, counts it, and feeds what the reader gives; nothing is the end of the input. Returns whether a step that
 // waits is sure to go on waiting.
 fn read_more<R: Read, A: Allocator + Copy>(
     session: &mut Session<A>,
     input: &mut R,
+    reads: &mut u128,
 ) -> Result<bool, Ending>
-    requires { session.old.tape.ended ≡ false }
+    requires open_ { session.old.tape.ended ≡ false }
+    requires few_reads { reads.old ≤ 2 * most_reads BUDGET_LIMIT }
     ensures ok { OnOk result (TakesMore (R.remaining input.old) (R.remaining input.new) session.old session.new) }
     ensures err { IfErr result (TakesNone (R.remaining input.old) (R.remaining input.new) session.old session.new) }
     ensures waits { IfOk result (λ waits. waits ≡ true → StillWaits session.old session.new) }
+    ensures counted { reads.new ≡ reads.old + 1 }
 {
+    *reads += 1;
     let mut bytes = [0; READ_SIZE];
     let Ok(count) = input.read(&mut bytes) else {
         return Err(Ending::Read);

@@ -1,17 +1,17 @@
 -- Bytes that are read, a read after the other.
 use Rattle.std.proofs.Common.{◌≡◌, ℕ, ◌+◌, ◌-◌, ◌<◌, ◌≤◌, Bool, true, false, List, [], ◌++◌, length, refl, sym, ap, subst, ◌∙◌, arith, inl, inr, ⊎_elim}
 use Rattle.std.specs.Prelude.{◌⊎◌, Option, None, Some, take, if◌then◌else◌}
-use Rattle.std.specs.Io.KnownBytes.{Consumes, Keeps}
+use Rattle.std.specs.Io.KnownBytes.{Consumes, IsAtEnd, Keeps}
 use Rattle.std.proofs.lemmas.Bool.{false≢true, cases_Bool}
 use Rattle.std.proofs.lemmas.List.{append-nil, append_assoc, length-append, length-take-le}
 use Rattle.trac_streams.specs.declared.ending.Ending.{Ending}
 use Rattle.trac_streams.specs.declared.ending.Ending.TheVariants.{Memory, Read}
-use Rattle.trac_streams.proofs.Known.{Consumes-both}
+use Rattle.trac_streams.proofs.Known.{Consumes-both, Consumes-nothing}
 use Rattle.trac_streams.specs.declared.lines.NextLine.{NextLine}
 use Rattle.trac_streams.specs.declared.lines.NextLine.TheVariants.{Part}
 use Rattle.trac_streams.specs.declared.lines.TheConstants.{LINE_LIMIT}
 use Rattle.trac_streams.specs.Pending.{Pending}
-use Rattle.trac_streams.specs.Reading.{Gathers, HELD_LIMIT, IsFront, MayFail, ReadsMore}
+use Rattle.trac_streams.specs.Reading.{Gathers, GathersBy, HELD_LIMIT, IsFront, MayFail, FailsBy, ReadsMore, CameBy, CountsReads, end_reads, fault_reads, empty_reads}
 
 -- no more is held after two parts than after the last that gave any
 few_of_both : (got more mid new : List ℕ) → new ≡ mid ++ more → (got ≡ []) ⊎ (length mid ≤ HELD_LIMIT) → (more ≡ []) ⊎ (length new ≤ HELD_LIMIT) → (got ++ more ≡ []) ⊎ (length new ≤ HELD_LIMIT)
@@ -37,6 +37,138 @@ gathers_more a b c old mid new first second = record {
   few = few_of_both first.got second.got mid.bytes new.bytes second.bytes first.few second.few;
 }
 
+-- ---- how many reads there were
+
+-- none gave nothing
+pub came_by_none : CameBy 0 []
+came_by_none = (omega arith, omega arith)
+
+-- those of one part and of the next
+pub came_by_both : (m n : ℕ) (first second : List ℕ) → CameBy m first → CameBy n second → CameBy (m + n) (first ++ second)
+came_by_both m n first second one two = (omega (arith, one.0, two.0, length-append first second), omega (arith, one.1, two.1, length-append first second))
+
+-- one read, of a buffer
+pub came_by_one : (buffer : List ℕ) (n : ℕ) → 0 < n → n ≤ length buffer → length buffer ≤ 4096 → CameBy 1 (take n buffer)
+came_by_one buffer n some within size = (omega (arith, some, length-take-le n buffer within), omega (arith, size, within, length-take-le n buffer within))
+
+-- the end is seen by one read at most
+pub end_reads_one : (b : Bool) → end_reads b ≤ 1
+end_reads_one true = omega arith
+end_reads_one false = omega arith
+
+-- before the end is seen, no read has seen it
+pub end_reads_open : (b : Bool) → b ≡ false → end_reads b ≡ 0
+end_reads_open b e = rw e refl
+
+pub end_reads_ended : (b : Bool) → b ≡ true → end_reads b ≡ 1
+end_reads_ended b e = rw e refl
+
+pub fault_reads_one : (ending : Ending) → fault_reads ending ≤ 1
+fault_reads_one Read = omega arith
+fault_reads_one ending = omega arith
+
+-- the last read gives nothing, and no other
+pub empty_reads_one : (b : Bool) (ending : Ending) → empty_reads b ending ≤ 1
+empty_reads_one true ending = omega arith
+empty_reads_one false ending = fault_reads_one ending
+
+-- before the end is seen, only a read that fails gives nothing
+pub empty_reads_open : (b : Bool) (ending : Ending) → b ≡ false → empty_reads b ending ≡ fault_reads ending
+empty_reads_open b ending e = rw e refl
+
+-- without a fault, only the read that sees the end
+pub empty_reads_sound : (b : Bool) (ending : Ending) → fault_reads ending ≡ 0 → empty_reads b ending ≡ end_reads b
+empty_reads_sound true ending sound = refl
+empty_reads_sound false ending sound = sound
+
+-- there is one read for each byte at most, and one that gives nothing
+pub reads_counted : (reads : ℕ) (got : List ℕ) (saw_end : Bool) (ending : Ending) → CountsReads reads got saw_end ending → reads ≤ length got + 1
+reads_counted reads got saw_end ending counts = omega (arith, counts.1.0, counts.2, empty_reads_one saw_end ending)
+
+-- one read more, counted
+pub gathers_by_more : (a b c : Option (List ℕ)) (k l m : ℕ) (old mid new : Pending) → GathersBy a b k l old mid → GathersBy b c l m mid new → GathersBy a c k m old new
+unfolding gathers_more
+gathers_by_more a b c k l m old mid new first second = record {
+  gathers = gathers_more a b c old mid new first.gathers second.gathers;
+  full = first.full + second.full;
+  came = came_by_both first.full second.full first.gathers.got second.gathers.got first.came second.came;
+  counted = omega (arith, first.counted, second.counted);
+}
+
+-- nothing is read, or nothing more
+pub gathers_by_none : (a : Option (List ℕ)) (k : ℕ) (old : Pending) → (old.ended ≡ true → IsAtEnd a) → GathersBy a a k k old old
+gathers_by_none a k old at_end = record {
+  gathers = record {
+    got = [];
+    took = Consumes-nothing a;
+    bytes = sym (append-nil old.bytes);
+    closed = λ over. (refl, over);
+    at_end = at_end;
+    few = inl refl;
+  };
+  full = 0;
+  came = came_by_none;
+  counted = omega arith;
+}
+
+-- so many reads there were at most
+pub few_gathered : (a b : Option (List ℕ)) (k l : ℕ) (old new : Pending) → GathersBy a b k l old new → l ≤ k + HELD_LIMIT + 1
+few_gathered a b k l old new read = ⊎_elim
+    (λ (none : read.gathers.got ≡ []). omega (arith, read.came.0, ap length none, read.counted, end_reads_one new.ended))
+    (λ (few : length new.bytes ≤ HELD_LIMIT).
+    omega (arith, read.came.0, ap length read.gathers.bytes, length-append old.bytes read.gathers.got, few, read.counted, end_reads_one new.ended))
+    read.gathers.few
+
+-- the end, by one read
+pub reads_end : (a b : Option (List ℕ)) (k : ℕ) (old new : Pending) (buffer : List ℕ) (n : ℕ) → old.ended ≡ false → n ≡ 0 → Consumes a b (take n buffer) → IsAtEnd b →
+    new ≡ record old { ended = true } → ReadsMore a b k (k + 1) old new
+reads_end a b k old new buffer n open_ none took end same =
+    let ended : new.ended ≡ true = ap (λ (p : Pending). p.ended) same in
+    let bytes : new.bytes ≡ old.bytes = ap (λ (p : Pending). p.bytes) same in
+    record {
+      gathers = record {
+        gathers = record {
+          got = [];
+          took = subst (λ m. Consumes a b (take m buffer)) none took;
+          bytes = bytes ∙ sym (append-nil old.bytes);
+          closed = λ over. absurd (false≢true (sym open_ ∙ over));
+          at_end = λ _. end;
+          few = inl refl;
+        };
+        full = 0;
+        came = came_by_none;
+        counted = omega (arith, end_reads_open old.ended open_, end_reads_ended new.ended ended);
+      };
+      more = inl (ended, bytes);
+    }
+
+-- more bytes, by one read
+pub reads_bytes : (a b : Option (List ℕ)) (k : ℕ) (old new : Pending) (buffer : List ℕ) (n : ℕ) → old.ended ≡ false → length old.bytes ≤ LINE_LIMIT + 1 → 0 < n → n ≤ length buffer → length buffer ≤ 4096 →
+    Consumes a b (take n buffer) → new ≡ record old { bytes = old.bytes ++ take n buffer } → ReadsMore a b k (k + 1) old new
+reads_bytes a b k old new buffer n open_ short some within size took same =
+    let ended : new.ended ≡ false = ap (λ (p : Pending). p.ended) same ∙ open_ in
+    let bytes : new.bytes ≡ old.bytes ++ take n buffer = ap (λ (p : Pending). p.bytes) same in
+    let longer : length new.bytes ≡ length old.bytes + length (take n buffer) = ap length bytes ∙ length-append old.bytes (take n buffer) in
+    let came : CameBy 1 (take n buffer) = came_by_one buffer n some within size in
+    record {
+      gathers = record {
+        gathers = record {
+          got = take n buffer;
+          took = took;
+          bytes = bytes;
+          closed = λ over. absurd (false≢true (sym open_ ∙ over));
+          at_end = λ over. absurd (false≢true (sym ended ∙ over));
+          few = inr (omega (arith, longer, short, came.1));
+        };
+        full = 1;
+        came = came;
+        counted = omega (arith, end_reads_open old.ended open_, end_reads_open new.ended ended);
+      };
+      more = inr (ended, omega (arith, longer, came.0));
+    }
+
+-- ---- reads that fail
+
 -- what stays as it was has nothing more
 stands_same : (old new : Pending) → new ≡ old → new ≡ record old { bytes = old.bytes ++ [] }
 stands_same old new same = same ∙ ap (λ t. record old { bytes = t }) (sym (append-nil old.bytes))
@@ -48,28 +180,38 @@ Consumes-kept (Some xs) None kept = absurd kept
 Consumes-kept (Some xs) (Some ys) kept = sym kept
 
 -- a read that failed
-pub fails_unread : (a b : Option (List ℕ)) (old : Pending) → old.ended ≡ false → length old.bytes ≤ LINE_LIMIT + 1 → Keeps a b → MayFail a b old old Read
-fails_unread a b old open_ short kept = record {
-  kept = [];
-  lost = [];
-  took = Consumes-kept a b kept;
-  stands = stands_same old old refl;
-  fault = inr (refl, refl);
-  open_ = open_;
-  few = omega (arith, short);
+pub fails_unread : (a b : Option (List ℕ)) (k : ℕ) (old : Pending) → old.ended ≡ false → length old.bytes ≤ LINE_LIMIT + 1 → Keeps a b → FailsBy a b k (k + 1) old old Read
+fails_unread a b k old open_ short kept = record {
+  fails = record {
+    kept = [];
+    lost = [];
+    took = Consumes-kept a b kept;
+    stands = stands_same old old refl;
+    fault = inr (refl, refl);
+    open_ = open_;
+    few = omega (arith, short);
+  };
+  full = 0;
+  came = came_by_none;
+  counted = omega arith;
 }
 
 -- no memory for what a read gave
-pub fails_unkept : (a b : Option (List ℕ)) (old new : Pending) (buffer : List ℕ) (n : ℕ) → old.ended ≡ false → length old.bytes ≤ LINE_LIMIT + 1 → n ≤ length buffer → length buffer ≤ 4096 →
-    Consumes a b (take n buffer) → new ≡ old → MayFail a b old new Memory
-fails_unkept a b old new buffer n open_ short within size took same = record {
-  kept = [];
-  lost = take n buffer;
-  took = took;
-  stands = stands_same old new same;
-  fault = inl refl;
-  open_ = open_;
-  few = omega (arith, short, size, length-take-le n buffer within);
+pub fails_unkept : (a b : Option (List ℕ)) (k : ℕ) (old new : Pending) (buffer : List ℕ) (n : ℕ) → old.ended ≡ false → length old.bytes ≤ LINE_LIMIT + 1 → 0 < n → n ≤ length buffer → length buffer ≤ 4096 →
+    Consumes a b (take n buffer) → new ≡ old → FailsBy a b k (k + 1) old new Memory
+fails_unkept a b k old new buffer n open_ short some within size took same = record {
+  fails = record {
+    kept = [];
+    lost = take n buffer;
+    took = took;
+    stands = stands_same old new same;
+    fault = inl refl;
+    open_ = open_;
+    few = omega (arith, short, size, length-take-le n buffer within);
+  };
+  full = 1;
+  came = came_by_one buffer n some within size;
+  counted = omega arith;
 }
 
 -- a text that goes on has gone on before
@@ -98,6 +240,21 @@ fails_later a b c old mid new ending first failed = record {
   few = omega (arith, failed.few, ap length first.bytes, length-append old.bytes first.got, ap length (append_assoc first.got failed.kept failed.lost), length-append first.got (failed.kept ++ failed.lost));
 }
 
+-- the same, counted
+pub fails_by_later : (a b c : Option (List ℕ)) (k l m : ℕ) (old mid new : Pending) (ending : Ending) → GathersBy a b k l old mid → FailsBy b c l m mid new ending → FailsBy a c k m old new ending
+unfolding fails_later
+fails_by_later a b c k l m old mid new ending first failed =
+    let open_ : old.ended ≡ false = open_before a b old mid first.gathers failed.fails.open_ in
+    record {
+      fails = fails_later a b c old mid new ending first.gathers failed.fails;
+      full = first.full + failed.full;
+      came = subst (CameBy (first.full + failed.full)) (sym (append_assoc first.gathers.got failed.fails.kept failed.fails.lost))
+          (came_by_both first.full failed.full first.gathers.got (failed.fails.kept ++ failed.fails.lost) first.came failed.came);
+      counted = omega (arith, first.counted, failed.counted, end_reads_open old.ended open_, end_reads_open mid.ended failed.fails.open_);
+    }
+
+-- ---- the turns
+
 -- the end of a text counts as one more read until it has come
 pub if_ended : (b : Bool) → b ≡ true → ◌≡◌ {A = ℕ} (if b then 0 else 1) 0
 if_ended b e = rw e refl
@@ -106,9 +263,9 @@ pub if_open : (b : Bool) → b ≡ false → ◌≡◌ {A = ℕ} (if b then 0 el
 if_open b e = rw e refl
 
 -- it is less with each read
-pub fewer_left : (a b : Option (List ℕ)) (old new : Pending) → IsFront old.bytes old.ended Part → ReadsMore a b old new →
+pub fewer_left : (a b : Option (List ℕ)) (k l : ℕ) (old new : Pending) → IsFront old.bytes old.ended Part → ReadsMore a b k l old new →
     (LINE_LIMIT + 2 - length new.bytes) + (if new.ended then 0 else 1) < (LINE_LIMIT + 2 - length old.bytes) + (if old.ended then 0 else 1)
-fewer_left a b old new part read = ⊎_elim
+fewer_left a b k l old new part read = ⊎_elim
     (λ (end : (new.ended ≡ true) × (new.bytes ≡ old.bytes)).
     omega (arith, if_ended new.ended end.0, if_open old.ended part.0, ap length end.1))
     (λ (more : (new.ended ≡ false) × (length old.bytes < length new.bytes)).

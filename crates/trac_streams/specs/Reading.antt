@@ -1,5 +1,5 @@
 -- What stands at the front of bytes that were read, and what reads do.
-use Rattle.std.specs.Prelude.{◌≡◌, ◌⊎◌, ℕ, ◌+◌, ◌<◌, ◌≤◌, ◌==◌, List, [], ◌∷◌, ◌++◌, length, take, drop, Bool, true, false, Option, None, Some}
+use Rattle.std.specs.Prelude.{◌≡◌, ◌⊎◌, ℕ, ◌+◌, ◌*◌, ◌<◌, ◌≤◌, ◌==◌, List, [], ◌∷◌, ◌++◌, length, take, drop, Bool, true, false, Option, None, Some}
 use Rattle.std.specs.Io.KnownBytes.{Consumes, IsAtEnd}
 use Rattle.trac_streams.specs.declared.ending.Ending.{Ending}
 use Rattle.trac_streams.specs.declared.ending.Ending.TheVariants.{Memory, Read}
@@ -44,6 +44,33 @@ IsPlace wanted bytes None = HasNone (λ b. b == wanted) bytes
 IsPlace wanted bytes (Some place) =
     (place < length bytes) × HasNone (λ b. b == wanted) (take place bytes) × (bytes ≡ take place bytes ++ wanted ∷ drop (place + 1) bytes)
 
+-- ---- how many reads there were
+
+-- so many reads gave these bytes: each of them one at least, and no more than one read may
+abbrev pub CameBy : ℕ → List ℕ → Type 0
+CameBy reads got = (reads ≤ length got) × (length got ≤ reads * READ_SIZE)
+
+-- a read that saw the end
+abbrev pub end_reads : Bool → ℕ
+end_reads true = 1
+end_reads false = 0
+
+-- a read that failed
+abbrev pub fault_reads : Ending → ℕ
+fault_reads Read = 1
+fault_reads ending = 0
+
+-- how many reads gave nothing, by whether the end was seen and by how it ended: the read that saw the end, or that failed. It is the last
+abbrev pub empty_reads : Bool → Ending → ℕ
+empty_reads true ending = 1
+empty_reads false ending = fault_reads ending
+
+-- so many reads in all gave these bytes, and perhaps saw the end or failed
+abbrev pub CountsReads : ℕ → List ℕ → Bool → Ending → Type 0
+CountsReads reads got saw_end ending = (full : ℕ) × CameBy full got × (reads ≡ full + empty_reads saw_end ending)
+
+-- ---- what reads do
+
 -- the reader gave some bytes, which came after those that were there, and no more than may be held; and perhaps its end was seen
 pub record Gathers (in_old in_new : Option (List ℕ)) (old new : Pending) : Type 0 where
   pub got : List ℕ
@@ -52,11 +79,6 @@ pub record Gathers (in_old in_new : Option (List ℕ)) (old new : Pending) : Typ
   pub closed : old.ended ≡ true → (got ≡ []) × (new.ended ≡ true)
   pub at_end : new.ended ≡ true → IsAtEnd in_new
   pub few : (got ≡ []) ⊎ (length new.bytes ≤ HELD_LIMIT)
-
--- the same of one read, which gave a byte at least, or saw the end
-pub record ReadsMore (in_old in_new : Option (List ℕ)) (old new : Pending) : Type 0 where
-  pub gathers : Gathers in_old in_new old new
-  pub more : ((new.ended ≡ true) × (new.bytes ≡ old.bytes)) ⊎ ((new.ended ≡ false) × (length old.bytes < length new.bytes))
 
 -- a read failed, or there was no memory for what it gave; the end was not seen. What earlier reads gave came after the bytes that were
 -- there, and what the last one gave is lost: nothing, where it failed
@@ -68,3 +90,22 @@ pub record MayFail (in_old in_new : Option (List ℕ)) (old new : Pending) (endi
   pub fault : (ending ≡ Memory) ⊎ ((ending ≡ Read) × (lost ≡ []))
   pub open_ : old.ended ≡ false
   pub few : length old.bytes + length (kept ++ lost) ≤ HELD_LIMIT
+
+-- bytes were gathered, and the reads counted
+pub record GathersBy (in_old in_new : Option (List ℕ)) (reads_old reads_new : ℕ) (old new : Pending) : Type 0 where
+  pub gathers : Gathers in_old in_new old new
+  pub full : ℕ
+  pub came : CameBy full gathers.got
+  pub counted : reads_new + end_reads old.ended ≡ reads_old + full + end_reads new.ended
+
+-- the same of one read, which gave a byte at least, or saw the end
+pub record ReadsMore (in_old in_new : Option (List ℕ)) (reads_old reads_new : ℕ) (old new : Pending) : Type 0 where
+  pub gathers : GathersBy in_old in_new reads_old reads_new old new
+  pub more : ((new.ended ≡ true) × (new.bytes ≡ old.bytes)) ⊎ ((new.ended ≡ false) × (length old.bytes < length new.bytes))
+
+-- a read failed or its bytes were lost, and the reads are counted, that one too
+pub record FailsBy (in_old in_new : Option (List ℕ)) (reads_old reads_new : ℕ) (old new : Pending) (ending : Ending) : Type 0 where
+  pub fails : MayFail in_old in_new old new ending
+  pub full : ℕ
+  pub came : CameBy full (fails.kept ++ fails.lost)
+  pub counted : reads_new ≡ reads_old + full + fault_reads ending

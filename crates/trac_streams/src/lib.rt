@@ -17,6 +17,6 @@ pub use escaping::{
 };
 pub use finding::place_of;
 pub use input::{READ_SIZE, read_tape};
-pub use lines::{LINE_COUNT_LIMIT, LINE_LIMIT, Lines, NextLine};
+pub use lines::{LINE_COUNT_LIMIT, LINE_LIMIT, Lines, NextLine, READ_COUNT_LIMIT};
 pub use options::{BUDGET_LIMIT, DEFAULT_BUDGET, Options, decimals_of, is_in_range};
 pub use system::{say, tape_in};

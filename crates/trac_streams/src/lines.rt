@@ -1,8 +1,8 @@
 //! The lines of a text that comes in pieces.
-ghost use Rattle.std.specs.Prelude.{◌≡◌, ◌+◌, ◌++◌, ◌<◌, ◌≤◌, true, false, [], length, take, drop, not, ◌==◌, IfOk, IfErr, OnOk};
+ghost use Rattle.std.specs.Prelude.{◌≡◌, ◌+◌, ◌*◌, ◌++◌, ◌<◌, ◌≤◌, true, false, [], length, take, drop, not, ◌==◌, IfOk, IfErr, OnOk};
 ghost use Rattle.std.specs.Io.KnownBytes.{IsAtEnd};
 ghost use Rattle.trac_streams.specs.Lines.{without_return};
-ghost use Rattle.trac_streams.specs.Reading.{IsFront, IsWhole, Gathers, ReadsMore, MayFail};
+ghost use Rattle.trac_streams.specs.Reading.{IsFront, IsWhole, Gathers, GathersBy, ReadsMore, MayFail, FailsBy};
 
 use crate::ending::Ending;
 use crate::finding::place_of;
@@ -17,6 +17,9 @@ pub const LINE_LIMIT: usize = 4096;
 
 /// There are at most so many lines (this project's profile).
 pub const LINE_COUNT_LIMIT: u64 = 1_048_576;
+
+/// Before a read that is counted there may have been so many.
+pub const READ_COUNT_LIMIT: u64 = 1_000_000_000_000_000_000;
 
 /// What stands at the front of bytes that were read.
 #[derive(Clone, Copy, PartialEq, Eq)]
@@ -84,27 +87,46 @@ impl<A: Allocator + Copy> Lines<A> {
         ensures read { OnOk result (Gathers (R.remaining input.old) (R.remaining input.new) self.old self.new) }
         ensures failed { IfErr result (MayFail (R.remaining input.old) (R.remaining input.new) self.old self.new) }
     {
+        let mut reads = 0;
+        self.seek_counted(input, &mut reads)
+    }
+
+    /// What stands at the front of the text, as `seek` finds it. Adds how often it reads to a count, the read that sees the end or
+    /// fails too.
+    pub fn seek_counted<R: Read>(
+        &mut self,
+        input: &mut R,
+        reads: &mut u64,
+    ) -> Result<NextLine, Ending>
+        requires at_end { self.old.ended ≡ true → IsAtEnd (R.remaining input.old) }
+        requires few_reads { reads.old ≤ READ_COUNT_LIMIT }
+        ensures front { IfOk result (IsFront self.new.bytes self.new.ended) }
+        ensures whole { IfOk result IsWhole }
+        ensures read { OnOk result (GathersBy (R.remaining input.old) (R.remaining input.new) reads.old reads.new self.old self.new) }
+        ensures failed { IfErr result (FailsBy (R.remaining input.old) (R.remaining input.new) reads.old reads.new self.old self.new) }
+    {
         loop {
             let front = front_of(self.rest(), self.ended);
             if front != NextLine::Part {
                 return Ok(front);
             }
-            self.read_more(input)?;
+            self.read_more(input, reads)?;
         }
     }
 
-    /// Whether there is any byte more, after one read where that is needed.
+    /// Whether there is any byte more, after one read where that is needed, which is added to a count.
     ///
     /// `Ending::Read`: the reader failed. `Ending::Memory`: memory was refused. As after a refused `seek`, what was there stands.
-    pub fn has_more<R: Read>(&mut self, input: &mut R) -> Result<bool, Ending>
+    pub fn has_more<R: Read>(&mut self, input: &mut R, reads: &mut u64) -> Result<bool, Ending>
         requires at_end { self.old.ended ≡ true → IsAtEnd (R.remaining input.old) }
+        requires few_reads { reads.old ≤ READ_COUNT_LIMIT }
         ensures more { IfOk result (λ more. more ≡ not (length self.new.bytes == 0)) }
         ensures ended { IfOk result (λ more. more ≡ false → self.new.ended ≡ true) }
-        ensures read { OnOk result (Gathers (R.remaining input.old) (R.remaining input.new) self.old self.new) }
-        ensures failed { IfErr result (MayFail (R.remaining input.old) (R.remaining input.new) self.old self.new) }
+        ensures read { OnOk result (GathersBy (R.remaining input.old) (R.remaining input.new) reads.old reads.new self.old self.new) }
+        ensures failed { IfErr result (FailsBy (R.remaining input.old) (R.remaining input.new) reads.old reads.new self.old self.new) }
     {
         if self.rest().is_empty() && !self.ended {
-            self.read_more(input)?;
+            self.read_more(input, reads)?;
         }
         Ok(!self.rest().is_empty())
     }
@@ -139,14 +161,16 @@ impl<A: Allocator + Copy> Lines<A> {
         self.bytes.as_slice().split_at(self.taken).1
     }
 
-    // Reads once: more bytes, or the end.
-    fn read_more<R: Read>(&mut self, input: &mut R) -> Result<(), Ending>
+    // Reads once, and counts it: more bytes, or the end.
+    fn read_more<R: Read>(&mut self, input: &mut R, reads: &mut u64) -> Result<(), Ending>
         requires open_ { self.old.ended ≡ false }
         requires short { length self.old.bytes ≤ LINE_LIMIT + 1 }
-        ensures more { OnOk result (ReadsMore (R.remaining input.old) (R.remaining input.new) self.old self.new) }
-        ensures failed { IfErr result (MayFail (R.remaining input.old) (R.remaining input.new) self.old self.new) }
+        requires few_reads { reads.old ≤ 2 * READ_COUNT_LIMIT }
+        ensures more { OnOk result (ReadsMore (R.remaining input.old) (R.remaining input.new) reads.old reads.new self.old self.new) }
+        ensures failed { IfErr result (FailsBy (R.remaining input.old) (R.remaining input.new) reads.old reads.new self.old self.new) }
     {
         let mut bytes = [0; READ_SIZE];
+        *reads += 1;
         let Ok(count) = input.read(&mut bytes) else {
             return Err(Ending::Read);
         };

@@ -9,7 +9,7 @@ pub returns-in-Err-clause-too_long : goal.returns-in-Err-clause-too_long
 returns-in-Err-clause-too_long g c long = refused_too_long c.args.tape.now c.in-Err.ending c.in-Err.ensures.refused long
 
 pub returns-clause-debugs : goal.returns-clause-debugs
-returns-clause-debugs g c = debugged_over _ _ _ _ c.args.tape.now c.args.options.journal c.args.options.decimals c.in-Ok.session c.take_lines.result c.in-Ok.ensures.made c.take_lines.ensures
+returns-clause-debugs g c = debugged_over _ _ _ _ c.args.tape.now c.args.options.journal c.args.options.decimals c.in-Ok.session c.debug_session.result.ending c.in-Ok.ensures.made c.debug_session.ensures.debugs.debugs
 
 pub returns-clause-too_long : goal.returns-clause-too_long
 returns-clause-too_long g c long = absurd (omega (arith, c.in-Ok.ensures.made.within, long))

@@ -1,15 +1,16 @@
-use Rattle.std.proofs.Common.{◌≡◌, ◌-◌, arith, ⊎_elim}
+use Rattle.std.proofs.Common.{◌≡◌, ◌-◌, arith, refl, ⊎_elim}
 use Rattle.std.specs.Prelude.{◌⊎◌}
 use Rattle.trac_rules.specs.declared.refusal.Refusal.TheVariants as refusals
 use Rattle.trac_streams.specs.declared.ending.Ending.TheVariants.{Ended, Budget, Limit, Memory}
-use Rattle.trac_run.proofs.Turned.{after_walk, stopped_for, taken_unstopped, closed_run, shows_spent, shows_ended, shows_limit, nothing_pending_unmoved, taken_of_test, none_taken_of_test, released_on, released_failed, released_fresh, released_fewer, taken_when_full, walked_on, walked_finish_one, walked_fewer, refused_for_none}
+use Rattle.trac_run.proofs.Stepped.{steps_turn, steps_walk}
+use Rattle.trac_run.proofs.Turned.{after_walk, tape_after_walk, stopped_for, taken_unstopped, closed_run, shows_spent, shows_ended, shows_limit, nothing_pending_unmoved, taken_of_test, none_taken_of_test, released_on, released_failed, released_fresh, released_fewer, taken_when_full, walked_on, walked_finish_one, walked_fewer, refused_for_none}
 use Rattle.trac_run.proofs.running.take_turn.Goals as goal
 
 pub returns-then-left-gt0-clause-ok : goal.returns-then-left-gt0-clause-ok
-returns-then-left-gt0-clause-ok g c = released_on _ _ _ c.release.new.session c.release.result (after_walk {m = c.args.left.now} (omega (arith, c.min.ensures)) c.requires.fresh c.forward_within-walk.ensures) c.requires.at_end c.release.ensures.ok c.release.ensures.committed
+returns-then-left-gt0-clause-ok g c = released_on _ _ _ c.args.reads.now c.release.new.session c.release.result (after_walk {m = c.args.left.now} (omega (arith, c.min.ensures)) c.requires.fresh c.forward_within-walk.ensures) c.requires.at_end c.release.ensures.ok c.release.ensures.committed
 
 pub returns-then-left-gt0-clause-err : goal.returns-then-left-gt0-clause-err
-returns-then-left-gt0-clause-err g c = released_failed _ _ _ c.release.result (after_walk {m = c.args.left.now} (omega (arith, c.min.ensures)) c.requires.fresh c.forward_within-walk.ensures) c.requires.at_end c.release.ensures.err
+returns-then-left-gt0-clause-err g c = released_failed _ _ _ c.args.reads.now c.release.result (after_walk {m = c.args.left.now} (omega (arith, c.min.ensures)) c.requires.fresh c.forward_within-walk.ensures) c.requires.at_end c.release.ensures.err
 
 pub returns-then-left-gt0-clause-fresh : goal.returns-then-left-gt0-clause-fresh
 returns-then-left-gt0-clause-fresh g c = released_fresh c.release.new.session c.release.result (after_walk {m = c.args.left.now} (omega (arith, c.min.ensures)) c.requires.fresh c.forward_within-walk.ensures) c.release.ensures.committed
@@ -21,7 +22,7 @@ returns-then-left-gt0-clause-fewer g c =
 
 pub returns-in_default-clause-err : goal.returns-in_default-clause-err
 returns-in_default-clause-err g c =
-    closed_run _ _ _ c.pending.result.now Budget c.finish.result (after_walk {m = c.args.left.now} (omega (arith, c.min.ensures)) c.requires.fresh c.forward_within-walk.ensures) c.requires.at_end c.pending.ensures c.finish.ensures
+    closed_run _ _ _ c.args.reads.now c.pending.result.now Budget c.finish.result refl (after_walk {m = c.args.left.now} (omega (arith, c.min.ensures)) c.requires.fresh c.forward_within-walk.ensures) c.requires.at_end c.pending.ensures c.finish.ensures
     (shows_spent c.forward_within-walk.new.self (c.args.left.now - c.forward_within-walk.result.done) (omega arith))
 
 pub take_input-requires-clause-on_tape : goal.take_input-requires-clause-on_tape
@@ -31,21 +32,21 @@ pub take_input-requires-clause-some_records : goal.take_input-requires-clause-so
 take_input-requires-clause-some_records g c = (after_walk {m = c.args.left.now} (omega (arith, c.min.ensures)) c.requires.fresh c.forward_within-walk.ensures).some_records
 
 pub returns-in-NeedInput-clause-ok : goal.returns-in-NeedInput-clause-ok
-returns-in-NeedInput-clause-ok g c = walked_on _ _ _ _ c.take_input.new.session c.take_input.result (after_walk {m = c.args.left.now} (omega (arith, c.min.ensures)) c.requires.fresh c.forward_within-walk.ensures) (c.take_input.ensures.ok (c.args.left.now - c.forward_within-walk.result.done))
+returns-in-NeedInput-clause-ok g c = walked_on _ _ _ _ _ _ c.take_input.new.session c.take_input.result (after_walk {m = c.args.left.now} (omega (arith, c.min.ensures)) c.requires.fresh c.forward_within-walk.ensures) (c.take_input.ensures.ok (c.args.left.now - c.forward_within-walk.result.done))
 
 pub returns-in-NeedInput-clause-err : goal.returns-in-NeedInput-clause-err
 returns-in-NeedInput-clause-err g c =
     let stop = stopped_for c.forward_within-walk.ensures c.in-Some.is c.in-NeedInput.is in
-    walked_finish_one _ _ _ _ c.take_input.result (after_walk {m = c.args.left.now} (omega (arith, c.min.ensures)) c.requires.fresh c.forward_within-walk.ensures) (omega (arith, stop.0, c.min.ensures)) c.take_input.ensures.err
+    walked_finish_one _ _ _ _ _ _ c.take_input.result (after_walk {m = c.args.left.now} (omega (arith, c.min.ensures)) c.requires.fresh c.forward_within-walk.ensures) (omega (arith, stop.0, c.min.ensures)) c.take_input.ensures.err
 
 pub returns-in-NeedInput-clause-fewer : goal.returns-in-NeedInput-clause-fewer
 returns-in-NeedInput-clause-fewer g c = walked_fewer c.args.session.now c.args.left.now c.forward_within-walk.result.done c.forward_within-walk.new.self c.take_input.new.session c.take_input.result c.requires.fresh (after_walk {m = c.args.left.now} (omega (arith, c.min.ensures)) c.requires.fresh c.forward_within-walk.ensures) (c.take_input.ensures.fewer (c.args.left.now - c.forward_within-walk.result.done))
 
 pub returns-in-JournalFull-clause-ok : goal.returns-in-JournalFull-clause-ok
-returns-in-JournalFull-clause-ok g c = released_on _ _ _ c.release-in-JournalFull.new.session c.release-in-JournalFull.result (after_walk {m = c.args.left.now} (omega (arith, c.min.ensures)) c.requires.fresh c.forward_within-walk.ensures) c.requires.at_end c.release-in-JournalFull.ensures.ok c.release-in-JournalFull.ensures.committed
+returns-in-JournalFull-clause-ok g c = released_on _ _ _ c.args.reads.now c.release-in-JournalFull.new.session c.release-in-JournalFull.result (after_walk {m = c.args.left.now} (omega (arith, c.min.ensures)) c.requires.fresh c.forward_within-walk.ensures) c.requires.at_end c.release-in-JournalFull.ensures.ok c.release-in-JournalFull.ensures.committed
 
 pub returns-in-JournalFull-clause-err : goal.returns-in-JournalFull-clause-err
-returns-in-JournalFull-clause-err g c = released_failed _ _ _ c.release-in-JournalFull.result (after_walk {m = c.args.left.now} (omega (arith, c.min.ensures)) c.requires.fresh c.forward_within-walk.ensures) c.requires.at_end c.release-in-JournalFull.ensures.err
+returns-in-JournalFull-clause-err g c = released_failed _ _ _ c.args.reads.now c.release-in-JournalFull.result (after_walk {m = c.args.left.now} (omega (arith, c.min.ensures)) c.requires.fresh c.forward_within-walk.ensures) c.requires.at_end c.release-in-JournalFull.ensures.err
 
 pub returns-in-JournalFull-clause-fresh : goal.returns-in-JournalFull-clause-fresh
 returns-in-JournalFull-clause-fresh g c = released_fresh c.release-in-JournalFull.new.session c.release-in-JournalFull.result (after_walk {m = c.args.left.now} (omega (arith, c.min.ensures)) c.requires.fresh c.forward_within-walk.ensures) c.release-in-JournalFull.ensures.committed
@@ -56,10 +57,10 @@ returns-in-JournalFull-clause-fewer g c =
     released_fewer c.release-in-JournalFull.new.session c.release-in-JournalFull.result (after_walk {m = c.args.left.now} (omega (arith, c.min.ensures)) c.requires.fresh c.forward_within-walk.ensures) (taken_when_full (after_walk {m = c.args.left.now} (omega (arith, c.min.ensures)) c.requires.fresh c.forward_within-walk.ensures) stop.1)
 
 pub returns-in-TooLong-clause-ok : goal.returns-in-TooLong-clause-ok
-returns-in-TooLong-clause-ok g c = released_on _ _ _ c.release-in-TooLong.new.session c.release-in-TooLong.result (after_walk {m = c.args.left.now} (omega (arith, c.min.ensures)) c.requires.fresh c.forward_within-walk.ensures) c.requires.at_end c.release-in-TooLong.ensures.ok c.release-in-TooLong.ensures.committed
+returns-in-TooLong-clause-ok g c = released_on _ _ _ c.args.reads.now c.release-in-TooLong.new.session c.release-in-TooLong.result (after_walk {m = c.args.left.now} (omega (arith, c.min.ensures)) c.requires.fresh c.forward_within-walk.ensures) c.requires.at_end c.release-in-TooLong.ensures.ok c.release-in-TooLong.ensures.committed
 
 pub returns-in-TooLong-clause-err : goal.returns-in-TooLong-clause-err
-returns-in-TooLong-clause-err g c = released_failed _ _ _ c.release-in-TooLong.result (after_walk {m = c.args.left.now} (omega (arith, c.min.ensures)) c.requires.fresh c.forward_within-walk.ensures) c.requires.at_end c.release-in-TooLong.ensures.err
+returns-in-TooLong-clause-err g c = released_failed _ _ _ c.args.reads.now c.release-in-TooLong.result (after_walk {m = c.args.left.now} (omega (arith, c.min.ensures)) c.requires.fresh c.forward_within-walk.ensures) c.requires.at_end c.release-in-TooLong.ensures.err
 
 pub returns-in-TooLong-clause-fresh : goal.returns-in-TooLong-clause-fresh
 returns-in-TooLong-clause-fresh g c = released_fresh c.release-in-TooLong.new.session c.release-in-TooLong.result (after_walk {m = c.args.left.now} (omega (arith, c.min.ensures)) c.requires.fresh c.forward_within-walk.ensures) c.release-in-TooLong.ensures.committed
@@ -71,18 +72,18 @@ pub returns-in-TooLong-2-clause-err : goal.returns-in-TooLong-2-clause-err
 returns-in-TooLong-2-clause-err g c =
     let stop = stopped_for c.forward_within-walk.ensures c.in-Some.is c.in-TooLong-2.is in
     let none = none_taken_of_test c.forward_within-walk.new.self c.is_empty.result c.is_empty.ensures c.if-not-is_empty.false in
-    closed_run _ _ _ c.pending-in-TooLong-2.result.now Limit c.finish-in-TooLong-2.result (after_walk {m = c.args.left.now} (omega (arith, c.min.ensures)) c.requires.fresh c.forward_within-walk.ensures) c.requires.at_end c.pending-in-TooLong-2.ensures c.finish-in-TooLong-2.ensures
+    closed_run _ _ _ c.args.reads.now c.pending-in-TooLong-2.result.now Limit c.finish-in-TooLong-2.result refl (after_walk {m = c.args.left.now} (omega (arith, c.min.ensures)) c.requires.fresh c.forward_within-walk.ensures) c.requires.at_end c.pending-in-TooLong-2.ensures c.finish-in-TooLong-2.ensures
     (shows_limit c.forward_within-walk.new.self (c.args.left.now - c.forward_within-walk.result.done) (omega (arith, stop.0, c.min.ensures)) (after_walk {m = c.args.left.now} (omega (arith, c.min.ensures)) c.requires.fresh c.forward_within-walk.ensures).on_tape stop.1 (nothing_pending_unmoved c.requires.fresh (after_walk {m = c.args.left.now} (omega (arith, c.min.ensures)) c.requires.fresh c.forward_within-walk.ensures) none))
 
 pub returns-in-Ended-clause-err : goal.returns-in-Ended-clause-err
 returns-in-Ended-clause-err g c =
     let stop = stopped_for c.forward_within-walk.ensures c.in-Some.is c.in-Ended.is in
-    closed_run _ _ _ c.pending-in-Ended.result.now Ended c.finish-in-Ended.result (after_walk {m = c.args.left.now} (omega (arith, c.min.ensures)) c.requires.fresh c.forward_within-walk.ensures) c.requires.at_end c.pending-in-Ended.ensures c.finish-in-Ended.ensures
+    closed_run _ _ _ c.args.reads.now c.pending-in-Ended.result.now Ended c.finish-in-Ended.result refl (after_walk {m = c.args.left.now} (omega (arith, c.min.ensures)) c.requires.fresh c.forward_within-walk.ensures) c.requires.at_end c.pending-in-Ended.ensures c.finish-in-Ended.ensures
     (shows_ended c.forward_within-walk.new.self (c.args.left.now - c.forward_within-walk.result.done) (omega (arith, stop.0, c.min.ensures)) (after_walk {m = c.args.left.now} (omega (arith, c.min.ensures)) c.requires.fresh c.forward_within-walk.ensures).on_tape stop.1)
 
 pub returns-in-Memory-clause-err : goal.returns-in-Memory-clause-err
 returns-in-Memory-clause-err g c =
-    closed_run _ _ _ c.pending-in-Memory.result.now Memory c.finish-in-Memory.result (after_walk {m = c.args.left.now} (omega (arith, c.min.ensures)) c.requires.fresh c.forward_within-walk.ensures) c.requires.at_end c.pending-in-Memory.ensures c.finish-in-Memory.ensures
+    closed_run _ _ _ c.args.reads.now c.pending-in-Memory.result.now Memory c.finish-in-Memory.result refl (after_walk {m = c.args.left.now} (omega (arith, c.min.ensures)) c.requires.fresh c.forward_within-walk.ensures) c.requires.at_end c.pending-in-Memory.ensures c.finish-in-Memory.ensures
     (λ more none. tt)
 
 pub unreachable-requires : goal.unreachable-requires
@@ -94,3 +95,30 @@ unreachable-requires g c =
     (λ (e : c.in-Some.refusal ≡ refusals.NotMet). refused_for_none c.forward_within-walk.new.self refusals.NotMet (stopped_for c.forward_within-walk.ensures c.in-Some.is e).1 (λ x. cc) (λ x. cc) (λ x. cc) (λ x. cc))
     others)
     c.in-AtStart.is
+
+pub returns-then-left-gt0-clause-steps : goal.returns-then-left-gt0-clause-steps
+returns-then-left-gt0-clause-steps g c = steps_turn {m = c.args.left.now} c.release.new.session (omega (arith, c.min.ensures, c.forward_within-walk.ensures.walk.within, c.forward_within-walk.ensures.within)) c.forward_within-walk.ensures c.release.ensures.steps
+
+pub returns-in_default-clause-steps : goal.returns-in_default-clause-steps
+returns-in_default-clause-steps g c = steps_walk {m = c.args.left.now} (omega (arith, c.min.ensures, c.forward_within-walk.ensures.walk.within, c.forward_within-walk.ensures.within)) c.forward_within-walk.ensures
+
+pub returns-in-NeedInput-clause-steps : goal.returns-in-NeedInput-clause-steps
+returns-in-NeedInput-clause-steps g c = steps_turn {m = c.args.left.now} c.take_input.new.session (omega (arith, c.min.ensures, c.forward_within-walk.ensures.walk.within, c.forward_within-walk.ensures.within)) c.forward_within-walk.ensures c.take_input.ensures.steps
+
+pub returns-in-JournalFull-clause-steps : goal.returns-in-JournalFull-clause-steps
+returns-in-JournalFull-clause-steps g c = steps_turn {m = c.args.left.now} c.release-in-JournalFull.new.session (omega (arith, c.min.ensures, c.forward_within-walk.ensures.walk.within, c.forward_within-walk.ensures.within)) c.forward_within-walk.ensures c.release-in-JournalFull.ensures.steps
+
+pub returns-in-TooLong-clause-steps : goal.returns-in-TooLong-clause-steps
+returns-in-TooLong-clause-steps g c = steps_turn {m = c.args.left.now} c.release-in-TooLong.new.session (omega (arith, c.min.ensures, c.forward_within-walk.ensures.walk.within, c.forward_within-walk.ensures.within)) c.forward_within-walk.ensures c.release-in-TooLong.ensures.steps
+
+pub returns-in-TooLong-2-clause-steps : goal.returns-in-TooLong-2-clause-steps
+returns-in-TooLong-2-clause-steps g c = steps_walk {m = c.args.left.now} (omega (arith, c.min.ensures, c.forward_within-walk.ensures.walk.within, c.forward_within-walk.ensures.within)) c.forward_within-walk.ensures
+
+pub returns-in-Ended-clause-steps : goal.returns-in-Ended-clause-steps
+returns-in-Ended-clause-steps g c = steps_walk {m = c.args.left.now} (omega (arith, c.min.ensures, c.forward_within-walk.ensures.walk.within, c.forward_within-walk.ensures.within)) c.forward_within-walk.ensures
+
+pub returns-in-Memory-clause-steps : goal.returns-in-Memory-clause-steps
+returns-in-Memory-clause-steps g c = steps_walk {m = c.args.left.now} (omega (arith, c.min.ensures, c.forward_within-walk.ensures.walk.within, c.forward_within-walk.ensures.within)) c.forward_within-walk.ensures
+
+pub take_input-requires-clause-fits : goal.take_input-requires-clause-fits
+take_input-requires-clause-fits g c = omega (arith, c.requires.fits, tape_after_walk _ _ _ _ (after_walk {m = c.args.left.now} (omega (arith, c.min.ensures)) c.requires.fresh c.forward_within-walk.ensures))
