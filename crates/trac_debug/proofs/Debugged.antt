@@ -24,7 +24,7 @@ use Rattle.trac_debug.specs.Debugging.{Turn, Passes, Does, Ends, Takes, MayWrite
 use Rattle.trac_debug.specs.Debugs.{UnlessFault, UnlessWrite, Debugs, DebugsBy, MOST_READ, IsReady, IsNotReplied, Settles, Stops, Advances, Halts}
 use Rattle.trac_streams.specs.Pending.{Pending}
 use Rattle.trac_streams.specs.Tape.{MayRefuseTape}
-use Rattle.trac_streams.specs.Reading.{HELD_LIMIT, IsFront, Gathers, GathersBy, FailsBy, CameBy, end_reads, empty_reads, fault_reads}
+use Rattle.trac_streams.specs.Reading.{HELD_LIMIT, IsFront, Gathers, GathersBy, FailsBy, CameBy, end_reads, fault_reads}
 use Rattle.trac_debug.proofs.Existing.{some_reply, some_text}
 use Rattle.trac_streams.proofs.Gathered.{came_by_both, came_by_none, empty_reads_sound, end_reads_one, end_reads_open, reads_counted}
 use Rattle.trac_streams.proofs.Splitting.{first_line}

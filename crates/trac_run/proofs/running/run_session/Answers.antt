@@ -1,4 +1,3 @@
-use Rattle.std.proofs.Common.{refl}
 use Rattle.trac_run.proofs.Ran.{few_so_far, so_far_new, so_far_turn, ran, ran_steps}
 use Rattle.trac_run.proofs.running.run_session.Goals as goal
 
