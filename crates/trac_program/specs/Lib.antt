@@ -1,0 +1,2 @@
+-- What a command line may ask for.
+pub use Rattle.trac_words.specs.Words
