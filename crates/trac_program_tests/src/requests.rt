@@ -32,7 +32,7 @@ const ROWS: &[Row] = &[
     (Program::Run(65_536, Width::W64), EACH_PRIMITIVE, None),
     (
         DEBUG,
-        (b"s 11\nb 1\nb 99\nu ps 99\np\nc\n", b""),
+        (b"s 11\nr rs\nb 1\nb 99\nu ps 99\nr zz\np\nc\n", b""),
         Some(b" Memory\n"),
     ),
     (
@@ -58,11 +58,22 @@ fn is_whole(written: &[u8]) -> bool {
         && contains(written, b"active [") == contains(written, b"\njournal ")
 }
 
+// Whether no way back in a session of the debugger is refused memory, since it takes none.
+fn goes_back(written: &[u8]) -> bool {
+    for line in written.split(|byte| *byte == b'\n') {
+        let is_back = line.starts_with(b"back ") || line.starts_with(b"return ");
+        if is_back && line.ends_with(b" Memory") {
+            return false;
+        }
+    }
+    true
+}
+
 // Whether this may be written where a request is refused, or none.
 fn may_write(row: &Row, written: &[u8], is_refused: bool) -> bool {
     let output = row.1.1;
     if row.2.is_some() {
-        return is_whole(written);
+        return is_whole(written) && goes_back(written);
     }
     output.starts_with(written) && (is_refused || written.len() == output.len())
 }

@@ -1,5 +1,5 @@
-//! The command line: the options that its words ask for. Which lines are not understood, and which show help, is tested in
-//! `tests/endings`.
+//! The command line: the options that its words ask for, lines that ask for help, and lines that are not understood. What these
+//! are shown is tested in `tests/endings`.
 use std::alloc::{AllocError, Global};
 use std::test::Fail;
 use trac_rules::width::Width;
@@ -94,6 +94,52 @@ fn options_asked_for(rt: HostRuntime) -> Result<(), Fail> {
             asks_for(&line, *file, *options),
             "the options are those of {file:?}"
         );
+    }
+    Ok(())
+}
+
+// Whether a line shows help or the version.
+fn is_help(line: &Line) -> bool {
+    match line {
+        Line::Help(text) => !text.is_empty(),
+        _ => false,
+    }
+}
+
+fn is_bad(line: &Line) -> bool {
+    match line {
+        Line::Bad(text) => !text.is_empty(),
+        _ => false,
+    }
+}
+
+const HELP: &[&[&str]] = &[
+    &["trac", "--help"],
+    &["trac", "run", "--help"],
+    &["trac", "debug", "--help"],
+    &["trac", "--version"],
+];
+
+const BAD: &[&[&str]] = &[
+    &["trac"],
+    &["trac", "run", "--budget", "0"],
+    &["trac", "run", "--budget", "1000000000001"],
+    &["trac", "run", "--journal", "0"],
+    &["trac", "run", "--journal", "1048577"],
+    &["trac", "run", "--decimals", "65"],
+    &["trac", "run", "x"],
+    &["trac", "debug"],
+];
+
+#[test]
+fn lines_without_a_run(rt: HostRuntime) -> Result<(), Fail> {
+    for words in HELP.iter() {
+        let line = line_of(rt.alloc(), words)?;
+        assert!(rt; is_help(&line), "{words:?} asks for help");
+    }
+    for words in BAD.iter() {
+        let line = line_of(rt.alloc(), words)?;
+        assert!(rt; is_bad(&line), "{words:?} is not understood");
     }
     Ok(())
 }

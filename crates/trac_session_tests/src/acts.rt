@@ -1,15 +1,14 @@
 //! A session, told what to do by a table: what each act must answer, and what the session must show.
-ghost use Rattle.std.specs.Prelude.{◌≤◌};
-
-use crate::sessions::let_go;
+use crate::machines::Memory;
+use crate::sessions::{let_go, made};
 use crate::shown::texts_shown;
 use std::alloc::{Allocator, Global};
 use std::process::Abort;
+use trac_faults::Refusing;
 use trac_gap::TwoEnds;
-use trac_rules::limit::JOURNAL_LIMIT;
 use trac_rules::refusal::Refusal;
 use trac_rules::width::Width;
-use trac_session::Session;
+use trac_session::{Session, Walk};
 use trac_step::{Core, Mark};
 
 /// One act on a session with what it answers, or one part of what it shows then.
@@ -39,6 +38,10 @@ pub(crate) enum Act {
     Back(u64),
     /// Of so many steps the second number are gone back over, and then the start is there.
     BackToStart(u64, u64),
+    /// So many steps are gone back over to a call of this name.
+    BackUntil(&'static [u8], u64),
+    /// So many steps are gone back over, and then a search for a call of this name is refused so.
+    BackUntilRefused(&'static [u8], u64, Refusal),
     /// The base text, the begun functions, a `^`, and what is not scanned yet.
     Shows(&'static [u8]),
     /// What is not scanned yet.
@@ -68,7 +71,7 @@ fn letters(rt: &impl Abort, alloc: Global, count: usize) -> Vec<u8> {
 
 fn feed_letters(
     rt: &impl Abort,
-    session: &mut Session,
+    session: &mut Session<Memory<'_>>,
     alloc: Global,
     count: usize,
     answer: Result<(), Refusal>,
@@ -77,7 +80,7 @@ fn feed_letters(
 }
 
 // The refusal that ends all steps forward, of which there may be a thousand.
-fn forward_to_end(session: &mut Session) -> Result<(), Refusal> {
+fn forward_to_end(session: &mut Session<Memory<'_>>) -> Result<(), Refusal> {
     match session.forward(1_000).why {
         Some(why) => Err(why),
         None => Ok(()),
@@ -85,24 +88,39 @@ fn forward_to_end(session: &mut Session) -> Result<(), Refusal> {
 }
 
 // Whether these bytes are fed, or refused so.
-fn feeds(session: &mut Session, bytes: &[u8], answer: Result<(), Refusal>) -> bool {
+fn feeds(session: &mut Session<Memory<'_>>, bytes: &[u8], answer: Result<(), Refusal>) -> bool {
     session.feed(bytes) == answer
 }
 
-// Whether a walk of so many steps forward takes the second number of them, and then ends for this reason.
-fn goes_forward(session: &mut Session, n: u64, done: u64, why: Option<Refusal>) -> bool {
-    let walk = session.forward(n);
+// Whether a walk took so many steps, and then ended for this reason.
+fn is_walk(walk: Walk, done: u64, why: Option<Refusal>) -> bool {
     walk.done == done && walk.why == why
 }
 
-// The same for a walk back.
-fn goes_back(session: &mut Session, n: u64, done: u64, why: Option<Refusal>) -> bool {
-    let walk = session.back(n);
-    walk.done == done && walk.why == why
+fn goes_forward(
+    session: &mut Session<Memory<'_>>,
+    n: u64,
+    done: u64,
+    why: Option<Refusal>,
+) -> bool {
+    is_walk(session.forward(n), done, why)
+}
+
+fn goes_back(session: &mut Session<Memory<'_>>, n: u64, done: u64, why: Option<Refusal>) -> bool {
+    is_walk(session.back(n), done, why)
+}
+
+fn goes_back_until(
+    session: &mut Session<Memory<'_>>,
+    name: &[u8],
+    done: u64,
+    why: Option<Refusal>,
+) -> bool {
+    is_walk(session.back_until(name), done, why)
 }
 
 // Whether so many steps are taken, each with a commit after it. Before a commit there is one record more than it keeps at most.
-fn goes_in_window(session: &mut Session, n: u64, keep: usize) -> bool {
+fn goes_in_window(session: &mut Session<Memory<'_>>, n: u64, keep: usize) -> bool {
     for _ in 0..n {
         let is_taken = session.forward(1).why.is_none();
         if !is_taken || session.len() > keep.saturating_add(1) {
@@ -114,7 +132,7 @@ fn goes_in_window(session: &mut Session, n: u64, keep: usize) -> bool {
 }
 
 // Carries out one act that may change the session, and says whether it is answered so.
-fn carry_out(rt: &impl Abort, alloc: Global, session: &mut Session, act: &Act) -> bool {
+fn carry_out(rt: &impl Abort, alloc: Global, session: &mut Session<Memory<'_>>, act: &Act) -> bool {
     match *act {
         Act::Feed(bytes) => feeds(session, bytes, Ok(())),
         Act::FeedRefused(bytes, why) => feeds(session, bytes, Err(why)),
@@ -132,10 +150,23 @@ fn carry_out(rt: &impl Abort, alloc: Global, session: &mut Session, act: &Act) -
         Act::Forward(n) => goes_forward(session, n, n, None),
         Act::ForwardRefused(n, done, why) => goes_forward(session, n, done, Some(why)),
         Act::ForwardUntil(why) => forward_to_end(session) == Err(why),
-        Act::Back(n) => goes_back(session, n, n, None),
-        Act::BackToStart(n, done) => goes_back(session, n, done, Some(Refusal::AtStart)),
         _ => true,
     }
+}
+
+// Goes back as an act says, while every request for memory is refused, and says whether it is answered so. None is made.
+fn go_back(memory: Memory<'_>, session: &mut Session<Memory<'_>>, act: &Act) -> bool {
+    let requests = memory.requests();
+    memory.refuse_all();
+    let is_met = match *act {
+        Act::Back(n) => goes_back(session, n, n, None),
+        Act::BackToStart(n, done) => goes_back(session, n, done, Some(Refusal::AtStart)),
+        Act::BackUntil(name, done) => goes_back_until(session, name, done, None),
+        Act::BackUntilRefused(name, done, why) => goes_back_until(session, name, done, Some(why)),
+        _ => true,
+    };
+    memory.accept_all();
+    is_met && memory.requests() == requests
 }
 
 // Whether the texts are these.
@@ -177,20 +208,25 @@ fn look_at<E: TwoEnds<u8, A>, M: TwoEnds<Mark, A>, A: Allocator + Copy>(
     }
 }
 
-fn has_letters(rt: &impl Abort, alloc: Global, session: &Session, count: usize) -> bool {
+fn has_letters(
+    rt: &impl Abort,
+    alloc: Global,
+    session: &Session<Memory<'_>>,
+    count: usize,
+) -> bool {
     session.unread() == letters(rt, alloc, count).as_slice()
 }
 
-fn has_records(session: &Session, count: usize) -> bool {
+fn has_records(session: &Session<Memory<'_>>, count: usize) -> bool {
     session.len() == count && session.is_empty() == (count == 0)
 }
 
-fn weighs(session: &Session, weight: u64) -> bool {
+fn weighs(session: &Session<Memory<'_>>, weight: u64) -> bool {
     session.weight() == weight
 }
 
 // Whether the part that an act speaks of is so.
-fn look(rt: &impl Abort, alloc: Global, session: &Session, act: &Act) -> bool {
+fn look(rt: &impl Abort, alloc: Global, session: &Session<Memory<'_>>, act: &Act) -> bool {
     match *act {
         Act::UnreadLetters(count) => has_letters(rt, alloc, session, count),
         Act::Records(count) => has_records(session, count),
@@ -201,17 +237,25 @@ fn look(rt: &impl Abort, alloc: Global, session: &Session, act: &Act) -> bool {
     }
 }
 
-fn play_all(rt: &impl Abort, alloc: Global, session: &mut Session, acts: &[Act]) {
+fn play_all(
+    rt: &impl Abort,
+    alloc: Global,
+    memory: Memory<'_>,
+    session: &mut Session<Memory<'_>>,
+    acts: &[Act],
+) {
     for (at, act) in acts.iter().enumerate() {
-        let is_met = carry_out(rt, alloc, session, act) && look(rt, alloc, session, act);
+        let is_met = carry_out(rt, alloc, session, act)
+            && go_back(memory, session, act)
+            && look(rt, alloc, session, act);
         expect(rt, is_met, at);
     }
 }
 
 /// Carries out these acts, one after another, on a new session whose journal may hold so many records.
 pub(crate) fn play(rt: &impl Abort, alloc: Global, limit: usize, acts: &[Act]) {
-    assert!(rt; 1 <= limit && limit <= JOURNAL_LIMIT);
-    let mut session = Session::new(alloc, limit, Width::W128).expect(rt, "there was no memory");
-    play_all(rt, alloc, &mut session, acts);
+    let memory = Refusing::new(alloc);
+    let mut session = made(rt, &memory, limit, Width::W128);
+    play_all(rt, alloc, &memory, &mut session, acts);
     let_go(session);
 }

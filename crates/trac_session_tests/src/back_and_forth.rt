@@ -2,7 +2,9 @@
 use crate::acts::Act::{self, *};
 use crate::acts::play;
 use trac_rules::limit::JOURNAL_LIMIT;
-use trac_rules::refusal::Refusal::{Closed, Ended, JournalFull, NeedInput, TooLong};
+use trac_rules::refusal::Refusal::{
+    AtStart, Closed, Ended, JournalFull, NeedInput, NotMet, TooLong,
+};
 
 const ELEVEN_STEPS_AND_BACK: &[Act] = &[
     Feed(b"AB'"),
@@ -294,6 +296,20 @@ const A_RUN_OF_PLAIN_BYTES: &[Act] = &[
     Initial,
 ];
 
+// After nineteen steps and after seven the next one performs `rs`.
+const BACK_TO_A_CALL: &[Act] = &[
+    Feed(b"AB'"),
+    End,
+    ForwardRefused(20, 19, Ended),
+    BackUntil(b"rs", 12),
+    Shows(b"#(ps,#(rs^))"),
+    BackToStart(99, 7),
+    BackUntilRefused(b"rs", 0, AtStart),
+    Forward(5),
+    BackUntilRefused(b"zz", 5, NotMet),
+    Initial,
+];
+
 const A_FULL_JOURNAL: &[Act] = &[
     Feed(b"AB'"),
     ForwardRefused(5, 4, JournalFull),
@@ -356,6 +372,7 @@ const WALKS: &[(usize, &[Act])] = &[
     (JOURNAL_LIMIT, A_WINDOW_AFTER_A_WINDOW),
     (6, A_COMMIT_AFTER_EACH_STEP),
     (JOURNAL_LIMIT, A_RUN_OF_PLAIN_BYTES),
+    (JOURNAL_LIMIT, BACK_TO_A_CALL),
     (4, A_FULL_JOURNAL),
 ];
 

@@ -1,7 +1,7 @@
-//! Copies of lists with two ends, of both types that there are. Each request for memory is refused in turn. What the calls
-//! leave in the lists is in their contracts.
+//! Lists with two ends, of both types that there are: worked calls, and copies, of which each request for memory is refused in
+//! turn. What any call leaves in the lists is in its contract.
 use crate::memory::Memory;
-use std::alloc::Allocator;
+use std::alloc::{Allocator, Global};
 use std::process::Abort;
 use trac_faults::Refusing;
 use trac_gap::{GapBuf, PlainEnds, TwoEnds};
@@ -55,6 +55,150 @@ fn expect_each_request<E: TwoEnds<u8, A>, A: Allocator + Copy>(
         }
     }
     panic!(rt; "too few runs");
+}
+
+/// A call on two lists.
+#[derive(Clone, Copy)]
+enum Call {
+    PutLeft(&'static [u8]),
+    PutRight(&'static [u8]),
+    PushRight(u8),
+    /// What is taken.
+    PopLeft(Option<u8>),
+    CutLeft(usize),
+    CutRight(usize),
+    ShiftLeft(usize),
+    ShiftRight(usize),
+}
+
+/// Calls, and the two lists after them.
+type Line = (&'static [Call], &'static [u8], &'static [u8]);
+
+// One after another on lists that have room for four.
+const LINES: &[Line] = &[
+    (&[Call::PutLeft(b"ab"), Call::PutRight(b"cd")], b"ab", b"cd"),
+    (&[Call::ShiftLeft(1)], b"abc", b"d"),
+    (&[Call::ShiftRight(2)], b"a", b"bcd"),
+    (&[Call::CutRight(1)], b"a", b"cd"),
+    (
+        &[Call::PopLeft(Some(b'a')), Call::PushRight(b'x')],
+        b"",
+        b"xcd",
+    ),
+    (
+        &[Call::PopLeft(None), Call::ShiftLeft(3), Call::CutLeft(3)],
+        b"",
+        b"",
+    ),
+];
+
+// Carries out a call that needs room on lists that have it.
+fn put<E: TwoEnds<u8, A>, A: Allocator + Copy>(rt: &impl Abort, ends: &mut E, call: &Call) {
+    match *call {
+        Call::PutLeft(bytes) => {
+            assert!(rt; bytes.len() <= ends.room());
+            ends.put_left(bytes);
+        }
+        Call::PutRight(bytes) => {
+            assert!(rt; bytes.len() <= ends.room());
+            ends.put_right(bytes);
+        }
+        Call::PushRight(byte) => {
+            assert!(rt; 1 <= ends.room());
+            ends.push_right(byte);
+        }
+        _ => {}
+    }
+}
+
+// Carries out a call that takes items from a list that has them.
+fn take<E: TwoEnds<u8, A>, A: Allocator + Copy>(rt: &impl Abort, ends: &mut E, call: &Call) {
+    match *call {
+        Call::PopLeft(item) => assert!(rt; ends.pop_left() == item),
+        Call::CutLeft(n) => {
+            assert!(rt; n <= ends.left().len());
+            ends.cut_left(n);
+        }
+        Call::CutRight(n) => {
+            assert!(rt; n <= ends.right().len());
+            ends.cut_right(n);
+        }
+        Call::ShiftLeft(n) => {
+            assert!(rt; n <= ends.right().len());
+            ends.shift_left(n);
+        }
+        Call::ShiftRight(n) => {
+            assert!(rt; n <= ends.left().len());
+            ends.shift_right(n);
+        }
+        _ => {}
+    }
+}
+
+fn carry_out<E: TwoEnds<u8, A>, A: Allocator + Copy>(rt: &impl Abort, ends: &mut E, call: &Call) {
+    put(rt, ends, call);
+    take(rt, ends, call);
+}
+
+// New lists with room for so many items.
+fn with_room<E: TwoEnds<u8, A>, A: Allocator + Copy>(rt: &impl Abort, alloc: A, count: usize) -> E {
+    let mut ends = E::new(alloc);
+    ends.reserve(count).expect(rt, "there was no memory");
+    ends
+}
+
+// The lists are these, and so are those of a copy.
+fn expect_both<E: TwoEnds<u8, A>, A: Allocator + Copy>(
+    rt: &impl Abort,
+    ends: &E,
+    left: &[u8],
+    right: &[u8],
+) {
+    let copy = copied(rt, ends);
+    assert!(rt; holds(ends, left, right) && holds(&copy, left, right));
+}
+
+fn expect_lines<E: TwoEnds<u8, A>, A: Allocator + Copy>(rt: &impl Abort, alloc: A) {
+    let mut ends: E = with_room(rt, alloc, 4);
+    for (calls, left, right) in LINES.iter() {
+        for call in calls.iter() {
+            carry_out(rt, &mut ends, call);
+        }
+        expect_both(rt, &ends, left, right);
+    }
+}
+
+// Items go before the list on the right until one place is left.
+fn fill_right<E: TwoEnds<u8, A>, A: Allocator + Copy>(rt: &impl Abort, ends: &mut E) {
+    for item in 1..ends.room() {
+        carry_out(rt, ends, &Call::PushRight((item % 251) as u8));
+    }
+    assert!(rt; ends.room() == 1);
+}
+
+// More items are moved across the gap than it has places, and moved back.
+fn expect_far_shifts<E: TwoEnds<u8, A>, A: Allocator + Copy>(rt: &impl Abort, alloc: A) {
+    let mut ends: E = with_room(rt, alloc, 16);
+    carry_out(rt, &mut ends, &Call::PutLeft(b"abcdefgh"));
+    fill_right(rt, &mut ends);
+    let before = copied(rt, &ends);
+    expect_both(rt, &ends, b"abcdefgh", before.right());
+    carry_out(rt, &mut ends, &Call::ShiftRight(7));
+    assert!(rt; ends.right().strip_prefix(b"bcdefgh") == Some(before.right()));
+    expect_both(rt, &ends, b"a", ends.right());
+    carry_out(rt, &mut ends, &Call::ShiftLeft(7));
+    expect_both(rt, &ends, b"abcdefgh", before.right());
+}
+
+fn expect_calls<E: TwoEnds<u8, A>, A: Allocator + Copy>(rt: &impl Abort, alloc: A) {
+    expect_lines::<E, A>(rt, alloc);
+    expect_far_shifts::<E, A>(rt, alloc);
+}
+
+#[test]
+fn worked_calls(rt: HostRuntime) {
+    expect_calls::<PlainEnds<u8>, Global>(&rt, rt.alloc());
+    expect_calls::<GapBuf<u8>, Global>(&rt, rt.alloc());
 }
 
 #[test]

@@ -9,6 +9,8 @@
 #[cfg(test)]
 mod acts;
 #[cfg(test)]
+mod answers;
+#[cfg(test)]
 mod back_and_forth;
 #[cfg(test)]
 mod commands;
@@ -16,6 +18,8 @@ mod commands;
 mod elsewhere;
 #[cfg(test)]
 mod ends;
+#[cfg(test)]
+mod held;
 #[cfg(test)]
 mod loading;
 #[cfg(test)]

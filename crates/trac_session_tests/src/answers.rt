@@ -1,0 +1,267 @@
+//! What single calls answer: the records of steps and what they weigh, and what calls will do, on a machine of any
+//! representation.
+ghost use Rattle.std.specs.Prelude.{◌≡◌, ◌≤◌, ◌^◌, ◌<◌};
+ghost use Rattle.trac_rules.specs.Proper.{IsProper};
+
+use crate::machines::{let_go, made};
+use std::alloc::{Allocator, Global};
+use std::process::Abort;
+use trac_gap::{GapBuf, TwoEnds};
+use trac_prims::{Change, Effect, Now, plan};
+use trac_rules::limit::{MARK_LIMIT, OUTPUT_LIMIT};
+use trac_rules::width::Width;
+use trac_step::{Core, Mark, Record, Tape};
+
+// The next step over this input, which has not ended.
+fn next<E: TwoEnds<u8, A>, M: TwoEnds<Mark, A>, A: Allocator + Copy>(
+    rt: &impl Abort,
+    machine: &mut Core<E, M, A>,
+    input: &[u8],
+) -> Record<A> {
+    assert!(rt; machine.position() <= input.len());
+    let tape = Tape {
+        bytes: input,
+        ended: false,
+    };
+    machine.step(tape).expect(rt, "the step was refused")
+}
+
+// Takes steps whose records are let go.
+fn take_steps<E: TwoEnds<u8, A>, M: TwoEnds<Mark, A>, A: Allocator + Copy>(
+    rt: &impl Abort,
+    machine: &mut Core<E, M, A>,
+    input: &[u8],
+    count: u64,
+) {
+    for _ in 0..count {
+        let _taken = next(rt, machine, input);
+    }
+}
+
+// A machine after so many steps over this input.
+fn machine_after<E: TwoEnds<u8, A>, M: TwoEnds<Mark, A>, A: Allocator + Copy>(
+    rt: &impl Abort,
+    alloc: A,
+    input: &[u8],
+    count: u64,
+) -> Core<E, M, A> {
+    let mut machine = made(alloc).expect(rt, "there was no memory");
+    take_steps(rt, &mut machine, input, count);
+    machine
+}
+
+// Whether a record is that of an idle step which empties this text, and no begun functions.
+fn is_idle<A: Allocator + Copy>(taken: &Record<A>, wanted: &[u8]) -> bool {
+    match taken {
+        Record::Idle { base, frames } => base.as_slice() == wanted && frames.is_empty(),
+        _ => false,
+    }
+}
+
+// A stray `)` ends the `ps` of the idle program, so that `b` and `c` are base text: the fifteenth step empties it.
+fn expect_idle<E: TwoEnds<u8, A>, M: TwoEnds<Mark, A>, A: Allocator + Copy>(
+    rt: &impl Abort,
+    alloc: A,
+) {
+    let mut machine: Core<E, M, A> = machine_after(rt, alloc, b"a)b,c'", 14);
+    let taken = next(rt, &mut machine, b"a)b,c'");
+    assert!(rt; is_idle(&taken, b"bc"));
+    let_go(machine);
+}
+
+// Inputs, the number of a step, and what its record weighs: of a byte that moves nothing, of a deleted one 1, of the base text
+// that an idle step empties its bytes, and of a call the bytes of its arguments with one for each comma, for a meta character that
+// it sets, for a gap that it makes, and for the form that it deletes its name, its byte and one.
+const WEIGHTS: &[(&[u8], u64, usize)] = &[
+    (b"AB'", 8, 2),
+    (b"AB'", 9, 0),
+    (b"AB'", 11, 5),
+    (b"a)b,c'", 12, 1),
+    (b"a)b,c'", 15, 2),
+    (b"#(cm,;)'", 14, 5),
+    (b"#(ds,F,x)#(ss,F,x)'", 24, 7),
+    (b"#(ds,a,1)'#(dd,a)'", 32, 7),
+];
+
+// Takes one step, after which the state is within all limits, as it always is.
+fn take_step<E: TwoEnds<u8, A>, M: TwoEnds<Mark, A>, A: Allocator + Copy>(
+    rt: &impl Abort,
+    machine: &mut Core<E, M, A>,
+    input: &[u8],
+)
+    ensures { IsProper machine.new.state }
+{
+    assert!(rt; machine.position() <= input.len());
+    let tape = Tape {
+        bytes: input,
+        ended: false,
+    };
+    let _taken = machine.step(tape).expect(rt, "the step was refused");
+}
+
+// What the record of the next step weighs.
+fn next_weight<E: TwoEnds<u8, A>, M: TwoEnds<Mark, A>, A: Allocator + Copy>(
+    rt: &impl Abort,
+    machine: &mut Core<E, M, A>,
+    input: &[u8],
+) -> usize
+    requires { IsProper machine.old.state }
+{
+    assert!(rt; machine.position() <= input.len());
+    let tape = Tape {
+        bytes: input,
+        ended: false,
+    };
+    let taken = machine.step(tape).expect(rt, "the step was refused");
+    taken.weight()
+}
+
+// The record of the step of this number weighs so much.
+fn expect_weight<E: TwoEnds<u8, A>, M: TwoEnds<Mark, A>, A: Allocator + Copy>(
+    rt: &impl Abort,
+    alloc: A,
+    input: &[u8],
+    number: u64,
+    wanted: usize,
+) {
+    let mut machine: Core<E, M, A> = machine_after(rt, alloc, input, number.saturating_sub(2));
+    take_step(rt, &mut machine, input);
+    let weight = next_weight(rt, &mut machine, input);
+    assert!(rt;
+        weight == wanted,
+        "step {number} of {input:?} weighs {weight}"
+    );
+    let_go(machine);
+}
+
+/// What a call will do, which keeps all forms and blocks.
+struct Wanted {
+    value: &'static [u8],
+    forced: bool,
+    print: &'static [u8],
+    position: usize,
+    meta: u8,
+    trace: bool,
+}
+
+// Inputs, after how many steps their call comes next, whether calls are printed by then, and what the call will do.
+const PLANS: &[(&[u8], u64, bool, Wanted)] = &[
+    (
+        b"##(ad,5-,3)'",
+        16,
+        true,
+        Wanted {
+            value: b"5-3",
+            forced: false,
+            print: b"##(ad*5-*3)\n",
+            position: 12,
+            meta: b'\'',
+            trace: true,
+        },
+    ),
+    (
+        b"##(dv,1,0,none)'",
+        20,
+        false,
+        Wanted {
+            value: b"none",
+            forced: true,
+            print: b"",
+            position: 16,
+            meta: b'\'',
+            trace: false,
+        },
+    ),
+    (
+        b"#(rs)'x'",
+        11,
+        false,
+        Wanted {
+            value: b"x",
+            forced: false,
+            print: b"",
+            position: 8,
+            meta: b'\'',
+            trace: false,
+        },
+    ),
+    (
+        b"#(cm,;)'",
+        13,
+        false,
+        Wanted {
+            value: b"",
+            forced: false,
+            print: b"",
+            position: 8,
+            meta: b';',
+            trace: false,
+        },
+    ),
+];
+
+// What the call that comes next will do. Beside the call there are three bytes of text: `ps` and the `)` that ends it.
+fn planned<E: TwoEnds<u8, A>, M: TwoEnds<Mark, A>, A: Allocator + Copy>(
+    rt: &impl Abort,
+    alloc: A,
+    machine: &Core<E, M, A>,
+    input: &[u8],
+    trace: bool,
+) -> Effect<A> {
+    let now = Now {
+        position: machine.position(),
+        output: machine.output().len(),
+        text: 3,
+        meta: machine.meta(),
+        trace,
+        width: Width::W128,
+    };
+    let tape = Tape {
+        bytes: input,
+        ended: true,
+    };
+    let (kind, arguments) = machine.next_call().expect(rt, "no call comes next");
+    assert!(rt; now.position <= input.len() && now.output <= OUTPUT_LIMIT);
+    assert!(rt; arguments.count() <= MARK_LIMIT);
+    plan(alloc, &arguments, kind, machine.store(), tape, now).expect(rt, "the call was refused")
+}
+
+fn does<A: Allocator + Copy>(effect: &Effect<A>, wanted: &Wanted) -> bool {
+    effect.value.as_slice() == wanted.value
+        && effect.forced == wanted.forced
+        && effect.print.as_slice() == wanted.print
+        && effect.position == wanted.position
+        && effect.meta == wanted.meta
+        && effect.trace == wanted.trace
+        && matches!(effect.change, Change::Keep)
+}
+
+fn expect_planned<E: TwoEnds<u8, A>, M: TwoEnds<Mark, A>, A: Allocator + Copy>(
+    rt: &impl Abort,
+    alloc: A,
+    (input, steps, trace): (&[u8], u64, bool),
+    wanted: &Wanted,
+) {
+    let machine: Core<E, M, A> = machine_after(rt, alloc, input, steps);
+    let effect = planned(rt, alloc, &machine, input, trace);
+    assert!(rt; does(&effect, wanted), "{input:?}");
+    let_go(machine);
+}
+
+fn expect_answers<E: TwoEnds<u8, A>, M: TwoEnds<Mark, A>, A: Allocator + Copy>(
+    rt: &impl Abort,
+    alloc: A,
+) {
+    expect_idle::<E, M, A>(rt, alloc);
+    for (input, number, wanted) in WEIGHTS.iter() {
+        expect_weight::<E, M, A>(rt, alloc, input, *number, *wanted);
+    }
+    for (input, steps, trace, wanted) in PLANS.iter() {
+        expect_planned::<E, M, A>(rt, alloc, (*input, *steps, *trace), wanted);
+    }
+}
+
+#[test]
+fn records_and_plans(rt: HostRuntime) {
+    expect_answers::<GapBuf<u8>, GapBuf<Mark>, Global>(&rt, rt.alloc());
+}

@@ -1,0 +1,134 @@
+//! How many bytes a session holds: what its rooms take, a fixed number for each record, and some for each unit that its records
+//! weigh. So no copy of a state hides in it, which no clause could tell: clauses speak of what a session shows.
+ghost use Rattle.std.specs.Prelude.{◌≤◌};
+
+use crate::sessions::let_go;
+use linked_list_allocator::LocalHeap;
+use std::alloc::Global;
+use std::process::Abort;
+use trac_rules::limit::JOURNAL_LIMIT;
+use trac_rules::refusal::Refusal;
+use trac_rules::width::Width;
+use trac_session::Session;
+
+type Heap<'a> = &'a LocalHeap;
+
+// How many bytes a long text has: a state holds several.
+const LONG: usize = 20_000;
+
+// How many bytes there are. A copy of the state in each record would take a hundred times as many.
+const HEAP_SIZE: usize = 16 * 1024 * 1024;
+
+// How many bytes the rooms may take beside what is held before them: text, output, what calls make and print, each with as much
+// to spare, and eight bytes for each item of a form.
+const ROOMS: usize = 24 * LONG;
+
+// How many bytes each record may take, and each unit of weight: a list that grows has places for twice as many at most, an item of
+// a form has eight bytes, and so has a comma with its place.
+const RECORD_BYTES: usize = 256;
+
+const WEIGHT_BYTES: usize = 32;
+
+// What is done many times, while a long text is gathered and a long one is printed and not released: calls, one of them on a form
+// and one on its pointer, protected texts, deleted bytes and moved ones.
+const REPEATED: &[u8] = b"#(eq,a,b,c,(d))##(ds,G,x)#(cc,F)\t(e)#f";
+
+const TIMES: usize = 200;
+
+fn new_session(heap: Heap<'_>) -> Result<Session<Heap<'_>>, Refusal> {
+    Session::new(heap, JOURNAL_LIMIT, Width::W128)
+}
+
+fn feed(session: &mut Session<Heap<'_>>, bytes: &[u8]) -> Result<(), Refusal> {
+    session.feed(bytes)
+}
+
+fn go_on(session: &mut Session<Heap<'_>>, n: u64) -> Option<Refusal> {
+    session.forward(n).why
+}
+
+// A text that is so many of another one.
+fn many(rt: &impl Abort, alloc: Global, text: &[u8], times: usize) -> Vec<u8> {
+    let mut out = Vec::new(alloc);
+    for _ in 0..times {
+        out.extend_from_slice(text)
+            .expect(rt, "there was no memory");
+    }
+    out
+}
+
+fn feed_many(
+    rt: &impl Abort,
+    alloc: Global,
+    session: &mut Session<Heap<'_>>,
+    (before, text, times, after): (&[u8], &[u8], usize, &[u8]),
+) {
+    feed(session, before).expect(rt, "it was refused");
+    feed(session, many(rt, alloc, text, times).as_slice()).expect(rt, "it was refused");
+    feed(session, after).expect(rt, "it was refused");
+}
+
+// Defines a long form, and forgets the steps.
+fn define(rt: &impl Abort, alloc: Global, session: &mut Session<Heap<'_>>) {
+    feed_many(rt, alloc, session, (b"#(ds,F,(", b"a", LONG, b"))'"));
+    assert!(rt; go_on(session, u64::MAX) == Some(Refusal::NeedInput));
+    session.commit(0);
+}
+
+// How many bytes the records may take.
+fn records_take(session: &Session<Heap<'_>>) -> usize {
+    let records = session.len().saturating_mul(RECORD_BYTES);
+    let weight = (session.weight() as usize).saturating_mul(WEIGHT_BYTES);
+    records.saturating_add(weight)
+}
+
+// Of so many bytes that were held before, the session holds no more than these, its rooms, and its records.
+fn expect_held(rt: &impl Abort, heap: Heap<'_>, session: &Session<Heap<'_>>, before: usize) {
+    let most = before
+        .saturating_add(ROOMS)
+        .saturating_add(records_take(session));
+    assert!(rt; heap.used() <= most, "{} bytes of {most}", heap.used());
+}
+
+// Goes forward in parts of so many steps until the input has to go on, with a commit after each where it keeps some.
+fn go_through(
+    rt: &impl Abort,
+    heap: Heap<'_>,
+    session: &mut Session<Heap<'_>>,
+    part: u64,
+    window: Option<usize>,
+) {
+    let before = heap.used();
+    for _ in 0..100_000 {
+        let why = go_on(session, part);
+        if let Some(keep) = window {
+            session.commit(keep);
+        }
+        expect_held(rt, heap, session, before);
+        if why.is_some() {
+            assert!(rt; why == Some(Refusal::NeedInput));
+            return;
+        }
+    }
+    panic!(rt; "too few parts");
+}
+
+fn expect_run(rt: &impl Abort, alloc: Global, part: u64, window: Option<usize>) {
+    let heap = LocalHeap::new(alloc, HEAP_SIZE).expect(rt, "there was no memory");
+    let mut session = new_session(&heap).expect(rt, "there was no memory");
+    define(rt, alloc, &mut session);
+    feed_many(
+        rt,
+        alloc,
+        &mut session,
+        (b"##(cl,F)#(pf,F)", REPEATED, TIMES, b"'"),
+    );
+    go_through(rt, &heap, &mut session, part, window);
+    let_go(session);
+}
+
+#[test]
+fn bytes_of_records(rt: HostRuntime) {
+    expect_run(&rt, rt.alloc(), 50, None);
+    expect_run(&rt, rt.alloc(), 1, Some(5));
+}
