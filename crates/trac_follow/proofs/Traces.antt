@@ -1,6 +1,7 @@
 -- A byte that is followed back leg by leg.
 use Rattle.std.proofs.Common.{◌≡◌, ℕ, ◌+◌, ◌-◌, ◌<◌, ◌≤◌, List, [], ◌∷◌, ◌++◌, length, take, refl, sym, ap, ap₂, subst, ◌∙◌, arith, inl, inr, ⊎_elim}
-use Rattle.std.specs.Prelude.{Some}
+use Rattle.std.specs.Prelude.{Some, false, not}
+use Rattle.std.proofs.lemmas.Bool.{true≢false}
 use Rattle.std.proofs.lemmas.List.{append-nil, append_assoc}
 use Rattle.std.proofs.Math.Seq.{take-append-add}
 use Rattle.trac_rules.specs.declared.width.Width.{Width}
@@ -12,7 +13,7 @@ use Rattle.trac_rules.specs.Trails.{AreSteps, IsTrail}
 use Rattle.trac_rules.proofs.TakenAgain.{repeated_trail}
 use Rattle.trac_origins.specs.Accounts.{IsSource as IsOriginOf}
 use Rattle.trac_origins.specs.Following.{Followed, followed, state_back}
-use Rattle.trac_origins.specs.Places.{Place, InForm, Origin, Carried, Read, Made, found_at}
+use Rattle.trac_origins.specs.Places.{Place, InForm, InHeld, Origin, Carried, Read, Made, found_at}
 use Rattle.trac_origins.proofs.Accounted.{followed_back}
 use Rattle.trac_session.proofs.Walked.{repeated-from}
 use Rattle.trac_follow.specs.declared.history.Followed.{Followed as Found}
@@ -23,8 +24,8 @@ use Rattle.trac_follow.specs.declared.tracing.Traced.{Traced}
 use Rattle.trac_follow.specs.Following.{IsFollowed, IsKnown, IsOrigin, IsSource}
 use Rattle.trac_follow.specs.Kept.{IsLong}
 use Rattle.trac_follow.specs.Passing.{Passing, passings}
-use Rattle.trac_follow.specs.Places.{Stands, place_of}
-use Rattle.trac_follow.specs.Tracing.{AllCarried, EndsAs, IsEnd, IsTold, IsTraced, LeadsTo, LeadsToLong, ToldAll, source_of, way_of}
+use Rattle.trac_follow.specs.Places.{IsPassed, Stands, is_in_storage, place_of}
+use Rattle.trac_follow.specs.Tracing.{AllCarried, EndsAs, IsEnd, IsTold, IsTraced, LeadsTo, LeadsToLong, ToldAll, WasPassed, source_of, way_of}
 use Rattle.trac_follow.proofs.Legs.{WentSo, call_of_leg, no_call_of_leg, went_so}
 use Rattle.trac_follow.proofs.Passings.{told_more}
 use Rattle.trac_follow.proofs.RunsBack.{last_steps}
@@ -56,6 +57,12 @@ module _ (old cur next : PlainSession) (place here : Place) (steps n : ℕ) (wen
   way_to so o told = one_way ∙ ap (after_some steps) told
 
 -- ---- legs
+
+-- what stands in no form and in no block was passed on, where a call took it out of a form
+taken_out : (s : State) (here : Place) (name : List ℕ) (i : ℕ) → is_in_storage here ≡ false → IsPassed s here (InForm name i)
+taken_out s (InForm other k) name i aside = absurd (true≢false aside)
+taken_out s (InHeld number other k) name i aside = refl
+taken_out s here name i aside = ap not aside
 
 -- so many legs carried a byte from a place to here, over so many steps
 pub record Way (width : Width) (old cur : PlainSession) (place here : Place) (steps legs : ℕ) : Type 0 where
@@ -181,12 +188,12 @@ module _ (width : Width) (old cur : PlainSession) (place here : Place) (steps le
 
     -- a call passed it on from some place
     had_somewhere : (s : State) (from : onwards.Onward) → s ≡ next.last → found.source ≡ source_of from → IsKnown width cur here →
-        (q : Place) × LeadsTo s from q × IsOrigin cur here found.steps found.steps (Carried q) × (LeadsToLong s from → IsLong q)
+        (q : Place) × LeadsTo s from q × IsOrigin cur here found.steps found.steps (Carried q) × (LeadsToLong s from → IsLong q) × WasPassed cur here found.steps next q
     had_somewhere s from is passed there = go from (subst (λ source. IsSource cur here most next found.steps source) passed (leg there).source)
       where
         go : (o : onwards.Onward) → IsSource cur here most next found.steps (source_of o) →
-            (q : Place) × LeadsTo s o q × IsOrigin cur here found.steps found.steps (Carried q) × (LeadsToLong s o → IsLong q)
-        go (onwards.TheVariants.At p) told = (place_of p, refl, told.0, λ long. long)
+            (q : Place) × LeadsTo s o q × IsOrigin cur here found.steps found.steps (Carried q) × (LeadsToLong s o → IsLong q) × WasPassed cur here found.steps next q
+        go (onwards.TheVariants.At p) told = (place_of p, refl, told.0, λ long. long, (told.1.0, (told.1.1.0, told.1.1.1, told.1.1.2, told.1.1.3)))
         go (onwards.TheVariants.OfForm i) told =
             let call : Call = told.0.0 in
             let asked : scan s ≡ Calls call = ap scan is ∙ told.0.1 in (
@@ -197,6 +204,7 @@ module _ (width : Width) (old cur : PlainSession) (place here : Place) (steps le
                   ap (λ (c : Call). InForm (argument 1 c.arguments) i) same,
               told.0.2,
               λ long. long call asked,
+              (told.1.0, (told.1.1.0, told.1.1.1, told.1.1.2, taken_out next.last told.1.1.0 (argument 1 call.arguments) i told.1.1.3)),
             )
 
     -- where its name cannot be kept, or the witness refuses to be told
@@ -204,7 +212,15 @@ module _ (width : Width) (old cur : PlainSession) (place here : Place) (steps le
       pub ends_unkept : (all : ℕ) → LeadsToLong s from → IsEnd old place all next (steps + found.steps) ends.TheVariants.Unkept
       ends_unkept all long =
           let had = had_somewhere s from is passed (known_there known) in
-          (had.0, way_to old cur next place here steps found.steps went (way.known known).1 found.steps (Carried had.0) had.2, had.3 long)
+          let last = had.4 in (
+            had.0,
+            way_to old cur next place here steps found.steps went (way.known known).1 found.steps (Carried had.0) had.2,
+            had.3 long,
+            (
+              steps + last.0,
+              (last.1.0, omega (arith, last.1.1), way_to old cur next place here steps last.0 went (way.known known).1 last.0 (Carried last.1.0) last.1.2, last.1.3),
+            ),
+          )
 
       pub ends_untold : AllCarried old place (steps + found.steps)
       ends_untold =

@@ -1,5 +1,5 @@
 -- A byte that was followed back to where it comes from, in the words of `trac_origins`.
-use Rattle.std.specs.Prelude.{◌≡◌, ◌⊎◌, ℕ, List, [], ◌∷◌, ◌++◌, take, true}
+use Rattle.std.specs.Prelude.{◌≡◌, ◌⊎◌, ◌+◌, ℕ, List, [], ◌∷◌, ◌++◌, take, true}
 use Rattle.trac_rules.specs.Effect.{argument}
 use Rattle.trac_rules.specs.Scanning.{Call, Calls, scan}
 use Rattle.trac_rules.specs.Session.{PlainSession, over}
@@ -12,21 +12,26 @@ use Rattle.trac_follow.specs.declared.tracing.Traced.{Traced}
 use Rattle.trac_follow.specs.Following.{IsOrigin, IsSource}
 use Rattle.trac_follow.specs.Kept.{IsLong}
 use Rattle.trac_follow.specs.Passing.{Passing, passings}
-use Rattle.trac_follow.specs.Places.{IsBare, is_in_storage, place_of}
+use Rattle.trac_follow.specs.Places.{IsBare, IsPassed, is_in_storage, place_of}
 
 -- all of the last so many steps carried a byte
 abbrev pub AllCarried : PlainSession → Place → ℕ → Type 0
 AllCarried old place steps = (q : Place) × IsOrigin old place steps steps (Carried q)
 
+-- the last of so many steps passed a byte on, which it had from there
+abbrev pub WasPassed : PlainSession → Place → ℕ → PlainSession → Place → Type 0
+WasPassed old place steps new q =
+    (before : ℕ) × ((here : Place) × (steps ≡ before + 1) × IsOrigin old place before before (Carried here) × IsPassed new.last here q)
+
 -- where it comes from: nothing stood there; all steps carried it, and there are no more, or as many were wanted; the last of them read or
--- made it, and the others carried it; or all carried it, from a form whose name of more than 256 bytes could not be kept, or to a call of
--- which the witness refused to be told
+-- made it, and the others carried it; or all carried it, and the last of them passed it on, from a form whose name of more than 256 bytes
+-- could not be kept, or by a call of which the witness refused to be told
 abbrev pub IsEnd : PlainSession → Place → ℕ → PlainSession → ℕ → ends.End → Type 0
 IsEnd old place most new steps ends.TheVariants.Nothing = IsSource old place most new steps code.TheVariants.Nothing
 IsEnd old place most new steps ends.TheVariants.Earlier = AllCarried old place steps × ((steps ≡ most) ⊎ (new.earlier ≡ []))
 IsEnd old place most new steps (ends.TheVariants.Read n) = IsSource old place most new steps (code.TheVariants.Read n)
 IsEnd old place most new steps ends.TheVariants.Made = IsSource old place most new steps code.TheVariants.Made
-IsEnd old place most new steps ends.TheVariants.Unkept = (q : Place) × IsOrigin old place steps steps (Carried q) × IsLong q
+IsEnd old place most new steps ends.TheVariants.Unkept = (q : Place) × IsOrigin old place steps steps (Carried q) × IsLong q × WasPassed old place steps new q
 IsEnd old place most new steps ends.TheVariants.Untold = AllCarried old place steps
 
 pub record IsTraced (old : PlainSession) (place : Place) (most : ℕ) (new : PlainSession) (found : Traced) : Type 0 where

@@ -8,7 +8,6 @@ ghost use Rattle.trac_follow.specs.Running.{HasTurned};
 ghost use Rattle.trac_origins.specs.Places.{InForm};
 ghost use Rattle.trac_rules.specs.Scanning.{scan};
 ghost use Rattle.trac_rules.specs.Session.{Back, repeated};
-ghost use Rattle.trac_rules.specs.Trails.{IsTrail};
 
 use crate::items::item_measured;
 use crate::offset::{argument_offset, is_innermost};
@@ -52,18 +51,17 @@ pub struct Followed<'a> {
 }
 
 /// Goes back over up to `most` steps, as long as these carried the byte at a place, or the item of a form: until one made or
-/// read it, has it from a form, or performs a call that passed it on. The width of the session's numbers has to be given. Bytes
-/// that moved one by one are passed at once, as `Session::back` passes them. It takes no memory, and says that nothing is there
-/// only where nothing stands at the place (this project's profile).
+/// read it, has it from a form, or performs a call that passed it on. Bytes that moved one by one are passed at once, as
+/// `Session::back` passes them. It takes no memory, and says that nothing is there only where nothing stands at the place (this
+/// project's profile).
 pub fn follow<'a, A: Allocator + Copy>(
     session: &mut Session<A>,
-    width: Width,
     place: Place<'a>,
     most: u64,
 ) -> Followed<'a>
     ensures back { repeated Back result.steps session.old ≡ Some session.new }
     ensures most { result.steps ≤ most }
-    ensures followed { width ≡ session.old.width → IsTrail session.old → IsFollowed session.old (place_of place.entry) most session.new result }
+    ensures followed { IsFollowed session.old (place_of place.entry) most session.new result }
 {
     if !stands(session.machine(), place) {
         return Followed {
@@ -71,10 +69,11 @@ pub fn follow<'a, A: Allocator + Copy>(
             source: Source::Nothing,
         };
     }
+    let width = session.width();
     follow_from(session, width, place, most)
 }
 
-// The same, where something stands at the place.
+// The same, where something stands at the place, and this is the width of the session's numbers.
 pub(crate) fn follow_from<'a, A: Allocator + Copy>(
     session: &mut Session<A>,
     width: Width,

@@ -8,7 +8,6 @@ ghost use Rattle.trac_follow.specs.Places.{place_of};
 ghost use Rattle.trac_follow.specs.Tracing.{EndsAs, IsOfStorage, IsTold, IsTraced, LeadsTo, LeadsToLong, source_of, way_of};
 ghost use Rattle.trac_rules.specs.Session.{Back, repeated};
 ghost use Rattle.trac_rules.specs.State.{State};
-ghost use Rattle.trac_rules.specs.Trails.{IsTrail};
 
 use crate::history::{Followed, Source, follow_from};
 use crate::kept::{Kept, Nameless, formless};
@@ -51,7 +50,9 @@ pub enum End {
     Read(usize),
     /// The step that comes next made it.
     Made,
-    /// All steps that were gone back over carried it, from a form that has a name of more than 256 bytes, which could not be kept.
+    /// All steps that were gone back over carried it, and the call that comes next passed it on, out of a form or of one in a
+    /// block. That form has a name of more than 256 bytes, which could not be kept: the store does not know it, as it may of a
+    /// block's, or no more owners of it can be counted. The witness was told of the call.
     Unkept,
     /// All steps that were gone back over carried it, and the witness refused to be told of the call that comes next.
     Untold,
@@ -67,26 +68,26 @@ pub struct Traced {
 }
 
 /// Goes back over up to `most` steps, as long as these carried the byte at a place, or the item of a form, however they did:
-/// until one made or read it. The width of the session's numbers has to be given. A witness is told of each call that passed it
-/// on, as `follow` stops at it, and of no other. It takes no memory but what the witness takes: the name of a form on the way is
-/// copied into the frame of `trace`, or, where it has more than 256 bytes, shared: `trace` and the store both own it. Where it
-/// cannot be kept, or the witness refuses, that is returned, and the session stays where it has come to. It says that nothing is
-/// there only where nothing stands at the place (this project's profile).
+/// until one made or read it. A witness is told of each call that passed it on, as `follow` stops at it, and of no other. It
+/// takes no memory but what the witness takes: the name of a form from which a call passed the byte on is copied into the frame
+/// of `trace`, or, where it has more than 256 bytes, shared: `trace` and the store both own it. Where it cannot be kept, or the
+/// witness refuses, that is returned, and the session stays where it has come to. It says that nothing is there only where
+/// nothing stands at the place (this project's profile).
 pub fn trace<A: Allocator + Copy, W: Witness<A>>(
     session: &mut Session<A>,
-    width: Width,
     place: Place<'_>,
     most: u64,
     witness: &mut W,
 ) -> Traced
     ensures back { repeated Back result.steps session.old ≡ Some session.new }
     ensures most { result.steps ≤ most }
-    ensures traced { width ≡ session.old.width → IsTrail session.old → IsTraced session.old (place_of place.entry) most session.new result }
-    ensures told { width ≡ session.old.width → IsTrail session.old → IsTold W.passes W.refuses (way_of session.old (place_of place.entry) result.steps) result.steps result.end witness.old witness.new }
+    ensures traced { IsTraced session.old (place_of place.entry) most session.new result }
+    ensures told { IsTold W.passes W.refuses (way_of session.old (place_of place.entry) result.steps) result.steps result.end witness.old witness.new }
 {
     if !stands(session.machine(), place) {
         return ended(0, End::Nothing);
     }
+    let width = session.width();
     let mut kept = Kept::lent(place);
     let mut steps = 0;
     for _leg in 0..most {

@@ -25,7 +25,7 @@ fn go_on(session: &mut Session<Memory<'_>>) -> Option<Refusal> {
 }
 
 fn followed(session: &mut Session<Memory<'_>>, place: Place<'static>) -> Followed<'static> {
-    follow(session, Width::W128, place, u64::MAX)
+    follow(session, place, u64::MAX)
 }
 
 // The form that the call which comes next names by its argument 1, of the two that the programs have longest.
@@ -179,7 +179,7 @@ impl<'a> Witness<Memory<'a>> for Told {
 }
 
 fn traced(session: &mut Session<Memory<'_>>, told: &mut Told) -> Traced {
-    trace(session, Width::W128, Place::Output(0), u64::MAX, told)
+    trace(session, Place::Output(0), u64::MAX, told)
 }
 
 // A witness that has room for three calls refuses the fourth.

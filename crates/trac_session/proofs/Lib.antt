@@ -6,6 +6,7 @@ pub mod RunsEnd
 pub mod Performed
 pub mod Windowed
 pub mod Told
+pub mod Trailed
 pub mod Heavy
 pub mod Returned
 pub mod Looked

@@ -1,12 +1,12 @@
 -- Runs of plain bytes, passed at once there and back.
 use Rattle.std.proofs.Common.{◌≡◌, ℕ, zero, suc, ◌+◌, ◌-◌, ◌<◌, ◌≤◌, Bool, true, false, List, [], ◌∷◌, ◌++◌, length, take, drop, refl, sym, ap, subst, ◌∙◌, arith}
-use Rattle.std.specs.Prelude.{Some, nat_le, replicate}
+use Rattle.std.specs.Prelude.{Some, get_or, nat_le, replicate}
 use Rattle.std.specs.Bool.{then_some}
-use Rattle.std.proofs.lemmas.Bool.{leb-true}
-use Rattle.std.proofs.lemmas.List.{drop_at, length-append, length-drop, length-replicate, length-take, take-append-drop, take_at}
+use Rattle.std.proofs.lemmas.Bool.{false≢true, leb-true}
+use Rattle.std.proofs.lemmas.List.{drop_at, get_or-drop, length-append, length-drop, length-replicate, length-take, take-append-drop, take_at}
 use Rattle.trac_rules.specs.declared.width.Width.{Width}
 use Rattle.trac_rules.specs.declared.width.Width.TheVariants.{W64}
-use Rattle.trac_rules.specs.PlainRuns.{BeginsPlain, moved_on, on_the_way}
+use Rattle.trac_rules.specs.PlainRuns.{BeginsPlain, is_plain, moved_on, on_the_way}
 use Rattle.trac_rules.specs.Proper.{IsProper}
 use Rattle.trac_rules.specs.Records.{Record, Moved, all_before_last, last_of, moved_back, moved_back_in, put_before, state_before}
 use Rattle.trac_rules.specs.Scanning.{deleted, gather_first}
@@ -25,7 +25,7 @@ use Rattle.trac_step.specs.Layout.{Shown}
 use Rattle.trac_step.specs.Room.{HasRoom, IsNoLess}
 use Rattle.trac_session.specs.Journal.{earlier_of, AreRecords, plain_of, IsWithinReach, IsSound}
 use Rattle.trac_session.specs.Runs.{HasMovedBack}
-use Rattle.trac_session.proofs.Journaled.{led_on-Some, length-earlier, AreRecords-weaker, IsWithinReach-more}
+use Rattle.trac_session.proofs.Journaled.{led_on-Some, length-earlier, length-earlier_of, AreRecords-weaker, IsWithinReach-more}
 use Rattle.trac_session.proofs.Walked.{repeated-from}
 
 -- ---- records of moved bytes
@@ -109,6 +109,26 @@ IsSound-passed limit bytes old new m k n proper plain fits kept moved held sound
           (AreRecords-weaker (IsWithinReach m (length bytes)) Reach old m.state
           (IsWithinReach-more m k (length bytes) (length bytes) more (omega arith)) sound.records)));
     }
+
+-- no plain byte follows those that were moved, where fewer were than might be
+no_plain_after : (n most : ℕ) (s : State) → (n < most → n < length s.active → is_plain (get_or s.active n 0) ≡ false) → n < most → BeginsPlain 1 (moved_on n s) → ⊥
+no_plain_after n most s end fewer plain =
+    let left : (moved_on n s).active ≡ drop n s.active = active-gathered s.frames (take n s.active) (deleted n s) in
+    let some : n < length s.active = omega (arith, plain.within, ap (λ (text : List ℕ). length text) left, length-drop n s.active) in
+    let none : n + 0 ≡ n = omega arith in
+    let first : is_plain (get_or s.active n 0) ≡ true =
+    ap (λ k. is_plain (get_or s.active k 0)) (sym none) ∙ ap is_plain (sym (get_or-drop n s.active 0 0)) ∙ ap (λ (text : List ℕ). is_plain (get_or text 0 0)) (sym left) ∙ plain.each 0 (omega arith) in
+    false≢true (sym (end fewer some) ∙ first)
+
+-- so it is where the journal has a place left
+pub no_plain_ahead : (limit : ℕ) (bytes : List ℕ) (old new : List Record) (m k : Shown) (n most : ℕ) → IsSound limit bytes new k → k ≡ record m { state = moved_on n m.state } →
+    new ≡ replicate n Moved ++ old → (n < most → n < length m.state.active → is_plain (get_or m.state.active n 0) ≡ false) → (length old + n < limit → n < most) →
+    length (earlier_of new k.state) < limit → BeginsPlain 1 k.state → ⊥
+no_plain_ahead limit bytes old new m k n most sound moved kept end fewer place plain =
+    let there : k.state ≡ moved_on n m.state = ap (λ (u : Shown). u.state) moved in
+    no_plain_after n most m.state end
+    (fewer (omega (arith, place, length-earlier_of (IsWithinReach k (length bytes)) new k.state sound.records, length-moved old new n kept)))
+    (subst (BeginsPlain 1) there plain)
 
 -- ---- and back
 

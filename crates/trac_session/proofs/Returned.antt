@@ -1,5 +1,5 @@
 -- Searches back that meet nothing, and the way forward again.
-use Rattle.std.proofs.Common.{◌≡◌, ℕ, zero, suc, ◌+◌, ◌-◌, ◌<◌, ◌≤◌, ◌&&◌, Bool, true, false, List, [], ◌∷◌, All, length, max, refl, sym, ap, ◌∙◌, arith, ⊎_elim}
+use Rattle.std.proofs.Common.{◌≡◌, ℕ, zero, suc, ◌+◌, ◌-◌, ◌<◌, ◌≤◌, ◌&&◌, Bool, true, false, List, [], ◌∷◌, All, length, max, refl, sym, ap, subst, ◌∙◌, arith, ⊎_elim}
 use Rattle.std.specs.Prelude.{Option, None, Some, nat_lt, option_and_then}
 use Rattle.std.proofs.lemmas.Bool.{cases_lt, lt-ltb}
 use Rattle.std.proofs.lemmas.List.Elements.{All-cons, All-nil}
@@ -13,7 +13,8 @@ use Rattle.trac_rules.specs.Trails.{IsTrail}
 use Rattle.trac_rules.proofs.Replies.{Back_refused, accepted_done, answer_Back_from, done_of_refused}
 use Rattle.trac_rules.proofs.TakenAgain.{Back_done, repeated_after_one, repeated_trail, steps_again}
 use Rattle.trac_session.specs.Goals.{IsSearch, outcome}
-use Rattle.trac_session.specs.Returns.{IsNeverMet}
+use Rattle.trac_session.specs.Returns.{IsNeverMet, IsStopped}
+use Rattle.trac_session.specs.Runs.{IsAsked}
 
 -- ---- walks in two parts
 
@@ -118,8 +119,8 @@ only_for_memory other p q taken h = absurd (done_of_refused other p q (sym h ∙
 
 -- a refusal on the way leaves the session so many steps before that
 pub again_some : (goal : Goal) (old middle new : PlainSession) (steps again : ℕ) (refusal : Refusal) → HasMetNothing goal old steps middle →
-    IsWalk Step no_goal steps middle again (Some refusal) new → IsTrail old → (repeated Back (steps - again) old ≡ Some new) × (refusal ≡ Memory)
-again_some goal old middle new steps again refusal nothing walk trail =
+    IsWalk Step no_goal steps middle again (Some refusal) new → IsAsked (Some refusal) new.last → IsTrail old → IsStopped (steps - again) refusal old new
+again_some goal old middle new steps again refusal nothing walk asked trail =
     let few : again < steps = walk.stopped.0 in
     let left : ℕ = steps - again in
     let both : left + again ≡ steps = omega arith in
@@ -129,4 +130,10 @@ again_some goal old middle new steps again refusal nothing walk trail =
     let forward = steps_again left old new trail back in
     let first : 1 + (left - 1) ≡ left = omega arith in
     let one = in_two Step 1 (left - 1) new old (ap (λ n. repeated Step n new) first ∙ forward) in
-    (back, only_for_memory refusal new one.0 (accepted_done (answer Step new) one.0 one.1) walk.stopped.2)
+    let memory : refusal ≡ Memory = only_for_memory refusal new one.0 (accepted_done (answer Step new) one.0 one.1) walk.stopped.2 in
+    record {
+      memory = memory;
+      some = omega (arith, few);
+      back = back;
+      asked = subst (λ (why : Refusal). IsAsked (Some why) new.last) memory asked;
+    }

@@ -1,17 +1,19 @@
 -- Walks, step by step.
-use Rattle.std.proofs.Common.{◌≡◌, ℕ, zero, suc, ◌+◌, ◌<◌, ◌≤◌, ◌&&◌, true, false, refl, sym, ap, subst, ◌∙◌, arith, inl, inr, ⊎_elim}
+use Rattle.std.proofs.Common.{◌≡◌, ℕ, zero, suc, ◌+◌, ◌<◌, ◌≤◌, ◌&&◌, true, false, length, refl, sym, ap, subst, ◌∙◌, arith, inl, inr, ⊎_elim}
 use Rattle.std.proofs.lemmas.Bool.{cases_lt}
 use Rattle.std.specs.Prelude.{Option, None, Some, nat_lt, option_and_then}
 use Rattle.trac_rules.specs.declared.refusal.Refusal.{Refusal}
 use Rattle.trac_rules.specs.declared.refusal.Refusal.TheVariants.{Memory, TooLong, NeedInput, Ended, JournalFull, AtStart, Closed, NotMet}
 use Rattle.trac_rules.specs.declared.reply.Reply.{Reply}
 use Rattle.trac_rules.specs.declared.reply.Reply.TheVariants.{Done, Refused}
-use Rattle.trac_rules.specs.Session.{PlainSession, Command, Step, Back, Goal, done, refused, answer, accepted_by, Answers, no_goal, repeated, IsWalk}
-use Rattle.trac_rules.proofs.Replies.{Step_refused, Back_refused}
+use Rattle.trac_rules.specs.Session.{PlainSession, Command, Step, Back, Goal, done, refused, answer, accepted_by, Answers, MayRunOut, no_goal, repeated, IsWalk}
+use Rattle.trac_rules.proofs.Replies.{Step_refused, Back_refused, answer_Step_full}
+use Rattle.trac_rules.specs.PlainRuns.{BeginsPlain}
 use Rattle.trac_session.specs.declared.walking.Direction.{Direction}
 use Rattle.trac_session.specs.declared.walking.Direction.TheVariants as towards
 use Rattle.trac_session.specs.Directions.{command_towards}
 use Rattle.trac_session.specs.Goals.{IsSearch, outcome}
+use Rattle.trac_session.specs.Runs.{HasNoPlain, IsAsked}
 
 -- ---- one step
 
@@ -57,6 +59,20 @@ Back_refused_same p q NotMet h = (Back_refused p q NotMet h).0
 pub refused_same : (direction : Direction) (p q : PlainSession) (refusal : Refusal) → Answers (command_towards direction) p (Refused refusal) q → q ≡ p
 refused_same towards.Forward p q refusal h = Step_refused_same p q refusal h
 refused_same towards.Backward p q refusal h = Back_refused_same p q refusal h
+
+-- where memory is refused for a step, there is a place for its record
+place_of_memory : (p q : PlainSession) → Answers Step p (Refused Memory) q → length p.earlier < p.limit
+place_of_memory p q h = ⊎_elim
+    (λ (l : length p.earlier < p.limit). l)
+    (λ (full : p.limit ≤ length p.earlier). absurd (subst (λ a. MayRunOut Step a.reply) (answer_Step_full p full) h.0))
+    (cases_lt (length p.earlier) p.limit)
+
+-- so it moves no plain byte, where these are passed before
+pub asked_for : (direction : Direction) (p q : PlainSession) (refusal : Refusal) → q ≡ p → Answers (command_towards direction) p (Refused refusal) q → (direction ≡ towards.Forward → HasNoPlain p) →
+    IsAsked (Some refusal) q.last
+asked_for towards.Forward p q Memory same h none = subst (λ (r : PlainSession). BeginsPlain 1 r.last → ⊥) (sym same) (none refl (place_of_memory p q h))
+asked_for towards.Backward p q Memory same h none = absurd h.0
+asked_for direction p q other same h none = tt
 
 -- a step back is answered as the plain session says, since memory is no answer of it
 Back_refused_as : (p q : PlainSession) (refusal : Refusal) → answer Back p ≡ refused refusal q → Answers Back p (Refused refusal) q

@@ -5,6 +5,7 @@ use Rattle.trac_rules.specs.declared.limit.TheConstants.{TAPE_LIMIT, JOURNAL_LIM
 use Rattle.trac_rules.specs.Records.{Record, state_before}
 use Rattle.trac_rules.specs.State.{State}
 use Rattle.trac_rules.specs.Session.{PlainSession}
+use Rattle.trac_rules.specs.Trails.{IsTrail}
 use Rattle.trac_rules.specs.Weights.{step_weight, weight}
 use Rattle.trac_step.specs.Layout.{Shown}
 use Rattle.trac_step.specs.Room.{HasRoom}
@@ -54,7 +55,7 @@ pub record IsWithinReach (machine : Shown) (n : ℕ) (s : State) : Type 0 where
   pub on_tape : s.position ≤ n
   pub room : HasRoom machine s
 
--- what is true of the fields of every session
+-- what is true of the journal of every session, of its tape and of its machine
 pub record IsSound (limit : ℕ) (bytes : List ℕ) (journal : List Record) (machine : Shown) : Type 0 where
   pub some_records : 1 ≤ limit
   pub not_too_many : limit ≤ JOURNAL_LIMIT
@@ -62,3 +63,10 @@ pub record IsSound (limit : ℕ) (bytes : List ℕ) (journal : List Record) (mac
   pub tape_limit : length bytes ≤ TAPE_LIMIT
   pub on_tape : machine.state.position ≤ length bytes
   pub records : AreRecords (IsWithinReach machine (length bytes)) journal machine.state
+
+-- what is true of the fields of every session: they are sound, the width is that of the machine's numbers, and each state but the first is
+-- the step from the one before it
+pub record IsSession (limit : ℕ) (width : Width) (bytes : List ℕ) (ended : Bool) (journal : List Record) (machine : Shown) : Type 0 where
+  pub sound : IsSound limit bytes journal machine
+  pub wide : machine.width ≡ width
+  pub trail : IsTrail (plain_of limit machine.width bytes ended journal machine.state)

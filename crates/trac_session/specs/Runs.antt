@@ -1,6 +1,8 @@
--- Steps that moved a byte each, which a session goes back over at once.
-use Rattle.std.specs.Prelude.{◌≡◌, ◌≤◌, ◌++◌, ℕ, List, [], ◌∷◌, length}
-use Rattle.trac_rules.specs.PlainRuns.{moved_on, on_the_way}
+-- Steps that move a byte each, which a session passes at once, there and back.
+use Rattle.std.specs.Prelude.{◌≡◌, ◌<◌, ◌≤◌, ◌++◌, ℕ, List, [], ◌∷◌, length, Option, Some}
+use Rattle.trac_rules.specs.declared.refusal.Refusal.{Refusal}
+use Rattle.trac_rules.specs.declared.refusal.Refusal.TheVariants.{Memory}
+use Rattle.trac_rules.specs.PlainRuns.{BeginsPlain, moved_on, on_the_way}
 use Rattle.trac_rules.specs.Records.{Moved, recorded}
 use Rattle.trac_rules.specs.Session.{PlainSession}
 use Rattle.trac_rules.specs.State.{State}
@@ -18,3 +20,12 @@ pub record HasMovedBack (n : ℕ) (old new : PlainSession) : Type 0 where
 abbrev pub HasNotMovedLast : List State → Type 0
 HasNotMovedLast [] = Unit {0}
 HasNotMovedLast (s ∷ states) = recorded s ≡ Moved → ⊥
+
+-- the active text does not begin with a plain byte, which a step would move, or there is no place for its record
+abbrev pub HasNoPlain : PlainSession → Type 0
+HasNoPlain p = length p.earlier < p.limit → BeginsPlain 1 p.last → ⊥
+
+-- where memory was refused for the step from this state, that step moves no plain byte: to move one takes no memory
+abbrev pub IsAsked : Option Refusal → State → Type 0
+IsAsked (Some Memory) s = BeginsPlain 1 s → ⊥
+IsAsked why s = Unit {0}

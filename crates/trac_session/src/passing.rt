@@ -2,7 +2,7 @@
 ghost use Rattle.std.specs.Prelude.{◌≡◌, ◌<◌, ◌≤◌, Some};
 ghost use Rattle.trac_rules.specs.Session.{Step, Back, repeated};
 ghost use Rattle.trac_rules.specs.Weights.{weights_from};
-ghost use Rattle.trac_session.specs.Runs.{HasMovedBack, HasNotMovedLast};
+ghost use Rattle.trac_session.specs.Runs.{HasMovedBack, HasNoPlain, HasNotMovedLast};
 
 use crate::session::Session;
 use std::alloc::Allocator;
@@ -15,6 +15,7 @@ impl<A: Allocator + Copy> Session<A> {
         ensures passed { repeated Step result self.old ≡ Some self.new }
         ensures most { result ≤ most }
         ensures weight { weights_from self.new.earlier ≡ weights_from self.old.earlier }
+        ensures end { result < most → HasNoPlain self.new }
     {
         let room = self.limit - self.journal.len();
         let count = self.machine.move_plain(most.min(room as u64) as usize);

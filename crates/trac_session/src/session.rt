@@ -5,7 +5,9 @@ ghost use Rattle.trac_rules.specs.declared.reply.Reply.TheVariants.{Done};
 ghost use Rattle.trac_rules.specs.Fronts.{IsFrontOf};
 ghost use Rattle.trac_rules.specs.Reading.{unread};
 ghost use Rattle.trac_rules.specs.Session.{new_session, Feed, End, Step, Back, Commit, answer, Answers, first_kept, settled};
+ghost use Rattle.trac_rules.specs.Trails.{IsTrail};
 ghost use Rattle.trac_rules.specs.Weights.{losses_from, weights_from};
+ghost use Rattle.trac_step.specs.Room.{HasRoom};
 ghost use Rattle.trac_session.specs.Replies.{reply_of};
 
 use crate::walk::Walk;
@@ -30,12 +32,14 @@ pub struct Session<A: Allocator + Copy = Global> {
     // the buffers in which calls make their texts, one after another: no part of what a session is
     made: Made<A>,
     pub(crate) limit: usize,
+    // how wide the machine's numbers are
+    width: Width,
 }
 
 impl<A: Allocator + Copy> Model for Session<A> {
     ghost use Rattle.trac_rules.specs.Session.{PlainSession};
     ghost use Rattle.trac_session.specs.Codes.{session_code};
-    ghost use Rattle.trac_session.specs.Journal.{plain_of, IsSound};
+    ghost use Rattle.trac_session.specs.Journal.{plain_of, IsSession};
 
     ghost Value = { PlainSession };
 
@@ -43,7 +47,7 @@ impl<A: Allocator + Copy> Model for Session<A> {
 
     ghost view = { λ s. plain_of s.limit s.machine.width s.tape.items s.ended s.journal.records s.machine.state };
 
-    ghost invariant = { λ s. IsSound s.limit s.tape.items s.journal.records s.machine };
+    ghost invariant = { λ s. IsSession s.limit s.width s.tape.items s.ended s.journal.records s.machine };
 }
 
 impl<A: Allocator + Copy> Session<A> {
@@ -63,6 +67,7 @@ impl<A: Allocator + Copy> Session<A> {
             journal: Journal::new(alloc),
             made: Made::new(alloc),
             limit,
+            width,
         })
     }
 
@@ -212,11 +217,22 @@ impl<A: Allocator + Copy> Session<A> {
         self.journal.weight()
     }
 
-    /// The machine, which shows the last state. It takes no memory (this project's profile).
+    /// How wide numbers are: as the session was made, and nothing changes it. It takes no memory (this project's profile).
+    pub fn width(&self) -> Width
+        ensures { result ≡ self.now.width }
+    {
+        self.width
+    }
+
+    /// The machine, which shows the last state. It has room for each state before that, and knows the names of all forms there:
+    /// so going back takes no memory. Each of these states but the first is the step from the one before it, over the tape as
+    /// it is now, whatever the session was told before. It takes no memory (this project's profile).
     pub fn machine(&self) -> &Machine<A>
         ensures last { result.now.state ≡ self.now.last }
         ensures width { result.now.width ≡ self.now.width }
         ensures on_tape { self.now.last.position ≤ length self.now.tape.bytes }
+        ensures room { All (λ s. HasRoom result.now s) self.now.earlier }
+        ensures trail { IsTrail self.now }
     {
         &self.machine
     }

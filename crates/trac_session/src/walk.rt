@@ -21,6 +21,6 @@ pub enum Return {
     /// No earlier state meets the goal, and the session shows the states that it had.
     NotMet,
     /// No earlier state meets the goal. On the way forward again a step was refused for this, which is `Memory`: the session
-    /// stands so many steps before the state that it had.
+    /// stands so many steps, one at least, before the state that it had. The step moves no plain byte.
     Stopped { left: u64, why: Refusal },
 }

@@ -1,10 +1,12 @@
 //! Walks over several steps.
-ghost use Rattle.std.specs.Prelude.{◌≡◌, ◌≤◌, ◌&&◌, Some, length, max, nat_lt};
+ghost use Rattle.std.specs.Prelude.{◌≡◌, ◌<◌, ◌≤◌, ◌&&◌, Some, length, max, nat_lt};
 ghost use Rattle.trac_rules.specs.Session.{Step, Back, Answers, IsWalk, no_goal, repeated};
+ghost use Rattle.trac_session.specs.declared.walking.Direction.TheVariants.{Forward};
 ghost use Rattle.trac_session.specs.Directions.{command_towards};
 ghost use Rattle.trac_session.specs.Goals.{IsSearch, goal_of, is_call_of, outcome};
 ghost use Rattle.trac_session.specs.Replies.{reply_of};
 ghost use Rattle.trac_session.specs.Returns.{IsReturn};
+ghost use Rattle.trac_session.specs.Runs.{HasNoPlain, IsAsked};
 ghost use Rattle.trac_session.specs.Within.{IsWalkWithin};
 
 use crate::goal::{Goal, is_met};
@@ -64,6 +66,7 @@ impl<A: Allocator + Copy> Session<A> {
     fn pass(&mut self, direction: Direction, most: u64) -> u64
         ensures passed { repeated (command_towards direction) result self.old ≡ Some self.new }
         ensures most { result ≤ most }
+        ensures end { direction ≡ Forward → result < most → HasNoPlain self.new }
     {
         match direction {
             Direction::Forward => self.pass_plain(most),
@@ -72,21 +75,22 @@ impl<A: Allocator + Copy> Session<A> {
     }
 
     // Goes this way by up to `n` steps, until one is refused, which the walk returns. It has no goal, so bytes that a step
-    // each moves are passed at once.
+    // each moves are passed at once: for no plain byte memory is refused.
     fn go_far(&mut self, direction: Direction, n: u64) -> Walk
-        ensures { IsWalk (command_towards direction) no_goal n self.old result.done result.why self.new }
+        ensures walk { IsWalk (command_towards direction) no_goal n self.old result.done result.why self.new }
+        ensures asked { IsAsked result.why self.new.last }
     {
         let mut done = 0;
         while done < n {
-            if let Err(refusal) = self.go(direction) {
-                return Walk {
-                    done,
-                    why: Some(refusal),
-                };
-            }
-            done += 1;
+            done += self.pass(direction, n - done);
             if done < n {
-                done += self.pass(direction, n - done);
+                if let Err(refusal) = self.go(direction) {
+                    return Walk {
+                        done,
+                        why: Some(refusal),
+                    };
+                }
+                done += 1;
             }
         }
         Walk { done, why: None }
@@ -173,16 +177,18 @@ impl<A: Allocator + Copy> Session<A> {
     }
 
     /// Goes back as `back_to` does, and where no earlier state meets the goal goes forward again, by as many steps: these give
-    /// the same states, so the session shows those that it had. Only where memory is refused on the way there it stands between
-    /// (this project's profile).
+    /// the same states, so the session shows those that it had. Only where memory is refused for one of these steps it stands
+    /// before that one. To move a plain byte takes none, nor does the way back (this project's profile).
     pub fn return_to(&mut self, goal: Goal<'_, A>) -> Return
         ensures { IsReturn (goal_of goal.entry) self.old result self.new }
     {
+        // For what it says: the states are steps of one another, and so are taken again.
+        let _machine = self.machine();
         let back = self.back_to(goal);
         if back.why.is_none() {
             return Return::Met(back.done);
         }
-        let again = self.forward(back.done);
+        let again = self.go_far(Direction::Forward, back.done);
         match again.why {
             None => Return::NotMet,
             Some(why) => Return::Stopped {

@@ -9,7 +9,7 @@ use Rattle.trac_follow.proofs.tracing.trace.Goals as goal
 pub loop-leg-init : goal.loop-leg-init
 loop-leg-init g c = (
   omega arith,
-  subst (λ p. Way c.args.width c.args.session.now c.args.session.now (place_of c.args.place) p 0 0) (sym c.lent-kept.ensures) (way_begins c.args.width c.args.session.now (place_of c.args.place)),
+  subst (λ p. Way c.width-width.result c.args.session.now c.args.session.now (place_of c.args.place) p 0 0) (sym c.lent-kept.ensures) (way_begins c.width-width.result c.args.session.now (place_of c.args.place)),
   λ known. refl,
 )
 
@@ -42,15 +42,15 @@ returns-in-Err-clause-back g c =
     ap (λ n. repeated Back n c.args.session.now) c.ended-in-Err.ensures.steps ∙ way_walked _ _ _ _ _ _ _ c.loop-leg.invariant.1 _ _ _ c.follow_kept-leg.ensures.back c.follow_kept-leg.ensures.followed
 
 pub returns-in-Err-clause-traced : goal.returns-in-Err-clause-traced
-returns-in-Err-clause-traced g c = λ wide trail.
-    let known = known_so c.args.width c.args.session.now (place_of c.args.place) c.machine.result.now.state c.machine.ensures.last (c.stands.ensures.there c.if-not-stands.false) wide trail in
+returns-in-Err-clause-traced g c =
+    let known = known_so c.width-width.result c.args.session.now (place_of c.args.place) c.machine.result.now.state c.machine.ensures.last (c.stands.ensures.there c.if-not-stands.false) c.width-width.ensures c.machine.ensures.trail in
     traced_so _ _ _ _ _ _ _ _ c.ended-in-Err.ensures.steps c.ended-in-Err.ensures.end known
     (way_ends _ _ _ _ _ _ _ c.loop-leg.invariant.1 _ _ _ c.follow_kept-leg.ensures.back c.follow_kept-leg.ensures.followed c.args.most c.in-Err.end c.loop-leg.invariant.0 refl
     c.in-Err.ensures.ends known)
 
 pub returns-in-Err-clause-told : goal.returns-in-Err-clause-told
-returns-in-Err-clause-told g c = λ wide trail.
-    let known = known_so c.args.width c.args.session.now (place_of c.args.place) c.machine.result.now.state c.machine.ensures.last (c.stands.ensures.there c.if-not-stands.false) wide trail in
+returns-in-Err-clause-told g c =
+    let known = known_so c.width-width.result c.args.session.now (place_of c.args.place) c.machine.result.now.state c.machine.ensures.last (c.stands.ensures.there c.if-not-stands.false) c.width-width.ensures c.machine.ensures.trail in
     told_so g.W.Witness.passes g.W.Witness.refuses c.args.session.now _ _ _ _ _ _ c.ended-in-Err.ensures.steps c.ended-in-Err.ensures.end
     (told_to_the_end _ _ _ _ _ _ _ c.loop-leg.invariant.1 _ _ _ c.follow_kept-leg.ensures.back c.follow_kept-leg.ensures.followed g.W.Witness.passes g.W.Witness.refuses _ _
     c.in-Err.end c.in-Err.ensures.ends known (c.loop-leg.invariant.2 known))
@@ -60,15 +60,15 @@ returns-in_default-clause-back g c =
     ap (λ n. repeated Back n c.args.session.now) c.ended-in_default.ensures.steps ∙ way_walked _ _ _ _ _ _ _ c.loop-leg.invariant.1 _ _ _ c.follow_kept-leg.ensures.back c.follow_kept-leg.ensures.followed
 
 pub returns-in_default-clause-traced : goal.returns-in_default-clause-traced
-returns-in_default-clause-traced g c = λ wide trail.
-    let known = known_so c.args.width c.args.session.now (place_of c.args.place) c.machine.result.now.state c.machine.ensures.last (c.stands.ensures.there c.if-not-stands.false) wide trail in
+returns-in_default-clause-traced g c =
+    let known = known_so c.width-width.result c.args.session.now (place_of c.args.place) c.machine.result.now.state c.machine.ensures.last (c.stands.ensures.there c.if-not-stands.false) c.width-width.ensures c.machine.ensures.trail in
     traced_so _ _ _ _ _ _ ends.TheVariants.Untold _ c.ended-in_default.ensures.steps c.ended-in_default.ensures.end known
     (ends_untold _ _ _ _ _ _ _ c.loop-leg.invariant.1 _ _ _ c.follow_kept-leg.ensures.back c.follow_kept-leg.ensures.followed
     c.machine-in-loop-leg.result.now.state c.in-Ok.from c.machine-in-loop-leg.ensures.last c.in-Ok.ensures.on known)
 
 pub returns-in_default-clause-told : goal.returns-in_default-clause-told
-returns-in_default-clause-told g c = λ wide trail.
-    let known = known_so c.args.width c.args.session.now (place_of c.args.place) c.machine.result.now.state c.machine.ensures.last (c.stands.ensures.there c.if-not-stands.false) wide trail in
+returns-in_default-clause-told g c =
+    let known = known_so c.width-width.result c.args.session.now (place_of c.args.place) c.machine.result.now.state c.machine.ensures.last (c.stands.ensures.there c.if-not-stands.false) c.width-width.ensures c.machine.ensures.trail in
     told_so g.W.Witness.passes g.W.Witness.refuses c.args.session.now _ _ ends.TheVariants.Untold _ _ _ c.ended-in_default.ensures.steps c.ended-in_default.ensures.end
     (told_before_call _ _ _ _ _ _ _ c.loop-leg.invariant.1 _ _ _ c.follow_kept-leg.ensures.back c.follow_kept-leg.ensures.followed
     c.machine-in-loop-leg.result.now.state c.in-Ok.from c.machine-in-loop-leg.ensures.last c.in-Ok.ensures.on known
@@ -79,26 +79,26 @@ returns-in_default-further-clause-back g c =
     ap (λ n. repeated Back n c.args.session.now) c.ended-in_default-further.ensures.steps ∙ way_walked _ _ _ _ _ _ _ c.loop-leg.invariant.1 _ _ _ c.follow_kept-leg.ensures.back c.follow_kept-leg.ensures.followed
 
 pub returns-in_default-further-clause-traced : goal.returns-in_default-further-clause-traced
-returns-in_default-further-clause-traced g c = λ wide trail.
-    let known = known_so c.args.width c.args.session.now (place_of c.args.place) c.machine.result.now.state c.machine.ensures.last (c.stands.ensures.there c.if-not-stands.false) wide trail in
+returns-in_default-further-clause-traced g c =
+    let known = known_so c.width-width.result c.args.session.now (place_of c.args.place) c.machine.result.now.state c.machine.ensures.last (c.stands.ensures.there c.if-not-stands.false) c.width-width.ensures c.machine.ensures.trail in
     traced_so _ _ _ _ _ _ ends.TheVariants.Unkept _ c.ended-in_default-further.ensures.steps c.ended-in_default-further.ensures.end known
     (ends_unkept _ _ _ _ _ _ _ c.loop-leg.invariant.1 _ _ _ c.follow_kept-leg.ensures.back c.follow_kept-leg.ensures.followed
     c.machine-in-loop-leg-2.result.now.state c.in-Ok.from c.machine-in-loop-leg-2.ensures.last c.in-Ok.ensures.on known c.args.most c.in_default-further.ensures.long)
 
 pub returns-in_default-further-clause-told : goal.returns-in_default-further-clause-told
-returns-in_default-further-clause-told g c = λ wide trail.
-    let known = known_so c.args.width c.args.session.now (place_of c.args.place) c.machine.result.now.state c.machine.ensures.last (c.stands.ensures.there c.if-not-stands.false) wide trail in
+returns-in_default-further-clause-told g c =
+    let known = known_so c.width-width.result c.args.session.now (place_of c.args.place) c.machine.result.now.state c.machine.ensures.last (c.stands.ensures.there c.if-not-stands.false) c.width-width.ensures c.machine.ensures.trail in
     told_so g.W.Witness.passes g.W.Witness.refuses c.args.session.now _ _ ends.TheVariants.Unkept _ _ _ c.ended-in_default-further.ensures.steps c.ended-in_default-further.ensures.end
     (told_of_call _ _ _ _ _ _ _ c.loop-leg.invariant.1 _ _ _ c.follow_kept-leg.ensures.back c.follow_kept-leg.ensures.followed
     c.machine-in-loop-leg.result.now.state c.in-Ok.from c.machine-in-loop-leg.ensures.last c.in-Ok.ensures.on known
     g.W.Witness.passes c.args.witness.now c.loop-leg.witness c.passed.new.self (c.loop-leg.invariant.2 known) (place_of c.place.result) c.place.ensures c.in-Ok-passed.ensures.ok)
 
 pub returns-clause-traced : goal.returns-clause-traced
-returns-clause-traced g c = λ wide trail.
-    let known = known_so c.args.width c.args.session.now (place_of c.args.place) c.machine.result.now.state c.machine.ensures.last (c.stands.ensures.there c.if-not-stands.false) wide trail in
+returns-clause-traced g c =
+    let known = known_so c.width-width.result c.args.session.now (place_of c.args.place) c.machine.result.now.state c.machine.ensures.last (c.stands.ensures.there c.if-not-stands.false) c.width-width.ensures c.machine.ensures.trail in
     let old = c.args.session.now in
     let cur = c.loop-leg.session in
     let steps = c.loop-leg.steps in
-    let all = subst (λ n. Way c.args.width old cur (place_of c.args.place) c.loop-leg.kept steps n) (omega (arith, c.loop-leg-test.false, c.loop-leg.auto)) c.loop-leg.invariant.1 in
+    let all = subst (λ n. Way c.width-width.result old cur (place_of c.args.place) c.loop-leg.kept steps n) (omega (arith, c.loop-leg-test.false, c.loop-leg.auto)) c.loop-leg.invariant.1 in
     traced_so _ _ _ _ _ _ ends.TheVariants.Earlier _ c.ended-2.ensures.steps c.ended-2.ensures.end known
-    (way_is_long c.args.width old cur (place_of c.args.place) c.loop-leg.kept steps c.args.most all c.loop-leg.invariant.0 known)
+    (way_is_long c.width-width.result old cur (place_of c.args.place) c.loop-leg.kept steps c.args.most all c.loop-leg.invariant.0 known)

@@ -4,9 +4,11 @@ use Rattle.trac_rules.specs.declared.limit.TheConstants.{JOURNAL_LIMIT}
 use Rattle.trac_rules.specs.Records.{Record}
 use Rattle.trac_rules.specs.State.{State, initial}
 use Rattle.trac_rules.specs.Session.{new_session}
+use Rattle.trac_rules.specs.Trails.{IsTrail}
+use Rattle.trac_rules.proofs.TakenAgain.{new_trail}
 use Rattle.trac_gap.specs.Window.{Window}
 use Rattle.trac_step.specs.Layout.{Shown}
-use Rattle.trac_session.specs.Journal.{AreRecords, IsSound, IsWithinReach, plain_of}
+use Rattle.trac_session.specs.Journal.{AreRecords, IsSession, IsSound, IsWithinReach, plain_of}
 use Rattle.trac_session.proofs.session.Session.new.Goals as goal
 
 -- fields without a record and without input
@@ -26,9 +28,18 @@ plain_at_first : (limit : ℕ) (width made : Width) (bytes : List ℕ) (journal 
     plain_of limit made bytes false journal last ≡ new_session limit width
 plain_at_first limit width made bytes journal last same none first at i = plain_of limit (same i) (none i) false (first i) (at i)
 
+session_at_first : (limit : ℕ) (width : Width) (bytes : List ℕ) (journal : List Record) (m : Shown) → 1 ≤ limit → limit ≤ JOURNAL_LIMIT → bytes ≡ [] → journal ≡ [] → m.state ≡ initial → m.width ≡ width →
+    IsSession limit width bytes false journal m
+session_at_first limit width bytes journal m some most none first at same = record {
+  sound = sound_at_first limit bytes journal m some most none first at;
+  wide = same;
+  trail = subst IsTrail (sym (plain_at_first limit width m.width bytes journal m.state same none first at)) (new_trail limit width);
+}
+
 pub invariant_of-result : goal.invariant_of-result
 invariant_of-result g c =
-    sound_at_first c.args.limit c.new.result.items c.new-3.result.records c.in_ok-new.field-0 c.requires.some c.requires.most (ap (λ (w : Window ℕ). w.items) c.new.ensures) c.new-3.ensures c.in_ok-new.ensures.made
+    session_at_first c.args.limit c.args.width c.new.result.items c.new-3.result.records c.in_ok-new.field-0 c.requires.some c.requires.most (ap (λ (w : Window ℕ). w.items) c.new.ensures) c.new-3.ensures
+    c.in_ok-new.ensures.made c.in_ok-new.ensures.width
 
 pub returns-clause-made : goal.returns-clause-made
 returns-clause-made g c =

@@ -1,11 +1,16 @@
-use Rattle.std.proofs.Common.{length}
+use Rattle.std.proofs.Common.{length, refl, ap}
+use Rattle.trac_rules.specs.declared.refusal.Refusal.TheVariants.{AtStart}
+use Rattle.trac_rules.specs.declared.reply.Reply.TheVariants.{Done, Refused}
+use Rattle.trac_rules.specs.Session.{Back}
+use Rattle.trac_step.specs.Layout.{Shown}
 use Rattle.trac_session.proofs.Journaled.{Back_start_of_fields, Back_of_fields, IsSound-back, IsSound-same, can_go_back}
+use Rattle.trac_session.proofs.Trailed.{answered}
 use Rattle.trac_session.proofs.session.Session.step_back.Goals as goal
 
 pub step_back-requires : goal.step_back-requires
 step_back-requires g c =
     let m = c.self.inside.machine in
-    can_go_back m (length c.self.inside.tape.items) c.self.inside.journal.records c.self.invariant.records
+    can_go_back m (length c.self.inside.tape.items) c.self.inside.journal.records c.self.invariant.sound.records
 
 pub returns-then-not-step_back : goal.returns-then-not-step_back
 returns-then-not-step_back g c =
@@ -15,12 +20,20 @@ returns-then-not-step_back g c =
 pub invariant_of-self : goal.invariant_of-self
 invariant_of-self g c =
     let none = c.step_back.ensures.none c.if-not-step_back.true in
-    IsSound-same _ _ c.self.inside.journal.records c.step_back.new.journal.records c.self.inside.machine c.step_back.new.self none.0 none.1.0 none.1.1 c.self.invariant
+    let inside = c.self.inside in
+    answered Back (Refused AtStart) inside.limit inside.width inside.tape.items inside.tape.items inside.ended inside.ended
+    inside.journal.records c.step_back.new.journal.records inside.machine c.step_back.new.self c.self.invariant (ap (λ (m : Shown). m.width) none.1.1)
+    (IsSound-same _ _ inside.journal.records c.step_back.new.journal.records inside.machine c.step_back.new.self none.0 none.1.0 none.1.1 c.self.invariant.sound)
+    (Back_start_of_fields _ _ _ inside.journal.records c.step_back.new.journal.records inside.machine c.step_back.new.self _ refl none.0 none.1.0 none.1.1)
 
 pub invariant_of-self-2 : goal.invariant_of-self-2
 invariant_of-self-2 g c =
     let back = c.step_back.ensures.back c.if-not-step_back.false in
-    IsSound-back _ _ c.self.inside.journal.records c.step_back.new.journal.records back.newest _ _ back.taken back.leads_back c.step_back.ensures.room c.self.invariant
+    let inside = c.self.inside in
+    answered Back Done inside.limit inside.width inside.tape.items inside.tape.items inside.ended inside.ended
+    inside.journal.records c.step_back.new.journal.records inside.machine c.step_back.new.self c.self.invariant c.step_back.ensures.room.width
+    (IsSound-back _ _ inside.journal.records c.step_back.new.journal.records back.newest _ _ back.taken back.leads_back c.step_back.ensures.room c.self.invariant.sound)
+    (Back_of_fields _ _ _ inside.journal.records c.step_back.new.journal.records back.newest _ _ _ refl back.taken back.leads_back c.step_back.ensures.room.width)
 
 pub returns : goal.returns
 returns g c =
