@@ -1,7 +1,9 @@
 //! What single calls answer: the records of steps and what they weigh, and what calls will do, on a machine of any
 //! representation.
-ghost use Rattle.std.specs.Prelude.{◌≡◌, ◌≤◌, ◌^◌, ◌<◌};
+ghost use Rattle.std.specs.Prelude.{◌^◌, ◌<◌};
 ghost use Rattle.trac_rules.specs.Proper.{IsProper};
+ghost use Rattle.trac_rules.specs.Weights.{weight};
+ghost use Rattle.trac_step.specs.Record.{recorded_by};
 
 use crate::machines::{let_go, made};
 use std::alloc::{Allocator, Global};
@@ -12,12 +14,16 @@ use trac_rules::limit::{MARK_LIMIT, OUTPUT_LIMIT};
 use trac_rules::width::Width;
 use trac_step::{Core, Mark, Record, Tape};
 
-// The next step over this input, which has not ended.
+// Takes the next step over this input, which has not ended. The state after it is within all limits, as it always is, so the record
+// of the one after that weighs no more than fits.
 fn next<E: TwoEnds<u8, A>, M: TwoEnds<Mark, A>, A: Allocator + Copy>(
     rt: &impl Abort,
     machine: &mut Core<E, M, A>,
     input: &[u8],
-) -> Record<A> {
+) -> Record<A>
+    ensures proper { IsProper machine.new.state }
+    ensures weighs { IsProper machine.old.state → weight (recorded_by result) < 2 ^ 64 }
+{
     assert!(rt; machine.position() <= input.len());
     let tape = Tape {
         bytes: input,
@@ -26,16 +32,15 @@ fn next<E: TwoEnds<u8, A>, M: TwoEnds<Mark, A>, A: Allocator + Copy>(
     machine.step(tape).expect(rt, "the step was refused")
 }
 
-// Takes steps whose records are let go.
-fn take_steps<E: TwoEnds<u8, A>, M: TwoEnds<Mark, A>, A: Allocator + Copy>(
+// Takes one step, whose record is let go.
+fn take_step<E: TwoEnds<u8, A>, M: TwoEnds<Mark, A>, A: Allocator + Copy>(
     rt: &impl Abort,
     machine: &mut Core<E, M, A>,
     input: &[u8],
-    count: u64,
-) {
-    for _ in 0..count {
-        let _taken = next(rt, machine, input);
-    }
+)
+    ensures { IsProper machine.new.state }
+{
+    let _taken = next(rt, machine, input);
 }
 
 // A machine after so many steps over this input.
@@ -46,7 +51,9 @@ fn machine_after<E: TwoEnds<u8, A>, M: TwoEnds<Mark, A>, A: Allocator + Copy>(
     count: u64,
 ) -> Core<E, M, A> {
     let mut machine = made(alloc).expect(rt, "there was no memory");
-    take_steps(rt, &mut machine, input, count);
+    for _ in 0..count {
+        take_step(rt, &mut machine, input);
+    }
     machine
 }
 
@@ -58,15 +65,25 @@ fn is_idle<A: Allocator + Copy>(taken: &Record<A>, wanted: &[u8]) -> bool {
     }
 }
 
+// Whether the next step is an idle one that empties this text alone.
+fn next_is_idle<E: TwoEnds<u8, A>, M: TwoEnds<Mark, A>, A: Allocator + Copy>(
+    rt: &impl Abort,
+    machine: &mut Core<E, M, A>,
+    input: &[u8],
+    wanted: &[u8],
+) -> bool {
+    is_idle(&next(rt, machine, input), wanted)
+}
+
 // A stray `)` ends the `ps` of the idle program, so that `b` and `c` are base text: the fifteenth step empties it.
 fn expect_idle<E: TwoEnds<u8, A>, M: TwoEnds<Mark, A>, A: Allocator + Copy>(
     rt: &impl Abort,
     alloc: A,
 ) {
     let mut machine: Core<E, M, A> = machine_after(rt, alloc, b"a)b,c'", 14);
-    let taken = next(rt, &mut machine, b"a)b,c'");
-    assert!(rt; is_idle(&taken, b"bc"));
+    let is_met = next_is_idle(rt, &mut machine, b"a)b,c'", b"bc");
     let_go(machine);
+    assert!(rt; is_met);
 }
 
 // Inputs, the number of a step, and what its record weighs: of a byte that moves nothing, of a deleted one 1, of the base text
@@ -83,22 +100,6 @@ const WEIGHTS: &[(&[u8], u64, usize)] = &[
     (b"#(ds,a,1)'#(dd,a)'", 32, 7),
 ];
 
-// Takes one step, after which the state is within all limits, as it always is.
-fn take_step<E: TwoEnds<u8, A>, M: TwoEnds<Mark, A>, A: Allocator + Copy>(
-    rt: &impl Abort,
-    machine: &mut Core<E, M, A>,
-    input: &[u8],
-)
-    ensures { IsProper machine.new.state }
-{
-    assert!(rt; machine.position() <= input.len());
-    let tape = Tape {
-        bytes: input,
-        ended: false,
-    };
-    let _taken = machine.step(tape).expect(rt, "the step was refused");
-}
-
 // What the record of the next step weighs.
 fn next_weight<E: TwoEnds<u8, A>, M: TwoEnds<Mark, A>, A: Allocator + Copy>(
     rt: &impl Abort,
@@ -107,13 +108,7 @@ fn next_weight<E: TwoEnds<u8, A>, M: TwoEnds<Mark, A>, A: Allocator + Copy>(
 ) -> usize
     requires { IsProper machine.old.state }
 {
-    assert!(rt; machine.position() <= input.len());
-    let tape = Tape {
-        bytes: input,
-        ended: false,
-    };
-    let taken = machine.step(tape).expect(rt, "the step was refused");
-    taken.weight()
+    next(rt, machine, input).weight()
 }
 
 // The record of the step of this number weighs so much.
@@ -236,6 +231,17 @@ fn does<A: Allocator + Copy>(effect: &Effect<A>, wanted: &Wanted) -> bool {
         && matches!(effect.change, Change::Keep)
 }
 
+// Whether the call that comes next will do this.
+fn next_does<E: TwoEnds<u8, A>, M: TwoEnds<Mark, A>, A: Allocator + Copy>(
+    rt: &impl Abort,
+    alloc: A,
+    machine: &Core<E, M, A>,
+    (input, trace): (&[u8], bool),
+    wanted: &Wanted,
+) -> bool {
+    does(&planned(rt, alloc, machine, input, trace), wanted)
+}
+
 fn expect_planned<E: TwoEnds<u8, A>, M: TwoEnds<Mark, A>, A: Allocator + Copy>(
     rt: &impl Abort,
     alloc: A,
@@ -243,9 +249,9 @@ fn expect_planned<E: TwoEnds<u8, A>, M: TwoEnds<Mark, A>, A: Allocator + Copy>(
     wanted: &Wanted,
 ) {
     let machine: Core<E, M, A> = machine_after(rt, alloc, input, steps);
-    let effect = planned(rt, alloc, &machine, input, trace);
-    assert!(rt; does(&effect, wanted), "{input:?}");
+    let is_met = next_does(rt, alloc, &machine, (input, trace), wanted);
     let_go(machine);
+    assert!(rt; is_met, "{input:?}");
 }
 
 fn expect_answers<E: TwoEnds<u8, A>, M: TwoEnds<Mark, A>, A: Allocator + Copy>(

@@ -63,6 +63,8 @@ enum Call {
     PutLeft(&'static [u8]),
     PutRight(&'static [u8]),
     PushRight(u8),
+    /// Items go before the list on the right until one place is left: each is the number of places before it.
+    FillRight,
     /// What is taken.
     PopLeft(Option<u8>),
     CutLeft(usize),
@@ -92,6 +94,38 @@ const LINES: &[Line] = &[
     ),
 ];
 
+// On lists that have room for sixteen. Of the list on the right, which takes what room there is, these are the first items: more
+// are moved across the gap than it has places, and moved back.
+const FAR_LINES: &[Line] = &[
+    (
+        &[Call::PutLeft(b"abcdefgh"), Call::FillRight],
+        b"abcdefgh",
+        b"\x02\x03\x04\x05\x06\x07\x08",
+    ),
+    (
+        &[Call::ShiftRight(7)],
+        b"a",
+        b"bcdefgh\x02\x03\x04\x05\x06\x07\x08",
+    ),
+    (
+        &[Call::ShiftLeft(7)],
+        b"abcdefgh",
+        b"\x02\x03\x04\x05\x06\x07\x08",
+    ),
+];
+
+fn push_right<E: TwoEnds<u8, A>, A: Allocator + Copy>(rt: &impl Abort, ends: &mut E, byte: u8) {
+    assert!(rt; 1 <= ends.room());
+    ends.push_right(byte);
+}
+
+fn fill_right<E: TwoEnds<u8, A>, A: Allocator + Copy>(rt: &impl Abort, ends: &mut E) {
+    for _ in 1..ends.room() {
+        push_right(rt, ends, (ends.room() % 251) as u8);
+    }
+    assert!(rt; ends.room() == 1);
+}
+
 // Carries out a call that needs room on lists that have it.
 fn put<E: TwoEnds<u8, A>, A: Allocator + Copy>(rt: &impl Abort, ends: &mut E, call: &Call) {
     match *call {
@@ -103,10 +137,8 @@ fn put<E: TwoEnds<u8, A>, A: Allocator + Copy>(rt: &impl Abort, ends: &mut E, ca
             assert!(rt; bytes.len() <= ends.room());
             ends.put_right(bytes);
         }
-        Call::PushRight(byte) => {
-            assert!(rt; 1 <= ends.room());
-            ends.push_right(byte);
-        }
+        Call::PushRight(byte) => push_right(rt, ends, byte),
+        Call::FillRight => fill_right(rt, ends),
         _ => {}
     }
 }
@@ -135,11 +167,6 @@ fn take<E: TwoEnds<u8, A>, A: Allocator + Copy>(rt: &impl Abort, ends: &mut E, c
     }
 }
 
-fn carry_out<E: TwoEnds<u8, A>, A: Allocator + Copy>(rt: &impl Abort, ends: &mut E, call: &Call) {
-    put(rt, ends, call);
-    take(rt, ends, call);
-}
-
 // New lists with room for so many items.
 fn with_room<E: TwoEnds<u8, A>, A: Allocator + Copy>(rt: &impl Abort, alloc: A, count: usize) -> E {
     let mut ends = E::new(alloc);
@@ -147,52 +174,38 @@ fn with_room<E: TwoEnds<u8, A>, A: Allocator + Copy>(rt: &impl Abort, alloc: A, 
     ends
 }
 
-// The lists are these, and so are those of a copy.
+// The list on the left is this one, and that on the right begins so, or is this one where no room is left for more; and these are
+// the lists of a copy.
 fn expect_both<E: TwoEnds<u8, A>, A: Allocator + Copy>(
     rt: &impl Abort,
     ends: &E,
-    left: &[u8],
-    right: &[u8],
+    (left, right): (&[u8], &[u8]),
 ) {
     let copy = copied(rt, ends);
-    assert!(rt; holds(ends, left, right) && holds(&copy, left, right));
+    assert!(rt; holds(&copy, ends.left(), ends.right()));
+    assert!(rt; ends.left() == left && ends.right().starts_with(right));
+    assert!(rt; ends.right().len() == right.len() || ends.room() == 1);
 }
 
-fn expect_lines<E: TwoEnds<u8, A>, A: Allocator + Copy>(rt: &impl Abort, alloc: A) {
-    let mut ends: E = with_room(rt, alloc, 4);
-    for (calls, left, right) in LINES.iter() {
+fn expect_lines<E: TwoEnds<u8, A>, A: Allocator + Copy>(
+    rt: &impl Abort,
+    alloc: A,
+    room: usize,
+    lines: &[Line],
+) {
+    let mut ends: E = with_room(rt, alloc, room);
+    for (calls, left, right) in lines {
         for call in calls.iter() {
-            carry_out(rt, &mut ends, call);
+            put(rt, &mut ends, call);
+            take(rt, &mut ends, call);
         }
-        expect_both(rt, &ends, left, right);
+        expect_both(rt, &ends, (*left, *right));
     }
-}
-
-// Items go before the list on the right until one place is left.
-fn fill_right<E: TwoEnds<u8, A>, A: Allocator + Copy>(rt: &impl Abort, ends: &mut E) {
-    for item in 1..ends.room() {
-        carry_out(rt, ends, &Call::PushRight((item % 251) as u8));
-    }
-    assert!(rt; ends.room() == 1);
-}
-
-// More items are moved across the gap than it has places, and moved back.
-fn expect_far_shifts<E: TwoEnds<u8, A>, A: Allocator + Copy>(rt: &impl Abort, alloc: A) {
-    let mut ends: E = with_room(rt, alloc, 16);
-    carry_out(rt, &mut ends, &Call::PutLeft(b"abcdefgh"));
-    fill_right(rt, &mut ends);
-    let before = copied(rt, &ends);
-    expect_both(rt, &ends, b"abcdefgh", before.right());
-    carry_out(rt, &mut ends, &Call::ShiftRight(7));
-    assert!(rt; ends.right().strip_prefix(b"bcdefgh") == Some(before.right()));
-    expect_both(rt, &ends, b"a", ends.right());
-    carry_out(rt, &mut ends, &Call::ShiftLeft(7));
-    expect_both(rt, &ends, b"abcdefgh", before.right());
 }
 
 fn expect_calls<E: TwoEnds<u8, A>, A: Allocator + Copy>(rt: &impl Abort, alloc: A) {
-    expect_lines::<E, A>(rt, alloc);
-    expect_far_shifts::<E, A>(rt, alloc);
+    expect_lines::<E, A>(rt, alloc, 4, LINES);
+    expect_lines::<E, A>(rt, alloc, 16, FAR_LINES);
 }
 
 #[test]

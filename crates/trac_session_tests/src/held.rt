@@ -47,30 +47,32 @@ fn go_on(session: &mut Session<Heap<'_>>, n: u64) -> Option<Refusal> {
     session.forward(n).why
 }
 
-// A text that is so many of another one.
-fn many(rt: &impl Abort, alloc: Global, text: &[u8], times: usize) -> Vec<u8> {
-    let mut out = Vec::new(alloc);
-    for _ in 0..times {
-        out.extend_from_slice(text)
-            .expect(rt, "there was no memory");
-    }
-    out
-}
-
+// Feeds a text, so many of another one, and a last one.
 fn feed_many(
     rt: &impl Abort,
     alloc: Global,
     session: &mut Session<Heap<'_>>,
-    (before, text, times, after): (&[u8], &[u8], usize, &[u8]),
+    before: &[u8],
+    (text, times): (&[u8], usize),
+    after: &[u8],
 ) {
-    feed(session, before).expect(rt, "it was refused");
-    feed(session, many(rt, alloc, text, times).as_slice()).expect(rt, "it was refused");
-    feed(session, after).expect(rt, "it was refused");
+    let mut out = Vec::new(alloc);
+    add(rt, &mut out, before);
+    for _ in 0..times {
+        add(rt, &mut out, text);
+    }
+    add(rt, &mut out, after);
+    feed(session, out.as_slice()).expect(rt, "it was refused");
+}
+
+fn add(rt: &impl Abort, out: &mut Vec<u8>, text: &[u8]) {
+    out.extend_from_slice(text)
+        .expect(rt, "there was no memory");
 }
 
 // Defines a long form, and forgets the steps.
 fn define(rt: &impl Abort, alloc: Global, session: &mut Session<Heap<'_>>) {
-    feed_many(rt, alloc, session, (b"#(ds,F,(", b"a", LONG, b"))'"));
+    feed_many(rt, alloc, session, b"#(ds,F,(", (b"a", LONG), b"))'");
     assert!(rt; go_on(session, u64::MAX) == Some(Refusal::NeedInput));
     session.commit(0);
 }
@@ -117,12 +119,8 @@ fn expect_run(rt: &impl Abort, alloc: Global, part: u64, window: Option<usize>) 
     let heap = LocalHeap::new(alloc, HEAP_SIZE).expect(rt, "there was no memory");
     let mut session = new_session(&heap).expect(rt, "there was no memory");
     define(rt, alloc, &mut session);
-    feed_many(
-        rt,
-        alloc,
-        &mut session,
-        (b"##(cl,F)#(pf,F)", REPEATED, TIMES, b"'"),
-    );
+    let many = (REPEATED, TIMES);
+    feed_many(rt, alloc, &mut session, b"##(cl,F)#(pf,F)", many, b"'");
     go_through(rt, &heap, &mut session, part, window);
     let_go(session);
 }

@@ -203,9 +203,9 @@ fn a_rich_state(rt: HostRuntime) {
 }
 
 /// A part that has a limit.
-#[derive(Clone, Copy, Debug)]
+#[derive(Clone, Copy, Debug, PartialEq, Eq)]
 enum Limited {
-    /// Active text, with a byte in the base text and one in an argument.
+    /// Active text, with a byte in an argument.
     Texts,
     /// Finished arguments and the function that has them.
     Marks,
@@ -213,12 +213,10 @@ enum Limited {
     TextRoom,
     MarkRoom,
     OutputRoom,
-    KnownName,
-    FormName,
-    /// The name of a form in a block.
-    HeldName,
     /// Erased ones.
     Blocks,
+    /// A name to know.
+    Name,
 }
 
 const LIMITS: &[(Limited, usize)] = &[
@@ -231,28 +229,12 @@ const LIMITS: &[(Limited, usize)] = &[
     (Limited::Blocks, BLOCK_LIMIT),
 ];
 
-// Names as long as they may be are left out: each takes seconds where all memory is watched.
-const NAME_LIMITS: &[(Limited, usize)] = &[
-    (Limited::KnownName, NAME_LIMIT),
-    (Limited::FormName, NAME_LIMIT),
-    (Limited::HeldName, NAME_LIMIT),
-];
-
-fn push<T: Drop, A: Allocator + Copy>(rt: &impl Abort, list: &mut Vec<T, A>, item: T) {
-    list.push(item).expect(rt, "there was no memory");
-}
+// A name as long as it may be is left out above: it takes seconds where all memory is watched.
+const LONG_NAME: &[(Limited, usize)] = &[(Limited::Name, NAME_LIMIT)];
 
 // The first bytes of a long text.
 fn front<A: Allocator + Copy>(rt: &impl Abort, alloc: A, long: &[u8], count: usize) -> Vec<u8, A> {
     text(rt, alloc, long.split_at(count.min(long.len())).0)
-}
-
-// A null form under this name.
-fn with_name<A: Allocator + Copy>(rt: &impl Abort, alloc: A, name: Vec<u8, A>) -> Vec<Named<A>, A> {
-    let form = Form::new(alloc, b"").expect(rt, "there was no memory");
-    let mut out = Vec::new(alloc);
-    push(rt, &mut out, (name, form));
-    out
 }
 
 // A begun function of so many null arguments and one of a byte.
@@ -263,144 +245,107 @@ fn with_arguments<A: Allocator + Copy>(
 ) -> Vec<(Kind, Vec<Vec<u8, A>, A>), A> {
     let mut arguments = Vec::new(alloc);
     for _ in 0..count {
-        push(rt, &mut arguments, Vec::new(alloc));
+        arguments
+            .push(Vec::new(alloc))
+            .expect(rt, "there was no memory");
     }
-    push(rt, &mut arguments, text(rt, alloc, b"a"));
+    arguments
+        .push(text(rt, alloc, b"a"))
+        .expect(rt, "there was no memory");
     let mut out = Vec::new(alloc);
-    push(rt, &mut out, (Kind::Active, arguments));
+    out.push((Kind::Active, arguments))
+        .expect(rt, "there was no memory");
     out
 }
 
-// So many blocks that are erased, and one that holds these forms where there are any.
-fn with_blocks<A: Allocator + Copy>(
+// So many blocks that are erased.
+fn erased<A: Allocator + Copy>(
     rt: &impl Abort,
     alloc: A,
     count: usize,
-    held: Option<Vec<Named<A>, A>>,
 ) -> Vec<Option<Vec<Named<A>, A>>, A> {
     let mut out = Vec::new(alloc);
     for _ in 0..count {
-        push(rt, &mut out, None);
-    }
-    if held.is_some() {
-        push(rt, &mut out, held);
+        out.push(None).expect(rt, "there was no memory");
     }
     out
 }
 
-// The parts of a state in which there is nothing.
-fn empty<A: Allocator + Copy>(alloc: A) -> Parts<A> {
-    Parts {
-        active: Vec::new(alloc),
-        base: Vec::new(alloc),
-        frames: Vec::new(alloc),
-        forms: Vec::new(alloc),
-        blocks: Vec::new(alloc),
-        meta: b'\'',
-        trace: false,
-        position: 0,
-        output: Vec::new(alloc),
-        text_room: 0,
-        mark_room: 0,
-        output_room: 0,
-        names: Vec::new(alloc),
-    }
+// The count where it is of this part, and else none.
+fn count_of(part: Limited, (limited, count): (Limited, usize)) -> usize {
+    if part == limited { count } else { 0 }
 }
 
-// The texts of these parts have so much of the one that has a limit.
-fn set_text<A: Allocator + Copy>(
-    rt: &impl Abort,
-    alloc: A,
-    parts: &mut Parts<A>,
-    long: &[u8],
-    (limited, count): (Limited, usize),
-) {
-    match limited {
-        Limited::Texts => {
-            parts.active = front(rt, alloc, long, count.saturating_sub(2));
-            parts.base = text(rt, alloc, b"a");
-            parts.frames = with_arguments(rt, alloc, 0);
-        }
-        Limited::Marks => parts.frames = with_arguments(rt, alloc, count.saturating_sub(1)),
-        Limited::Output => parts.output = front(rt, alloc, long, count),
-        _ => {}
-    }
-}
-
-// The same of their rooms, names and blocks.
-fn set_other<A: Allocator + Copy>(
-    rt: &impl Abort,
-    alloc: A,
-    parts: &mut Parts<A>,
-    long: &[u8],
-    (limited, count): (Limited, usize),
-) {
-    match limited {
-        Limited::TextRoom => parts.text_room = count,
-        Limited::MarkRoom => parts.mark_room = count,
-        Limited::OutputRoom => parts.output_room = count,
-        Limited::KnownName => push(rt, &mut parts.names, front(rt, alloc, long, count)),
-        Limited::FormName => parts.forms = with_name(rt, alloc, front(rt, alloc, long, count)),
-        Limited::HeldName => {
-            let held = with_name(rt, alloc, front(rt, alloc, long, count));
-            parts.blocks = with_blocks(rt, alloc, 0, Some(held));
-        }
-        Limited::Blocks => parts.blocks = with_blocks(rt, alloc, count, None),
-        _ => {}
-    }
-}
-
-// Why parts are refused that have so much of what has a limit.
-fn refused_at<E: TwoEnds<u8, A>, M: TwoEnds<Mark, A>, A: Allocator + Copy>(
+// The parts of a state in which there is so much of what has a limit, and else hardly anything.
+fn parts_at<A: Allocator + Copy>(
     rt: &impl Abort,
     alloc: A,
     long: &[u8],
     limited: (Limited, usize),
-) -> Option<Refusal> {
-    let mut parts = empty(alloc);
-    set_text(rt, alloc, &mut parts, long, limited);
-    set_other(rt, alloc, &mut parts, long, limited);
-    unloaded::<E, M, A>(rt, alloc, &parts)
-}
-
-// Parts that pass a limit by one are refused.
-fn expect_past<E: TwoEnds<u8, A>, M: TwoEnds<Mark, A>, A: Allocator + Copy>(
-    rt: &impl Abort,
-    alloc: A,
-    long: &[u8],
-    limits: &[(Limited, usize)],
-) {
-    for (limited, limit) in limits {
-        let past = (*limited, limit.saturating_add(1));
-        let refusal = refused_at::<E, M, A>(rt, alloc, long, past);
-        assert!(rt; refusal == Some(Refusal::TooLong), "{limited:?}");
+) -> Parts<A> {
+    let texts = count_of(Limited::Texts, limited).saturating_sub(1);
+    let arguments = count_of(Limited::Marks, limited).saturating_sub(1);
+    let name = count_of(Limited::Name, limited);
+    Parts {
+        active: front(rt, alloc, long, texts),
+        base: Vec::new(alloc),
+        frames: with_arguments(rt, alloc, arguments),
+        forms: Vec::new(alloc),
+        blocks: erased(rt, alloc, count_of(Limited::Blocks, limited)),
+        meta: b'\'',
+        trace: false,
+        position: 0,
+        output: front(rt, alloc, long, count_of(Limited::Output, limited)),
+        text_room: count_of(Limited::TextRoom, limited),
+        mark_room: count_of(Limited::MarkRoom, limited),
+        output_room: count_of(Limited::OutputRoom, limited),
+        names: texts_of(rt, alloc, long, name),
     }
 }
 
-fn expect_within<E: TwoEnds<u8, A>, M: TwoEnds<Mark, A>, A: Allocator + Copy>(
+// One text, of the first bytes of a long one.
+fn texts_of<A: Allocator + Copy>(
     rt: &impl Abort,
     alloc: A,
     long: &[u8],
-) {
-    for (limited, limit) in LIMITS.iter() {
-        let refusal = refused_at::<E, M, A>(rt, alloc, long, (*limited, *limit));
-        assert!(rt; refusal.is_none(), "{limited:?}");
-    }
+    count: usize,
+) -> Vec<Vec<u8, A>, A> {
+    texts(rt, alloc, &[long.split_at(count.min(long.len())).0])
 }
 
+// Parts at these limits are loaded, and parts that pass them by one are refused.
 fn expect_limits<E: TwoEnds<u8, A>, M: TwoEnds<Mark, A>, A: Allocator + Copy>(
     rt: &impl Abort,
     alloc: A,
     long: &[u8],
+    limits: &[(Limited, usize)],
+    more: usize,
 ) {
-    expect_within::<E, M, A>(rt, alloc, long);
-    expect_past::<E, M, A>(rt, alloc, long, LIMITS);
-    expect_past::<E, M, A>(rt, alloc, long, NAME_LIMITS);
+    let wanted = if more > 0 {
+        Some(Refusal::TooLong)
+    } else {
+        None
+    };
+    for (limited, limit) in limits {
+        let at = (*limited, limit.saturating_add(more));
+        let refusal = unloaded::<E, M, A>(rt, alloc, &parts_at(rt, alloc, long, at));
+        assert!(rt; refusal == wanted, "{limited:?}");
+    }
+}
+
+fn expect_all_limits<E: TwoEnds<u8, A>, M: TwoEnds<Mark, A>, A: Allocator + Copy>(
+    rt: &impl Abort,
+    alloc: A,
+    long: &[u8],
+) {
+    expect_limits::<E, M, A>(rt, alloc, long, LIMITS, 0);
+    expect_limits::<E, M, A>(rt, alloc, long, LIMITS, 1);
+    expect_limits::<E, M, A>(rt, alloc, long, LONG_NAME, 1);
 }
 
 #[test]
 fn limits_of_parts(rt: HostRuntime) {
     // no text or name may be as long
     let long = vec![in rt.alloc(); b'a'; 16_777_217].expect(&rt, "there was no memory");
-    expect_limits::<GapBuf<u8>, GapBuf<Mark>, Global>(&rt, rt.alloc(), long.as_slice());
+    expect_all_limits::<GapBuf<u8>, GapBuf<Mark>, Global>(&rt, rt.alloc(), long.as_slice());
 }
