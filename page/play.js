@@ -209,9 +209,10 @@ function drawTicks() {
 function showExtent() {
   const end = data.first + run.count;
   const steps = (count) => (count === 1 ? "1 step" : `${grouped(count)} steps`);
-  const which = data.first ? `the last ${grouped(run.count)} of ${steps(end)}, from step ${grouped(data.first)} on`
-    : data.why ? `all ${steps(end)}` : `the first ${steps(end)}`;
-  const how = data.why === "Ended" ? "" : data.why ? `; the run ends there: ${data.why}` : "; the program goes on after that";
+  const all = data.why === "Ended" ? steps(end) : `the first ${steps(end)}`;
+  const which = data.first ? `the last ${grouped(run.count)} of ${all}, from step ${grouped(data.first)} on`
+    : data.why === "Ended" ? `all ${all}` : all;
+  const how = data.why === "Ended" ? "" : `; the program did not end by then: ${REASONS[data.why] ?? data.why ?? "it goes on"}`;
   byId("extent").textContent = `The page has ${which}${how}.`;
 }
 

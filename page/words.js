@@ -56,7 +56,8 @@ const PRIMITIVES = {
 const REASONS = {
   Ended: "the program needs more input than there is, or halts",
   TooLong: "the next state would pass a limit",
-  Memory: "memory was refused for it",
+  Memory: "there was not the memory for the next step that a page has",
+  Large: "the next state is too large to be shown",
 };
 
 // What a function does, by its name. Letters of either case name a primitive.
@@ -100,6 +101,7 @@ function showRules(step) {
 
 // Why there is no next step.
 function endWords() {
-  if (!data.why) return ["the page ends here, and the program goes on"];
+  if (!data.why) return ["the page ends here, and the program did not end: it goes on"];
+  if (data.why === "Large") return ["the page ends here, and the program did not end: ", REASONS.Large];
   return ["the debugger takes no further step: ", data.why, ": ", REASONS[data.why] ?? "see docs/debugger.md"];
 }

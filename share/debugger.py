@@ -1,0 +1,209 @@
+"""A session of `trac debug` over a file, for trac-page and trac-play: its replies, with bounds on memory."""
+import os
+import re
+import resource
+import shutil
+import subprocess
+
+# The most bytes of FILE that the debugger takes.
+TAPE = 33_554_432
+# How many steps the debugger may have to go back over, at most.
+JOURNAL = 1_048_576
+
+
+class Fault(Exception):
+    """Why there is nothing to show, and the exit status."""
+
+    def __init__(self, words, status=1):
+        super().__init__(words)
+        self.status = status
+
+
+class TooLarge(Exception):
+    """A state is larger than is taken, or there was no memory to print it. The session is of no use any more."""
+
+
+class Debugger:
+    """A session of `trac debug` over a file. What it takes of memory is bounded, where a bound is named."""
+
+    def __init__(self, program, file, words=(), memory=None):
+        self.memory = memory
+        command = [program, "debug", "--journal", str(JOURNAL), *words, file]
+        self.process = subprocess.Popen(command, stdin=subprocess.PIPE, stdout=subprocess.PIPE, preexec_fn=self.bound)
+        # replies that are read, and how many of their bytes are taken
+        self.replies, self.taken = b"", 0
+        # how long the last state was
+        self.size = 0
+
+    def bound(self):
+        """Bounds the memory of the process that is begun."""
+        if self.memory:
+            self.allow(self.memory, 0)
+
+    def allow(self, memory, process=None):
+        """Sets the bound anew. The process that is begun may ask for more memory than it had only by this."""
+        number = self.process.pid if process is None else process
+        try:
+            most = resource.prlimit(number, resource.RLIMIT_AS)[1]
+            if most != resource.RLIM_INFINITY:
+                memory = min(memory, most)
+            resource.prlimit(number, resource.RLIMIT_AS, (memory, most))
+        except ProcessLookupError:
+            pass
+
+    def read(self):
+        """Some more bytes of its replies."""
+        part = os.read(self.process.stdout.fileno(), 1 << 20)
+        if not part:
+            status = self.process.wait()
+            if status == 5:
+                raise TooLarge
+            raise Fault("trac debug ended early, with status {}".format(status), max(status, 1))
+        return part
+
+    def read_to(self, mark, most=None):
+        """Reads replies until they have this mark, which must come within so many bytes; returns where it stands."""
+        place = self.replies.find(mark, self.taken)
+        if place >= 0:
+            return place
+        edge = self.replies[self.taken:]
+        parts, length = [edge], len(edge)
+        while mark not in edge and (most is None or length <= most):
+            parts.append(self.read())
+            length += len(parts[-1])
+            edge = edge[-len(mark):] + parts[-1]
+        self.replies, self.taken = b"".join(parts), 0
+        place = self.replies.find(mark)
+        if place < 0 or most is not None and place > most:
+            self.end()
+            raise TooLarge
+        return place
+
+    def pass_to(self, mark, kept=0):
+        """Passes over replies up to this mark and over it. Returns how many bytes stood before it, how many of them were
+        backslashes, and the last few of them."""
+        length, slashes, back = 0, 0, b""
+        while True:
+            place = self.replies.find(mark, self.taken)
+            end = place if place >= 0 else max(len(self.replies) - len(mark) + 1, self.taken)
+            part = self.replies[self.taken:end]
+            length, slashes, back = length + len(part), slashes + part.count(b"\\"), (back + part)[-kept:] if kept else b""
+            if place >= 0:
+                self.taken = place + len(mark)
+                return length, slashes, back
+            self.replies, self.taken = self.replies[end:] + self.read(), 0
+
+    def line(self):
+        """The next line of its replies."""
+        end = self.read_to(b"\n")
+        line, self.taken = self.replies[self.taken:end].decode("ascii"), end + 1
+        return line
+
+    def give(self, commands):
+        """Writes commands, so few that they are taken at once."""
+        try:
+            self.process.stdin.write(commands.encode())
+            self.process.stdin.flush()
+        except (OSError, ValueError):
+            pass
+
+    def move(self, command):
+        """Carries out a move; returns how many steps were taken, and why there were no more."""
+        self.give(command + "\n")
+        return self.moved()
+
+    def moved(self):
+        """The reply to a move: how many steps were taken, and why there were no more."""
+        reply = re.fullmatch(r"(?:forward|back|until) ([0-9]+)(?: ([A-Za-z]+))?", self.line())
+        if reply is None:
+            raise Fault("trac debug gave a reply that is not understood")
+        return int(reply[1]), reply[2]
+
+    def state(self, most=None):
+        """The lines of a state, without that of the journal."""
+        end = self.read_to(b"\njournal ", most)
+        self.size = end - self.taken
+        lines, self.taken = self.replies[self.taken:end].decode("ascii").split("\n"), end + 1
+        self.line()
+        return lines
+
+    def pass_state(self):
+        """Passes over a state; returns how many bytes of the file were read since the first state that can be gone back to,
+        and how long the state is, but for what was printed."""
+        size, _, _ = self.pass_to(b"\nposition ")
+        position = int(self.line())
+        self.pass_to(b"\njournal ")
+        self.line()
+        return position, size
+
+    def printed(self, kept):
+        """The reply to a commit: how many bytes were printed, and the last few signs of them, which do not begin within the
+        sign of a byte."""
+        self.pass_to(b"[")
+        length, slashes, back = self.pass_to(b"]\n", kept + 4)
+        return length - 3 * slashes, tail(back.decode("ascii"), kept)
+
+    def end(self):
+        """Ends the session, and what it holds of replies."""
+        self.process.kill()
+        self.process.stdout.close()
+        try:
+            self.process.stdin.close()
+        except OSError:
+            pass
+        self.process.wait()
+        self.replies, self.taken = b"", 0
+
+
+def inside(line):
+    """The text of a line with one text."""
+    return line[line.index("[") + 1:-1]
+
+
+def length_of(text):
+    """How many bytes a text has."""
+    return len(text) - 3 * text.count("\\")
+
+
+def tail(text, most):
+    """The back of a text, which does not begin within the sign of a byte."""
+    start = max(len(text) - most, 0)
+    inner = text.rfind("\\", max(start - 3, 0), start)
+    return text[start if inner < 0 else inner + 4:]
+
+
+def find(name, script):
+    """Where a program stands: beside this script, or on PATH."""
+    beside = os.path.join(os.path.dirname(os.path.realpath(script)), name)
+    place = beside if os.access(beside, os.X_OK) else shutil.which(name)
+    if place is None:
+        raise Fault("the program {} is missing: looked for {}, and on PATH".format(name, beside), 70)
+    return place
+
+
+def read_file(name):
+    """The bytes of FILE, which may be no file but a pipe."""
+    try:
+        with open(name, "rb") as file:
+            tape = file.read(TAPE + 1)
+    except OSError as fault:
+        raise Fault("{}: {}".format(printable(name), fault.strerror), 6)
+    if len(tape) > TAPE:
+        raise Fault("{}: more than {:,} bytes".format(printable(name), TAPE), 4)
+    return tape
+
+
+def printable(name):
+    """A name of a file, of which each byte that is no UTF-8 is shown as such."""
+    return os.fsencode(name).decode("utf-8", "backslashreplace")
+
+
+def version_of(program):
+    """What the program says of its version. This also has a launcher make it ready."""
+    try:
+        said = subprocess.run([program, "--version"], stdin=subprocess.DEVNULL, stdout=subprocess.PIPE)
+    except OSError as fault:
+        raise Fault("{}: {}".format(printable(program), fault.strerror), 70)
+    if said.returncode != 0:
+        raise Fault("{} --version ended with status {}".format(program, said.returncode), said.returncode)
+    return said.stdout.decode("utf-8", "replace").strip()
