@@ -1,4 +1,4 @@
-"""A session of `trac debug` over a file, for trac-page and trac-play: its replies, with bounds on memory."""
+"""A session of `trac debug` or `trac-walk` over a file, for trac-page and trac-play: its replies, with bounds on memory."""
 import os
 import re
 import resource
@@ -7,8 +7,6 @@ import subprocess
 
 # The most bytes of FILE that the debugger takes.
 TAPE = 33_554_432
-# How many steps the debugger may have to go back over, at most.
-JOURNAL = 1_048_576
 
 
 class Fault(Exception):
@@ -24,11 +22,10 @@ class TooLarge(Exception):
 
 
 class Debugger:
-    """A session of `trac debug` over a file. What it takes of memory is bounded, where a bound is named."""
+    """A session of a debugger, begun by a command. What it takes of memory is bounded."""
 
-    def __init__(self, program, file, words=(), memory=None):
+    def __init__(self, command, memory):
         self.memory = memory
-        command = [program, "debug", "--journal", str(JOURNAL), *words, file]
         self.process = subprocess.Popen(command, stdin=subprocess.PIPE, stdout=subprocess.PIPE, preexec_fn=self.bound)
         # replies that are read, and how many of their bytes are taken
         self.replies, self.taken = b"", 0
@@ -37,8 +34,7 @@ class Debugger:
 
     def bound(self):
         """Bounds the memory of the process that is begun."""
-        if self.memory:
-            self.allow(self.memory, 0)
+        self.allow(self.memory, 0)
 
     def allow(self, memory, process=None):
         """Sets the bound anew. The process that is begun may ask for more memory than it had only by this."""
@@ -58,7 +54,7 @@ class Debugger:
             status = self.process.wait()
             if status == 5:
                 raise TooLarge
-            raise Fault("trac debug ended early, with status {}".format(status), max(status, 1))
+            raise Fault("the debugger ended early, with status {}".format(status), max(status, 1))
         return part
 
     def read_to(self, mark, most=None):
@@ -80,17 +76,16 @@ class Debugger:
         return place
 
     def pass_to(self, mark, kept=0):
-        """Passes over replies up to this mark and over it. Returns how many bytes stood before it, how many of them were
-        backslashes, and the last few of them."""
-        length, slashes, back = 0, 0, b""
+        """Passes over replies up to this mark and over it; returns how many bytes stood before it, and the last few."""
+        length, back = 0, b""
         while True:
             place = self.replies.find(mark, self.taken)
             end = place if place >= 0 else max(len(self.replies) - len(mark) + 1, self.taken)
             part = self.replies[self.taken:end]
-            length, slashes, back = length + len(part), slashes + part.count(b"\\"), (back + part)[-kept:] if kept else b""
+            length, back = length + len(part), (back + part)[-kept:] if kept else b""
             if place >= 0:
                 self.taken = place + len(mark)
-                return length, slashes, back
+                return length, back
             self.replies, self.taken = self.replies[end:] + self.read(), 0
 
     def line(self):
@@ -114,7 +109,7 @@ class Debugger:
 
     def moved(self):
         """The reply to a move: how many steps were taken, and why there were no more."""
-        reply = re.fullmatch(r"(?:forward|back|until) ([0-9]+)(?: ([A-Za-z]+))?", self.line())
+        reply = re.fullmatch(r"forward ([0-9]+)(?: ([A-Za-z]+))?", self.line())
         if reply is None:
             raise Fault("trac debug gave a reply that is not understood")
         return int(reply[1]), reply[2]
@@ -130,18 +125,17 @@ class Debugger:
     def pass_state(self):
         """Passes over a state; returns how many bytes of the file were read since the first state that can be gone back to,
         and how long the state is, but for what was printed."""
-        size, _, _ = self.pass_to(b"\nposition ")
+        size, _ = self.pass_to(b"\nposition ")
         position = int(self.line())
         self.pass_to(b"\njournal ")
         self.line()
         return position, size
 
     def printed(self, kept):
-        """The reply to a commit: how many bytes were printed, and the last few signs of them, which do not begin within the
-        sign of a byte."""
+        """The reply to a commit: the last few signs of what was printed, which do not begin within the sign of a byte."""
         self.pass_to(b"[")
-        length, slashes, back = self.pass_to(b"]\n", kept + 4)
-        return length - 3 * slashes, tail(back.decode("ascii"), kept)
+        _, back = self.pass_to(b"]\n", kept + 4)
+        return tail(back.decode("ascii"), kept)
 
     def end(self):
         """Ends the session, and what it holds of replies."""
@@ -158,11 +152,6 @@ class Debugger:
 def inside(line):
     """The text of a line with one text."""
     return line[line.index("[") + 1:-1]
-
-
-def length_of(text):
-    """How many bytes a text has."""
-    return len(text) - 3 * text.count("\\")
 
 
 def tail(text, most):
