@@ -1,4 +1,4 @@
-# Completion of trac and trac-walk for bash: subcommands, options, and a FILE for debug and for trac-walk.
+# Completion of trac, trac-walk, trac-play and trac-page for bash: subcommands, options, and a FILE where one is wanted.
 _trac() {
     local word=${COMP_WORDS[COMP_CWORD]} before=${COMP_WORDS[COMP_CWORD - 1]} words=''
     COMPREPLY=()
@@ -27,15 +27,16 @@ _trac() {
 }
 complete -F _trac trac
 
-_trac_walk() {
+# Completes a command that takes a FILE and these options; where a number or a width is wanted, that.
+_trac_file() {
     local word=${COMP_WORDS[COMP_CWORD]}
     COMPREPLY=()
     case ${COMP_WORDS[COMP_CWORD - 1]} in
-        --journal) ;;
+        --budget | --journal | --first | --last | --to) ;;
         --decimals) mapfile -t COMPREPLY < <(compgen -W '64 128' -- "$word") ;;
         *)
             if [[ $word == -* ]]; then
-                mapfile -t COMPREPLY < <(compgen -W '--journal --decimals --prompt --help --version' -- "$word")
+                mapfile -t COMPREPLY < <(compgen -W "$1 --help --version" -- "$word")
             else
                 compopt -o filenames 2>/dev/null
                 mapfile -t COMPREPLY < <(compgen -f -- "$word")
@@ -43,4 +44,9 @@ _trac_walk() {
             ;;
     esac
 }
+_trac_walk() { _trac_file '--journal --decimals --prompt'; }
+_trac_play() { _trac_file '--budget --journal --decimals'; }
+_trac_page() { _trac_file '--first --last --to --program'; }
 complete -F _trac_walk trac-walk
+complete -F _trac_play trac-play
+complete -F _trac_page trac-page
