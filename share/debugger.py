@@ -37,14 +37,15 @@ class Debugger:
         self.allow(self.memory, 0)
 
     def allow(self, memory, process=None):
-        """Sets the bound anew. The process that is begun may ask for more memory than it had only by this."""
+        """Sets the bound anew, for the process that was begun or for this one."""
         number = self.process.pid if process is None else process
         try:
             most = resource.prlimit(number, resource.RLIMIT_AS)[1]
             if most != resource.RLIM_INFINITY:
                 memory = min(memory, most)
             resource.prlimit(number, resource.RLIMIT_AS, (memory, most))
-        except ProcessLookupError:
+        except OSError:
+            # (it has ended, or the system lets nothing be set: then it goes by the bound that it has)
             pass
 
     def read(self):
