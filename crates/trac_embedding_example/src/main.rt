@@ -24,10 +24,10 @@ fn walk(rt: &impl Print, session: &mut Session) -> anyhow::Result<()> {
     session.forward(back.done);
 
     // byte 7 of the output is the w
-    let printed = follow(session, Width::W128, Place::Output(7), 1_000);
+    let printed = follow(session, Place::Output(7), 1_000);
     println!(rt; "{} steps back it was printed", printed.steps)?;
     if let Source::Passed(argument) = printed.source {
-        let read = follow(session, Width::W128, argument, 1_000);
+        let read = follow(session, argument, 1_000);
         if let Source::Read(place) = read.source {
             println!(rt;
                 "{} steps before that it was read, as byte {place}",

@@ -25,7 +25,7 @@ Exit status:
   6    standard input or FILE cannot be read
   7    the output cannot be written
   8    a command of the debugger is not understood
-  70   ./trac of a checkout could not build the program
+  70   ./trac of a checkout has no program to run
   130  Ctrl-C was typed";
 
 /// How `trac run` is used, in one line.
@@ -42,7 +42,7 @@ typed. Enter and then Ctrl-D end the input, and with it the run; Ctrl-C ends the
 
 Exit status: 0 at the end; 2 the command line is not understood; 3 the budget of steps is spent;
 4 a limit is passed; 5 no memory; 6 the input cannot be read; 7 the output cannot be written;
-70 ./trac of a checkout could not build the program; 130 Ctrl-C was typed.";
+70 ./trac of a checkout has no program to run; 130 Ctrl-C was typed.";
 
 /// What stands at the end of the help of `trac debug`.
 pub const DEBUG_USE: &str = "\
@@ -63,7 +63,7 @@ There is no prompt. NAME is what stands first in the call: #(cl,F) is met as cl,
 
 Exit status: 0 at the end; 2 the command line is not understood; 3 more than 1048576 lines;
 4 FILE is too long; 5 no memory; 6 FILE or the commands cannot be read; 7 the output cannot be
-written; 8 a command is not understood; 70 ./trac of a checkout could not build the program;
+written; 8 a command is not understood; 70 ./trac of a checkout has no program to run;
 130 Ctrl-C was typed.";
 
 /// How `trac-walk` is used, in one line.
@@ -77,7 +77,7 @@ and q, or Ctrl-D, ends.
 
 Exit status: 0 at the end; 2 the command line is not understood; 4 FILE is too long; 5 no memory;
 6 FILE or the commands cannot be read; 7 the output cannot be written; 70 ./trac-walk of a checkout
-could not build the program; 130 Ctrl-C was typed.";
+has no program to run; 130 Ctrl-C was typed.";
 
 /// The tip for a word that `trac` or `trac run` does not understand: a file is often named there.
 pub const RUN_TIP: &str = "to run the program in FILE, put < before its name: trac run < FILE";
