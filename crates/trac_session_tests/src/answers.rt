@@ -75,15 +75,21 @@ fn next_is_idle<E: TwoEnds<u8, A>, M: TwoEnds<Mark, A>, A: Allocator + Copy>(
     is_idle(&next(rt, machine, input), wanted)
 }
 
-// A stray `)` ends the `ps` of the idle program, so that `b` and `c` are base text: the fifteenth step empties it.
+// Inputs, the number of an idle step, and the base text that it empties. The `ps` of the idle program has ended by then; a stray `)`
+// ends it early, so that `b` and `c` are base text.
+const IDLE_STEPS: &[(&[u8], u64, &[u8])] = &[(b"AB'", 12, b""), (b"a)b,c'", 15, b"bc")];
+
 fn expect_idle<E: TwoEnds<u8, A>, M: TwoEnds<Mark, A>, A: Allocator + Copy>(
     rt: &impl Abort,
     alloc: A,
+    input: &[u8],
+    number: u64,
+    wanted: &[u8],
 ) {
-    let mut machine: Core<E, M, A> = machine_after(rt, alloc, b"a)b,c'", 14);
-    let is_met = next_is_idle(rt, &mut machine, b"a)b,c'", b"bc");
+    let mut machine: Core<E, M, A> = machine_after(rt, alloc, input, number.saturating_sub(1));
+    let is_met = next_is_idle(rt, &mut machine, input, wanted);
     let_go(machine);
-    assert!(rt; is_met);
+    assert!(rt; is_met, "step {number} of {input:?}");
 }
 
 // Inputs, the number of a step, and what its record weighs: of a byte that moves nothing, of a deleted one 1, of the base text
@@ -258,7 +264,9 @@ fn expect_answers<E: TwoEnds<u8, A>, M: TwoEnds<Mark, A>, A: Allocator + Copy>(
     rt: &impl Abort,
     alloc: A,
 ) {
-    expect_idle::<E, M, A>(rt, alloc);
+    for (input, number, wanted) in IDLE_STEPS.iter() {
+        expect_idle::<E, M, A>(rt, alloc, input, *number, wanted);
+    }
     for (input, number, wanted) in WEIGHTS.iter() {
         expect_weight::<E, M, A>(rt, alloc, input, *number, *wanted);
     }
