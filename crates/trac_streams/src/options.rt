@@ -29,8 +29,8 @@ pub fn is_in_range(number: u64, most: u64) -> bool
     1 <= number && number <= most
 }
 
-/// How wide numbers are to be where so many bits are wanted, and of 128 bits where nothing is said. None where another width is
-/// wanted (this project's profile).
+/// How wide numbers are to be where so many bits are wanted, and of 128 bits where nothing is said. None where another
+/// width is wanted (this project's profile).
 pub fn decimals_of(asked: Option<u64>) -> Option<Width>
     ensures { MatchOption asked (result ≡ Some W128) (λ bits. result ≡ width_of bits) }
 {
