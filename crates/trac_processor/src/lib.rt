@@ -1,5 +1,5 @@
-//! The processor as one library: sessions, which go forward and back; bytes followed to where they come from; and whole runs,
-//! the debugger and the command line, as the program `trac` has them.
+//! The processor as one library: sessions, which go forward and back; bytes followed to where they come from; and whole
+//! runs, the debugger and the command line, as the program `trac` has them.
 #![tactic(auto)]
 
 pub use trac_follow::{End, Followed, Place, Source, Traced, Witness, follow, trace};
