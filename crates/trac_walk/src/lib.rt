@@ -4,7 +4,10 @@
 
 mod aim;
 mod call_list;
+mod calls_told;
 mod carrying_out;
+mod later;
+mod missing;
 mod origins;
 mod output;
 mod replying;

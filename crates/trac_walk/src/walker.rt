@@ -1,10 +1,13 @@
 //! A walker: a session whose way back never stops a walk, and where it stands.
-ghost use Rattle.std.specs.Prelude.{◌≤◌, length, IfErr, OnOk};
+ghost use Rattle.std.specs.Prelude.{◌≡◌, ◌≤◌, length, IfErr, OnOk};
+ghost use Rattle.trac_follow.specs.Places.{place_of};
+ghost use Rattle.trac_follow.specs.Tracing.{IsTold, way_of};
 ghost use Rattle.trac_streams.specs.Tape.{MayRefuseTape};
+ghost use Rattle.trac_walk.specs.Ways.{number_of_step};
 
 use crate::aim::{Aim, goal_for};
 use std::alloc::{AllocError, Allocator};
-use trac_follow::{End, Place, Witness, trace};
+use trac_follow::{Place, Traced, Witness, trace};
 use trac_forms::{Form, FormError, Store};
 use trac_rules::byte::LINE_FEED;
 use trac_rules::limit::{JOURNAL_LIMIT, TAPE_LIMIT};
@@ -14,27 +17,35 @@ use trac_session::{Goal, Machine, Refusal, Return, Session, Walk};
 use trac_streams::Ending;
 use trac_window::Window;
 
-/// A session over a program, and how far it is from the start. Where the journal is full, and where there is no room for
-/// more output, the walker forgets the older half of the steps, with what they printed, and goes on.
+// An item of a form takes 8 bytes in a record and weighs one, and lists may have as much room again as they need. So a record
+// takes at most so many bytes for each that it weighs.
+const WEIGHED_BYTES: u64 = 12;
+
+// A search looks after so many steps whether the records weigh too much.
+const SEARCH_STEPS: u64 = 16;
+
+/// A session over a program, and how far it is from the start. Where the journal is full or its records weigh too much, and
+/// where there is no room for more output, the walker forgets the older half of the steps, with what they printed, and goes on.
 #[derive(Drop)]
 pub struct Walker<A: Allocator + Copy> {
     // the session, and what of it is forgotten
-    window: Window<A>,
+    pub(crate) window: Window<A>,
     // how many records the journal may hold
     limit: usize,
-    // whether some were forgotten to make room for the output
-    has_made_output_room: bool,
-    // how wide numbers are
-    width: Width,
+    // how much the records may weigh
+    weight: u64,
+    // why some were forgotten first; not said where the journal was full
+    reason: Option<Forgetting>,
     // how many bytes of input there were so far
     fed: u64,
 }
 
 impl<A: Allocator + Copy> Walker<A> {
-    /// At the start of the program, which is the whole input so far.
+    /// At the start of the program, which is the whole input so far. The records of the steps that are kept take some `keep`
+    /// bytes at most.
     ///
     /// `Ending::Limit`: the program has more than 33,554,432 bytes. `Ending::Memory`: memory was refused.
-    pub fn new(alloc: A, tape: &[u8], limit: usize, width: Width) -> Result<Self, Ending>
+    pub fn new(alloc: A, tape: &[u8], limit: usize, keep: u64, width: Width) -> Result<Self, Ending>
         requires some_records { 1 ≤ limit }
         requires most_records { limit ≤ JOURNAL_LIMIT }
         ensures made { OnOk result (length tape.now ≤ TAPE_LIMIT) }
@@ -44,8 +55,8 @@ impl<A: Allocator + Copy> Walker<A> {
         Ok(Walker {
             window,
             limit,
-            has_made_output_room: false,
-            width,
+            weight: keep / WEIGHED_BYTES,
+            reason: None,
             fed: tape.len() as u64,
         })
     }
@@ -76,7 +87,9 @@ impl<A: Allocator + Copy> Walker<A> {
     }
 
     /// The number of the step that comes next, counted from the start of the program.
-    pub fn step(&self) -> u64 {
+    pub fn step(&self) -> u64
+        ensures { result ≡ number_of_step self.now.window.forgotten (length self.now.window.session.earlier) }
+    {
         self.window
             .forgotten
             .saturating_add(self.window.session.len() as u64)
@@ -99,12 +112,10 @@ impl<A: Allocator + Copy> Walker<A> {
 
     /// Why steps are forgotten.
     pub fn forgetting(&self) -> Forgetting {
-        if self.has_made_output_room {
-            Forgetting::ForOutput
-        } else if self.limit < JOURNAL_LIMIT {
-            Forgetting::ForSteps
-        } else {
-            Forgetting::ForMostSteps
+        match self.reason {
+            Some(reason) => reason,
+            None if self.limit < JOURNAL_LIMIT => Forgetting::ForSteps,
+            None => Forgetting::ForMostSteps,
         }
     }
 
@@ -141,9 +152,11 @@ impl<A: Allocator + Copy> Walker<A> {
 
     /// Goes back to where the byte at a place comes from, or the item of a form, and tells a witness of each call on the
     /// way.
-    pub fn trace<W: Witness<A>>(&mut self, place: Place<'_>, witness: &mut W) -> End {
+    pub fn trace<W: Witness<A>>(&mut self, place: Place<'_>, witness: &mut W) -> Traced
+        ensures { IsTold W.passes W.refuses (way_of self.old.window.session (place_of place.entry) result.steps) result.steps result.end witness.old witness.new }
+    {
         let most = self.window.session.len() as u64;
-        end_of(&mut self.window.session, self.width, place, most, witness)
+        trace(&mut self.window.session, place, most, witness)
     }
 
     /// Ends the input.
@@ -162,6 +175,22 @@ impl<A: Allocator + Copy> Walker<A> {
         self.go(Some(aim), most)
     }
 
+    /// Goes to this step, forward or back, until a step is refused, which is returned.
+    pub fn go_to(&mut self, step: u64) -> Option<Refusal> {
+        let now = self.step();
+        if step < now {
+            self.back(now - step)
+        } else {
+            self.forward(step - now)
+        }
+    }
+
+    /// Goes forward as far as no step has to be forgotten for it, or until one is refused, which is returned.
+    pub fn look_ahead(&mut self) -> Option<Refusal> {
+        let room = self.limit.saturating_sub(self.window.session.len());
+        walk_on(&mut self.window.session, None, room as u64, self.weight).why
+    }
+
     // Goes forward, to a goal where there is one, walk by walk: after each that ended for want of room it makes room.
     fn go(&mut self, aim: Option<Aim<'_>>, most: u64) -> Option<Refusal> {
         let mut left = most;
@@ -170,8 +199,8 @@ impl<A: Allocator + Copy> Walker<A> {
                 break;
             }
             self.make_room();
-            let walk = walk_on(&mut self.window.session, aim, left);
-            if !self.goes_on(walk) {
+            let walk = walk_on(&mut self.window.session, aim, left, self.weight);
+            if !self.goes_on(walk, aim.is_some()) {
                 return walk.why;
             }
             left = left.saturating_sub(walk.done);
@@ -182,9 +211,12 @@ impl<A: Allocator + Copy> Walker<A> {
         }
     }
 
-    // Whether a walk goes on that has ended so: the journal was full, or there is room for the output now.
-    fn goes_on(&mut self, walk: Walk) -> bool {
+    // Whether a walk goes on that has ended so, with a goal or without one: the journal was full or weighed enough, there is
+    // room for the output now, or some steps of a search were taken.
+    fn goes_on(&mut self, walk: Walk, has_aim: bool) -> bool {
         match walk.why {
+            None => !has_aim,
+            Some(Refusal::NotMet) => has_aim,
             Some(Refusal::JournalFull) => walk.done > 0,
             Some(Refusal::TooLong) => self.make_output_room(),
             _ => false,
@@ -211,11 +243,17 @@ impl<A: Allocator + Copy> Walker<A> {
         refusal_of(self.window.session.return_to(other_form(name, &form)))
     }
 
-    // Forgets the older half of the journal where it is full.
+    // Forgets the older half of the journal where it is full, and as often as its records weigh too much.
     fn make_room(&mut self) {
         let len = self.window.session.len();
         if len >= self.limit {
             self.window.keep_steps(len / 2);
+        }
+        for _ in 0..usize::BITS {
+            if !self.window.lighten(self.weight) {
+                return;
+            }
+            self.reason = Some(self.reason.unwrap_or(Forgetting::ForMemory));
         }
     }
 
@@ -227,30 +265,25 @@ impl<A: Allocator + Copy> Walker<A> {
             return false;
         }
         self.window.keep_steps(len / 2);
-        self.has_made_output_room = true;
+        self.reason = Some(self.reason.unwrap_or(Forgetting::ForOutput));
         true
     }
 }
 
 // The functions over a session here promise nothing of it, so that whoever calls them has none of its clauses in his proof.
 
-// A walk forward by so many steps at most, to a goal where there is one.
-fn walk_on<A: Allocator + Copy>(session: &mut Session<A>, aim: Option<Aim<'_>>, most: u64) -> Walk {
-    match aim {
-        Some(aim) => session.forward_to(goal_for(aim), most),
-        None => session.forward(most),
-    }
-}
-
-// Where a byte comes from that is followed back.
-fn end_of<A: Allocator + Copy, W: Witness<A>>(
+// A walk forward by so many steps at most, or by a few towards a goal where there is one. It stops also where the records weigh
+// more than this.
+fn walk_on<A: Allocator + Copy>(
     session: &mut Session<A>,
-    width: Width,
-    place: Place<'_>,
+    aim: Option<Aim<'_>>,
     most: u64,
-    witness: &mut W,
-) -> End {
-    trace(session, width, place, most, witness).end
+    weight: u64,
+) -> Walk {
+    match aim {
+        Some(aim) => session.forward_to(goal_for(aim), most.min(SEARCH_STEPS)),
+        None => session.forward_within(most, weight),
+    }
 }
 
 // A copy of the form of this name, where there is one. The error is that memory was refused.
