@@ -1,2 +1,4 @@
 -- How a walk ends.
 pub mod Ends
+-- What is said of the way of a byte.
+pub mod Ways

@@ -4,6 +4,7 @@
 
 mod aim;
 mod call_list;
+mod calls_told;
 mod carrying_out;
 mod origins;
 mod output;

@@ -1,5 +1,6 @@
 //! The way of a byte back to where it comes from.
 
+use crate::calls_told::{Way, told_way};
 use crate::output::{last_printed, printed, printed_text};
 use crate::standing::stand_into;
 use crate::walker::Walker;
@@ -8,72 +9,9 @@ use trac_follow::{End, Place, Witness};
 use trac_orders::Spot;
 use trac_rules::byte::LINE_FEED;
 use trac_screen::{
-    Origin, Stop, Treatment, left_out_into, origin_into, sight_of, step_line, stop_into,
-    treatment_into,
+    Origin, Stop, Treatment, left_out_into, origin_into, step_line, stop_into, treatment_into,
 };
 use trac_session::Machine;
-
-// So many lines of a way are shown at most. A longer way has its first lines, how many are left out, and the last.
-const LINE_COUNT: usize = 30;
-
-// Of a longer way so many calls are shown: two lines are left, for how many are left out, and for the end.
-const FIRST_COUNT: usize = LINE_COUNT - 2;
-
-// What is said of the way of a byte: a line for each call that passed it on.
-#[derive(Drop)]
-struct Way<'o, A: Allocator + Copy> {
-    alloc: A,
-    // the step at which it begins
-    step: u64,
-    // where its lines go
-    out: &'o mut Vec<u8, A>,
-    // how many calls passed it on so far
-    count: usize,
-    // how long `out` was before the latest line was put there
-    before_last: usize,
-}
-
-impl<'o, A: Allocator + Copy> Witness<A> for Way<'o, A> {
-    fn passed(
-        &mut self,
-        machine: &Machine<A>,
-        steps: u64,
-        from: Place<'_>,
-    ) -> Result<(), AllocError> {
-        self.count = self.count.saturating_add(1);
-        // The end takes a line too: so with this call the way is too long, and the line of the one before is taken back.
-        if self.count >= LINE_COUNT {
-            self.out.truncate(self.before_last);
-            return Ok(());
-        }
-        self.before_last = self.out.len();
-        treatment_into(
-            self.alloc,
-            self.step.saturating_sub(steps),
-            &sight_of(machine),
-            treatment(from),
-            self.out,
-        )
-    }
-}
-
-// How many of so many calls are left out.
-fn left_out_of(count: usize) -> usize {
-    if count < LINE_COUNT {
-        0
-    } else {
-        count - FIRST_COUNT
-    }
-}
-
-// What a call did to a byte that is here after it.
-fn treatment(from: Place<'_>) -> Treatment {
-    match from {
-        Place::Output(_) => Treatment::Prints,
-        Place::Form(_, _) | Place::Held(_, _, _) => Treatment::Puts,
-        _ => Treatment::Gives,
-    }
-}
 
 // Of the way nothing is said.
 #[derive(Clone, Copy)]
@@ -105,23 +43,24 @@ pub fn way_into<A: Allocator + Copy>(
         Ok(place) => place,
         Err(stop) => return stay(alloc, walker, stop, out),
     };
-    let mut way = Way {
-        alloc,
-        step: walker.step(),
-        out,
-        count: 0,
-        before_last: 0,
-    };
-    let end = walker.trace(place, &mut way);
-    let left_out = left_out_of(way.count);
-    let origin = match end {
+    let (way, found) = told_way(alloc, walker, place);
+    let origin = match found.end {
         End::Nothing => return stay(alloc, walker, absent(walker, spot), out),
         End::Unkept | End::Untold => return Err(AllocError),
         end => origin_of(walker, program, end),
     };
-    end_into(alloc, walker, left_out, origin, out)?;
+    calls_into(&way, out)?;
+    end_into(alloc, walker, way.left_out(), origin, out)?;
     out.extend_from_slice(b"here: ")?;
     stand_into(alloc, walker, out)
+}
+
+// The lines of the calls that are shown.
+fn calls_into<A: Allocator + Copy>(way: &Way<A>, out: &mut Vec<u8, A>) -> Result<(), AllocError> {
+    for told in way.told.iter() {
+        out.extend_from_slice(told.line.as_slice())?;
+    }
+    Ok(())
 }
 
 /// Puts a line at the end of a text that says where it stands, and where the name of the call that comes next was written.
@@ -139,7 +78,7 @@ pub fn written_into<A: Allocator + Copy>(
     };
     let end = walker.step();
     let mut line = step_line(alloc, end, &walker.sight())?;
-    let found = walker.trace(place, &mut Unsaid);
+    let found = walker.trace(place, &mut Unsaid).end;
     let origin = origin_of(walker, program, found);
     let source = walker.step();
     if let Some(refusal) = walker.forward(end.saturating_sub(source)) {

@@ -1,10 +1,13 @@
 //! A walker: a session whose way back never stops a walk, and where it stands.
-ghost use Rattle.std.specs.Prelude.{◌≤◌, length, IfErr, OnOk};
+ghost use Rattle.std.specs.Prelude.{◌≡◌, ◌≤◌, length, IfErr, OnOk};
+ghost use Rattle.trac_follow.specs.Places.{place_of};
+ghost use Rattle.trac_follow.specs.Tracing.{IsTold, way_of};
 ghost use Rattle.trac_streams.specs.Tape.{MayRefuseTape};
+ghost use Rattle.trac_walk.specs.Ways.{number_of_step};
 
 use crate::aim::{Aim, goal_for};
 use std::alloc::{AllocError, Allocator};
-use trac_follow::{End, Place, Witness, trace};
+use trac_follow::{Place, Traced, Witness, trace};
 use trac_forms::{Form, FormError, Store};
 use trac_rules::byte::LINE_FEED;
 use trac_rules::limit::{JOURNAL_LIMIT, TAPE_LIMIT};
@@ -19,13 +22,11 @@ use trac_window::Window;
 #[derive(Drop)]
 pub struct Walker<A: Allocator + Copy> {
     // the session, and what of it is forgotten
-    window: Window<A>,
+    pub(crate) window: Window<A>,
     // how many records the journal may hold
     limit: usize,
     // whether some were forgotten to make room for the output
     has_made_output_room: bool,
-    // how wide numbers are
-    width: Width,
     // how many bytes of input there were so far
     fed: u64,
 }
@@ -45,7 +46,6 @@ impl<A: Allocator + Copy> Walker<A> {
             window,
             limit,
             has_made_output_room: false,
-            width,
             fed: tape.len() as u64,
         })
     }
@@ -76,7 +76,9 @@ impl<A: Allocator + Copy> Walker<A> {
     }
 
     /// The number of the step that comes next, counted from the start of the program.
-    pub fn step(&self) -> u64 {
+    pub fn step(&self) -> u64
+        ensures { result ≡ number_of_step self.now.window.forgotten (length self.now.window.session.earlier) }
+    {
         self.window
             .forgotten
             .saturating_add(self.window.session.len() as u64)
@@ -141,9 +143,11 @@ impl<A: Allocator + Copy> Walker<A> {
 
     /// Goes back to where the byte at a place comes from, or the item of a form, and tells a witness of each call on the
     /// way.
-    pub fn trace<W: Witness<A>>(&mut self, place: Place<'_>, witness: &mut W) -> End {
+    pub fn trace<W: Witness<A>>(&mut self, place: Place<'_>, witness: &mut W) -> Traced
+        ensures { IsTold W.passes W.refuses (way_of self.old.window.session (place_of place.entry) result.steps) result.steps result.end witness.old witness.new }
+    {
         let most = self.window.session.len() as u64;
-        end_of(&mut self.window.session, self.width, place, most, witness)
+        trace(&mut self.window.session, place, most, witness)
     }
 
     /// Ends the input.
@@ -240,17 +244,6 @@ fn walk_on<A: Allocator + Copy>(session: &mut Session<A>, aim: Option<Aim<'_>>, 
         Some(aim) => session.forward_to(goal_for(aim), most),
         None => session.forward(most),
     }
-}
-
-// Where a byte comes from that is followed back.
-fn end_of<A: Allocator + Copy, W: Witness<A>>(
-    session: &mut Session<A>,
-    width: Width,
-    place: Place<'_>,
-    most: u64,
-    witness: &mut W,
-) -> End {
-    trace(session, width, place, most, witness).end
 }
 
 // A copy of the form of this name, where there is one. The error is that memory was refused.
