@@ -1,4 +1,4 @@
-use Rattle.std.proofs.Common.{refl, arith}
+use Rattle.std.proofs.Common.{refl}
 use Rattle.trac_walk.proofs.SaidOfWays.{tells_no_more}
 use Rattle.trac_walk.proofs.calls_told.WayWitness.passed.Goals as goal
 
