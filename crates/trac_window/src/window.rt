@@ -1,6 +1,7 @@
 //! A session whose last steps are kept, with counts of what is forgotten.
-ghost use Rattle.std.specs.Prelude.{◌≡◌, ◌+◌, ◌-◌, ◌^◌, ◌<◌, ◌≤◌, length, IfErr, IfOk, OnOk};
+ghost use Rattle.std.specs.Prelude.{◌≡◌, ◌+◌, ◌-◌, ◌/◌, ◌^◌, ◌<◌, ◌≤◌, ◌↔◌, length, true, false, IfErr, IfOk, OnOk};
 ghost use Rattle.trac_rules.specs.Session.{Commit, Feed, answer, done, first_kept, new_session};
+ghost use Rattle.trac_rules.specs.Weights.{weights_from};
 ghost use Rattle.trac_streams.specs.Tape.{MayRefuseTape};
 
 use std::alloc::Allocator;
@@ -57,6 +58,23 @@ impl<A: Allocator + Copy> Window<A> {
         let released = forget_before(&mut self.session, keep);
         self.released = self.released.saturating_add(released as u64);
         self.forgotten = self.forgotten.saturating_add(steps as u64);
+    }
+
+    /// Forgets the older half of the steps, as `keep_steps` does, where the records of all of them weigh more than this
+    /// (`Session::weight`); whether it did. A step that is the only one stays, whatever it weighs.
+    pub fn lighten(&mut self, most: u64) -> bool
+        ensures heavy { (result ≡ true) ↔ ((most < weights_from self.old.session.earlier) × (1 < length self.old.session.earlier)) }
+        ensures kept { result ≡ true → answer (Commit (length self.old.session.earlier / 2)) self.old.session ≡ done self.new.session }
+        ensures steps { result ≡ true → self.old.forgotten + length self.old.session.earlier < 2 ^ 64 → self.new.forgotten ≡ self.old.forgotten + (length self.old.session.earlier - length self.old.session.earlier / 2) }
+        ensures counted { result ≡ true → self.old.released + length (first_kept (length self.old.session.earlier / 2) self.old.session).output < 2 ^ 64 → self.new.released ≡ self.old.released + length (first_kept (length self.old.session.earlier / 2) self.old.session).output }
+        ensures stayed { result ≡ false → self.new ≡ self.old }
+    {
+        let len = self.session.len();
+        if len < 2 || self.session.weight() <= most {
+            return false;
+        }
+        self.keep_steps(len / 2);
+        true
     }
 }
 
