@@ -32,7 +32,7 @@ _trac_file() {
     local word=${COMP_WORDS[COMP_CWORD]}
     COMPREPLY=()
     case ${COMP_WORDS[COMP_CWORD - 1]} in
-        --budget | --journal | --first | --last | --to) ;;
+        --budget | --journal | --keep | --first | --last | --to) ;;
         --decimals) mapfile -t COMPREPLY < <(compgen -W '64 128' -- "$word") ;;
         *)
             if [[ $word == -* ]]; then
@@ -44,7 +44,7 @@ _trac_file() {
             ;;
     esac
 }
-_trac_walk() { _trac_file '--journal --decimals --prompt'; }
+_trac_walk() { _trac_file '--journal --keep --decimals --prompt'; }
 _trac_play() { _trac_file '--budget --journal --decimals'; }
 _trac_page() { _trac_file '--first --last --to --program'; }
 complete -F _trac_walk trac-walk

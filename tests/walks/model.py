@@ -167,7 +167,7 @@ class Walk:
     def __init__(w, tape, limit):
         w.tape, w.ended, w.limit = tape, False, limit
         w.states, w.at, w.first, w.gone = {0: START}, 0, 0, 0
-        w.told, w.last = False, None
+        w.told, w.last, w.places = False, None, []
 
     def s(w): return w.states[w.at]
 
@@ -212,6 +212,12 @@ class Walk:
         d = len(s.frames) - 1
         return text(t, d)[len(text(s, d)):]
 
+    def listed(w, i, whole):
+        """The line of `t` for the call that is performed at step i."""
+        fs, gave = w.states[i].frames, given(w.value_after(i))
+        call = "%d  %s%s)" % (i, "  " * min(12, max(0, len(fs) - 2)), function(fs[-1]))
+        return call + gave if whole else cut(cut(call, max(56, W - len(gave))) + gave)
+
     def screen(w):
         s, lines = w.s(), []
         fs = s.frames
@@ -233,7 +239,20 @@ class Walk:
         n = int(rest[0]) if rest and re.fullmatch(r"[0-9]+", rest[0]) else 1
         out = []
         why = None
-        if c == "s": why = w.ahead(n)
+        start = place = w.at
+        if rest == ["end"]: why = w.ahead(10**7) or "the program goes on after 10000000 steps; an empty line goes on"
+        elif rest == ["start"]:
+            w.at = w.first
+            if w.first: why = "this is the first step that is kept, step %d" % w.first
+        elif c == "m":
+            at = next((p for p in reversed(w.places) if p != w.at and p >= w.first), None)
+            if at is None:
+                w.places = []
+                return ["no earlier place is kept", w.where()]
+            while w.places.pop() != at: pass
+            why = w.ahead(at - w.at) if at > w.at else None
+            w.at = at
+        elif c == "s": why = w.ahead(n)
         elif c == "b":
             if n > w.at - w.first: why = "this is the first step that is kept, step %d" % w.first
             w.at = max(w.first, w.at - n)
@@ -248,6 +267,10 @@ class Walk:
                 goal = lambda s: call(s) is not None and call(s)[:len(wanted)] == wanted
             else: goal = own
             why = w.ahead(10**7, goal) if c == "u" else w.behind(goal)
+            if c == "u" and why and not why.startswith("not met"):
+                why, place = "not met; " + why, w.at
+                if w.first <= start < w.at: w.at, recalled = start, "m goes to step %d, where the search ended" % place
+                else: place = start
         elif c == "n": why = w.over()
         elif c == "N":
             l = len(w.s().active)
@@ -282,6 +305,9 @@ class Walk:
                 now = w.s().forms.get(name)
                 why = w.behind(lambda s: call(s) is not None and s.forms.get(name) != now)
         if why: out.append(cut(why))
+        if why and place != start: out.append(recalled)
+        if c not in "sbm" or rest in (["end"], ["start"]):
+            if place != w.at: w.places.append(place)
         if w.first > 0 and not w.told:
             w.told = True
             out.append("steps before %d are forgotten; --journal keeps more" % w.first)
@@ -319,9 +345,10 @@ def words_of(line):
 def fits(words):
     c, rest = words[0], words[1:]
     num = lambda t: re.fullmatch("[0-9]{1,12}", t)
-    return {"s": len(rest) < 2 and all(map(num, rest)), "b": len(rest) < 2 and all(map(num, rest)), "t": len(rest) < 2 and all(map(num, rest)),
+    return {"s": len(rest) < 2 and all(map(num, rest)) or rest == ["end"],
+            "b": len(rest) < 2 and all(map(num, rest)) or rest == ["start"], "t": all(map(num, rest[:1])) and rest[1:] in ([], ["all"]),
             "g": len(rest) == 1 and num(rest[0]), "u": True, "r": True, "w": len(rest) == 1, "i": len(rest) < 2, "p": rest in ([], ["all"]),
-            "f": len(rest) < 2}.get(c, c in "nNoOehq" and len(c) == 1 and not rest)
+            "f": len(rest) < 2}.get(c, c in "nNoOmehq" and len(c) == 1 and not rest)
 
 NO = "not understood; h lists the commands"
 
@@ -338,7 +365,7 @@ def run(program, lines, limit):
         if not fits(words) or (c == "w" and not quoted and words[1].startswith("#") and not re.fullmatch("#[0-9]{1,12}", words[1])):
             out.append(NO)
         elif c == "q": break
-        elif c in "sbgurnNoOw": w.last = line; out += w.move(line)
+        elif c in "sbgurnNoOwm": w.last = line; out += w.move(line)
         elif c == "i":
             if w.ended: out.append("the input has ended"); continue
             w.tape += (words[1] if len(words) > 1 else "").encode("latin1") + b"\n"
@@ -358,7 +385,7 @@ def run(program, lines, limit):
             n = int(words[1]) if len(words) > 1 else 10
             at = [i for i in range(w.first, w.at) if own(w.states[i])][-n:] if n else []
             for i in at:
-                out.append(cut(cut("%d  %s)" % (i, function(w.states[i].frames[-1])), 56) + given(w.value_after(i))))
+                out.append(w.listed(i, len(words) == 3))
             if not at: out.append("no call is met on the way back")
             out.append(w.where())
         elif c == "h": out.append("HELP")
@@ -378,7 +405,7 @@ def run_each(program, lines, limit):
         if not fits(words) or (c == "w" and not quoted and words[1].startswith("#") and not re.fullmatch("#[0-9]{1,12}", words[1])):
             out.append(NO)
         elif c == "q": break
-        elif c in "sbgurnNoOw": w.last = line; out += w.move(line)
+        elif c in "sbgurnNoOwm": w.last = line; out += w.move(line)
         elif c == "i":
             if w.ended: out.append("the input has ended"); continue
             w.tape += (words[1] if len(words) > 1 else "").encode("latin1") + b"\n"
@@ -398,7 +425,7 @@ def run_each(program, lines, limit):
             n = int(words[1]) if len(words) > 1 else 10
             at = [i for i in range(w.first, w.at) if own(w.states[i])][-n:] if n else []
             for i in at:
-                out.append(cut(cut("%d  %s)" % (i, function(w.states[i].frames[-1])), 56) + given(w.value_after(i))))
+                out.append(w.listed(i, len(words) == 3))
             if not at: out.append("no call is met on the way back")
             out.append(w.where())
         elif c == "h": out.append("HELP")

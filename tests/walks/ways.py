@@ -269,11 +269,22 @@ def place_in(tape, place):
     return f"line {before.count(10) + 1}, column {place - before.rfind(10)}"
 
 
-def line_of(tape, step, call, what):
+def piece_in(tape, place):
+    """The line of a tape that has the byte at this place, cut around it, and `^` under it."""
+    start, end = tape.rfind(b"\n", 0, place) + 1, (tape + b"\n").find(b"\n", place)
+    before, rest = (seen(text.decode("latin-1")) for text in (tape[start:place], tape[place:end]))
+    room = 72 if len(before) + len(rest) <= 72 else max(36, 70 - len(rest))
+    if len(before) > room:
+        before = ".." + before[-room:]
+    return [cut("FILE    " + before + rest, 80), " " * (8 + len(before)) + "^"]
+
+
+def lines_of(tape, step, call, what):
+    """What is said of a call on a way; what it read is shown too."""
+    head = (cut(f"{step}  {seen(call)}", 48) + "  ").ljust(34)
     if isinstance(what, int):
-        what = "reads it: " + place_in(tape, what)
-    head = cut(f"{step}  {seen(call)}", 48) + "  "
-    return cut(head.ljust(34) + what, 80)
+        return [cut(head + "reads it: " + place_in(tape, what), 80)] + piece_in(tape, what)
+    return [cut(head + what, 80)]
 
 
 def way_of(machine, asked):
@@ -289,8 +300,8 @@ def way_of(machine, asked):
 def reply(machine, asked):
     """The lines that `y` replies, of a way at most 30."""
     way = way_of(machine, asked)
-    lines = [line_of(machine.tape, *event) for event in way]
-    if len(lines) > 30:
-        lines = lines[:28] + [f".. {len(lines) - 29} more .."] + lines[-1:]
+    told = [lines_of(machine.tape, *event) for event in way]
+    if len(told) > 30:
+        told = told[:28] + [[f".. {len(told) - 29} more .."]] + told[-1:]
     step, call, _ = way[-1]
-    return lines + ["here: " + cut(f"{step}  {seen(call)}", 80)]
+    return sum(told, []) + ["here: " + cut(f"{step}  {seen(call)}", 80)]

@@ -4,5 +4,5 @@
 mod order;
 mod splitting;
 
-pub use order::{HELP, Move, NOT_UNDERSTOOD, Order, Spot, misunderstood, order_of};
+pub use order::{HELP, Move, NOT_UNDERSTOOD, Order, Spot, UNQUOTED, misunderstood, order_of};
 pub use splitting::{Word, has_words, is_second_quoted, texts_of, words_of};

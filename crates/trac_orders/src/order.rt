@@ -6,6 +6,10 @@ pub const DIGIT_LIMIT: usize = 12;
 /// How many calls are listed where no number is given.
 pub const CALL_COUNT: u64 = 10;
 
+/// What is said of a line with quotes that are not understood.
+pub const UNQUOTED: &[u8] =
+    b"not understood; quotes end with \", and \\ in them begins \\n, \\xHH, \\\" or \\\\\n";
+
 /// What is said of a line that is not understood.
 pub const NOT_UNDERSTOOD: &[u8] = b"not understood; h lists the commands\n";
 
@@ -15,10 +19,13 @@ const STANDS_ALONE: &[u8] = b"not understood; this command takes no words after 
 /// The commands, on one screen.
 pub const HELP: &[u8] = b"\
 s [N]      N steps forward, or 1         b [N]      N steps back, or 1
-n          over the next call            N          back over it
+s end      until it waits or ends        b start    to the first step kept
+n          over this call, until its value is scanned too
+N          back to before the call that gave what stands here
 o          out of the begun call         O          back to where it began
 u CALL..   forward to a call             r CALL..   back to a call
            (CALL..: its first arguments, as u cl hanoi; none: any call)
+m          back to where a command of these or y began, and again further
 w NAME     back to the call that changed the form NAME last
 w #K       back to the call that printed byte K of the output
 w \"TEXT\"   back to the call that printed the last TEXT
@@ -29,10 +36,10 @@ g N        to step N
 i TEXT     a line of input               e          the input ends
 p          the state on one screen       p all      all of it
 f          the forms                     f NAME     one form
-t [N]      the last N calls (1 or more), or 10, with their values
+t [N]      the last N calls, or 10, with their values; t N all: uncut
 h          this list; or help, ?         q          the end; or quit, exit
-An empty line repeats the last move or y. Words with blanks stand in quotes; in
-those \\n is a line feed, and \\xHH the byte of that hexadecimal number.
+An empty line repeats the last move or y; after y \"TEXT\" it goes further back.
+Words with blanks stand in quotes; in those \\n is a line feed, \\xHH that byte.
 ";
 
 /// A way to another state.
@@ -42,6 +49,10 @@ pub enum Move<'a> {
     Forward(u64),
     /// Back over so many steps.
     Back(u64),
+    /// Forward until a step is refused.
+    ToEnd,
+    /// Back to the first step that is kept.
+    ToStart,
     /// Over the function that begins or is performed next.
     Over,
     /// Back to where the function began whose value ends here.
@@ -86,6 +97,8 @@ pub enum Spot<'a> {
 pub enum Order<'a> {
     /// To move.
     Go(Move<'a>),
+    /// To go back to where an earlier command began.
+    Recall,
     /// To feed a line of input.
     Feed(&'a [u8]),
     /// To end the input.
@@ -98,8 +111,8 @@ pub enum Order<'a> {
     Forms,
     /// To show the form of this name.
     Form(&'a [u8]),
-    /// To list the last calls, so many of them.
-    Calls(u64),
+    /// To list the last calls, so many of them; whether each is shown whole.
+    Calls(u64, bool),
     /// To go back to where a byte comes from.
     Follow(Spot<'a>),
     /// To say where the name of the call that comes next was written.
@@ -124,6 +137,7 @@ pub fn order_of<'a>(words: &'a [&'a [u8]], quoted: bool) -> Option<Order<'a>> {
         b"t" => calls_of(rest),
         b"y" => Some(Order::Follow(spot_of(rest, quoted)?)),
         b"l" => alone(rest, Order::Locate),
+        b"m" => alone(rest, Order::Recall),
         b"e" => alone(rest, Order::EndInput),
         b"h" | b"help" | b"?" => alone(rest, Order::Help),
         b"q" | b"quit" | b"exit" => alone(rest, Order::Quit),
@@ -137,15 +151,17 @@ pub fn misunderstood(words: &[&[u8]]) -> &'static [u8] {
         return NOT_UNDERSTOOD;
     };
     match *command {
-        b"s" | b"b" => b"not understood; s and b take a number of 12 digits at most, or nothing\n",
+        b"s" => b"not understood; s takes a number of 12 digits at most, end, or nothing\n",
+        b"b" => b"not understood; b takes a number of 12 digits at most, start, or nothing\n",
         b"g" => b"not understood; g takes a number of 12 digits at most\n",
-        b"t" => b"not understood; t takes a number from 1 on, of 12 digits at most, or nothing\n",
+        b"t" =>
+            b"not understood; t takes a number from 1 on, of 12 digits at most, and all after it, or nothing\n",
         b"w" => b"not understood; w takes NAME, #K or \"TEXT\"\n",
-        b"y" => b"not understood; y takes \"TEXT\", #K, #, NAME K, . A K, or nothing\n",
+        b"y" => b"not understood; y takes \"TEXT\", #K, #, NAME K, . A K, . A, or nothing\n",
         b"i" => b"not understood; i takes TEXT, or one word in quotes, or nothing\n",
         b"p" => b"not understood; p takes all, or nothing\n",
         b"f" => b"not understood; f takes NAME, or nothing\n",
-        b"n" | b"N" | b"o" | b"O" | b"l" | b"e" => STANDS_ALONE,
+        b"n" | b"N" | b"o" | b"O" | b"l" | b"m" | b"e" => STANDS_ALONE,
         b"h" | b"help" | b"?" | b"q" | b"quit" | b"exit" => STANDS_ALONE,
         _ => NOT_UNDERSTOOD,
     }
@@ -154,8 +170,8 @@ pub fn misunderstood(words: &[&[u8]]) -> &'static [u8] {
 // The move that these words say, if they say one.
 fn move_of<'a>(command: &[u8], rest: &'a [&'a [u8]], quoted: bool) -> Option<Move<'a>> {
     match command {
-        b"s" => Some(Move::Forward(count_in(rest, 1)?)),
-        b"b" => Some(Move::Back(count_in(rest, 1)?)),
+        b"s" => forward_of(rest),
+        b"b" => back_of(rest),
         b"n" => alone(rest, Move::Over),
         b"N" => alone(rest, Move::OverBack),
         b"o" => alone(rest, Move::Out),
@@ -165,6 +181,22 @@ fn move_of<'a>(command: &[u8], rest: &'a [&'a [u8]], quoted: bool) -> Option<Mov
         b"w" => looked_for(rest, quoted),
         b"g" => Some(Move::To(number(one_in(rest)?)?)),
         _ => None,
+    }
+}
+
+// How far `s` goes.
+fn forward_of<'a>(rest: &[&[u8]]) -> Option<Move<'a>> {
+    match rest {
+        [b"end"] => Some(Move::ToEnd),
+        _ => Some(Move::Forward(count_in(rest, 1)?)),
+    }
+}
+
+// How far `b` goes.
+fn back_of<'a>(rest: &[&[u8]]) -> Option<Move<'a>> {
+    match rest {
+        [b"start"] => Some(Move::ToStart),
+        _ => Some(Move::Back(count_in(rest, 1)?)),
     }
 }
 
@@ -228,9 +260,13 @@ fn forms_of<'a>(rest: &[&'a [u8]]) -> Option<Order<'a>> {
 
 // The last calls, one of them at least.
 fn calls_of<'a>(rest: &[&[u8]]) -> Option<Order<'a>> {
-    match count_in(rest, CALL_COUNT)? {
+    let (count, is_whole) = match rest {
+        [word, b"all"] => (number(*word)?, true),
+        _ => (count_in(rest, CALL_COUNT)?, false),
+    };
+    match count {
         0 => None,
-        count => Some(Order::Calls(count)),
+        count => Some(Order::Calls(count, is_whole)),
     }
 }
 

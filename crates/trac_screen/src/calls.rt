@@ -3,40 +3,36 @@
 use crate::notes::refused;
 use crate::screen_line::ScreenLine;
 use crate::sight::{Sight, last_of};
-use crate::standing_line::call_into;
+use crate::standing_line::call_into as shown_into;
 use std::alloc::{AllocError, Allocator};
 use trac_rules::refusal::Refusal;
 
-// So many columns a call takes at most, with its number, so that its value is seen.
-const CALL_WIDTH: usize = 56;
+// A call is set in by so many columns for each that is begun around it, and by those of so many calls at most.
+const INDENT: &[u8] = b"  ";
 
-/// The beginning of a line for the call that is performed next, by the step of this number. The error is that memory was
-/// refused, here and below.
-pub fn call_line<A: Allocator + Copy>(
-    alloc: A,
-    step: u64,
-    sight: &Sight<'_, A>,
-) -> Result<ScreenLine<A>, AllocError> {
-    let mut line = ScreenLine::new(alloc);
-    say_call(step, sight, &mut line)?;
-    line.cut(CALL_WIDTH)?;
-    Ok(line)
-}
+const MOST_INDENTS: usize = 12;
 
-fn say_call<A: Allocator + Copy>(
+/// Puts the call that is performed next at the end of a line, with the number of its step. So many calls are begun, itself
+/// among them; it is set in by how many stand around it, the one that prints what is left of a text not counted. The error is
+/// that memory was refused, here and below.
+pub fn call_into<A: Allocator + Copy>(
     step: u64,
+    depth: usize,
     sight: &Sight<'_, A>,
     line: &mut ScreenLine<A>,
 ) -> Result<(), AllocError> {
     line.count(step)?;
     line.say(b"  ")?;
+    for _ in 0..depth.saturating_sub(2).min(MOST_INDENTS) {
+        line.say(INDENT)?;
+    }
     match &sight.begun {
-        Some((kind, arguments)) => call_into(*kind, arguments, line),
+        Some((kind, arguments)) => shown_into(*kind, arguments, line),
         None => Ok(()),
     }
 }
 
-/// Puts what the call gave at the end of its line: its value, or why it was refused.
+/// Puts what the call gave at the end of a line: its value, or why it was refused.
 pub fn outcome_into<A: Allocator + Copy>(
     before: Lengths,
     why: Option<Refusal>,

@@ -4,8 +4,10 @@
 
 mod calls;
 mod form_list;
+mod given;
 mod glance;
 mod notes;
+mod piece;
 mod printing;
 mod screen;
 mod screen_line;
@@ -13,15 +15,18 @@ mod sight;
 mod standing_line;
 mod way;
 
-pub use calls::{Lengths, call_line, outcome_into};
+pub use calls::{Lengths, call_into, outcome_into};
 pub use form_list::{form_into, list_into};
+pub use given::{given_into, only_byte};
 pub use glance::{Glance, glance_at};
 pub use notes::{
-    Forgetting, NO_PRIMITIVE, SEARCH_LIMIT, Stop, no_end_into, refused, stop_into, window_into,
+    Forgetting, Later, NO_PLACE, NO_PRIMITIVE, SEARCH_LIMIT, Stop, later_into, no_end_into,
+    refused, stop_into, window_into,
 };
+pub use piece::piece_into;
 pub use printing::lacks_output_room;
 pub use screen::{Reach, screen_into};
 pub use screen_line::ScreenLine;
-pub use sight::{Sight, reads_text, sight_of};
+pub use sight::{Sight, argument_count, reads_text, sight_of};
 pub use standing_line::standing_into;
 pub use way::{Origin, Treatment, left_out_into, origin_into, step_line, treatment_into};

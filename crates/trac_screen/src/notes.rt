@@ -14,8 +14,12 @@ pub enum Stop {
     Refused(Refusal),
     /// A step forward was refused so before the call was met that was looked for.
     Unmet(Refusal),
+    /// So too, at the step of this number, and the walk went back to where it began.
+    UnmetUpTo(Refusal, u64),
     /// The steps of a search were spent, which can go on from there.
     Spent,
+    /// So many steps were taken on the way to where the program waits or ends.
+    Going,
     /// The steps of a search were spent, which looked for the end of a call. The same command would be about another call
     /// there.
     Unended,
@@ -57,6 +61,9 @@ pub enum Stop {
 const NO_FORM: &[u8] =
     b"there is no form of this name; printed text stands in quotes: w \"TEXT\"\n";
 
+/// What is said where no command began at a step that is kept.
+pub const NO_PLACE: &[u8] = b"no earlier place is kept\n";
+
 /// What may have been meant where a call is not met whose first word is the name of no primitive.
 pub const NO_PRIMITIVE: &[u8] =
     b"no primitive has this name; a form is met by its call: u cl NAME, r cl NAME\n";
@@ -74,8 +81,21 @@ pub fn stop_into<A: Allocator + Copy>(
     line.end_into(out)?;
     match stop {
         Stop::NoForm => out.extend_from_slice(NO_FORM),
+        Stop::UnmetUpTo(_, step) => recall_into(alloc, step, out),
         _ => Ok(()),
     }
+}
+
+// That `m` goes to this step, where a search has ended.
+fn recall_into<A: Allocator + Copy>(
+    alloc: A,
+    step: u64,
+    out: &mut Vec<u8, A>,
+) -> Result<(), AllocError> {
+    let mut line = ScreenLine::new(alloc);
+    line.say(b"m goes to step ")?;
+    say_count(step, b", where the search ended", &mut line)?;
+    line.end_into(out)
 }
 
 // Why a move stopped, in words.
@@ -84,12 +104,16 @@ fn say_stop<A: Allocator + Copy>(
     stop: Stop,
     line: &mut ScreenLine<A>,
 ) -> Result<(), AllocError> {
-    if matches!(stop, Stop::Unmet(_)) {
+    if matches!(stop, Stop::Unmet(_) | Stop::UnmetUpTo(_, _)) {
         line.say(b"not met; ")?;
     }
     line.say(reason(stop))?;
     match stop {
-        Stop::Spent => say_count(SEARCH_LIMIT, b" steps; an empty line goes on", line),
+        Stop::Spent | Stop::Going => say_count(
+            SEARCH_LIMIT,
+            b" steps; an empty line goes on",
+            line,
+        ),
         Stop::Unended => say_count(SEARCH_LIMIT, b" steps; s N goes on by N steps", line),
         Stop::AtFirst | Stop::NotMet | Stop::NoForm => line.count(first_step),
         Stop::NoValueSince => say_count(first_step, b", the first that is kept, ends here", line),
@@ -111,8 +135,11 @@ fn say_count<A: Allocator + Copy>(
 // Why a move stopped, up to the number that is said with it, where one is.
 fn reason(stop: Stop) -> &'static [u8] {
     match stop {
-        Stop::Refused(refusal) | Stop::Unmet(refusal) => refused(refusal),
+        Stop::Refused(refusal) | Stop::Unmet(refusal) | Stop::UnmetUpTo(refusal, _) => {
+            refused(refusal)
+        }
         Stop::Spent => b"not met after ",
+        Stop::Going => b"the program goes on after ",
         Stop::Unended => b"the call has not ended after ",
         Stop::AtFirst => b"this is the first step that is kept, step ",
         Stop::NotMet | Stop::NoForm => b"not met since the first step that is kept, step ",
@@ -147,11 +174,46 @@ pub fn refused(refusal: Refusal) -> &'static [u8] {
     }
 }
 
+/// Where a text is printed that was not printed so far.
+#[derive(Clone, Copy)]
+pub enum Later {
+    /// By this step first.
+    By(u64),
+    /// Not before this step; what the program does from there on is not known.
+    NotUpTo(u64),
+}
+
+/// Puts a line at the end of a text that says where a text is printed later. The error is that memory was refused.
+pub fn later_into<A: Allocator + Copy>(
+    alloc: A,
+    later: Later,
+    out: &mut Vec<u8, A>,
+) -> Result<(), AllocError> {
+    let mut line = ScreenLine::new(alloc);
+    match later {
+        Later::By(step) => say_step(b"it is printed first by step ", step, &mut line)?,
+        Later::NotUpTo(step) => say_step(b"nor is it printed up to step ", step, &mut line)?,
+    }
+    line.end_into(out)
+}
+
+// Words, and the number of a step.
+fn say_step<A: Allocator + Copy>(
+    words: &[u8],
+    step: u64,
+    line: &mut ScreenLine<A>,
+) -> Result<(), AllocError> {
+    line.say(words)?;
+    line.count(step)
+}
+
 /// Why steps are forgotten.
 #[derive(Clone, Copy)]
 pub enum Forgetting {
     /// To make room for the output.
     ForOutput,
+    /// To take no more memory, of which `--keep` allows more.
+    ForMemory,
     /// So many are kept, and `--journal` can keep more.
     ForSteps,
     /// So many are kept, and no more can be.
@@ -176,6 +238,7 @@ pub fn window_into<A: Allocator + Copy>(
 fn forgotten(why: Forgetting) -> &'static [u8] {
     match why {
         Forgetting::ForOutput => b" are forgotten, to make room for the output",
+        Forgetting::ForMemory => b" are forgotten, to take no more memory; --keep keeps more",
         Forgetting::ForSteps => b" are forgotten; --journal keeps more",
         Forgetting::ForMostSteps => b" are forgotten",
     }

@@ -144,7 +144,7 @@ fn text_into<E: TwoEnds<u8, A>, M: TwoEnds<Mark, A>, A: Allocator + Copy>(
 }
 
 // The end of a shown text, of so many columns at most, after `..` where something stands before it.
-fn end_of_into<A: Allocator + Copy>(
+pub(crate) fn end_of_into<A: Allocator + Copy>(
     shown: &[u8],
     columns: usize,
     is_cut: bool,

@@ -8,6 +8,9 @@ use trac_streams::{escaped_into, number_into};
 /// How many columns a screen has (this project's profile).
 pub const WIDTH: usize = 80;
 
+// Of a line of two parts the first has so many columns where both are long.
+const FIRST_WIDTH: usize = 56;
+
 // What stands at the end of a line where more does not fit.
 const CUT: &[u8] = b"..";
 
@@ -31,6 +34,19 @@ impl<A: Allocator + Copy> ScreenLine<A> {
     /// Whether what comes next would not be seen.
     pub fn is_full(&self) -> bool {
         self.bytes.len() > self.width
+    }
+
+    /// An empty line that is never cut. It takes no memory.
+    pub fn uncut(alloc: A) -> Self {
+        ScreenLine {
+            bytes: Vec::new(alloc),
+            width: usize::MAX,
+        }
+    }
+
+    /// How many columns it has so far.
+    pub fn columns(&self) -> usize {
+        self.bytes.len()
     }
 
     /// Puts words at the end, which are printable. The error is that memory was refused, here and below.
@@ -61,7 +77,7 @@ impl<A: Allocator + Copy> ScreenLine<A> {
         if self.is_full() {
             return Ok(());
         }
-        escaped_into(front(text, WIDTH + 1), &mut self.bytes)
+        escaped_into(front(text, self.width.saturating_add(1)), &mut self.bytes)
     }
 
     /// Puts blanks at the end, two or as many as lead to this column.
@@ -83,9 +99,20 @@ impl<A: Allocator + Copy> ScreenLine<A> {
         self.bytes.extend_from_slice(CUT)
     }
 
+    /// Cuts the line to the screen, and puts it at the end of a text, with another line after it. Where both are too long the
+    /// second has what the first leaves of the screen, or a third of it.
+    pub fn end_before(mut self, next: Self, out: &mut Vec<u8, A>) -> Result<(), AllocError> {
+        let width = self.width;
+        let left = width.saturating_sub(next.columns());
+        self.cut(left.max(FIRST_WIDTH.min(width)))?;
+        self.bytes.extend_from_slice(next.bytes.as_slice())?;
+        self.end_into(out)
+    }
+
     /// Cuts the line to the screen, and puts it at the end of a text.
     pub fn end_into(mut self, out: &mut Vec<u8, A>) -> Result<(), AllocError> {
-        self.cut(WIDTH)?;
+        let width = self.width;
+        self.cut(width)?;
         out.extend_from_slice(self.bytes.as_slice())?;
         Ok(out.push(LINE_FEED)?)
     }

@@ -45,6 +45,23 @@ fn sight_in<E: TwoEnds<u8, A>, M: TwoEnds<Mark, A>, A: Allocator + Copy>(
     }
 }
 
+/// How many arguments the begun function of this number has so far, its name among them, the outermost function being
+/// number 0.
+pub fn argument_count<A: Allocator + Copy>(machine: &Machine<A>, number: usize) -> usize {
+    count_in(machine, number)
+}
+
+// The same of a machine of any representation.
+fn count_in<E: TwoEnds<u8, A>, M: TwoEnds<Mark, A>, A: Allocator + Copy>(
+    machine: &Core<E, M, A>,
+    number: usize,
+) -> usize {
+    match machine.frame(number) {
+        Some((_, arguments)) => arguments.count(),
+        None => 0,
+    }
+}
+
 // The text that is gathered at this depth.
 fn text_at<E: TwoEnds<u8, A>, M: TwoEnds<Mark, A>, A: Allocator + Copy>(
     machine: &Core<E, M, A>,
@@ -65,7 +82,9 @@ pub fn last_of<'m>(arguments: &Args<'m>) -> &'m [u8] {
 }
 
 // The arguments of the call that the next step performs; none where it performs none.
-fn performed_in<'s, 'm, A: Allocator + Copy>(sight: &'s Sight<'m, A>) -> Option<&'s Args<'m>> {
+pub(crate) fn performed_in<'s, 'm, A: Allocator + Copy>(
+    sight: &'s Sight<'m, A>,
+) -> Option<&'s Args<'m>> {
     match (sight.active, &sight.begun) {
         ([b')', ..], Some((_, arguments))) => Some(arguments),
         _ => None,

@@ -20,6 +20,14 @@ pub enum Treatment {
     Puts,
     /// A call gave it in its value.
     Gives,
+    /// A call that stood there gave an empty value.
+    GivesNothing,
+    /// A call filled the gap of this number with nothing.
+    LeavesGap(u64),
+    /// A call made the gap.
+    MakesGap,
+    /// A call left a form with nothing in it.
+    Empties,
     /// The way of the byte ends here, so.
     Ends(Origin),
 }
@@ -73,6 +81,7 @@ fn say_treatment<A: Allocator + Copy>(
     match treatment {
         Treatment::Ends(Origin::Read(row, column)) => place_into(row, column, line),
         Treatment::Ends(Origin::ReadFed(number)) => fed_into(number, line),
+        Treatment::LeavesGap(number) => left_into(number, line),
         _ => Ok(()),
     }
 }
@@ -92,6 +101,12 @@ fn place_into<A: Allocator + Copy>(
 fn fed_into<A: Allocator + Copy>(number: u64, line: &mut ScreenLine<A>) -> Result<(), AllocError> {
     line.count(number)?;
     line.say(b" after FILE")
+}
+
+// That the gap of this number is filled with nothing.
+fn left_into<A: Allocator + Copy>(number: u64, line: &mut ScreenLine<A>) -> Result<(), AllocError> {
+    line.count(number)?;
+    line.say(b" empty")
 }
 
 /// Puts where a byte comes from at the end of a line; its way ends at the step of this number.
@@ -126,6 +141,10 @@ fn words_of(treatment: Treatment) -> &'static [u8] {
         Treatment::Prints => b"prints it",
         Treatment::Puts => b"sets it",
         Treatment::Gives => b"gives it",
+        Treatment::GivesNothing => b"gives an empty value",
+        Treatment::LeavesGap(_) => b"leaves gap ",
+        Treatment::MakesGap => b"makes the gap",
+        Treatment::Empties => b"empties it",
         Treatment::Ends(Origin::Made) => b"makes it",
         Treatment::Ends(Origin::Read(_, _)) => b"reads it: line ",
         Treatment::Ends(Origin::ReadFed(_)) => b"reads it: byte ",

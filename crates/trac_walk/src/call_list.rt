@@ -3,22 +3,23 @@
 use crate::aim::Aim;
 use crate::walker::Walker;
 use std::alloc::{AllocError, Allocator};
-use trac_screen::{Lengths, call_line, outcome_into};
+use trac_screen::{Lengths, ScreenLine, call_into, outcome_into};
 use trac_session::Refusal;
 
 /// Puts a line for each of the last calls of the program's own at the end of a text, the earliest first: the number of its
-/// step, the call, and its value. To find them it goes back, and then forward again to where it was. Where a step is refused
+/// step, the call, and its value, cut to the screen unless they are wanted whole. To find them it goes back, and then forward again to where it was. Where a step is refused
 /// on the way, for memory alone, the lines end there, and the refusal is returned; where that is refused too, it stands
 /// there. The error is that memory was refused for the lines, here and below.
 pub fn calls_into<A: Allocator + Copy>(
     alloc: A,
     walker: &mut Walker<A>,
     count: u64,
+    is_whole: bool,
     out: &mut Vec<u8, A>,
 ) -> Result<Option<Refusal>, AllocError> {
     let end = walker.step();
     let mut steps = Vec::new(alloc);
-    let met = lines_into(alloc, walker, count, &mut steps, out)?;
+    let met = lines_into(alloc, walker, count, is_whole, &mut steps, out)?;
     let ahead = walker.forward(end.saturating_sub(walker.step()));
     Ok(if met.is_some() { met } else { ahead })
 }
@@ -29,6 +30,7 @@ fn lines_into<A: Allocator + Copy>(
     alloc: A,
     walker: &mut Walker<A>,
     count: u64,
+    is_whole: bool,
     steps: &mut Vec<u64, A>,
     out: &mut Vec<u8, A>,
 ) -> Result<Option<Refusal>, AllocError> {
@@ -44,7 +46,7 @@ fn lines_into<A: Allocator + Copy>(
         if stopped.is_some() {
             return Ok(stopped);
         }
-        line_into(alloc, walker, out)?;
+        line_into(alloc, walker, is_whole, out)?;
     }
     Ok(None)
 }
@@ -70,11 +72,24 @@ fn steps_into<A: Allocator + Copy>(
 fn line_into<A: Allocator + Copy>(
     alloc: A,
     walker: &mut Walker<A>,
+    is_whole: bool,
     out: &mut Vec<u8, A>,
 ) -> Result<(), AllocError> {
-    let mut line = call_line(alloc, walker.step(), &walker.sight())?;
+    let mut call = line_of(alloc, is_whole);
+    let depth = walker.glance().depth;
+    call_into(walker.step(), depth, &walker.sight(), &mut call)?;
     let before = Lengths::of(&walker.sight());
     let why = walker.forward(1);
-    outcome_into(before, why, &walker.sight(), &mut line)?;
-    line.end_into(out)
+    let mut outcome = line_of(alloc, is_whole);
+    outcome_into(before, why, &walker.sight(), &mut outcome)?;
+    call.end_before(outcome, out)
+}
+
+// An empty line, which is cut to the screen or not.
+fn line_of<A: Allocator + Copy>(alloc: A, is_whole: bool) -> ScreenLine<A> {
+    if is_whole {
+        ScreenLine::uncut(alloc)
+    } else {
+        ScreenLine::new(alloc)
+    }
 }

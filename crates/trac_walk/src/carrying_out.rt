@@ -14,6 +14,8 @@ pub fn carry_out<A: Allocator + Copy>(walker: &mut Walker<A>, way: Move<'_>) -> 
     match way {
         Move::Forward(steps) => stop_ahead(walker.forward(steps)),
         Move::Back(steps) => stop_back(walker.back(steps)),
+        Move::ToEnd => to_end(walker),
+        Move::ToStart => to_start(walker),
         Move::To(step) => go_to(walker, step),
         Move::Over => over(walker),
         Move::OverBack => over_back(walker),
@@ -49,12 +51,36 @@ fn stop_back(why: Option<Refusal>) -> Option<Stop> {
     }
 }
 
-// Forward to a call.
-fn until<A: Allocator + Copy>(walker: &mut Walker<A>, call: &[&[u8]]) -> Option<Stop> {
-    match walker.forward_to(call_aim(call), SEARCH_LIMIT)? {
-        Refusal::NotMet => Some(Stop::Spent),
-        refusal => Some(Stop::Unmet(refusal)),
+// Forward until a step is refused, by as many steps at most as a search takes.
+fn to_end<A: Allocator + Copy>(walker: &mut Walker<A>) -> Option<Stop> {
+    match walker.forward(SEARCH_LIMIT) {
+        None => Some(Stop::Going),
+        refused => stop_ahead(refused),
     }
+}
+
+// Back to the first step that is kept. Where that is not the start of the program, it is said.
+fn to_start<A: Allocator + Copy>(walker: &mut Walker<A>) -> Option<Stop> {
+    let stopped = stop_back(walker.back(u64::MAX));
+    if walker.first_step() == 0 {
+        return None;
+    }
+    stopped
+}
+
+// Forward to a call. Where it is not met before a step is refused, back to where it began, if that is still kept.
+fn until<A: Allocator + Copy>(walker: &mut Walker<A>, call: &[&[u8]]) -> Option<Stop> {
+    let start = walker.step();
+    let refusal = match walker.forward_to(call_aim(call), SEARCH_LIMIT)? {
+        Refusal::NotMet => return Some(Stop::Spent),
+        refusal => refusal,
+    };
+    let reached = walker.step();
+    if start == reached || start < walker.first_step() {
+        return Some(Stop::Unmet(refusal));
+    }
+    let _ = walker.back(reached.saturating_sub(start));
+    Some(Stop::UnmetUpTo(refusal, reached))
 }
 
 // What a walk to a call looks for.
@@ -75,13 +101,9 @@ fn to_change<A: Allocator + Copy>(walker: &mut Walker<A>, name: &[u8]) -> Option
     stopped
 }
 
+// To a step, forward or back.
 fn go_to<A: Allocator + Copy>(walker: &mut Walker<A>, step: u64) -> Option<Stop> {
-    let now = walker.step();
-    if step < now {
-        stop_back(walker.back(now - step))
-    } else {
-        stop_ahead(walker.forward(step - now))
-    }
+    stop_back(walker.go_to(step))
 }
 
 // Over the function that begins or is performed next: until its value is scanned too.

@@ -6,6 +6,8 @@ mod aim;
 mod call_list;
 mod calls_told;
 mod carrying_out;
+mod later;
+mod missing;
 mod origins;
 mod output;
 mod replying;

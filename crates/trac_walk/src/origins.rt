@@ -1,6 +1,8 @@
 //! The way of a byte back to where it comes from.
 
 use crate::calls_told::{Way, told_way};
+use crate::later::printed_later_into;
+use crate::missing::{empty_argument_into, empty_form_into, is_empty_argument};
 use crate::output::{last_printed, printed, printed_text};
 use crate::standing::stand_into;
 use crate::walker::Walker;
@@ -9,13 +11,14 @@ use trac_follow::{End, Place, Witness};
 use trac_orders::Spot;
 use trac_rules::byte::LINE_FEED;
 use trac_screen::{
-    Origin, Stop, Treatment, left_out_into, origin_into, step_line, stop_into, treatment_into,
+    Origin, Stop, Treatment, left_out_into, origin_into, piece_into, step_line, stop_into,
+    treatment_into,
 };
 use trac_session::Machine;
 
 // Of the way nothing is said.
 #[derive(Clone, Copy)]
-struct Unsaid;
+pub struct Unsaid;
 
 impl<A: Allocator + Copy> Witness<A> for Unsaid {
     fn passed(
@@ -39,18 +42,31 @@ pub fn way_into<A: Allocator + Copy>(
     spot: Spot<'_>,
     out: &mut Vec<u8, A>,
 ) -> Result<(), AllocError> {
-    let place = match place_of(walker, spot) {
-        Ok(place) => place,
-        Err(stop) => return stay(alloc, walker, stop, out),
-    };
+    match place_of(walker, spot) {
+        Ok(place) if stands_at(walker, spot) => followed_into(alloc, walker, program, place, out),
+        Ok(_) => missing_into(alloc, walker, program, spot, out),
+        Err(stop) => unfollowed_into(alloc, walker, spot, stop, out),
+    }
+}
+
+/// The same of a place.
+pub fn followed_into<A: Allocator + Copy>(
+    alloc: A,
+    walker: &mut Walker<A>,
+    program: &[u8],
+    place: Place<'_>,
+    out: &mut Vec<u8, A>,
+) -> Result<(), AllocError> {
     let (way, found) = told_way(alloc, walker, place);
+    let read = number_read(walker, &found.end);
     let origin = match found.end {
-        End::Nothing => return stay(alloc, walker, absent(walker, spot), out),
+        End::Nothing => return stay(alloc, walker, Stop::NoByte, out),
         End::Unkept | End::Untold => return Err(AllocError),
         end => origin_of(walker, program, end),
     };
     calls_into(&way, out)?;
     end_into(alloc, walker, way.left_out(), origin, out)?;
+    source_into(alloc, program, read, out)?;
     out.extend_from_slice(b"here: ")?;
     stand_into(alloc, walker, out)
 }
@@ -79,6 +95,7 @@ pub fn written_into<A: Allocator + Copy>(
     let end = walker.step();
     let mut line = step_line(alloc, end, &walker.sight())?;
     let found = walker.trace(place, &mut Unsaid).end;
+    let read = number_read(walker, &found);
     let origin = origin_of(walker, program, found);
     let source = walker.step();
     if let Some(refusal) = walker.forward(end.saturating_sub(source)) {
@@ -90,11 +107,87 @@ pub fn written_into<A: Allocator + Copy>(
         _ => {}
     }
     origin_into(origin, source, &mut line)?;
-    line.end_into(out)
+    line.end_into(out)?;
+    source_into(alloc, program, read, out)
 }
 
-// Says why no byte is followed, and where it stands.
-fn stay<A: Allocator + Copy>(
+// Whether a byte stands, or a gap, where one is wanted of a form or of an argument. Elsewhere its place says so.
+fn stands_at<A: Allocator + Copy>(walker: &Walker<A>, spot: Spot<'_>) -> bool {
+    let sight = walker.sight();
+    match (spot, &sight.begun) {
+        (Spot::OfForm(name, number), _) => match sight.store.get(name) {
+            Some(form) => number <= form.len() as u64,
+            None => false,
+        },
+        (Spot::OfArgument(argument, number), Some((_, arguments))) => {
+            argument < arguments.count() as u64
+                && number <= arguments.get(argument as usize).len() as u64
+        }
+        (Spot::Next, Some((_, arguments))) => {
+            walker.glance().beginning > 0 || !arguments.get(0).is_empty()
+        }
+        _ => true,
+    }
+}
+
+// Says why nothing stands where a byte is wanted: of an empty argument or form also what left it so.
+fn missing_into<A: Allocator + Copy>(
+    alloc: A,
+    walker: &mut Walker<A>,
+    program: &[u8],
+    spot: Spot<'_>,
+    out: &mut Vec<u8, A>,
+) -> Result<(), AllocError> {
+    if let Some(argument) = argument_in(walker, spot) {
+        return empty_argument_into(alloc, walker, program, argument as usize, out);
+    }
+    match spot {
+        Spot::OfForm(name, _) if is_empty_form(walker, name) => {
+            empty_form_into(alloc, walker, name, out)
+        }
+        spot => stay(alloc, walker, absent(walker, spot), out),
+    }
+}
+
+// The empty argument that is meant: `y . A` is read as of a form whose name is a dot, so it is meant where there is none.
+fn argument_in<A: Allocator + Copy>(walker: &Walker<A>, spot: Spot<'_>) -> Option<u64> {
+    let argument = match spot {
+        Spot::OfArgument(argument, _) => argument,
+        Spot::OfForm(b".", argument) if walker.sight().store.get(b".").is_none() => argument,
+        _ => return None,
+    };
+    if is_empty_argument(walker, argument) {
+        Some(argument)
+    } else {
+        None
+    }
+}
+
+// Whether there is a form of this name, with nothing in it.
+fn is_empty_form<A: Allocator + Copy>(walker: &Walker<A>, name: &[u8]) -> bool {
+    match walker.sight().store.get(name) {
+        Some(form) => form.len() == 0,
+        None => false,
+    }
+}
+
+// Says why a byte cannot be looked for, and of a text that was not printed so far whether it is printed later.
+fn unfollowed_into<A: Allocator + Copy>(
+    alloc: A,
+    walker: &mut Walker<A>,
+    spot: Spot<'_>,
+    stop: Stop,
+    out: &mut Vec<u8, A>,
+) -> Result<(), AllocError> {
+    stop_into(alloc, walker.first_step(), stop, out)?;
+    if let (Spot::PrintedText(text), Stop::NotPrinted | Stop::NotPrintedSince) = (spot, stop) {
+        printed_later_into(alloc, walker, text, out)?;
+    }
+    stand_into(alloc, walker, out)
+}
+
+/// Says why no byte is followed, and where it stands.
+pub fn stay<A: Allocator + Copy>(
     alloc: A,
     walker: &Walker<A>,
     stop: Stop,
@@ -199,6 +292,27 @@ fn origin_of<A: Allocator + Copy>(walker: &Walker<A>, program: &[u8], end: End) 
         End::Made => Origin::Made,
         End::Read(n) => read_as(walker.input_number(n), program),
         _ => Origin::There,
+    }
+}
+
+// Which byte of all input a way ended at, where it was read.
+fn number_read<A: Allocator + Copy>(walker: &Walker<A>, end: &End) -> Option<u64> {
+    match end {
+        End::Read(n) => Some(walker.input_number(*n)),
+        _ => None,
+    }
+}
+
+// The line of the program that has the byte of this number of the input, if one was read.
+fn source_into<A: Allocator + Copy>(
+    alloc: A,
+    program: &[u8],
+    read: Option<u64>,
+    out: &mut Vec<u8, A>,
+) -> Result<(), AllocError> {
+    match read {
+        Some(number) => piece_into(alloc, program, number, out),
+        None => Ok(()),
     }
 }
 

@@ -7,14 +7,14 @@ use crate::standing::stand_into;
 use crate::walker::Walker;
 use std::alloc::{AllocError, Allocator};
 use trac_orders::{
-    HELP, Move, NOT_UNDERSTOOD, Order, Spot, Word, has_words, is_second_quoted, misunderstood,
-    order_of, texts_of, words_of,
+    HELP, Move, Order, Spot, UNQUOTED, Word, has_words, is_second_quoted, misunderstood, order_of,
+    texts_of, words_of,
 };
 use trac_prims::primitive_named;
 use trac_rules::primitive::Primitive;
 use trac_screen::{
-    NO_PRIMITIVE, Stop, form_into, list_into, no_end_into, reads_text, refused, screen_into,
-    stop_into, window_into,
+    NO_PLACE, NO_PRIMITIVE, Stop, form_into, given_into, list_into, no_end_into, only_byte,
+    reads_text, refused, screen_into, stop_into, window_into,
 };
 use trac_show::machine_lines;
 
@@ -27,6 +27,10 @@ pub struct Memo<'p, A: Allocator + Copy> {
     last: Vec<u8, A>,
     // whether it was said that steps are forgotten
     told: bool,
+    // the steps at which moves began that can be taken back, the latest last
+    places: Vec<u64, A>,
+    // whether an empty line follows on from where a byte of the output came from
+    follows_on: bool,
 }
 
 impl<'p, A: Allocator + Copy> Memo<'p, A> {
@@ -36,7 +40,35 @@ impl<'p, A: Allocator + Copy> Memo<'p, A> {
             program,
             last: Vec::new(alloc),
             told: false,
+            places: Vec::new(alloc),
+            follows_on: false,
         }
+    }
+
+    // Keeps a line that asks for a move, for an empty line to repeat. The error is that memory was refused.
+    fn keep_line(&mut self, alloc: A, line: &[u8]) -> Result<(), AllocError> {
+        self.last = Vec::from_slice(alloc, line)?;
+        self.follows_on = false;
+        Ok(())
+    }
+
+    // Keeps a step to go back to, unless the walk stands there. The error is that memory was refused.
+    fn keep_place(&mut self, place: u64, step: u64) -> Result<(), AllocError> {
+        if place == step {
+            return Ok(());
+        }
+        Ok(self.places.push(place)?)
+    }
+
+    // Takes out the latest step to go back to that is another than this and not before the first one that is kept.
+    fn take_place(&mut self, step: u64, first_step: u64) -> Option<u64> {
+        for _ in 0..self.places.len() {
+            let place = self.places.pop()?;
+            if place != step && place >= first_step {
+                return Some(place);
+            }
+        }
+        None
     }
 }
 
@@ -52,6 +84,10 @@ pub fn reply_into<A: Allocator + Copy>(
 ) -> Result<bool, AllocError> {
     if has_words(line) {
         return obey_line(alloc, walker, memo, line, out);
+    }
+    if memo.follows_on {
+        follow_on(alloc, walker, memo, out)?;
+        return Ok(true);
     }
     if memo.last.is_empty() {
         stand_into(alloc, walker, out)?;
@@ -70,7 +106,7 @@ fn obey_line<A: Allocator + Copy>(
     out: &mut Vec<u8, A>,
 ) -> Result<bool, AllocError> {
     let Some(words) = words_of(alloc, line)? else {
-        out.extend_from_slice(NOT_UNDERSTOOD)?;
+        out.extend_from_slice(UNQUOTED)?;
         return Ok(true);
     };
     obey_words(alloc, walker, memo, line, &words, out)
@@ -110,11 +146,12 @@ fn obey<A: Allocator + Copy>(
     match order {
         Order::Quit => return Ok(false),
         Order::Go(way) => go(alloc, walker, memo, line, way, out)?,
+        Order::Recall => recall(alloc, walker, memo, line, out)?,
         Order::Follow(spot) => follow(alloc, walker, memo, line, spot, out)?,
         Order::Locate => written_into(alloc, walker, memo.program, out)?,
         Order::Feed(text) => feed(alloc, walker, text, out)?,
         Order::EndInput => end_input(alloc, walker, out)?,
-        Order::Calls(count) => list_calls(alloc, walker, count, out)?,
+        Order::Calls(count, is_whole) => list_calls(alloc, walker, count, is_whole, out)?,
         Order::Print => screen_into(alloc, walker.machine(), walker.reach(), out)?,
         Order::PrintAll => print_all(alloc, walker, out)?,
         Order::Forms => list_into(alloc, walker.sight().store, out)?,
@@ -133,11 +170,47 @@ fn go<A: Allocator + Copy>(
     way: Move<'_>,
     out: &mut Vec<u8, A>,
 ) -> Result<(), AllocError> {
-    memo.last = Vec::from_slice(alloc, line)?;
+    memo.keep_line(alloc, line)?;
+    let start = walker.step();
     let stop = carry_out(walker, way);
+    keep_start(walker, memo, way, start, stop)?;
     tell(alloc, walker, stop, &mut memo.told, out)?;
     if is_unmet(stop) && names_no_primitive(way) {
         out.extend_from_slice(NO_PRIMITIVE)?;
+    }
+    stand_into(alloc, walker, out)
+}
+
+// Keeps where a move began, or where a search ended that went back; single steps are not kept.
+fn keep_start<A: Allocator + Copy>(
+    walker: &Walker<A>,
+    memo: &mut Memo<'_, A>,
+    way: Move<'_>,
+    start: u64,
+    stop: Option<Stop>,
+) -> Result<(), AllocError> {
+    match (way, stop) {
+        (_, Some(Stop::UnmetUpTo(_, reached))) => memo.keep_place(reached, walker.step()),
+        (Move::Forward(_) | Move::Back(_), _) => Ok(()),
+        _ => memo.keep_place(start, walker.step()),
+    }
+}
+
+// Goes back to where the last move began of those that are kept, and says where it has come to.
+fn recall<A: Allocator + Copy>(
+    alloc: A,
+    walker: &mut Walker<A>,
+    memo: &mut Memo<'_, A>,
+    line: &[u8],
+    out: &mut Vec<u8, A>,
+) -> Result<(), AllocError> {
+    memo.keep_line(alloc, line)?;
+    match memo.take_place(walker.step(), walker.first_step()) {
+        None => out.extend_from_slice(NO_PLACE)?,
+        Some(place) => {
+            let stop = carry_out(walker, Move::To(place));
+            tell(alloc, walker, stop, &mut memo.told, out)?;
+        }
     }
     stand_into(alloc, walker, out)
 }
@@ -151,13 +224,48 @@ fn follow<A: Allocator + Copy>(
     spot: Spot<'_>,
     out: &mut Vec<u8, A>,
 ) -> Result<(), AllocError> {
-    memo.last = Vec::from_slice(alloc, line)?;
-    way_into(alloc, walker, memo.program, spot, out)
+    memo.keep_line(alloc, line)?;
+    let start = walker.step();
+    way_into(alloc, walker, memo.program, spot, out)?;
+    memo.follows_on = is_printed(spot) && walker.step() != start;
+    memo.keep_place(start, walker.step())
+}
+
+// Whether a byte is meant that was printed.
+fn is_printed(spot: Spot<'_>) -> bool {
+    matches!(
+        spot,
+        Spot::Printed(_) | Spot::LastPrinted | Spot::PrintedText(_)
+    )
+}
+
+// Follows the byte back that the call was given to which a byte of the output led, if there is one; else says which there are.
+fn follow_on<A: Allocator + Copy>(
+    alloc: A,
+    walker: &mut Walker<A>,
+    memo: &mut Memo<'_, A>,
+    out: &mut Vec<u8, A>,
+) -> Result<(), AllocError> {
+    let start = walker.step();
+    match only_byte(&walker.sight()) {
+        Some((argument, byte)) => {
+            let spot = Spot::OfArgument(argument, byte);
+            way_into(alloc, walker, memo.program, spot, out)?;
+        }
+        None => {
+            given_into(alloc, &walker.sight(), out)?;
+            stand_into(alloc, walker, out)?;
+        }
+    }
+    memo.keep_place(start, walker.step())
 }
 
 // Whether a move stopped because what it looked for is not met.
 fn is_unmet(stop: Option<Stop>) -> bool {
-    matches!(stop, Some(Stop::Unmet(_) | Stop::NotMet | Stop::Spent))
+    matches!(
+        stop,
+        Some(Stop::Unmet(_) | Stop::UnmetUpTo(_, _) | Stop::NotMet | Stop::Spent)
+    )
 }
 
 // Whether a move looks for a call whose first word is the name of no primitive.
@@ -223,9 +331,10 @@ fn list_calls<A: Allocator + Copy>(
     alloc: A,
     walker: &mut Walker<A>,
     count: u64,
+    is_whole: bool,
     out: &mut Vec<u8, A>,
 ) -> Result<(), AllocError> {
-    if let Some(refusal) = calls_into(alloc, walker, count, out)? {
+    if let Some(refusal) = calls_into(alloc, walker, count, is_whole, out)? {
         stop_into(alloc, walker.first_step(), Stop::Refused(refusal), out)?;
     }
     stand_into(alloc, walker, out)

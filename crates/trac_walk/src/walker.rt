@@ -17,25 +17,35 @@ use trac_session::{Goal, Machine, Refusal, Return, Session, Walk};
 use trac_streams::Ending;
 use trac_window::Window;
 
-/// A session over a program, and how far it is from the start. Where the journal is full, and where there is no room for
-/// more output, the walker forgets the older half of the steps, with what they printed, and goes on.
+// An item of a form takes 8 bytes in a record and weighs one, and lists may have as much room again as they need. So a record
+// takes at most so many bytes for each that it weighs.
+const WEIGHED_BYTES: u64 = 12;
+
+// A search looks after so many steps whether the records weigh too much.
+const SEARCH_STEPS: u64 = 16;
+
+/// A session over a program, and how far it is from the start. Where the journal is full or its records weigh too much, and
+/// where there is no room for more output, the walker forgets the older half of the steps, with what they printed, and goes on.
 #[derive(Drop)]
 pub struct Walker<A: Allocator + Copy> {
     // the session, and what of it is forgotten
     pub(crate) window: Window<A>,
     // how many records the journal may hold
     limit: usize,
-    // whether some were forgotten to make room for the output
-    has_made_output_room: bool,
+    // how much the records may weigh
+    weight: u64,
+    // why some were forgotten first; not said where the journal was full
+    reason: Option<Forgetting>,
     // how many bytes of input there were so far
     fed: u64,
 }
 
 impl<A: Allocator + Copy> Walker<A> {
-    /// At the start of the program, which is the whole input so far.
+    /// At the start of the program, which is the whole input so far. The records of the steps that are kept take some `keep`
+    /// bytes at most.
     ///
     /// `Ending::Limit`: the program has more than 33,554,432 bytes. `Ending::Memory`: memory was refused.
-    pub fn new(alloc: A, tape: &[u8], limit: usize, width: Width) -> Result<Self, Ending>
+    pub fn new(alloc: A, tape: &[u8], limit: usize, keep: u64, width: Width) -> Result<Self, Ending>
         requires some_records { 1 ≤ limit }
         requires most_records { limit ≤ JOURNAL_LIMIT }
         ensures made { OnOk result (length tape.now ≤ TAPE_LIMIT) }
@@ -45,7 +55,8 @@ impl<A: Allocator + Copy> Walker<A> {
         Ok(Walker {
             window,
             limit,
-            has_made_output_room: false,
+            weight: keep / WEIGHED_BYTES,
+            reason: None,
             fed: tape.len() as u64,
         })
     }
@@ -101,12 +112,10 @@ impl<A: Allocator + Copy> Walker<A> {
 
     /// Why steps are forgotten.
     pub fn forgetting(&self) -> Forgetting {
-        if self.has_made_output_room {
-            Forgetting::ForOutput
-        } else if self.limit < JOURNAL_LIMIT {
-            Forgetting::ForSteps
-        } else {
-            Forgetting::ForMostSteps
+        match self.reason {
+            Some(reason) => reason,
+            None if self.limit < JOURNAL_LIMIT => Forgetting::ForSteps,
+            None => Forgetting::ForMostSteps,
         }
     }
 
@@ -166,6 +175,22 @@ impl<A: Allocator + Copy> Walker<A> {
         self.go(Some(aim), most)
     }
 
+    /// Goes to this step, forward or back, until a step is refused, which is returned.
+    pub fn go_to(&mut self, step: u64) -> Option<Refusal> {
+        let now = self.step();
+        if step < now {
+            self.back(now - step)
+        } else {
+            self.forward(step - now)
+        }
+    }
+
+    /// Goes forward as far as no step has to be forgotten for it, or until one is refused, which is returned.
+    pub fn look_ahead(&mut self) -> Option<Refusal> {
+        let room = self.limit.saturating_sub(self.window.session.len());
+        walk_on(&mut self.window.session, None, room as u64, self.weight).why
+    }
+
     // Goes forward, to a goal where there is one, walk by walk: after each that ended for want of room it makes room.
     fn go(&mut self, aim: Option<Aim<'_>>, most: u64) -> Option<Refusal> {
         let mut left = most;
@@ -174,8 +199,8 @@ impl<A: Allocator + Copy> Walker<A> {
                 break;
             }
             self.make_room();
-            let walk = walk_on(&mut self.window.session, aim, left);
-            if !self.goes_on(walk) {
+            let walk = walk_on(&mut self.window.session, aim, left, self.weight);
+            if !self.goes_on(walk, aim.is_some()) {
                 return walk.why;
             }
             left = left.saturating_sub(walk.done);
@@ -186,9 +211,12 @@ impl<A: Allocator + Copy> Walker<A> {
         }
     }
 
-    // Whether a walk goes on that has ended so: the journal was full, or there is room for the output now.
-    fn goes_on(&mut self, walk: Walk) -> bool {
+    // Whether a walk goes on that has ended so, with a goal or without one: the journal was full or weighed enough, there is
+    // room for the output now, or some steps of a search were taken.
+    fn goes_on(&mut self, walk: Walk, has_aim: bool) -> bool {
         match walk.why {
+            None => !has_aim,
+            Some(Refusal::NotMet) => has_aim,
             Some(Refusal::JournalFull) => walk.done > 0,
             Some(Refusal::TooLong) => self.make_output_room(),
             _ => false,
@@ -215,11 +243,17 @@ impl<A: Allocator + Copy> Walker<A> {
         refusal_of(self.window.session.return_to(other_form(name, &form)))
     }
 
-    // Forgets the older half of the journal where it is full.
+    // Forgets the older half of the journal where it is full, and as often as its records weigh too much.
     fn make_room(&mut self) {
         let len = self.window.session.len();
         if len >= self.limit {
             self.window.keep_steps(len / 2);
+        }
+        for _ in 0..usize::BITS {
+            if !self.window.lighten(self.weight) {
+                return;
+            }
+            self.reason = Some(self.reason.unwrap_or(Forgetting::ForMemory));
         }
     }
 
@@ -231,18 +265,24 @@ impl<A: Allocator + Copy> Walker<A> {
             return false;
         }
         self.window.keep_steps(len / 2);
-        self.has_made_output_room = true;
+        self.reason = Some(self.reason.unwrap_or(Forgetting::ForOutput));
         true
     }
 }
 
 // The functions over a session here promise nothing of it, so that whoever calls them has none of its clauses in his proof.
 
-// A walk forward by so many steps at most, to a goal where there is one.
-fn walk_on<A: Allocator + Copy>(session: &mut Session<A>, aim: Option<Aim<'_>>, most: u64) -> Walk {
+// A walk forward by so many steps at most, or by a few towards a goal where there is one. It stops also where the records weigh
+// more than this.
+fn walk_on<A: Allocator + Copy>(
+    session: &mut Session<A>,
+    aim: Option<Aim<'_>>,
+    most: u64,
+    weight: u64,
+) -> Walk {
     match aim {
-        Some(aim) => session.forward_to(goal_for(aim), most),
-        None => session.forward(most),
+        Some(aim) => session.forward_to(goal_for(aim), most.min(SEARCH_STEPS)),
+        None => session.forward_within(most, weight),
     }
 }
 

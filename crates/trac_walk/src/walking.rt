@@ -18,6 +18,8 @@ use trac_streams::Ending;
 pub struct Settings {
     /// How many steps can be gone back over at most: 1 to 1,048,576.
     pub journal: usize,
+    /// How many bytes the records of these steps may take, about.
+    pub keep: u64,
     /// How wide the program's numbers are.
     pub decimals: Width,
     /// Whether the number of the next step is written before each line is read.
@@ -70,7 +72,13 @@ pub fn walk<R: Read, W: Write, A: Allocator + Copy>(
     ensures unread { result ≡ Ending.Limit → Keeps (R.remaining input.old) (R.remaining input.new) }
     ensures unwritten { result ≡ Ending.Limit → Keeps (W.contents output.old) (W.contents output.new) }
 {
-    match Walker::new(alloc, tape, settings.journal, settings.decimals) {
+    match Walker::new(
+        alloc,
+        tape,
+        settings.journal,
+        settings.keep,
+        settings.decimals,
+    ) {
         Ok(walker) => walk_from(alloc, walker, tape, settings.prompt, input, output),
         Err(ending) => ending,
     }

@@ -10,19 +10,34 @@ use std::process::ExitCode;
 use std::rt::Env;
 use std::{env, io};
 use trac_rules::limit::JOURNAL_LIMIT;
-use trac_streams::{Ending, Options, say, tape_in};
+use trac_streams::{Ending, say, tape_in};
 use trac_walk::{Settings, walk};
 use trac_words::help::NOT_TEXT;
 use trac_words::walk_words::{WalkLine, read_walk_line};
+
+/// A MiB, in bytes.
+const MIB: u64 = 1 << 20;
 
 /// The status of a command line that is not understood.
 const NOT_UNDERSTOOD: u8 = 2;
 
 fn main(rt: HostRuntime) -> ExitCode {
     match asked_line(&rt) {
-        Ok(WalkLine::Walk(path, options, prompt)) => {
-            let ending = walk_file(&rt, path.as_str(), options, prompt);
-            say(&rt, ending)
+        Ok(
+            WalkLine::Walk {
+                path,
+                options,
+                keep,
+                prompt,
+            },
+        ) => {
+            let settings = Settings {
+                journal: options.journal,
+                keep: keep * MIB,
+                decimals: options.decimals,
+                prompt,
+            };
+            say(&rt, walk_file(&rt, path.as_str(), settings))
         }
         Ok(WalkLine::Help(text)) => match print!(rt; "{text}") {
             Ok(()) => ExitCode::SUCCESS,
@@ -65,15 +80,10 @@ fn line_of(alloc: Global, words: &[String]) -> Result<WalkLine, AllocError>
 }
 
 // Walks through the program in the file at this path.
-fn walk_file(rt: &HostRuntime, path: &str, options: Options, prompt: bool) -> Ending
-    requires some_records { 1 ≤ options.journal }
-    requires most_records { options.journal ≤ JOURNAL_LIMIT }
+fn walk_file(rt: &HostRuntime, path: &str, settings: Settings) -> Ending
+    requires some_records { 1 ≤ settings.journal }
+    requires most_records { settings.journal ≤ JOURNAL_LIMIT }
 {
-    let settings = Settings {
-        journal: options.journal,
-        decimals: options.decimals,
-        prompt,
-    };
     match tape_in(rt, path) {
         Ok(tape) => walk(
             rt.alloc(),

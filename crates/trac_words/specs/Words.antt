@@ -3,6 +3,7 @@ use Rattle.std.specs.Prelude.{◌≤◌}
 use Rattle.trac_rules.specs.declared.limit.TheConstants.{JOURNAL_LIMIT}
 use Rattle.trac_streams.specs.declared.options.TheConstants.{BUDGET_LIMIT}
 use Rattle.trac_streams.specs.declared.options.Options.{Options}
+use Rattle.trac_words.specs.declared.walk_words.TheConstants.{KEEP_LIMIT}
 use Rattle.trac_words.specs.declared.walk_words.WalkLine.{WalkLine}
 use Rattle.trac_words.specs.declared.walk_words.WalkLine.TheVariants as walks
 use Rattle.trac_words.specs.declared.words.Line.{Line}
@@ -23,6 +24,6 @@ IsLine (Bad text) = Unit {0}
 
 -- so are those of a walk
 abbrev pub IsWalkLine : WalkLine → Type 0
-IsWalkLine (walks.Walk path options prompt) = AreWithin options
+IsWalkLine (walks.Walk path options keep prompt) = AreWithin options × (1 ≤ keep) × (keep ≤ KEEP_LIMIT)
 IsWalkLine (walks.Help text) = Unit {0}
 IsWalkLine (walks.Bad text) = Unit {0}

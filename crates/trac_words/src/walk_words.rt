@@ -4,18 +4,32 @@ ghost use Rattle.trac_words.specs.Words.{IsWalkLine};
 
 use crate::help::{VERSION, WALK_USAGE, WALK_USE};
 use crate::tips::{is_unknown, unknown_place, with_file_tip, word_at};
-use crate::words::{BACK, described, file, options_in, path_in, widths, with_options};
+use crate::words::{BACK, described, file, number_in, options_in, path_in, widths, with_options};
 use clap::builder::PossibleValue;
 use clap::error::ErrorKind;
-use clap::{Arg, ArgAction, ArgMatches, Command, Error};
+use clap::{Arg, ArgAction, ArgMatches, Command, Error, value_parser};
 use std::alloc::{AllocError, Global};
 use trac_streams::{DEFAULT_BUDGET, Options};
+
+/// How many MiB the records may take of the steps that can be gone back over, where nothing else is said (this project's
+/// profile).
+pub const DEFAULT_KEEP: u64 = 256;
+
+/// The most that they may be allowed: one TiB (this project's profile).
+pub const KEEP_LIMIT: u64 = 1_048_576;
 
 /// What a command line of `trac-walk` asks for.
 #[derive(Drop)]
 pub enum WalkLine {
-    /// To walk through the program in this file, with a prompt or without one. The budget is the default one, and not used.
-    Walk(String, Options, bool),
+    /// To walk through the program in the file at this path. The budget is the default one, and not used.
+    Walk {
+        path: String,
+        options: Options,
+        /// How many MiB the records may take of the steps that can be gone back over.
+        keep: u64,
+        /// Whether a prompt is written.
+        prompt: bool,
+    },
     /// To be shown this text: help, or the version.
     Help(String),
     /// Nothing that is understood: this text says why.
@@ -38,8 +52,12 @@ fn walk_line(alloc: Global, found: &ArgMatches<'_>) -> Result<WalkLine, AllocErr
     ensures { IfOk result IsWalkLine }
 {
     let path = path_in(alloc, found)?;
-    let options = options_in(found, DEFAULT_BUDGET);
-    Ok(WalkLine::Walk(path, options, found.get_flag("prompt")))
+    Ok(WalkLine::Walk {
+        path,
+        options: options_in(found, DEFAULT_BUDGET),
+        keep: number_in(found, "keep", DEFAULT_KEEP, KEEP_LIMIT),
+        prompt: found.get_flag("prompt"),
+    })
 }
 
 // What is said where a command line asks for no walk.
@@ -73,7 +91,9 @@ fn walk_command<'a>(
     alloc: Global,
     widths: &'a [PossibleValue<'a>],
 ) -> Result<Command<'a>, AllocError> {
-    with_options(alloc, bare_command(alloc).arg(file(alloc))?, BACK, widths)?.arg(prompt(alloc))
+    with_options(alloc, bare_command(alloc).arg(file(alloc))?, BACK, widths)?
+        .arg(keep(alloc))?
+        .arg(prompt(alloc))
 }
 
 // The command without its arguments.
@@ -85,6 +105,15 @@ fn bare_command<'a>(alloc: Global) -> Command<'a> {
     )
     .version(VERSION)
     .override_usage(WALK_USAGE)
+}
+
+// The option that says how much memory the way back may take.
+fn keep<'a>(alloc: Global) -> Arg<'a> {
+    Arg::new(alloc, "keep")
+        .long("keep")
+        .value_name("SIZE")
+        .value_parser(value_parser!(u64).range(1..=KEEP_LIMIT as i64))
+        .help("About how many MiB of memory these steps may take: 1 to 1048576 [default: 256]")
 }
 
 // The flag that asks for a prompt.

@@ -118,8 +118,8 @@ fn journal_in(found: &ArgMatches<'_>) -> usize
     ) as usize
 }
 
-// The number that this option has, or the default one. `clap` takes no other than one from 1 to the most.
-fn number_in(found: &ArgMatches<'_>, option: &str, default: u64, most: u64) -> u64
+/// The number that this option has, or the default one. `clap` takes no other than one from 1 to the most.
+pub(crate) fn number_in(found: &ArgMatches<'_>, option: &str, default: u64, most: u64) -> u64
     requires some { 1 ≤ default }
     requires within { default ≤ most }
     ensures some { 1 ≤ result }

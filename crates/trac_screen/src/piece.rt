@@ -1,0 +1,93 @@
+//! A piece of a line of the program, with a mark under one of its bytes.
+
+use crate::screen::end_of_into;
+use crate::screen_line::{ScreenLine, WIDTH, front, tail};
+use std::alloc::{AllocError, Allocator};
+use trac_rules::byte::LINE_FEED;
+use trac_streams::escaped_into;
+
+// What a piece begins with: a word, so that it is not taken for a prompt.
+const LABEL: &[u8] = b"FILE    ";
+
+// So many columns are left for the piece.
+const ROOM: usize = WIDTH - LABEL.len();
+
+// Of a line that has more, so many columns before the byte are shown after `..`, and more where what follows leaves room.
+const ROOM_BEFORE: usize = ROOM / 2;
+
+/// Puts two lines at the end of a text: the line of the program that has the byte of this number, the first being number 0,
+/// and `^` under that byte. A long line is cut around it. Of a byte after the program nothing is put there. The error is that
+/// memory was refused, here and below.
+pub fn piece_into<A: Allocator + Copy>(
+    alloc: A,
+    program: &[u8],
+    number: u64,
+    out: &mut Vec<u8, A>,
+) -> Result<(), AllocError> {
+    if number >= program.len() as u64 {
+        return Ok(());
+    }
+    let (before, from) = program.split_at(number as usize);
+    let mark = line_into(alloc, end_after_line(before), line_before_end(from), out)?;
+    let mut line = ScreenLine::new(alloc);
+    line.pad(mark)?;
+    line.say(b"^")?;
+    line.end_into(out)
+}
+
+// The line that is made of these two texts, cut. Returns the column in which the second begins.
+fn line_into<A: Allocator + Copy>(
+    alloc: A,
+    before: &[u8],
+    from: &[u8],
+    out: &mut Vec<u8, A>,
+) -> Result<usize, AllocError> {
+    let mut line = ScreenLine::new(alloc);
+    line.say(LABEL)?;
+    before_into(alloc, before, from, &mut line)?;
+    let mark = line.columns();
+    line.show(from)?;
+    line.end_into(out)?;
+    Ok(mark)
+}
+
+// The first of two texts, cut where there is no room for both.
+fn before_into<A: Allocator + Copy>(
+    alloc: A,
+    before: &[u8],
+    from: &[u8],
+    line: &mut ScreenLine<A>,
+) -> Result<(), AllocError> {
+    let mut shown = Vec::new(alloc);
+    escaped_into(front(from, ROOM + 1), &mut shown)?;
+    let len = shown.len();
+    shown.clear();
+    escaped_into(tail(before, ROOM + 1), &mut shown)?;
+    let room = if shown.len().saturating_add(len) > ROOM {
+        ROOM_BEFORE.max((ROOM - 2).saturating_sub(len))
+    } else {
+        ROOM
+    };
+    end_of_into(shown.as_slice(), room, false, line)
+}
+
+// What stands after the last line feed of a text.
+fn end_after_line(text: &[u8]) -> &[u8] {
+    for back in 0..text.len() {
+        let place = text.len() - back;
+        if text[place - 1] == LINE_FEED {
+            return text.split_at(place).1;
+        }
+    }
+    text
+}
+
+// What stands before the first line feed of a text.
+fn line_before_end(text: &[u8]) -> &[u8] {
+    for (place, byte) in text.iter().enumerate() {
+        if *byte == LINE_FEED {
+            return text.split_at(place).0;
+        }
+    }
+    text
+}

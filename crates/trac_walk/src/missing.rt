@@ -1,0 +1,219 @@
+//! Why nothing stands where a byte is wanted: in an empty argument, or in an empty form.
+
+use crate::origins::{Unsaid, followed_into, stay};
+use crate::standing::stand_into;
+use crate::walker::Walker;
+use std::alloc::{AllocError, Allocator};
+use trac_follow::{End, Place, Witness};
+use trac_forms::Item;
+use trac_screen::{Origin, Stop, Treatment, argument_count, treatment_into};
+use trac_session::Machine;
+
+// Where a byte stood in forms that calls gave it from, the latest first.
+#[derive(Drop)]
+struct InForms<A: Allocator + Copy> {
+    // how many steps back each call is, and which item of its form that was
+    places: Vec<(u64, usize), A>,
+    // how many steps back the call is that was told of last
+    latest: u64,
+}
+
+impl<A: Allocator + Copy> Witness<A> for InForms<A> {
+    fn passed(
+        &mut self,
+        _machine: &Machine<A>,
+        steps: u64,
+        from: Place<'_>,
+    ) -> Result<(), AllocError> {
+        if let Place::Form(_, item) = from {
+            self.places.push((self.latest, item))?;
+        }
+        self.latest = steps;
+        Ok(())
+    }
+}
+
+/// Whether this argument of the innermost begun function is there, and empty.
+pub fn is_empty_argument<A: Allocator + Copy>(walker: &Walker<A>, argument: u64) -> bool {
+    match walker.sight().begun {
+        Some((_, arguments)) => {
+            argument < arguments.count() as u64 && arguments.get(argument as usize).is_empty()
+        }
+        None => false,
+    }
+}
+
+/// Goes back to what left this argument of the innermost begun function empty, and says so at the end of a text: the last
+/// call that stood there, whose value is empty; the gap of a form that a call filled with nothing, with the `ss` that made
+/// it; else the way of the byte after which nothing stands. The error is that memory was refused, here and below.
+pub fn empty_argument_into<A: Allocator + Copy>(
+    alloc: A,
+    walker: &mut Walker<A>,
+    program: &[u8],
+    argument: usize,
+    out: &mut Vec<u8, A>,
+) -> Result<(), AllocError> {
+    let start = walker.step();
+    match back_into_argument(walker, argument) {
+        Within::Call => told_into(alloc, walker, Treatment::GivesNothing, out),
+        Within::Beginning(place) => unwritten_into(alloc, walker, program, place, out),
+        Within::Unkept => match walker.go_to(start) {
+            None => stay(alloc, walker, Stop::NotMet, out),
+            Some(refusal) => stay(alloc, walker, Stop::Refused(refusal), out),
+        },
+    }
+}
+
+/// Goes back to the call that emptied the form of this name, and says so at the end of a text.
+pub fn empty_form_into<A: Allocator + Copy>(
+    alloc: A,
+    walker: &mut Walker<A>,
+    name: &[u8],
+    out: &mut Vec<u8, A>,
+) -> Result<(), AllocError> {
+    match walker.return_to_change(name) {
+        None => told_into(alloc, walker, Treatment::Empties, out),
+        Some(_) => stay(alloc, walker, Stop::NotMet, out),
+    }
+}
+
+// What is met on the way back in an argument.
+enum Within {
+    // a call that stood in it
+    Call,
+    // its beginning, which this byte of the active text makes
+    Beginning(usize),
+    // the first step that is kept
+    Unkept,
+}
+
+// Goes back into an argument of the innermost begun function, to the last call that stood there, or to its beginning.
+fn back_into_argument<A: Allocator + Copy>(walker: &mut Walker<A>, argument: usize) -> Within {
+    let depth = walker.glance().depth;
+    for _ in 0..walker.steps_back() {
+        let _ = walker.back(1);
+        let here = walker.glance();
+        if here.depth < depth {
+            return Within::Beginning(here.beginning.saturating_sub(1));
+        }
+        let count = argument_count(walker.machine(), depth.saturating_sub(1));
+        if count <= argument {
+            return Within::Beginning(0);
+        }
+        if count == argument.saturating_add(1) && here.performs && here.depth > depth {
+            return Within::Call;
+        }
+    }
+    Within::Unkept
+}
+
+// Says where an argument is empty in which nothing stood: after the byte at this place of the active text.
+fn unwritten_into<A: Allocator + Copy>(
+    alloc: A,
+    walker: &mut Walker<A>,
+    program: &[u8],
+    place: usize,
+    out: &mut Vec<u8, A>,
+) -> Result<(), AllocError> {
+    let start = walker.step();
+    if let Some((item, gap)) = to_gap(alloc, walker, place)? {
+        told_line_into(alloc, walker, Treatment::LeavesGap(u64::from(gap)), out)?;
+        return gap_into(alloc, walker, item, out);
+    }
+    if let Some(refusal) = walker.go_to(start) {
+        return stay(alloc, walker, Stop::Refused(refusal), out);
+    }
+    out.extend_from_slice(b"it is empty where it was written, after this byte:\n")?;
+    followed_into(alloc, walker, program, Place::Active(place), out)
+}
+
+// Goes to the call that gave the byte at this place of the active text from a form in which a gap follows, which was filled
+// with nothing: which item the gap is, and its number. None where there is no such call.
+fn to_gap<A: Allocator + Copy>(
+    alloc: A,
+    walker: &mut Walker<A>,
+    place: usize,
+) -> Result<Option<(usize, u32)>, AllocError> {
+    let start = walker.step();
+    let mut found = InForms {
+        places: Vec::new(alloc),
+        latest: 0,
+    };
+    is_told(walker.trace(Place::Active(place), &mut found).end)?;
+    for (steps, item) in found.places.iter() {
+        if walker.go_to(start.saturating_sub(*steps)).is_some() {
+            return Err(AllocError);
+        }
+        if let Some(gap) = gap_at(walker, item.saturating_add(1)) {
+            return Ok(Some((item.saturating_add(1), gap)));
+        }
+    }
+    Ok(None)
+}
+
+// The number of the gap that is this item of the form which the call names that comes next, if it is one.
+fn gap_at<A: Allocator + Copy>(walker: &Walker<A>, item: usize) -> Option<u32> {
+    let sight = walker.sight();
+    let (_, arguments) = sight.begun.as_ref()?;
+    match sight.store.get(arguments.get(1))?.item(item)? {
+        Item::Gap { ordinal, width: _ } => Some(ordinal),
+        Item::Byte(_) => None,
+    }
+}
+
+// Goes back to the call that made the gap which is this item of the form that the call names which comes next.
+fn gap_into<A: Allocator + Copy>(
+    alloc: A,
+    walker: &mut Walker<A>,
+    item: usize,
+    out: &mut Vec<u8, A>,
+) -> Result<(), AllocError> {
+    let name = named_here(alloc, walker)?;
+    let end = walker
+        .trace(Place::Form(name.as_slice(), item), &mut Unsaid)
+        .end;
+    is_told(end)?;
+    let treatment = match end {
+        End::Made => Treatment::MakesGap,
+        _ => Treatment::Ends(Origin::There),
+    };
+    told_into(alloc, walker, treatment, out)
+}
+
+// That a way was told to its end. The error is that it was not, for want of memory.
+fn is_told(end: End) -> Result<(), AllocError> {
+    match end {
+        End::Unkept | End::Untold => Err(AllocError),
+        _ => Ok(()),
+    }
+}
+
+// A copy of argument 1 of the innermost begun function.
+fn named_here<A: Allocator + Copy>(alloc: A, walker: &Walker<A>) -> Result<Vec<u8, A>, AllocError> {
+    match walker.sight().begun {
+        Some((_, arguments)) => Vec::from_slice(alloc, arguments.get(1)),
+        None => Ok(Vec::new(alloc)),
+    }
+}
+
+// A line for the step that comes next, and what it did.
+fn told_line_into<A: Allocator + Copy>(
+    alloc: A,
+    walker: &Walker<A>,
+    treatment: Treatment,
+    out: &mut Vec<u8, A>,
+) -> Result<(), AllocError> {
+    treatment_into(alloc, walker.step(), &walker.sight(), treatment, out)
+}
+
+// The same, and that the walk stands there.
+fn told_into<A: Allocator + Copy>(
+    alloc: A,
+    walker: &Walker<A>,
+    treatment: Treatment,
+    out: &mut Vec<u8, A>,
+) -> Result<(), AllocError> {
+    told_line_into(alloc, walker, treatment, out)?;
+    out.extend_from_slice(b"here: ")?;
+    stand_into(alloc, walker, out)
+}
