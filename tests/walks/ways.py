@@ -273,7 +273,8 @@ def piece_in(tape, place):
     """The line of a tape that has the byte at this place, cut around it, and `^` under it."""
     start, end = tape.rfind(b"\n", 0, place) + 1, (tape + b"\n").find(b"\n", place)
     before, rest = (seen(text.decode("latin-1")) for text in (tape[start:place], tape[place:end]))
-    room = 72 if len(before) + len(rest) <= 72 else max(36, 70 - len(rest))
+    after = max(1, len(rest))  # (the mark takes a column)
+    room = 72 if len(before) + after <= 72 else max(36, 70 - after)
     if len(before) > room:
         before = ".." + before[-room:]
     return [cut("FILE    " + before + rest, 80), " " * (8 + len(before)) + "^"]

@@ -60,7 +60,8 @@ fn before_into<A: Allocator + Copy>(
 ) -> Result<(), AllocError> {
     let mut shown = Vec::new(alloc);
     escaped_into(front(from, ROOM + 1), &mut shown)?;
-    let len = shown.len();
+    // the mark takes a column where nothing follows
+    let len = shown.len().max(1);
     shown.clear();
     escaped_into(tail(before, ROOM + 1), &mut shown)?;
     let room = if shown.len().saturating_add(len) > ROOM {
