@@ -81,7 +81,7 @@ pub(crate) fn walk_over<R: Read, W: Write, A: Allocator + Copy>(
 ) -> Ending {
     let settings = Settings {
         journal: 64,
-        keep: 1024,
+        keep: 1 << 28,
         decimals: Width::W128,
         prompt,
     };

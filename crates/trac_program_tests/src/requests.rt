@@ -11,7 +11,7 @@ use trac_session_tests::programs::EACH_PRIMITIVE;
 const TAPE: &[u8] = b"#(ds,A,(x,y))'#(ss,A,x)'#(ps,##(cl,A,1))'";
 
 const ORDERS: &[u8] =
-    b"s 90\np\nb 3\nn\nN\nO\no\nu ps\nr\nw #1\nw \"1\"\nw A\ng 60\nf\nf A\nt 3\np all\ns 9\nl\ny #1\ns 90\ny A 1\ny\ng 60\ni \"a'\"\n\nh\nx\nm\nb start\ns end\ny \"1\"\n\nt 2 all\ne\n";
+    b"s 90\np\nb 3\nn\nN\nO\no\nu ps\nr\nw #1\nw \"1\"\nw A\ng 60\nf\nf A\nt 3\np all\ns 9\nl\ny #1\ns 90\ny A 1\ny\ng 60\ni \"a'\"\n\nh\nx\nm\nb start\ne\n";
 
 // A program, its input with its output, and the text of a line that says that memory was refused, where the program goes on
 // then. There the output is left open: it is whole lines.
