@@ -1,4 +1,4 @@
-# Completion of trac, trac-walk, trac-play and trac-page for bash: subcommands, options, and a FILE where one is wanted.
+# Completion of trac, trac-walk, trac-play, trac-page and trac-course for bash: subcommands, options, and a FILE where one is wanted.
 _trac() {
     local word=${COMP_WORDS[COMP_CWORD]} before=${COMP_WORDS[COMP_CWORD - 1]} words=''
     COMPREPLY=()
@@ -50,3 +50,22 @@ _trac_page() { _trac_file '--first --last --to --program'; }
 complete -F _trac_walk trac-walk
 complete -F _trac_play trac-play
 complete -F _trac_page trac-page
+
+# Completes a word of trac-course: a lesson, an exercise, or what to do with one; and then that exercise and a FILE.
+_trac_course() {
+    local word=${COMP_WORDS[COMP_CWORD]} words=''
+    COMPREPLY=()
+    case $COMP_CWORD:${COMP_WORDS[1]} in
+        1:-*) words='--help --version' ;;
+        1:*.*) words=$(echo {1..10}.{1..3}) ;;
+        1:*) words="$(echo {1..10}) hint solution check" ;;
+        2:hint | 2:solution | 2:check) words=$(echo {1..10}.{1..3}) ;;
+        3:check)
+            compopt -o filenames 2>/dev/null
+            mapfile -t COMPREPLY < <(compgen -f -- "$word")
+            return
+            ;;
+    esac
+    mapfile -t COMPREPLY < <(compgen -W "$words" -- "$word")
+}
+complete -F _trac_course trac-course

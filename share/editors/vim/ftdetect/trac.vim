@@ -1,0 +1,2 @@
+" Files of TRAC T-64 programs.
+autocmd BufNewFile,BufRead *.trac setfiletype trac
