@@ -1,4 +1,5 @@
-# Completion of trac, trac-walk, trac-play, trac-page and trac-course for bash: subcommands, options, and a FILE where one is wanted.
+# Completion of trac, trac-walk, trac-play, trac-page and trac-course for bash: subcommands, options, and a FILE where one is
+# wanted.
 _trac() {
     local word=${COMP_WORDS[COMP_CWORD]} before=${COMP_WORDS[COMP_CWORD - 1]} words=''
     COMPREPLY=()

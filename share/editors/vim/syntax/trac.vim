@@ -37,7 +37,8 @@ syntax match tracOctal "[0-7]\+\ze[,)]" contained
 syntax match tracPlaces "\%(#(b[sr],\)\@5<=[+-]\=\d\+\ze[,)]" contained
 syntax match tracForm "\%(#(\%(ds\|dd\|ss\|cl\|cr\|cs\|cc\|cn\|in\|pf\|sb\|fb\|eb\),\)\@5<=[^,()#']\+\ze[,)]" contained
 syntax match tracUnknown "\%(#(\)\@2<=[^,()#']\+\ze[,)]" contained
-syntax match tracPrimitive "\%(#(\)\@2<=\%(ps\|rs\|rc\|cm\|hl\|tn\|tf\|eq\|gr\|ad\|su\|ml\|dv\|bu\|bi\|bc\|bs\|br\)\ze[,)]" contained
+syntax match tracPrimitive "\%(#(\)\@2<=\%(ps\|rs\|rc\|cm\|hl\|tn\|tf\|eq\|gr\|ad\|su\|ml\|dv\)\ze[,)]" contained
+syntax match tracPrimitive "\%(#(\)\@2<=\%(bu\|bi\|bc\|bs\|br\)\ze[,)]" contained
 syntax match tracPrimitive "\%(#(\)\@2<=\%(ds\|dd\|da\|ss\|cl\|cr\|cs\|cc\|cn\|in\|ln\|pf\|sb\|fb\|eb\)\ze[,)]" contained
 
 highlight default link tracActiveMark Statement
