@@ -52,7 +52,11 @@ all_within_reach m n (r ∷ records) t all =
     subst (λ (states : List State). All (λ s. HasRoom m s) states) (sym (led_on-Some (state_before r t) all.0 (λ s. earlier_of records s) all.1.says))
     (All-cons (λ s. HasRoom m s) all.0 (earlier_of records all.0) all.2.room (all_within_reach m n records all.0 all.3))
 
+-- and, where it has room for the last one, for all of them
 pub room_shown : {limit : ℕ} {width : Width} (bytes : List ℕ) {ended : Bool} (journal : List Record) (machine : Shown) (p : PlainSession) →
-    IsSound limit bytes journal machine → plain_of limit width bytes ended journal machine.state ≡ p → All (λ s. HasRoom machine s) p.earlier
-room_shown bytes journal machine p sound view =
-    subst (λ (q : PlainSession). All (λ s. HasRoom machine s) q.earlier) view (all_within_reach machine _ journal machine.state sound.records)
+    IsSound limit bytes journal machine → HasRoom machine machine.state → plain_of limit width bytes ended journal machine.state ≡ p →
+    All (λ s. HasRoom machine s) (p.last ∷ p.earlier)
+room_shown bytes journal machine p sound last view =
+    subst (λ (q : PlainSession). All (λ s. HasRoom machine s) (q.last ∷ q.earlier)) view
+    (All-cons (λ s. HasRoom machine s) machine.state (earlier_of journal machine.state) last
+    (all_within_reach machine _ journal machine.state sound.records))

@@ -224,16 +224,19 @@ impl<A: Allocator + Copy> Session<A> {
         self.width
     }
 
-    /// The machine, which shows the last state. It has room for each state before that, and knows the names of all forms there:
-    /// so going back takes no memory. Each of these states but the first is the step from the one before it, over the tape as
-    /// it is now, whatever the session was told before. It takes no memory (this project's profile).
+    /// The machine, which shows the last state. It has room for that state and each before it, and knows the names of
+    /// all their forms: so going back takes no memory. Each of these states but the first is the step from the one
+    /// before it, over the tape as it is now, whatever the session was told before. It takes no memory (this project's
+    /// profile).
     pub fn machine(&self) -> &Machine<A>
         ensures last { result.now.state ≡ self.now.last }
         ensures width { result.now.width ≡ self.now.width }
         ensures on_tape { self.now.last.position ≤ length self.now.tape.bytes }
-        ensures room { All (λ s. HasRoom result.now s) self.now.earlier }
+        ensures room { All (λ s. HasRoom result.now s) (self.now.last ∷ self.now.earlier) }
         ensures trail { IsTrail self.now }
     {
+        // For its clause that a machine has room for the state that it shows.
+        let _width = self.machine.width();
         &self.machine
     }
 }

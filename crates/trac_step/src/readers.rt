@@ -4,11 +4,13 @@ ghost use Rattle.trac_text.specs.Frames.{IsFrame};
 ghost use Rattle.trac_text.specs.Neutral.{neutral_of};
 ghost use Rattle.trac_rules.specs.Limits.{argument_bytes};
 ghost use Rattle.trac_rules.specs.Stepping.{call_at};
+ghost use Rattle.trac_step.specs.Room.{HasRoom};
 
 use crate::engine::Core;
 use std::alloc::Allocator;
 use trac_forms::Store;
 use trac_gap::TwoEnds;
+use trac_rules::width::Width;
 use trac_text::{Args, BegunFunctions, Kind, Mark, NeutralText};
 
 impl<E: TwoEnds<u8, A>, M: TwoEnds<Mark, A>, A: Allocator + Copy> Core<E, M, A> {
@@ -109,5 +111,15 @@ impl<E: TwoEnds<u8, A>, M: TwoEnds<Mark, A>, A: Allocator + Copy> Core<E, M, A> 
         ensures { result.now ≡ self.now.state.output }
     {
         self.output.as_slice()
+    }
+
+    /// How wide numbers are: as the machine was made, and nothing changes it. Whatever state it shows, a machine has room
+    /// for that, and knows the names of its forms (this project's profile).
+    pub fn width(&self) -> Width
+        ensures width { result ≡ self.now.width }
+        ensures room { HasRoom self.now self.now.state }
+    {
+        self.is_in_its_room();
+        self.width
     }
 }
