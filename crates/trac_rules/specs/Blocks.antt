@@ -1,6 +1,6 @@
 -- Blocks: forms that are put aside together under a number, of which copies are brought back. The first block has number 0; no call takes a
 -- block off the list, it is only erased, so no number is used again. All that is said here is this project's profile.
-use Rattle.std.specs.Prelude.{ℕ, ◌+◌, ◌&&◌, nat_le, List, [], ◌∷◌, ◌++◌, length, drop, get_or, slice_set, if◌then◌else◌, Bool, Option, None, Some, is_some, Result, Ok, Err, decimal}
+use Rattle.std.specs.Prelude.{◌≡◌, ◌<◌, ◌≤◌, ◌⊎◌, ℕ, ◌+◌, ◌&&◌, nat_le, List, [], ◌∷◌, ◌++◌, length, drop, get_or, slice_set, if◌then◌else◌, Bool, Option, None, Some, is_some, Result, Ok, Err, decimal}
 use Rattle.std.specs.FinMap as map
 use Rattle.std.specs.Option.{option_and_then}
 use Rattle.std.specs.Str.{bytes_eq}
@@ -65,6 +65,12 @@ number_addressed form blocks = first_place (is_address form blocks) (length bloc
 -- the number of the block whose address is the form that the first argument after the name names, if there is one
 abbrev pub named_block_number : List (List ℕ) → Storage → Option ℕ
 named_block_number arguments storage = option_and_then (λ form. number_addressed form storage.blocks) (named_form arguments storage)
+
+-- each block of a list stands in another at its number, as it was or erased; there may be others after them
+pub record AreKept (old new : List Block) : Type 0 where
+  pub count : length old ≤ length new
+  pub each : (number : ℕ) → number < length old →
+      (block_at number new ≡ block_at number old) ⊎ (block_at number new ≡ None)
 
 -- ---- `fb`
 

@@ -2,7 +2,8 @@
 ghost use Rattle.std.specs.FinMap as finite;
 ghost use Rattle.std.specs.List.{All, IsDistinct};
 ghost use Rattle.std.specs.Prelude.{◌≡◌, ◌<◌, ◌≤◌, ◌++◌, ◌∷◌, [], bytes_eq, length, map, List, Ok, Some, true, ℕ};
-ghost use Rattle.trac_rules.specs.Blocks.{block_fits, fetched, fetching, is_address, moved_out, number_addressed, put_aside};
+ghost use Rattle.trac_rules.specs.Blocks.{AreKept, block_fits, fetched, fetching, is_address};
+ghost use Rattle.trac_rules.specs.Blocks.{moved_out, number_addressed, put_aside};
 ghost use Rattle.trac_rules.specs.Effect.{leaves};
 ghost use Rattle.trac_rules.specs.Form.{Form, IsWide, all_items};
 ghost use Rattle.trac_rules.specs.Handling.{keeping};
@@ -29,9 +30,10 @@ pub fn match_is_balanced()
         protected text ≡ record { inner = text; rest = [] } }
 {}
 
-/// No step takes a block off the list: an erased one keeps its place, so no number of a block is used again.
+/// No step takes a block off the list, or changes one but to erase it. So an erased block keeps its number, which is not
+/// used again.
 pub fn blocks_stay()
-    ensures { (environment : Environment) (s t : State) → step environment s ≡ Ok t → length s.blocks ≤ length t.blocks }
+    ensures { (environment : Environment) (s t : State) → step environment s ≡ Ok t → AreKept s.blocks t.blocks }
 {}
 
 /// Judging forms and blocks where they are put is the same as judging the whole state after the step. The state at the start
