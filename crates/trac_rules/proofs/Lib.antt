@@ -34,6 +34,7 @@ pub mod Weighed
 pub mod CallsWeighed
 pub mod Bounded
 pub mod CallRows
+pub mod DoubtRows
 pub mod MovedOn
 pub mod Released
 pub mod TakenAgain

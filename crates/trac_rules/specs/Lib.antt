@@ -29,11 +29,13 @@ pub mod Weights
 pub mod PlainRuns
 pub mod Session
 pub mod Goals
+pub mod Doubts
 pub mod Trails
 pub mod Running
 pub mod GoingOn
 -- Words in which the worked rows are said.
 pub mod Rows
 pub mod RecordRows
+pub mod DoubtRows
 -- How proofs store these values.
 pub mod Codes

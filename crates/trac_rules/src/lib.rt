@@ -6,6 +6,8 @@ pub mod blocks;
 pub mod byte;
 pub mod call_rows;
 pub mod commits;
+pub mod doubt;
+pub mod doubt_rows;
 pub mod goals;
 pub mod item;
 pub mod kind;
