@@ -5,6 +5,7 @@ use Rattle.trac_rules.specs.declared.refusal.Refusal.{Refusal}
 use Rattle.trac_rules.specs.declared.refusal.Refusal.TheVariants.{NotMet}
 use Rattle.trac_rules.specs.Session.{PlainSession, Command, Goal, IsWalk}
 use Rattle.trac_rules.specs.Stepping.{call_at}
+use Rattle.trac_rules.specs.Doubts.{is_doubtful}
 use Rattle.trac_rules.specs.Goals.{has_other_form, is_call_with, is_end_of, is_own_call, is_shallower, is_unprinted, leaves_at_most}
 use Rattle.trac_session.specs.declared.goal.Goal as code
 
@@ -37,3 +38,4 @@ goal_of (code.TheVariants.Shallower count) = is_shallower count
 goal_of (code.TheVariants.Rest most) = leaves_at_most most
 goal_of (code.TheVariants.OtherForm name form) = has_other_form name.now form.now
 goal_of (code.TheVariants.Unprinted count) = is_unprinted count
+goal_of (code.TheVariants.Doubtful width) = is_doubtful width

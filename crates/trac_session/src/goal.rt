@@ -5,9 +5,11 @@ ghost use Rattle.trac_rules.specs.Goals.{frame_at, has_other_form, is_begun_with
 ghost use Rattle.trac_rules.specs.declared.item.Item.{Item};
 ghost use Rattle.trac_session.specs.Goals.{goal_of};
 
+use crate::doubts::has_doubt;
 use std::alloc::{AllocError, Allocator, Global};
 use trac_forms::{Form, Item};
 use trac_gap::TwoEnds;
+use trac_rules::width::Width;
 use trac_step::{Args, Core, Kind, Mark};
 
 /// What a walk looks for. Whether a state meets it is a definition (`trac_rules/specs/Goals.antt`), in this project's profile.
@@ -33,6 +35,8 @@ pub enum Goal<'a, A: Allocator + Copy = Global> {
     /// At most so many bytes of the output are not released yet. On the way back from where byte number `n` of it, from 0 on, is
     /// printed, this is met first at the call that prints it.
     Unprinted(usize),
+    /// There is a doubt of the next step, where numbers are of this width: that of the session, as `Session::doubts` has it.
+    Doubtful(Width),
 }
 
 impl<'a, A: Allocator + Copy> Clone for Goal<'a, A> {
@@ -64,6 +68,7 @@ pub(crate) fn is_met<E: TwoEnds<u8, A>, M: TwoEnds<Mark, A>, A: Allocator + Copy
         Goal::Rest(most) => machine.active().len() <= *most,
         Goal::OtherForm(name, form) => has_other_form(machine, name, form),
         Goal::Unprinted(count) => machine.output().len() <= *count,
+        Goal::Doubtful(width) => has_doubt(machine, *width),
     }
 }
 

@@ -2,6 +2,7 @@
 #![tactic(auto)]
 
 mod commands;
+mod doubts;
 pub mod goal;
 mod passing;
 pub mod session;
@@ -12,6 +13,7 @@ pub use commands::{Command, Replies, Reply};
 pub use goal::Goal;
 pub use session::Session;
 pub use trac_forms::Form;
+pub use trac_rules::doubt::Doubt;
 pub use trac_rules::refusal::Refusal;
 pub use trac_step::{Args, Block, Item, Kind, Machine, Store, Texts, Width};
 pub use walk::{Return, Walk};

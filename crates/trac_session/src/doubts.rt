@@ -1,0 +1,57 @@
+//! The doubts of the next step.
+ghost use Rattle.std.specs.Prelude.{◌≡◌, IfOk, IsOkUnless};
+ghost use Rattle.trac_doubts.specs.Ahead.{doubts_ahead};
+ghost use Rattle.trac_rules.specs.Doubts.{doubts, is_doubtful};
+
+use crate::session::Session;
+use std::alloc::Allocator;
+use trac_doubts::Ahead;
+use trac_gap::TwoEnds;
+use trac_rules::doubt::Doubt;
+use trac_rules::refusal::Refusal;
+use trac_rules::width::Width;
+use trac_step::{Core, Mark};
+
+impl<A: Allocator + Copy> Session<A> {
+    /// What the next step would do that a person is unlikely to have meant: each row of the table of doubts that holds, in its order.
+    /// The tape decides nothing, so a step may be refused and have doubts. This is this project's profile.
+    /// Refused with `Memory` where the allocator refuses.
+    pub fn doubts(&self, alloc: A) -> Result<Vec<Doubt, A>, Refusal>
+        ensures made { IfOk result (λ v. v.items ≡ doubts self.now.width self.now.last) }
+        ensures err { IsOkUnless result Refusal.Memory }
+    {
+        let mut found = Vec::new(alloc);
+        ahead(self.machine(), self.width()).doubts_into(&mut found)?;
+        Ok(found)
+    }
+}
+
+// Whether there is a doubt of a machine's next step, numbers being of this width.
+pub(crate) fn has_doubt<E: TwoEnds<u8, A>, M: TwoEnds<Mark, A>, A: Allocator + Copy>(
+    machine: &Core<E, M, A>,
+    width: Width,
+) -> bool
+    ensures { result ≡ is_doubtful width machine.now.state }
+{
+    ahead(machine, width).is_doubtful()
+}
+
+// What a machine's next step is judged by.
+fn ahead<E: TwoEnds<u8, A>, M: TwoEnds<Mark, A>, A: Allocator + Copy>(
+    machine: &Core<E, M, A>,
+    width: Width,
+) -> Ahead<'_, A>
+    ensures { doubts_ahead result ≡ doubts width machine.now.state }
+{
+    let call = match machine.next_call() {
+        Some((_, arguments)) => Some(arguments),
+        None => None,
+    };
+    Ahead {
+        active: machine.active(),
+        depth: machine.depth(),
+        call,
+        store: machine.store(),
+        width,
+    }
+}
