@@ -10,3 +10,4 @@ pub mod Trailed
 pub mod Heavy
 pub mod Returned
 pub mod Looked
+pub mod Doubted

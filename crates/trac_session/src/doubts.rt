@@ -1,7 +1,8 @@
 //! The doubts of the next step.
-ghost use Rattle.std.specs.Prelude.{◌≡◌, IfOk, IsOkUnless};
+ghost use Rattle.std.specs.Prelude.{◌≡◌, option_map, IfOk, IsOkUnless};
 ghost use Rattle.trac_doubts.specs.Ahead.{doubts_ahead};
 ghost use Rattle.trac_rules.specs.Doubts.{doubts, is_doubtful};
+ghost use Rattle.trac_rules.specs.Goals.{next_call};
 
 use crate::session::Session;
 use std::alloc::Allocator;
@@ -10,7 +11,7 @@ use trac_gap::TwoEnds;
 use trac_rules::doubt::Doubt;
 use trac_rules::refusal::Refusal;
 use trac_rules::width::Width;
-use trac_step::{Core, Mark};
+use trac_step::{Args, Core, Mark};
 
 impl<A: Allocator + Copy> Session<A> {
     /// What the next step would do that a person is unlikely to have meant: each row of the table of doubts that holds, in its order.
@@ -43,15 +44,24 @@ fn ahead<E: TwoEnds<u8, A>, M: TwoEnds<Mark, A>, A: Allocator + Copy>(
 ) -> Ahead<'_, A>
     ensures { doubts_ahead result ≡ doubts width machine.now.state }
 {
-    let call = match machine.next_call() {
-        Some((_, arguments)) => Some(arguments),
-        None => None,
-    };
+    let call = arguments_called(machine);
     Ahead {
         active: machine.active(),
         depth: machine.depth(),
         call,
         store: machine.store(),
         width,
+    }
+}
+
+// All arguments of the call that a machine's next step performs, its name first, if it performs one.
+fn arguments_called<E: TwoEnds<u8, A>, M: TwoEnds<Mark, A>, A: Allocator + Copy>(
+    machine: &Core<E, M, A>,
+) -> Option<Args<'_>>
+    ensures { result ≡ option_map (λ call. call.arguments) (next_call machine.now.state) }
+{
+    match machine.next_call() {
+        Some((_, arguments)) => Some(arguments),
+        None => None,
     }
 }
