@@ -1,5 +1,5 @@
 //! Whether a form is the address of a block, found without memory.
-ghost use Rattle.std.specs.Prelude.{◌≡◌, ◌<◌, ◌≤◌, length, is_some, MatchOption};
+ghost use Rattle.std.specs.Prelude.{◌≡◌, ◌<◌, ◌++◌, false, true, length, is_some, option_to_list, MatchOption};
 ghost use Rattle.trac_rules.specs.Blocks.{number_addressed};
 ghost use Rattle.trac_rules.specs.Form.{Form as Divided, all_items};
 ghost use Rattle.trac_rules.specs.Pieces.{bytes_in};
@@ -18,6 +18,8 @@ const DIGITS: usize = 20;
 pub(crate) fn is_address<A: Allocator + Copy>(form: &Form<A>, store: &Store<A>) -> bool
     ensures { result ≡ is_some (number_addressed form.now store.now.blocks) }
 {
+    // For what it says: the number of a block is not too long for the buffer.
+    let _count = store.block_count();
     match short_text(form) {
         Some(text) => is_live(text.as_slice(), store),
         None => false,
@@ -30,14 +32,24 @@ fn short_text<A: Allocator + Copy>(form: &Form<A>) -> Option<ArrayVec<u8, DIGITS
 {
     let mut text = ArrayVec::new();
     for place in 0..form.len() {
-        if let Some(Item::Byte(b)) = form.item(place) {
-            if text.is_full() {
-                return None;
-            }
-            text.push(b);
+        let is_added = add_byte(form.item(place), &mut text);
+        if !is_added {
+            return None;
         }
     }
     Some(text)
+}
+
+// Puts the byte of an item, if there is one, at the end of a text, and answers whether there was room for it; a gap takes none.
+fn add_byte(item: Option<Item>, text: &mut ArrayVec<u8, DIGITS>) -> bool
+    ensures added { result ≡ true → text.new.items ≡ text.old.items ++ bytes_in (option_to_list item) }
+    ensures full { result ≡ false → DIGITS < length (text.old.items ++ bytes_in (option_to_list item)) }
+{
+    match item {
+        Some(Item::Byte(b)) => text.try_push(b).is_ok(),
+        Some(Item::Gap { .. }) => true,
+        None => true,
+    }
 }
 
 // Whether this text is the number of a live block in decimal.

@@ -4,13 +4,13 @@ ghost use Rattle.std.specs.FinMap as finite;
 ghost use Rattle.std.specs.Option.{option_and_then, option_to_list};
 ghost use Rattle.trac_forms.specs.Stored.{storage_in};
 ghost use Rattle.trac_rules.specs.Blocks.{number_addressed};
-ghost use Rattle.trac_rules.specs.Doubts.{block_doubts, doubts_of_call, form_doubts, name_doubts, needs_block, needs_form};
+ghost use Rattle.trac_rules.specs.Doubts.{block_doubts, doubts_of_call, form_doubts, name_doubts, needs_block, needs_form, unknown_name};
 ghost use Rattle.trac_rules.specs.Effect.{argument};
 
 use crate::addresses::is_address;
 use crate::counts::unused_doubt;
 use crate::numbers::{has_no_numbers, number_doubts_into, result_doubt};
-use crate::texts::{is_missing_texts, nowhere_into};
+use crate::texts::{has_missing_text, nowhere_into};
 use std::alloc::Allocator;
 use trac_forms::{Form, Store};
 use trac_prims::primitive_named;
@@ -36,7 +36,7 @@ pub(crate) fn is_doubtful_call<A: Allocator + Copy>(
         || unused_doubt(primitive, form, args.count()).is_some()
         || has_no_numbers(primitive, args)
         || result_doubt(primitive, args, width).is_some()
-        || is_missing_texts(primitive, args, form)
+        || has_missing_text(primitive, args, form)
 }
 
 // Puts the doubts of a call of these arguments at the end of `out`.
@@ -83,17 +83,18 @@ fn name_doubt<A: Allocator + Copy>(
     ensures { option_to_list result ≡ name_doubts primitive (finite.get store.now.forms (argument 0 args.now)) }
 {
     match primitive {
-        Primitive::Unknown => Some(unknown_name(store.get(args.get(0)).is_some())),
+        Primitive::Unknown => Some(unknown_name(store.get(args.get(0)))),
         _ => None,
     }
 }
 
-// The doubt of a name that is no primitive's, by whether it is a form's.
-fn unknown_name(is_form: bool) -> Doubt {
-    if is_form {
-        Doubt::FormUncalled
-    } else {
-        Doubt::NoPrimitive
+// The doubt of a name that is no primitive's, by the form of that name.
+fn unknown_name<A: Allocator + Copy>(form: Option<&Form<A>>) -> Doubt
+    ensures { result ≡ unknown_name (option_copied form.entry) }
+{
+    match form {
+        Some(_) => Doubt::FormUncalled,
+        None => Doubt::NoPrimitive,
     }
 }
 

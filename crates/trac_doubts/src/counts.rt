@@ -34,10 +34,8 @@ fn used<A: Allocator + Copy>(primitive: Primitive, form: Option<&Form<A>>) -> Op
     ensures few { IfSome result (λ n. n < 2 ^ 33) }
 {
     match primitive {
-        Primitive::ReadString
-        | Primitive::ReadByte
-        | Primitive::Halt
-        | Primitive::SetTrace(_) => Some(0),
+        Primitive::ReadString | Primitive::ReadByte | Primitive::Halt | Primitive::SetTrace(_) =>
+            Some(0),
         Primitive::PrintString | Primitive::SetMeta => Some(1),
         Primitive::Compute(computation) => Some(used_to_compute(computation)),
         Primitive::Handle(action) => used_on_form(action, form),

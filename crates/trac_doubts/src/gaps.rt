@@ -1,6 +1,7 @@
 //! The gaps of a form.
-ghost use Rattle.std.specs.Prelude.{◌≡◌, ◌<◌, ◌^◌};
-ghost use Rattle.trac_rules.specs.Doubts.{highest_ordinal};
+ghost use Rattle.std.specs.Prelude.{◌≡◌};
+ghost use Rattle.std.specs.Option.{option_map_or};
+ghost use Rattle.trac_rules.specs.Doubts.{highest_ordinal, ordinal_of};
 ghost use Rattle.trac_rules.specs.Form.{all_items};
 
 use std::alloc::Allocator;
@@ -22,7 +23,9 @@ pub(crate) fn highest_ordinal<A: Allocator + Copy>(form: &Form<A>) -> u32
 }
 
 // The ordinal of a gap; 0 of a byte, and where there is no item.
-fn ordinal_of(item: Option<Item>) -> u32 {
+fn ordinal_of(item: Option<Item>) -> u32
+    ensures { result ≡ option_map_or ordinal_of item 0 }
+{
     match item {
         Some(Item::Gap { ordinal, width: _ }) => ordinal,
         Some(Item::Byte(_)) => 0,

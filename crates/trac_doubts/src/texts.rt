@@ -1,34 +1,36 @@
 //! Texts that `ss` does not find.
-ghost use Rattle.std.specs.Prelude.{◌≡◌, ◌++◌, ◌<◌, ◌≤◌, ◌&&◌, not, drop, length, nat_lt, option_copied, OnOk, IsOkUnless};
-ghost use Rattle.trac_rules.specs.Doubts.{is_null, nowhere_doubts, stands_in};
+ghost use Rattle.std.specs.Prelude.{◌≡◌, ◌++◌, ◌*◌, ◌<◌, ◌≤◌, ◌&&◌, not, ◌+◌, drop, length, nat_lt, option_copied, option_to_list, slice_get, sum, take, false, [], ◌∷◌, OnOk, IsOkUnless};
+ghost use Rattle.std.specs.Option.{option_map_or};
+ghost use Rattle.trac_rules.specs.Doubts.{is_null, nowhere_doubts, nowhere_from, stands_in};
 ghost use Rattle.trac_rules.specs.Form.{all_items};
 ghost use Rattle.trac_rules.specs.Pieces.{begin_with};
 ghost use Rattle.trac_rules.specs.Segmenting.{runs_of};
+ghost use Rattle.trac_doubts.specs.Sums.{code_of, sum_among};
 
+use crate::calls::add;
 use std::alloc::Allocator;
 use trac_forms::{Form, Item};
 use trac_rules::doubt::Doubt;
+use trac_rules::limit::FORM_LIMIT;
 use trac_rules::primitive::{FormAction, Primitive};
 use trac_rules::refusal::Refusal;
 use trac_text::Args;
 
 // Whether a call of `ss` has a text that stands nowhere in the form that argument 1 names.
-pub(crate) fn is_missing_texts<A: Allocator + Copy>(
+pub(crate) fn has_missing_text<A: Allocator + Copy>(
     primitive: Primitive,
     args: &Args<'_>,
     form: Option<&Form<A>>,
 ) -> bool
     ensures { result ≡ nat_lt 0 (length (nowhere_doubts primitive args.now (option_copied form.entry))) }
 {
-    let Some(form) = form_cut(primitive, form) else {
-        return false;
-    };
-    for k in 2..args.count() {
-        if is_nowhere(args.get(k), form) {
-            return true;
-        }
+    match primitive {
+        Primitive::Handle(FormAction::Segment) => match form {
+            Some(form) => misses_text(args, form),
+            None => false,
+        },
+        _ => false,
     }
-    false
 }
 
 // Puts the doubt of each such text at the end of `out`.
@@ -41,26 +43,41 @@ pub(crate) fn nowhere_into<A: Allocator + Copy, B: Allocator>(
     ensures ok { OnOk result (out.new.items ≡ out.old.items ++ nowhere_doubts primitive args.now (option_copied form.entry)) }
     ensures err { IsOkUnless result Refusal.Memory }
 {
-    let Some(form) = form_cut(primitive, form) else {
-        return Ok(());
-    };
-    for k in 2..args.count() {
-        if is_nowhere(args.get(k), form) {
-            out.push(Doubt::Nowhere(k))?;
-        }
+    match primitive {
+        Primitive::Handle(FormAction::Segment) => match form {
+            Some(form) => missing_into(args, form, out),
+            None => Ok(()),
+        },
+        _ => Ok(()),
     }
-    Ok(())
 }
 
-// The form out of which a primitive cuts texts, if it does so.
-fn form_cut<'a, A: Allocator + Copy>(
-    primitive: Primitive,
-    form: Option<&'a Form<A>>,
-) -> Option<&'a Form<A>> {
-    match primitive {
-        Primitive::Handle(FormAction::Segment) => form,
-        _ => None,
+// Whether one of the texts of these arguments, which begin after argument 1, stands nowhere in a form.
+fn misses_text<A: Allocator + Copy>(args: &Args<'_>, form: &Form<A>) -> bool
+    ensures { result ≡ nat_lt 0 (length (nowhere_from 2 (drop 2 args.now) (runs_of (all_items form.now)))) }
+{
+    for k in 2..args.count() {
+        if is_nowhere(args.get(k), form) {
+            return true;
+        }
     }
+    false
+}
+
+// Puts the doubt of each such text at the end of `out`.
+fn missing_into<A: Allocator + Copy, B: Allocator>(
+    args: &Args<'_>,
+    form: &Form<A>,
+    out: &mut Vec<Doubt, B>,
+) -> Result<(), Refusal>
+    ensures ok { OnOk result (out.new.items ≡ out.old.items ++ nowhere_from 2 (drop 2 args.now) (runs_of (all_items form.now))) }
+    ensures err { IsOkUnless result Refusal.Memory }
+{
+    for k in 2..args.count() {
+        let doubt = is_nowhere(args.get(k), form).then_some(Doubt::Nowhere(k));
+        add(doubt, out)?;
+    }
+    Ok(())
 }
 
 // Whether a text is not null, and stands in no run of bytes between gaps.
@@ -71,28 +88,84 @@ fn is_nowhere<A: Allocator + Copy>(text: &[u8], form: &Form<A>) -> bool
 }
 
 // Whether a text stands in a run of bytes between gaps. It takes no memory. All bytes of the text are compared only at
-// places where its sum is right, so that most texts take time for the form alone.
+// places where as many bytes have the same sum, so that most texts take time for the form alone.
 fn stands_in<A: Allocator + Copy>(text: &[u8], form: &Form<A>) -> bool
     requires { 0 < length text.now }
     ensures { result ≡ stands_in text.now (runs_of (all_items form.now)) }
 {
     let len = form.len();
-    if len < text.len() {
+    let size = text.len();
+    if len < size {
         return false;
     }
+    let last = len - size;
     let wanted = sum_of(text);
-    let mut sum = first_sum(form, text.len());
-    for place in 0..len - text.len() {
-        if sum == wanted && begins_at(text, form, place) {
+    let mut sum = first_sum(form, size);
+    for place in 0..last {
+        let is_there = begins_with_sum(text, form, place, sum, wanted);
+        if is_there {
             return true;
         }
-        sum = sum + code_at(form, place + text.len()) - code_at(form, place);
+        let end = place + size;
+        let coming = code_at(form, end);
+        let going = code_at(form, place);
+        sum = sum + coming - going;
     }
-    begins_at(text, form, len - text.len())
+    begins_at(text, form, last)
+}
+
+// Whether a text stands at this place of a form, where as many bytes from there on have one sum, and the text has the other.
+fn begins_with_sum<A: Allocator + Copy>(
+    text: &[u8],
+    form: &Form<A>,
+    place: usize,
+    here: usize,
+    wanted: usize,
+) -> bool
+    requires within { place + length text.now ≤ length (all_items form.now) }
+    requires fits { place + length text.now ≤ FORM_LIMIT }
+    requires here { here ≡ sum_among (take (length text.now) (drop place (all_items form.now))) }
+    requires wanted { wanted ≡ sum text.now }
+    ensures { result ≡ begin_with text.now (drop place (all_items form.now)) }
+{
+    if here == wanted {
+        begins_at(text, form, place)
+    } else {
+        false
+    }
+}
+
+// Whether a text stands at this place of a form.
+fn begins_at<A: Allocator + Copy>(text: &[u8], form: &Form<A>, place: usize) -> bool
+    requires within { place + length text.now ≤ length (all_items form.now) }
+    requires fits { place + length text.now ≤ FORM_LIMIT }
+    ensures { result ≡ begin_with text.now (drop place (all_items form.now)) }
+{
+    for (i, b) in text.iter().enumerate() {
+        let is_there = is_byte(form.item(place + i), *b);
+        if !is_there {
+            return false;
+        }
+    }
+    true
+}
+
+// Whether an item is this byte.
+fn is_byte(item: Option<Item>, b: u8) -> bool
+    ensures { result ≡ begin_with (b ∷ []) (option_to_list item) }
+{
+    match item {
+        Some(Item::Byte(c)) => b == c,
+        Some(Item::Gap { .. }) => false,
+        None => false,
+    }
 }
 
 // The sum of the bytes of a text.
-fn sum_of(text: &[u8]) -> usize {
+fn sum_of(text: &[u8]) -> usize
+    requires { length text.now ≤ FORM_LIMIT }
+    ensures { result ≡ sum text.now }
+{
     let mut sum = 0;
     for b in text {
         sum += usize::from(*b);
@@ -100,21 +173,13 @@ fn sum_of(text: &[u8]) -> usize {
     sum
 }
 
-// Whether a text stands at this place of a form.
-fn begins_at<A: Allocator + Copy>(text: &[u8], form: &Form<A>, place: usize) -> bool
-    ensures { result ≡ begin_with text.now (drop place (all_items form.now)) }
-{
-    for (i, b) in text.iter().enumerate() {
-        match form.item(place + i) {
-            Some(Item::Byte(c)) if c == *b => {}
-            _ => return false,
-        }
-    }
-    true
-}
-
 // The sum of the bytes among so many items of a form, from the first on.
-fn first_sum<A: Allocator + Copy>(form: &Form<A>, count: usize) -> usize {
+fn first_sum<A: Allocator + Copy>(form: &Form<A>, count: usize) -> usize
+    requires within { count ≤ length (all_items form.now) }
+    requires fits { count ≤ FORM_LIMIT }
+    ensures sum { result ≡ sum_among (take count (all_items form.now)) }
+    ensures small { result ≤ 255 * count }
+{
     let mut sum = 0;
     for place in 0..count {
         sum += code_at(form, place);
@@ -123,7 +188,10 @@ fn first_sum<A: Allocator + Copy>(form: &Form<A>, count: usize) -> usize {
 }
 
 // The byte at this place of a form; 0 of a gap, and past the end.
-fn code_at<A: Allocator + Copy>(form: &Form<A>, place: usize) -> usize {
+fn code_at<A: Allocator + Copy>(form: &Form<A>, place: usize) -> usize
+    ensures code { result ≡ option_map_or code_of (slice_get (all_items form.now) place) 0 }
+    ensures byte { result < 256 }
+{
     match form.item(place) {
         Some(Item::Byte(b)) => usize::from(b),
         Some(Item::Gap { .. }) => 0,

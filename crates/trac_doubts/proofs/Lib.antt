@@ -1,0 +1,4 @@
+pub mod Rows
+pub mod Ordinals
+pub mod Standing
+pub mod Addressed
