@@ -40,7 +40,8 @@ fn short_text<A: Allocator + Copy>(form: &Form<A>) -> Option<ArrayVec<u8, DIGITS
     Some(text)
 }
 
-// Puts the byte of an item, if there is one, at the end of a text, and answers whether there was room for it; a gap takes none.
+// Puts the byte of an item, if there is one, at the end of a text, and answers whether there was room for it; a gap takes
+// none.
 fn add_byte(item: Option<Item>, text: &mut ArrayVec<u8, DIGITS>) -> bool
     ensures added { result ≡ true → text.new.items ≡ text.old.items ++ bytes_in (option_to_list item) }
     ensures full { result ≡ false → DIGITS < length (text.old.items ++ bytes_in (option_to_list item)) }

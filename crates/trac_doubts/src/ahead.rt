@@ -33,8 +33,8 @@ pub struct Ahead<'a, A: Allocator + Copy = Global> {
 }
 
 impl<'a, A: Allocator + Copy> Ahead<'a, A> {
-    /// Whether there is a doubt: the step does something that a person is unlikely to have meant (this project's profile). It
-    /// takes no memory.
+    /// Whether there is a doubt: the step does something that a person is unlikely to have meant (this project's profile).
+    /// It takes no memory.
     pub fn is_doubtful(&self) -> bool
         ensures { result ≡ nat_lt 0 (length (doubts_ahead self.now)) }
     {

@@ -114,7 +114,8 @@ fn stands_in<A: Allocator + Copy>(text: &[u8], form: &Form<A>) -> bool
     begins_at(text, form, last)
 }
 
-// Whether a text stands at this place of a form, where as many bytes from there on have one sum, and the text has the other.
+// Whether a text stands at this place of a form, where as many bytes from there on have one sum, and the text has the
+// other.
 fn begins_with_sum<A: Allocator + Copy>(
     text: &[u8],
     form: &Form<A>,

@@ -1,7 +1,7 @@
 //! Doubts: what a step does that a person is unlikely to have meant.
 
-/// What the next step would do that a person is unlikely to have meant. It changes nothing of the language: a doubtful step is a
-/// step like any other (this project's profile). Arguments are counted from the name of a call, which is argument 0.
+/// What the next step would do that a person is unlikely to have meant. It changes nothing of the language: a doubtful step
+/// is a step like any other (this project's profile). Arguments are counted from the name of a call, which is argument 0.
 #[derive(Clone, Copy, Debug, PartialEq, Eq)]
 pub enum Doubt {
     /// It performs a name that is no primitive's, and no form's.
@@ -16,9 +16,11 @@ pub enum Doubt {
     Unused(usize),
     /// This argument counts as a number, is not null, and ends in no numeral: so it counts as 0.
     NoNumber(usize),
-    /// An operand or the result of `ad`, `su`, `ml` or `dv` does not fit, or the divisor is 0, and the call has no argument 3.
+    /// An operand or the result of `ad`, `su`, `ml` or `dv` does not fit, or the divisor is 0, and the call has no
+    /// argument 3.
     NoResult,
-    /// This argument of `ss` is not null, and stands in no run of bytes between gaps of the form, as it is before the cut.
+    /// This argument of `ss` is not null, and stands in no run of bytes between gaps of the form, as it is before the
+    /// cut.
     Nowhere(usize),
     /// It loads the idle program, while so many calls are begun.
     Unended(usize),

@@ -35,7 +35,8 @@ pub enum Goal<'a, A: Allocator + Copy = Global> {
     /// At most so many bytes of the output are not released yet. On the way back from where byte number `n` of it, from 0 on, is
     /// printed, this is met first at the call that prints it.
     Unprinted(usize),
-    /// There is a doubt of the next step, where numbers are of this width: that of the session, as `Session::doubts` has it.
+    /// There is a doubt of the next step (`Session::doubts`), where numbers are of this width, which is that of the
+    /// session.
     Doubtful(Width),
 }
 
