@@ -36,7 +36,7 @@ g N        to step N
 i TEXT     a line of input               e          the input ends
 p          the state on one screen       p all      all of it
 f          the forms                     f NAME     one form
-t [N]      the last N calls, or 10, with their values; t N all: uncut
+t [N]      the last N calls, or 10, with values or defaults; t N all: uncut
 h          this list; or help, ?         q          the end; or quit, exit
 An empty line repeats the last move or y; after y \"TEXT\" it goes further back.
 Words with blanks stand in quotes; in those \\n is a line feed, \\xHH that byte.

@@ -3,6 +3,7 @@
 #![tactic(auto)]
 
 mod calls;
+mod default;
 mod form_list;
 mod given;
 mod glance;
@@ -15,7 +16,8 @@ mod sight;
 mod standing_line;
 mod way;
 
-pub use calls::{Lengths, call_into, outcome_into};
+pub use calls::{Before, call_into, outcome_into};
+pub use default::takes_default;
 pub use form_list::{form_into, list_into};
 pub use given::{given_into, only_byte};
 pub use glance::{Glance, glance_at};

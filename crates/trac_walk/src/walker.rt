@@ -66,6 +66,11 @@ impl<A: Allocator + Copy> Walker<A> {
         self.window.session.machine()
     }
 
+    /// How wide the program's numbers are.
+    pub fn width(&self) -> Width {
+        self.window.session.width()
+    }
+
     /// Where scanning stands.
     pub fn glance(&self) -> Glance {
         glance_at(self.window.session.machine())
