@@ -4,6 +4,7 @@
 
 mod calls;
 mod default;
+mod doubting;
 mod form_list;
 mod given;
 mod glance;
@@ -18,6 +19,7 @@ mod way;
 
 pub use calls::{Before, call_into, outcome_into};
 pub use default::takes_default;
+pub use doubting::{argument_doubted, doubt_into};
 pub use form_list::{form_into, list_into};
 pub use given::{given_into, only_byte};
 pub use glance::{Glance, glance_at};
