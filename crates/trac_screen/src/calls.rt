@@ -32,7 +32,8 @@ pub fn call_into<A: Allocator + Copy>(
     }
 }
 
-/// Puts what the call gave at the end of a line: its value, and whether that is its default argument, or why it was refused.
+/// Puts what the call gave at the end of a line: its value, and whether that is its default argument, or why it was
+/// refused.
 pub fn outcome_into<A: Allocator + Copy>(
     before: Before,
     why: Option<Refusal>,

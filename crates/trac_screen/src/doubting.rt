@@ -8,8 +8,8 @@ use trac_rules::doubt::Doubt;
 // Of a name or an argument so many columns are shown.
 const TEXT_WIDTH: usize = 32;
 
-/// Puts what is said of a doubt of the next step at the end of a line, in words, without its place. Of a long name or argument
-/// the front is shown. The error is that memory was refused, here and below.
+/// Puts what is said of a doubt of the next step at the end of a line, in words, without its place. Of a long name or
+/// argument the front is shown. The error is that memory was refused, here and below.
 pub fn doubt_into<A: Allocator + Copy>(
     sight: &Sight<'_, A>,
     doubt: Doubt,
@@ -20,23 +20,13 @@ pub fn doubt_into<A: Allocator + Copy>(
         Doubt::NoNumber(k) => argument_into(sight, k, b" has no number, and counts as 0: ", line),
         Doubt::Nowhere(k) => nowhere_into(sight, k, line),
         Doubt::Unended(1) => line.say(b"1 call was begun and never ended"),
-        Doubt::Unended(count) => {
-            line.count(count as u64)?;
-            line.say(b" calls were begun and never ended")
-        }
-        doubt => {
-            let (before, number, after) = words_of(doubt);
-            line.say(before)?;
-            if let Some(number) = number {
-                text_into(argument_of(sight, number), line)?;
-            }
-            line.say(after)
-        }
+        Doubt::Unended(count) => unended_into(count as u64, line),
+        doubt => plain_into(sight, doubt, line),
     }
 }
 
-/// The argument of the innermost begun function with which a doubt of the next step has its place: the one that it speaks of,
-/// or the name of the call where that is empty. None where it speaks of no call, or where the name is empty too.
+/// The argument of the innermost begun function at which a doubt of the next step has its place: the one that it speaks
+/// of, or the name of the call where that is empty. None where it speaks of no call, or where the name is empty too.
 pub fn argument_doubted<A: Allocator + Copy>(sight: &Sight<'_, A>, doubt: Doubt) -> Option<usize> {
     let number = match doubt {
         Doubt::NoPrimitive | Doubt::FormUncalled | Doubt::NoResult => 0,
@@ -44,9 +34,36 @@ pub fn argument_doubted<A: Allocator + Copy>(sight: &Sight<'_, A>, doubt: Doubt)
         Doubt::Unused(k) | Doubt::NoNumber(k) | Doubt::Nowhere(k) => k,
         Doubt::Unended(_) | Doubt::Unclosed | Doubt::EndsNothing => return None,
     };
-    [number, 0]
-        .into_iter()
-        .find(|k| !argument_of(sight, *k).is_empty())
+    if !argument_of(sight, number).is_empty() {
+        return Some(number);
+    }
+    if argument_of(sight, 0).is_empty() {
+        return None;
+    }
+    Some(0)
+}
+
+// That so many calls were begun.
+fn unended_into<A: Allocator + Copy>(
+    count: u64,
+    line: &mut ScreenLine<A>,
+) -> Result<(), AllocError> {
+    line.count(count)?;
+    line.say(b" calls were begun and never ended")
+}
+
+// A doubt that shows one argument at most.
+fn plain_into<A: Allocator + Copy>(
+    sight: &Sight<'_, A>,
+    doubt: Doubt,
+    line: &mut ScreenLine<A>,
+) -> Result<(), AllocError> {
+    let (before, number, after) = words_of(doubt);
+    line.say(before)?;
+    if let Some(number) = number {
+        text_into(argument_of(sight, number), line)?;
+    }
+    line.say(after)
 }
 
 // What is said of a doubt that shows one argument at most: the words before it, its number, the words after it.
@@ -99,10 +116,7 @@ fn numbered_into<A: Allocator + Copy>(
 }
 
 // The front of a text; of an empty one that it is empty.
-fn text_into<A: Allocator + Copy>(
-    text: &[u8],
-    line: &mut ScreenLine<A>,
-) -> Result<(), AllocError> {
+fn text_into<A: Allocator + Copy>(text: &[u8], line: &mut ScreenLine<A>) -> Result<(), AllocError> {
     if text.is_empty() {
         return line.say(b"(an empty text)");
     }

@@ -8,9 +8,9 @@ use trac_session::Refusal;
 
 /// Puts a line for each of the last calls of the program's own at the end of a text, the earliest first: the number of its
 /// step, the call, and its value, cut to the screen unless they are wanted whole; and whether the value is its default
-/// argument. To find them it goes back, and then forward again to where it was. Where a step is refused on the way, for memory
-/// alone, the lines end there, and the refusal is returned; where that is refused too, it stands there. The error is that memory
-/// was refused for the lines, or to search a form for the text of `in`, here and below.
+/// argument. To find them it goes back, and then forward again to where it was. Where a step is refused on the way, for
+/// memory alone, the lines end there, and the refusal is returned; where that is refused too, it stands there. The error is
+/// that memory was refused for the lines, or to search a form for the text of `in`, here and below.
 pub fn calls_into<A: Allocator + Copy>(
     alloc: A,
     walker: &mut Walker<A>,

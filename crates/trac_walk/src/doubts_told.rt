@@ -8,9 +8,9 @@ use trac_follow::{End, Place};
 use trac_screen::{Origin, ScreenLine, argument_doubted, doubt_into, left_out_into, origin_into};
 use trac_session::Doubt;
 
-/// Puts a line for each doubt of the next step at the end of a text: what is said of it, and the place from which it comes; at
-/// most 30, and how many are left out. For the places it goes back, and forward again. The error is that memory was refused,
-/// here and below.
+/// Puts a line for each doubt of the next step at the end of a text: what is said of it, and the place from which it comes;
+/// at most 30, and how many are left out. For the places it goes back, and forward again. The error is that memory was
+/// refused, here and below.
 pub fn doubts_into<A: Allocator + Copy>(
     alloc: A,
     walker: &mut Walker<A>,
@@ -18,8 +18,8 @@ pub fn doubts_into<A: Allocator + Copy>(
     out: &mut Vec<u8, A>,
 ) -> Result<(), AllocError> {
     let doubts = walker.doubts(alloc)?;
-    for doubt in doubts.iter().take(LINE_COUNT) {
-        line_into(alloc, walker, program, *doubt, out)?;
+    for number in 0..doubts.len().min(LINE_COUNT) {
+        line_into(alloc, walker, program, doubts[number], out)?;
     }
     match doubts.len().saturating_sub(LINE_COUNT) {
         0 => Ok(()),
@@ -90,7 +90,8 @@ fn first_byte<'p>(function: usize, argument: usize) -> Place<'p> {
     }
 }
 
-// Where a byte comes from, to which the walker has gone back. For a byte of the idle program that is the text which it reads.
+// Where a byte comes from, to which the walker has gone back. For a byte of the idle program that is the text that it
+// reads.
 fn written_at<A: Allocator + Copy>(walker: &Walker<A>, program: &[u8], end: End) -> Origin {
     let is_idle = match end {
         End::Made => walker.sight().active.is_empty(),
@@ -107,14 +108,19 @@ fn written_at<A: Allocator + Copy>(walker: &Walker<A>, program: &[u8], end: End)
 // The number of the byte of all input with which the text begins that is read next: the first one that is no blank and no
 // line end.
 fn text_begins<A: Allocator + Copy>(walker: &Walker<A>) -> u64 {
-    let unread = walker.unread();
-    let layout = unread
-        .iter()
-        .position(|byte| !matches!(*byte, b' ' | b'\t' | b'\r' | b'\n'))
-        .unwrap_or(0);
     walker
         .input_number(walker.sight().position)
-        .saturating_add(layout as u64)
+        .saturating_add(layout_len(walker.unread()) as u64)
+}
+
+// How many blanks and line ends stand at the front of a text; 0 where nothing else is in it.
+fn layout_len(text: &[u8]) -> usize {
+    for (place, byte) in text.iter().enumerate() {
+        if !matches!(*byte, b' ' | b'\t' | b'\r' | b'\n') {
+            return place;
+        }
+    }
+    0
 }
 
 // What stands between a doubt and its place.
