@@ -6,6 +6,7 @@ ghost use Rattle.trac_program.specs.Words.{IsLine};
 
 use std::alloc::{AllocError, Global};
 use std::env::Args;
+use std::io::IsTerminal;
 use std::process::ExitCode;
 use std::rt::Env;
 use std::{env, io};
@@ -16,9 +17,16 @@ use trac_program::{
 /// The status of a command line that is not understood.
 const NOT_UNDERSTOOD: u8 = 2;
 
+// What is said before a run whose input comes from a terminal, where nothing else would show that it waits.
+const AT_TERMINAL: &str =
+    "trac: reading from the terminal: ' and Enter end a text, Ctrl-D ends the input";
+
 fn main(rt: HostRuntime) -> ExitCode {
     match asked_line(&rt) {
         Ok(Line::Run(options)) => {
+            if rt.stdin().is_terminal() {
+                let _ = eprintln!(rt; "{AT_TERMINAL}");
+            }
             let ending = run(rt.alloc(), &mut rt.stdin(), &mut rt.stdout(), options);
             say(&rt, ending)
         }

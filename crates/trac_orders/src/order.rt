@@ -25,6 +25,7 @@ N          back to before the call that gave what stands here
 o          out of the begun call         O          back to where it began
 u CALL..   forward to a call             r CALL..   back to a call
            (CALL..: its first arguments, as u cl hanoi; none: any call)
+d          to the next doubtful step     D          back to the last one
 m          back to where a command of these or y began, and again further
 w NAME     back to the call that changed the form NAME last
 w #K       back to the call that printed byte K of the output
@@ -36,7 +37,7 @@ g N        to step N
 i TEXT     a line of input               e          the input ends
 p          the state on one screen       p all      all of it
 f          the forms                     f NAME     one form
-t [N]      the last N calls, or 10, with their values; t N all: uncut
+t [N]      the last N calls, or 10, with values or defaults; t N all: uncut
 h          this list; or help, ?         q          the end; or quit, exit
 An empty line repeats the last move or y; after y \"TEXT\" it goes further back.
 Words with blanks stand in quotes; in those \\n is a line feed, \\xHH that byte.
@@ -73,6 +74,10 @@ pub enum Move<'a> {
     PrintedText(&'a [u8]),
     /// To this step, counted from the start of the program.
     To(u64),
+    /// Forward to a step that a person is unlikely to have meant.
+    ToDoubt,
+    /// The same back.
+    BackToDoubt,
 }
 
 /// A byte whose way back is wanted. Bytes are counted from 1.
@@ -161,7 +166,7 @@ pub fn misunderstood(words: &[&[u8]]) -> &'static [u8] {
         b"i" => b"not understood; i takes TEXT, or one word in quotes, or nothing\n",
         b"p" => b"not understood; p takes all, or nothing\n",
         b"f" => b"not understood; f takes NAME, or nothing\n",
-        b"n" | b"N" | b"o" | b"O" | b"l" | b"m" | b"e" => STANDS_ALONE,
+        b"n" | b"N" | b"o" | b"O" | b"d" | b"D" | b"l" | b"m" | b"e" => STANDS_ALONE,
         b"h" | b"help" | b"?" | b"q" | b"quit" | b"exit" => STANDS_ALONE,
         _ => NOT_UNDERSTOOD,
     }
@@ -176,6 +181,8 @@ fn move_of<'a>(command: &[u8], rest: &'a [&'a [u8]], quoted: bool) -> Option<Mov
         b"N" => alone(rest, Move::OverBack),
         b"o" => alone(rest, Move::Out),
         b"O" => alone(rest, Move::OutBack),
+        b"d" => alone(rest, Move::ToDoubt),
+        b"D" => alone(rest, Move::BackToDoubt),
         b"u" => Some(Move::Until(rest)),
         b"r" => Some(Move::Return(rest)),
         b"w" => looked_for(rest, quoted),

@@ -32,15 +32,16 @@ pub fn call_into<A: Allocator + Copy>(
     }
 }
 
-/// Puts what the call gave at the end of a line: its value, or why it was refused.
+/// Puts what the call gave at the end of a line: its value, and whether that is its default argument, or why it was
+/// refused.
 pub fn outcome_into<A: Allocator + Copy>(
-    before: Lengths,
+    before: Before,
     why: Option<Refusal>,
     sight: &Sight<'_, A>,
     line: &mut ScreenLine<A>,
 ) -> Result<(), AllocError> {
     match why {
-        None => value_into(before.value(sight), line),
+        None => value_into(before.value(sight), before.takes_default, line),
         Some(refusal) => {
             line.say(b": ")?;
             line.say(refused(refusal))
@@ -51,30 +52,37 @@ pub fn outcome_into<A: Allocator + Copy>(
 // Puts a value at the end of the line of its call. That it is empty is said in words that no shown value can follow.
 fn value_into<A: Allocator + Copy>(
     value: &[u8],
+    is_default: bool,
     line: &mut ScreenLine<A>,
 ) -> Result<(), AllocError> {
-    if value.is_empty() {
-        return line.say(b" has an empty value");
-    }
-    line.say(b" gives ")?;
+    let words: &[u8] = match (is_default, value.is_empty()) {
+        (false, true) => b" has an empty value",
+        (true, true) => b" defaults to an empty value",
+        (false, false) => b" gives ",
+        (true, false) => b" defaults to ",
+    };
+    line.say(words)?;
     line.show(value)
 }
 
-/// How long the texts are before a call that its value may be added to.
+/// What tells the value of a call when it is performed.
 #[derive(Clone, Copy)]
-pub struct Lengths {
-    // the active text without the `)` that ends the call
+pub struct Before {
+    // how long the active text is without the `)` that ends the call
     active: usize,
-    // the text that the call stands in
+    // how long the text is that the call stands in
     around: usize,
+    // whether the value is the default argument
+    takes_default: bool,
 }
 
-impl Lengths {
-    /// Before a call.
-    pub fn of<A: Allocator + Copy>(sight: &Sight<'_, A>) -> Lengths {
-        Lengths {
+impl Before {
+    /// Before a call, whose value is its default argument or not.
+    pub fn of<A: Allocator + Copy>(sight: &Sight<'_, A>, takes_default: bool) -> Before {
+        Before {
             active: sight.active.len().saturating_sub(1),
             around: sight.around.len(),
+            takes_default,
         }
     }
 

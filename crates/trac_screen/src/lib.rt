@@ -3,6 +3,8 @@
 #![tactic(auto)]
 
 mod calls;
+mod default;
+mod doubting;
 mod form_list;
 mod given;
 mod glance;
@@ -15,7 +17,9 @@ mod sight;
 mod standing_line;
 mod way;
 
-pub use calls::{Lengths, call_into, outcome_into};
+pub use calls::{Before, call_into, outcome_into};
+pub use default::takes_default;
+pub use doubting::{argument_doubted, doubt_into};
 pub use form_list::{form_into, list_into};
 pub use given::{given_into, only_byte};
 pub use glance::{Glance, glance_at};

@@ -1,6 +1,7 @@
 //! What a walker is sent to.
 
 use std::alloc::Allocator;
+use trac_rules::width::Width;
 use trac_session::Goal;
 
 /// A goal of a walk that names no form, so that it can be said without the allocator of forms.
@@ -18,6 +19,8 @@ pub enum Aim<'a> {
     Rest(usize),
     /// At most so many bytes of output that are not released.
     Unprinted(usize),
+    /// A step of which there is a doubt, where numbers are of this width.
+    Doubtful(Width),
 }
 
 /// The goal that this is for a session.
@@ -29,5 +32,6 @@ pub fn goal_for<'a, A: Allocator + Copy>(aim: Aim<'a>) -> Goal<'a, A> {
         Aim::Shallower(count) => Goal::Shallower(count),
         Aim::Rest(most) => Goal::Rest(most),
         Aim::Unprinted(most) => Goal::Unprinted(most),
+        Aim::Doubtful(width) => Goal::Doubtful(width),
     }
 }

@@ -3,13 +3,14 @@
 use crate::aim::Aim;
 use crate::walker::Walker;
 use std::alloc::{AllocError, Allocator};
-use trac_screen::{Lengths, ScreenLine, call_into, outcome_into};
+use trac_screen::{Before, ScreenLine, call_into, outcome_into, takes_default};
 use trac_session::Refusal;
 
 /// Puts a line for each of the last calls of the program's own at the end of a text, the earliest first: the number of its
-/// step, the call, and its value, cut to the screen unless they are wanted whole. To find them it goes back, and then forward again to where it was. Where a step is refused
-/// on the way, for memory alone, the lines end there, and the refusal is returned; where that is refused too, it stands
-/// there. The error is that memory was refused for the lines, here and below.
+/// step, the call, and its value, cut to the screen unless they are wanted whole; and whether the value is its default
+/// argument. To find them it goes back, and then forward again to where it was. Where a step is refused on the way, for
+/// memory alone, the lines end there, and the refusal is returned; where that is refused too, it stands there. The error is
+/// that memory was refused for the lines, or to search a form for the text of `in`, here and below.
 pub fn calls_into<A: Allocator + Copy>(
     alloc: A,
     walker: &mut Walker<A>,
@@ -78,7 +79,10 @@ fn line_into<A: Allocator + Copy>(
     let mut call = line_of(alloc, is_whole);
     let depth = walker.glance().depth;
     call_into(walker.step(), depth, &walker.sight(), &mut call)?;
-    let before = Lengths::of(&walker.sight());
+    let Ok(is_default) = takes_default(&walker.sight(), walker.width()) else {
+        return Err(AllocError);
+    };
+    let before = Before::of(&walker.sight(), is_default);
     let why = walker.forward(1);
     let mut outcome = line_of(alloc, is_whole);
     outcome_into(before, why, &walker.sight(), &mut outcome)?;

@@ -21,11 +21,13 @@ pub fn carry_out<A: Allocator + Copy>(walker: &mut Walker<A>, way: Move<'_>) -> 
         Move::OverBack => over_back(walker),
         Move::Out => out(walker),
         Move::OutBack => out_back(walker),
-        Move::Until(call) => until(walker, call),
+        Move::Until(call) => until(walker, call_aim(call)),
         Move::Return(call) => stop_back(walker.return_to(call_aim(call))),
         Move::Changed(name) => to_change(walker, name),
         Move::Printed(number) => to_unprinted(printed(walker, number), walker),
         Move::PrintedText(text) => to_unprinted(printed_text(walker, text), walker),
+        Move::ToDoubt => until(walker, Aim::Doubtful(walker.width())),
+        Move::BackToDoubt => stop_back(walker.return_to(Aim::Doubtful(walker.width()))),
     }
 }
 
@@ -68,10 +70,10 @@ fn to_start<A: Allocator + Copy>(walker: &mut Walker<A>) -> Option<Stop> {
     stopped
 }
 
-// Forward to a call. Where it is not met before a step is refused, back to where it began, if that is still kept.
-fn until<A: Allocator + Copy>(walker: &mut Walker<A>, call: &[&[u8]]) -> Option<Stop> {
+// Forward to a goal. Where it is not met before a step is refused, back to where it began, if that is still kept.
+fn until<A: Allocator + Copy>(walker: &mut Walker<A>, aim: Aim<'_>) -> Option<Stop> {
     let start = walker.step();
-    let refusal = match walker.forward_to(call_aim(call), SEARCH_LIMIT)? {
+    let refusal = match walker.forward_to(aim, SEARCH_LIMIT)? {
         Refusal::NotMet => return Some(Stop::Spent),
         refusal => refusal,
     };

@@ -6,6 +6,7 @@ mod aim;
 mod call_list;
 mod calls_told;
 mod carrying_out;
+mod doubts_told;
 mod later;
 mod missing;
 mod origins;

@@ -286,8 +286,8 @@ fn end_into<A: Allocator + Copy>(
     )
 }
 
-// What is said of where a byte comes from, to which the walker has gone back.
-fn origin_of<A: Allocator + Copy>(walker: &Walker<A>, program: &[u8], end: End) -> Origin {
+/// What is said of where a byte comes from, to which the walker has gone back.
+pub fn origin_of<A: Allocator + Copy>(walker: &Walker<A>, program: &[u8], end: End) -> Origin {
     match end {
         End::Made => Origin::Made,
         End::Read(n) => read_as(walker.input_number(n), program),
@@ -316,8 +316,8 @@ fn source_into<A: Allocator + Copy>(
     }
 }
 
-// What is said of the byte of this number of the input, which begins with this program.
-fn read_as(number: u64, program: &[u8]) -> Origin {
+/// What is said of the byte of this number of the input, which begins with this program.
+pub fn read_as(number: u64, program: &[u8]) -> Origin {
     if number >= program.len() as u64 {
         return Origin::ReadFed((number - program.len() as u64).saturating_add(1));
     }

@@ -2,6 +2,7 @@
 
 use crate::call_list::calls_into;
 use crate::carrying_out::carry_out;
+use crate::doubts_told::doubts_into;
 use crate::origins::{way_into, written_into};
 use crate::standing::stand_into;
 use crate::walker::Walker;
@@ -178,7 +179,11 @@ fn go<A: Allocator + Copy>(
     if is_unmet(stop) && names_no_primitive(way) {
         out.extend_from_slice(NO_PRIMITIVE)?;
     }
-    stand_into(alloc, walker, out)
+    stand_into(alloc, walker, out)?;
+    match (way, stop) {
+        (Move::ToDoubt | Move::BackToDoubt, None) => doubts_into(alloc, walker, memo.program, out),
+        _ => Ok(()),
+    }
 }
 
 // Keeps where a move began, or where a search ended that went back; single steps are not kept.

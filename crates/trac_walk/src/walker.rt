@@ -13,7 +13,7 @@ use trac_rules::byte::LINE_FEED;
 use trac_rules::limit::{JOURNAL_LIMIT, TAPE_LIMIT};
 use trac_rules::width::Width;
 use trac_screen::{Forgetting, Glance, Reach, Sight, glance_at, lacks_output_room, sight_of};
-use trac_session::{Goal, Machine, Refusal, Return, Session, Walk};
+use trac_session::{Doubt, Goal, Machine, Refusal, Return, Session, Walk};
 use trac_streams::Ending;
 use trac_window::Window;
 
@@ -64,6 +64,11 @@ impl<A: Allocator + Copy> Walker<A> {
     /// The machine, which shows the state.
     pub fn machine(&self) -> &Machine<A> {
         self.window.session.machine()
+    }
+
+    /// How wide the program's numbers are.
+    pub fn width(&self) -> Width {
+        self.window.session.width()
     }
 
     /// Where scanning stands.
@@ -129,6 +134,14 @@ impl<A: Allocator + Copy> Walker<A> {
                 .window
                 .released
                 .saturating_add(self.window.session.pending().len() as u64),
+        }
+    }
+
+    /// The doubts of the next step. The error is that memory was refused.
+    pub fn doubts(&self, alloc: A) -> Result<Vec<Doubt, A>, AllocError> {
+        match self.window.session.doubts(alloc) {
+            Ok(doubts) => Ok(doubts),
+            Err(_) => Err(AllocError),
         }
     }
 

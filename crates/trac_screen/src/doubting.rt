@@ -1,0 +1,134 @@
+//! Doubts in words.
+
+use crate::screen_line::{ScreenLine, front};
+use crate::sight::Sight;
+use std::alloc::{AllocError, Allocator};
+use trac_rules::doubt::Doubt;
+
+// Of a name or an argument so many columns are shown.
+const TEXT_WIDTH: usize = 32;
+
+/// Puts what is said of a doubt of the next step at the end of a line, in words, without its place. Of a long name or
+/// argument the front is shown. The error is that memory was refused, here and below.
+pub fn doubt_into<A: Allocator + Copy>(
+    sight: &Sight<'_, A>,
+    doubt: Doubt,
+    line: &mut ScreenLine<A>,
+) -> Result<(), AllocError> {
+    match doubt {
+        Doubt::Unused(k) => argument_into(sight, k, b" is not used: ", line),
+        Doubt::NoNumber(k) => argument_into(sight, k, b" has no number, and counts as 0: ", line),
+        Doubt::Nowhere(k) => nowhere_into(sight, k, line),
+        Doubt::Unended(1) => line.say(b"1 call was begun and never ended"),
+        Doubt::Unended(count) => unended_into(count as u64, line),
+        doubt => plain_into(sight, doubt, line),
+    }
+}
+
+/// The argument of the innermost begun function at which a doubt of the next step has its place: the one that it speaks
+/// of, or the name of the call where that is empty. None where it speaks of no call, or where the name is empty too.
+pub fn argument_doubted<A: Allocator + Copy>(sight: &Sight<'_, A>, doubt: Doubt) -> Option<usize> {
+    let number = match doubt {
+        Doubt::NoPrimitive | Doubt::FormUncalled | Doubt::NoResult => 0,
+        Doubt::NoForm | Doubt::NoBlock => 1,
+        Doubt::Unused(k) | Doubt::NoNumber(k) | Doubt::Nowhere(k) => k,
+        Doubt::Unended(_) | Doubt::Unclosed | Doubt::EndsNothing => return None,
+    };
+    if !argument_of(sight, number).is_empty() {
+        return Some(number);
+    }
+    if argument_of(sight, 0).is_empty() {
+        return None;
+    }
+    Some(0)
+}
+
+// That so many calls were begun.
+fn unended_into<A: Allocator + Copy>(
+    count: u64,
+    line: &mut ScreenLine<A>,
+) -> Result<(), AllocError> {
+    line.count(count)?;
+    line.say(b" calls were begun and never ended")
+}
+
+// A doubt that shows one argument at most.
+fn plain_into<A: Allocator + Copy>(
+    sight: &Sight<'_, A>,
+    doubt: Doubt,
+    line: &mut ScreenLine<A>,
+) -> Result<(), AllocError> {
+    let (before, number, after) = words_of(doubt);
+    line.say(before)?;
+    if let Some(number) = number {
+        text_into(argument_of(sight, number), line)?;
+    }
+    line.say(after)
+}
+
+// What is said of a doubt that shows one argument at most: the words before it, its number, the words after it.
+fn words_of(doubt: Doubt) -> (&'static [u8], Option<usize>, &'static [u8]) {
+    match doubt {
+        Doubt::NoPrimitive => (b"no primitive is named ", Some(0), b""),
+        Doubt::FormUncalled => (b"", Some(0), b" is a form: call it by cl"),
+        Doubt::NoForm => (b"no form is named ", Some(1), b""),
+        Doubt::NoBlock => (b"", Some(1), b" names no block"),
+        Doubt::NoResult => (b"the result does not fit, and gives nothing", None, b""),
+        Doubt::Unclosed => (b"( is never closed", None, b""),
+        Doubt::EndsNothing => (b") ends no call", None, b""),
+        _ => (b"", None, b""),
+    }
+}
+
+// That of an argument something is so, and the argument.
+fn argument_into<A: Allocator + Copy>(
+    sight: &Sight<'_, A>,
+    number: usize,
+    words: &[u8],
+    line: &mut ScreenLine<A>,
+) -> Result<(), AllocError> {
+    numbered_into(sight, number, line)?;
+    line.say(words)?;
+    text_into(argument_of(sight, number), line)
+}
+
+// That a text stands nowhere in the form that argument 1 names.
+fn nowhere_into<A: Allocator + Copy>(
+    sight: &Sight<'_, A>,
+    number: usize,
+    line: &mut ScreenLine<A>,
+) -> Result<(), AllocError> {
+    numbered_into(sight, number, line)?;
+    line.say(b" is nowhere in the form ")?;
+    text_into(argument_of(sight, 1), line)
+}
+
+// Which argument of which call it is.
+fn numbered_into<A: Allocator + Copy>(
+    sight: &Sight<'_, A>,
+    number: usize,
+    line: &mut ScreenLine<A>,
+) -> Result<(), AllocError> {
+    line.say(b"argument ")?;
+    line.count(number as u64)?;
+    line.say(b" of ")?;
+    text_into(argument_of(sight, 0), line)
+}
+
+// The front of a text; of an empty one that it is empty.
+fn text_into<A: Allocator + Copy>(text: &[u8], line: &mut ScreenLine<A>) -> Result<(), AllocError> {
+    if text.is_empty() {
+        return line.say(b"(an empty text)");
+    }
+    let columns = line.columns().saturating_add(TEXT_WIDTH);
+    line.show(front(text, TEXT_WIDTH + 1))?;
+    line.cut(columns)
+}
+
+// An argument of the innermost begun function; empty where it has none of this number.
+fn argument_of<'m, A: Allocator + Copy>(sight: &Sight<'m, A>, number: usize) -> &'m [u8] {
+    match &sight.begun {
+        Some((_, arguments)) => arguments.get(number),
+        None => &[],
+    }
+}

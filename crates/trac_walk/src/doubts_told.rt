@@ -1,0 +1,132 @@
+//! The doubts of the next step, with their places.
+
+use crate::calls_told::LINE_COUNT;
+use crate::origins::{Unsaid, origin_of, read_as};
+use crate::walker::Walker;
+use std::alloc::{AllocError, Allocator};
+use trac_follow::{End, Place};
+use trac_screen::{Origin, ScreenLine, argument_doubted, doubt_into, left_out_into, origin_into};
+use trac_session::Doubt;
+
+/// Puts a line for each doubt of the next step at the end of a text: what is said of it, and the place from which it comes;
+/// at most 30, and how many are left out. For the places it goes back, and forward again. The error is that memory was
+/// refused, here and below.
+pub fn doubts_into<A: Allocator + Copy>(
+    alloc: A,
+    walker: &mut Walker<A>,
+    program: &[u8],
+    out: &mut Vec<u8, A>,
+) -> Result<(), AllocError> {
+    let doubts = walker.doubts(alloc)?;
+    for number in 0..doubts.len().min(LINE_COUNT) {
+        line_into(alloc, walker, program, doubts[number], out)?;
+    }
+    match doubts.len().saturating_sub(LINE_COUNT) {
+        0 => Ok(()),
+        others => left_out_into(alloc, others, out),
+    }
+}
+
+// A line for a doubt.
+fn line_into<A: Allocator + Copy>(
+    alloc: A,
+    walker: &mut Walker<A>,
+    program: &[u8],
+    doubt: Doubt,
+    out: &mut Vec<u8, A>,
+) -> Result<(), AllocError> {
+    let mut line = ScreenLine::new(alloc);
+    doubt_into(&walker.sight(), doubt, &mut line)?;
+    let mut place = ScreenLine::new(alloc);
+    place_into(walker, program, doubt, &mut place)?;
+    line.end_before(place, out)
+}
+
+// Where the byte comes from that a doubt is about, after a sign; nothing where there is none.
+fn place_into<A: Allocator + Copy>(
+    walker: &mut Walker<A>,
+    program: &[u8],
+    doubt: Doubt,
+    line: &mut ScreenLine<A>,
+) -> Result<(), AllocError> {
+    let end = walker.step();
+    let found = walker.trace(place_of(walker, doubt), &mut Unsaid).end;
+    let source = walker.step();
+    let origin = match found {
+        End::Unkept | End::Untold => return Err(AllocError),
+        End::Nothing => None,
+        found => Some(written_at(walker, program, found)),
+    };
+    if walker.forward(end.saturating_sub(source)).is_some() {
+        return Err(AllocError);
+    }
+    match origin {
+        None => Ok(()),
+        Some(origin) => {
+            line.say(sign_before(doubt, origin))?;
+            origin_into(origin, source, line)
+        }
+    }
+}
+
+// The byte that a doubt is about: the first one of an argument or of a name, or the one that comes next.
+fn place_of<'p, A: Allocator + Copy>(walker: &Walker<A>, doubt: Doubt) -> Place<'p> {
+    let function = match doubt {
+        Doubt::Unended(_) => 0,
+        _ => walker.glance().depth.saturating_sub(1),
+    };
+    match (doubt, argument_doubted(&walker.sight(), doubt)) {
+        (Doubt::Unended(_), _) => first_byte(function, 0),
+        (_, Some(argument)) => first_byte(function, argument),
+        (_, None) => Place::Active(0),
+    }
+}
+
+fn first_byte<'p>(function: usize, argument: usize) -> Place<'p> {
+    Place::Argument {
+        function,
+        argument,
+        byte: 0,
+    }
+}
+
+// Where a byte comes from, to which the walker has gone back. For a byte of the idle program that is the text that it
+// reads.
+fn written_at<A: Allocator + Copy>(walker: &Walker<A>, program: &[u8], end: End) -> Origin {
+    let is_idle = match end {
+        End::Made => walker.sight().active.is_empty(),
+        End::Earlier => walker.step() == 0,
+        _ => false,
+    };
+    if is_idle {
+        read_as(text_begins(walker), program)
+    } else {
+        origin_of(walker, program, end)
+    }
+}
+
+// The number of the byte of all input with which the text begins that is read next: the first one that is no blank and no
+// line end.
+fn text_begins<A: Allocator + Copy>(walker: &Walker<A>) -> u64 {
+    walker
+        .input_number(walker.sight().position)
+        .saturating_add(layout_len(walker.unread()) as u64)
+}
+
+// How many blanks and line ends stand at the front of a text; 0 where nothing else is in it.
+fn layout_len(text: &[u8]) -> usize {
+    for (place, byte) in text.iter().enumerate() {
+        if !matches!(*byte, b' ' | b'\t' | b'\r' | b'\n') {
+            return place;
+        }
+    }
+    0
+}
+
+// What stands between a doubt and its place.
+fn sign_before(doubt: Doubt, origin: Origin) -> &'static [u8] {
+    match (doubt, origin) {
+        (Doubt::Unended(_), Origin::Read(_, _) | Origin::ReadFed(_)) => b", from ",
+        _ => b": ",
+    }
+}
