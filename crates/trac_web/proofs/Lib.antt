@@ -1,0 +1,2 @@
+-- What was read and written of slices is all of them.
+mod Whole
