@@ -2,3 +2,5 @@
 pub mod Outcomes
 pub mod Replies
 pub mod Requests
+pub mod Rows
+pub mod Ways

@@ -1,18 +1,19 @@
 //! What a host calls: each over slices alone, with any numbers.
-ghost use Rattle.std.specs.Prelude.{◌≡◌, ◌≤◌, ◌<◌, ⊥, None, Some};
+ghost use Rattle.std.specs.Prelude.{◌≡◌, ◌≤◌, ◌<◌, None, Some};
 ghost use Rattle.trac_rules.specs.declared.width.Width.{Width};
 ghost use Rattle.trac_streams.specs.Widths.{width_of};
+ghost use Rattle.trac_web.specs.declared.outcome.Outcome.TheVariants.{WrongBudget, WrongDecimals, WrongJournal};
 ghost use Rattle.trac_web.specs.Replies.{Answers, Refuses};
 ghost use Rattle.trac_web.specs.Requests.{IsBudget, IsJournal, WritesReplies, WritesRun, WritesTalk};
+ghost use Rattle.trac_web.specs.Ways.{AnswersWay};
 
 use crate::debugging::debug_texts;
-use crate::outcome::Outcome;
+use crate::judging::{width_for_run, width_for_walk};
 use crate::running::run_text;
 use crate::walking::walk_texts;
 use crate::ways::{Spot, way_over};
 use std::alloc::Global;
-use trac_rules::limit::JOURNAL_LIMIT;
-use trac_streams::{BUDGET_LIMIT, Options, decimals_of, is_in_range};
+use trac_streams::Options;
 use trac_walk::Settings;
 
 /// Runs a program with all of its input by so many steps at most, with numbers of 64 or 128 bits. What it prints goes into
@@ -27,19 +28,16 @@ pub extern "C" fn trac_web_run(
     written: &mut usize,
     steps: &mut u64,
 ) -> u32
-    ensures budget { (IsBudget budget → ⊥) → Refuses Outcome.WrongBudget output.old output.new written.new result }
-    ensures decimals { IsBudget budget → width_of decimals ≡ None → Refuses Outcome.WrongDecimals output.old output.new written.new result }
+    ensures budget { (IsBudget budget → ⊥) → Refuses WrongBudget output.old output.new written.new result }
+    ensures decimals { IsBudget budget → width_of decimals ≡ None → Refuses WrongDecimals output.old output.new written.new result }
     ensures answers { (width : Width) → IsBudget budget → width_of decimals ≡ Some width → Answers (WritesRun width budget input.now) output.old output.new written.new result }
     ensures steps { steps.new ≤ budget }
 {
     *written = 0;
     *steps = 0;
-    if !is_in_range(budget, BUDGET_LIMIT) {
-        return Outcome::WrongBudget.status();
-    }
-    match decimals_of(Some(decimals)) {
-        None => Outcome::WrongDecimals.status(),
-        Some(width) => run_text(alloc, input, budget, width, output, written, steps).status(),
+    match width_for_run(budget, decimals) {
+        Ok(width) => run_text(alloc, input, budget, width, output, written, steps).status(),
+        Err(why) => why.status(),
     }
 }
 
@@ -55,24 +53,23 @@ pub extern "C" fn trac_web_debug(
     output: &mut [u8],
     written: &mut usize,
 ) -> u32
-    ensures journal { (IsJournal journal → ⊥) → Refuses Outcome.WrongJournal output.old output.new written.new result }
-    ensures decimals { IsJournal journal → width_of decimals ≡ None → Refuses Outcome.WrongDecimals output.old output.new written.new result }
+    ensures journal { (IsJournal journal → ⊥) → Refuses WrongJournal output.old output.new written.new result }
+    ensures decimals { IsJournal journal → width_of decimals ≡ None → Refuses WrongDecimals output.old output.new written.new result }
     ensures answers { (width : Width) → IsJournal journal → width_of decimals ≡ Some width →
         Answers (WritesReplies tape.now journal width commands.now) output.old output.new written.new result }
 {
     *written = 0;
-    if !is_in_range(journal, JOURNAL_LIMIT as u64) {
-        return Outcome::WrongJournal.status();
+    match width_for_walk(journal, decimals) {
+        Ok(decimals) => {
+            let options = Options {
+                budget: 1,
+                journal: journal as usize,
+                decimals,
+            };
+            debug_texts(alloc, tape, commands, options, output, written).status()
+        }
+        Err(why) => why.status(),
     }
-    let Some(decimals) = decimals_of(Some(decimals)) else {
-        return Outcome::WrongDecimals.status();
-    };
-    let options = Options {
-        budget: 1,
-        journal: journal as usize,
-        decimals,
-    };
-    debug_texts(alloc, tape, commands, options, output, written).status()
 }
 
 /// Walks through a program by these lines, as a person would type them, with a journal of 1 to 1,048,576 records of some `keep`
@@ -89,25 +86,24 @@ pub extern "C" fn trac_web_walk(
     output: &mut [u8],
     written: &mut usize,
 ) -> u32
-    ensures journal { (IsJournal journal → ⊥) → Refuses Outcome.WrongJournal output.old output.new written.new result }
-    ensures decimals { IsJournal journal → width_of decimals ≡ None → Refuses Outcome.WrongDecimals output.old output.new written.new result }
+    ensures journal { (IsJournal journal → ⊥) → Refuses WrongJournal output.old output.new written.new result }
+    ensures decimals { IsJournal journal → width_of decimals ≡ None → Refuses WrongDecimals output.old output.new written.new result }
     ensures answers { (width : Width) → IsJournal journal → width_of decimals ≡ Some width →
         Answers (WritesTalk program.now) output.old output.new written.new result }
 {
     *written = 0;
-    if !is_in_range(journal, JOURNAL_LIMIT as u64) {
-        return Outcome::WrongJournal.status();
+    match width_for_walk(journal, decimals) {
+        Ok(decimals) => {
+            let settings = Settings {
+                journal: journal as usize,
+                keep,
+                decimals,
+                prompt: false,
+            };
+            walk_texts(alloc, program, lines, settings, output, written).status()
+        }
+        Err(why) => why.status(),
     }
-    let Some(decimals) = decimals_of(Some(decimals)) else {
-        return Outcome::WrongDecimals.status();
-    };
-    let settings = Settings {
-        journal: journal as usize,
-        keep,
-        decimals,
-        prompt: false,
-    };
-    walk_texts(alloc, program, lines, settings, output, written).status()
 }
 
 /// Follows a byte back that stands, after so many steps over this tape, at a place, which `kind`, three numbers and a name say:
@@ -129,16 +125,12 @@ pub extern "C" fn trac_web_way(
     output: &mut [u8],
     written: &mut usize,
 ) -> u32
-    ensures journal { (IsJournal journal → ⊥) → Refuses Outcome.WrongJournal output.old output.new written.new result }
-    ensures decimals { IsJournal journal → width_of decimals ≡ None → Refuses Outcome.WrongDecimals output.old output.new written.new result }
+    ensures journal { (IsJournal journal → ⊥) → Refuses WrongJournal output.old output.new written.new result }
+    ensures decimals { IsJournal journal → width_of decimals ≡ None → Refuses WrongDecimals output.old output.new written.new result }
+    ensures answers { (width : Width) → IsJournal journal → width_of decimals ≡ Some width →
+        AnswersWay tape.now journal width step (record { kind = kind; first = first; second = second; third = third; name = name.now }) output.old output.new written.new result }
 {
     *written = 0;
-    if !is_in_range(journal, JOURNAL_LIMIT as u64) {
-        return Outcome::WrongJournal.status();
-    }
-    let Some(width) = decimals_of(Some(decimals)) else {
-        return Outcome::WrongDecimals.status();
-    };
     let spot = Spot {
         kind,
         first,
@@ -146,15 +138,18 @@ pub extern "C" fn trac_web_way(
         third,
         name,
     };
-    way_over(
-        alloc,
-        tape,
-        step,
-        spot,
-        journal as usize,
-        width,
-        output,
-        written,
-    )
-    .status()
+    match width_for_walk(journal, decimals) {
+        Ok(width) => way_over(
+            alloc,
+            tape,
+            step,
+            spot,
+            journal as usize,
+            width,
+            output,
+            written,
+        )
+        .status(),
+        Err(why) => why.status(),
+    }
 }

@@ -3,6 +3,7 @@
 
 mod debugging;
 mod exports;
+mod judging;
 mod outcome;
 mod reply;
 mod rows;

@@ -1,4 +1,7 @@
 //! The way of a byte as rows.
+ghost use Rattle.std.specs.Prelude.{◌≡◌, ◌++◌, [], codes, OnOk};
+ghost use Rattle.trac_follow.specs.Places.{place_of};
+ghost use Rattle.trac_web.specs.Rows.{AddsRow, HasRows, deed_field, name_field, place_field, word_field};
 
 use std::alloc::{AllocError, Allocator};
 use trac_follow::{Place, Witness};
@@ -6,7 +9,7 @@ use trac_rules::byte::LINE_FEED;
 use trac_session::Machine;
 use trac_streams::number_into;
 
-/// The rows of a way so far.
+/// The rows of a way so far, one for each call that passed the byte on, the latest first.
 #[derive(Drop)]
 pub struct Rows<A: Allocator + Copy> {
     // the step at which it begins
@@ -17,8 +20,10 @@ pub struct Rows<A: Allocator + Copy> {
 }
 
 impl<A: Allocator + Copy> Rows<A> {
-    /// None, of a way that begins at this step, where so many bytes of the output are released.
-    pub fn new(alloc: A, step: u64, released: u64) -> Self {
+    /// None so far, of a way that begins at this step, where so many bytes of the output are released.
+    pub fn new(alloc: A, step: u64, released: u64) -> Self
+        ensures { HasRows step released [] result }
+    {
         Rows {
             step,
             released,
@@ -27,17 +32,17 @@ impl<A: Allocator + Copy> Rows<A> {
     }
 
     /// The rows as a text.
-    pub fn into_text(self) -> Vec<u8, A> {
-        let Rows {
-            step: _,
-            released: _,
-            text,
-        } = self;
+    pub fn into_text(self) -> Vec<u8, A>
+        ensures { result.items ≡ self.text.items }
+    {
+        let Rows { text, .. } = self;
         text
     }
 }
 
 impl<A: Allocator + Copy> Witness<A> for Rows<A> {
+    ghost passes = { λ old call new. AddsRow old call new };
+
     fn passed(
         &mut self,
         _machine: &Machine<A>,
@@ -45,14 +50,16 @@ impl<A: Allocator + Copy> Witness<A> for Rows<A> {
         from: Place<'_>,
     ) -> Result<(), AllocError> {
         number_into(self.step.saturating_sub(steps), &mut self.text)?;
-        self.text.extend_from_slice(deed_at(from))?;
+        self.text.extend_from_slice(deed_of(from))?;
         place_into(self.released, from, &mut self.text)?;
-        self.text.push(LINE_FEED)?;
-        Ok(())
+        Ok(self.text.push(LINE_FEED)?)
     }
 }
 
-fn deed_at(from: Place<'_>) -> &'static [u8] {
+// What a call did with a byte that is here after it.
+fn deed_of(from: Place<'_>) -> &'static [u8]
+    ensures { result.now ≡ deed_field (place_of from.entry) }
+{
     match from {
         Place::Output(_) => b" prints",
         Place::Form(_, _) | Place::Held(_, _, _) => b" sets",
@@ -60,11 +67,14 @@ fn deed_at(from: Place<'_>) -> &'static [u8] {
     }
 }
 
+// Puts a place at the end of a text, where so many bytes of the output are released.
 fn place_into<A: Allocator>(
     released: u64,
     place: Place<'_>,
     out: &mut Vec<u8, A>,
-) -> Result<(), AllocError> {
+) -> Result<(), AllocError>
+    ensures { OnOk result (out.new.items ≡ out.old.items ++ place_field released (place_of place.entry)) }
+{
     match place {
         Place::Active(byte) => word_into(b" active", byte as u64, out),
         Place::Base(byte) => word_into(b" base", byte as u64, out),
@@ -90,18 +100,24 @@ fn place_into<A: Allocator>(
     }
 }
 
+/// Puts a word and a number at the end of a text. The error is that memory was refused.
 pub fn word_into<A: Allocator>(
     word: &[u8],
     number: u64,
     out: &mut Vec<u8, A>,
-) -> Result<(), AllocError> {
+) -> Result<(), AllocError>
+    ensures { OnOk result (out.new.items ≡ out.old.items ++ word_field word.now number) }
+{
     out.extend_from_slice(word)?;
-    out.push(b' ')?;
+    out.extend_from_slice(b" ")?;
     number_into(number, out)
 }
 
-fn name_into<A: Allocator>(name: &[u8], out: &mut Vec<u8, A>) -> Result<(), AllocError> {
+// Puts a name at the end of a text, after its length.
+fn name_into<A: Allocator>(name: &[u8], out: &mut Vec<u8, A>) -> Result<(), AllocError>
+    ensures { OnOk result (out.new.items ≡ out.old.items ++ name_field name.now) }
+{
     word_into(b"", name.len() as u64, out)?;
-    out.push(b' ')?;
+    out.extend_from_slice(b" ")?;
     out.extend_from_slice(name)
 }

@@ -1,4 +1,10 @@
 //! Where a byte comes from, as data.
+ghost use Rattle.std.specs.Prelude.{◌≡◌, ◌≤◌, ◌++◌, IfErr, IfOk, OnOk};
+ghost use Rattle.std.specs.Option.{option_map};
+ghost use Rattle.trac_debug.specs.Debugging.{ready};
+ghost use Rattle.trac_follow.specs.Places.{place_of};
+ghost use Rattle.trac_run.specs.Runs.{TakesSteps};
+ghost use Rattle.trac_web.specs.Ways.{GivesWay, IsReason, IsSaid, IsWay, WritesWay, end_field, place_in, read_field, spot_seen};
 
 use crate::outcome::Outcome;
 use crate::reply::deliver;
@@ -6,17 +12,18 @@ use crate::rows::{Rows, word_into};
 use std::alloc::{AllocError, Allocator};
 use trac_follow::{End, Place, trace};
 use trac_rules::byte::LINE_FEED;
+use trac_rules::limit::JOURNAL_LIMIT;
 use trac_rules::width::Width;
-use trac_session::Refusal;
+use trac_session::{Refusal, Session};
 use trac_streams::{Ending, number_into};
 use trac_window::Window;
 
 /// A place of a state, in numbers.
 #[derive(Clone, Copy)]
 pub struct Spot<'a> {
-    /// What place it is: 0 to 5.
+    /// What kind of place it is: 0 to 5.
     pub kind: u64,
-    /// Its numbers; a kind that has fewer does not look at the others.
+    /// Its numbers. A kind that has fewer does not look at the others.
     pub first: u64,
     pub second: u64,
     pub third: u64,
@@ -24,8 +31,8 @@ pub struct Spot<'a> {
     pub name: &'a [u8],
 }
 
-/// Goes to a step of a program with all of its input, follows the byte at a place back, and puts the rows of its way into the
-/// buffer of the host.
+/// Goes to a step of a program with all of its input, follows what stands at a place there back, and puts the rows of its way into
+/// the buffer of the host.
 pub fn way_over<A: Allocator + Copy>(
     alloc: A,
     tape: &[u8],
@@ -35,12 +42,16 @@ pub fn way_over<A: Allocator + Copy>(
     width: Width,
     output: &mut [u8],
     written: &mut usize,
-) -> Outcome {
+) -> Outcome
+    requires some_records { 1 ≤ journal }
+    requires most_records { journal ≤ JOURNAL_LIMIT }
+    ensures { GivesWay tape.now journal width step (spot_seen spot.entry) output.old output.new written.new result }
+{
     match way_text(alloc, tape, step, spot, journal, width) {
         Ok(text) => deliver(text.as_slice(), Ending::Ended, output, written),
-        Err(outcome) => {
+        Err(why) => {
             *written = 0;
-            outcome
+            why
         }
     }
 }
@@ -53,13 +64,13 @@ fn way_text<A: Allocator + Copy>(
     spot: Spot<'_>,
     journal: usize,
     width: Width,
-) -> Result<Vec<u8, A>, Outcome> {
-    let mut window = match Window::over(alloc, tape, journal, width) {
-        Ok(window) => window,
-        Err(ending) => return Err(Outcome::Ends(ending)),
-    };
-    window.session.end();
-    go(&mut window, step)?;
+) -> Result<Vec<u8, A>, Outcome>
+    requires some_records { 1 ≤ journal }
+    requires most_records { journal ≤ JOURNAL_LIMIT }
+    ensures way { IfOk result (λ text. WritesWay tape.now journal width step (spot_seen spot.entry) text.items) }
+    ensures none { IfErr result IsReason }
+{
+    let mut window = window_at(alloc, tape, step, journal, width)?;
     let Some(place) = place_in(spot, window.released) else {
         return Err(Outcome::WrongPlace);
     };
@@ -70,29 +81,60 @@ fn way_text<A: Allocator + Copy>(
 }
 
 // The place in a state of which so many bytes of the output are released. None where there is no such kind.
-fn place_in(spot: Spot<'_>, released: u64) -> Option<Place<'_>> {
-    let first = spot.first as usize;
+fn place_in(spot: Spot<'_>, released: u64) -> Option<Place<'_>>
+    ensures { option_map place_of result ≡ place_in released (spot_seen spot.entry) }
+{
     match spot.kind {
         0 => Some(Place::Output(spot.first.saturating_sub(released) as usize)),
-        1 => Some(Place::Active(first)),
-        2 => Some(Place::Base(first)),
+        1 => Some(Place::Active(spot.first as usize)),
+        2 => Some(Place::Base(spot.first as usize)),
         3 => Some(Place::Argument {
-            function: first,
+            function: spot.first as usize,
             argument: spot.second as usize,
             byte: spot.third as usize,
         }),
-        4 => Some(Place::Form(spot.name, first)),
-        5 => Some(Place::Held(first, spot.name, spot.second as usize)),
+        4 => Some(Place::Form(spot.name, spot.first as usize)),
+        5 => Some(Place::Held(
+            spot.first as usize,
+            spot.name,
+            spot.second as usize,
+        )),
         _ => None,
     }
 }
 
-// Goes forward by so many steps, and forgets the older half of them where there is no room for more.
-fn go<A: Allocator + Copy>(window: &mut Window<A>, steps: u64) -> Result<(), Outcome> {
+// A session over the whole input, so many steps after the start. The error is why it does not come there.
+fn window_at<A: Allocator + Copy>(
+    alloc: A,
+    tape: &[u8],
+    step: u64,
+    limit: usize,
+    width: Width,
+) -> Result<Window<A>, Outcome>
+    requires some_records { 1 ≤ limit }
+    requires most_records { limit ≤ JOURNAL_LIMIT }
+    ensures reached { IfOk result (λ w. TakesSteps step (ready tape.now limit width) w.session) }
+    ensures none { IfErr result IsReason }
+{
+    let mut window = match Window::over(alloc, tape, limit, width) {
+        Ok(window) => window,
+        Err(Ending::Limit) => return Err(Outcome::Ends(Ending::Limit)),
+        Err(_) => return Err(Outcome::Ends(Ending::Memory)),
+    };
+    window.session.end();
+    go(&mut window, step)?;
+    Ok(window)
+}
+
+// Goes forward by so many steps. Where there is no room for more, it forgets the older half of those so far.
+fn go<A: Allocator + Copy>(window: &mut Window<A>, steps: u64) -> Result<(), Outcome>
+    ensures went { OnOk result (TakesSteps steps window.old.session window.new.session) }
+    ensures none { IfErr result IsReason }
+{
     let mut left = steps;
     for _turn in 0..u64::MAX {
         let walk = window.session.forward(left);
-        left = left.saturating_sub(walk.done);
+        left -= walk.done;
         let Some(refusal) = walk.why else {
             return Ok(());
         };
@@ -107,45 +149,81 @@ fn go<A: Allocator + Copy>(window: &mut Window<A>, steps: u64) -> Result<(), Out
     Err(Outcome::NotReached)
 }
 
-// The rows of the way of what stands at a place in this step. The error is that memory was refused.
+// The rows of the way of what stands at a place before this step. The error is that memory was refused.
 fn rows_of<A: Allocator + Copy>(
     alloc: A,
     window: &mut Window<A>,
     tape: &[u8],
     step: u64,
     place: Place<'_>,
-) -> Result<Vec<u8, A>, AllocError> {
+) -> Result<Vec<u8, A>, AllocError>
+    ensures { IfOk result (λ text. IsWay window.old.session step window.old.released (place_of place.entry) text.items) }
+{
     let mut rows = Rows::new(alloc, step, window.released);
     let most = window.session.len() as u64;
     let found = trace(&mut window.session, place, most, &mut rows);
-    let mut out = rows.into_text();
-    number_into(step.saturating_sub(found.steps), &mut out)?;
-    match found.end {
-        End::Nothing => out.extend_from_slice(b" nothing")?,
-        End::Earlier => out.extend_from_slice(b" earlier")?,
-        End::Made => out.extend_from_slice(b" made")?,
-        End::Unkept => out.extend_from_slice(b" unkept")?,
-        End::Untold => return Err(AllocError),
-        End::Read(n) => read_into(window, tape, n, &mut out)?,
-    }
-    out.push(LINE_FEED)?;
-    Ok(out)
+    let read = read_at(&window.session, tape, found.end);
+    let mut text = rows.into_text();
+    number_into(step.saturating_sub(found.steps), &mut text)?;
+    end_into(found.end, read, &mut text)?;
+    text.push(LINE_FEED)?;
+    Ok(text)
 }
 
-// Says that the byte of this number of the session's tape was read: which of the whole tape that is, and its line and column.
-fn read_into<A: Allocator + Copy>(
-    window: &Window<A>,
-    tape: &[u8],
-    n: usize,
-    out: &mut Vec<u8, A>,
-) -> Result<(), AllocError> {
-    let read = window.session.machine().position();
-    let kept = read.saturating_add(window.session.unread().len());
+// Which byte of all input was read.
+#[derive(Clone, Copy)]
+struct ReadByte {
+    // its number, from 0
+    number: u64,
+    // its line and column, from 1
+    line: u64,
+    column: u64,
+}
+
+// How a way ends. The error is that memory was refused, also that of a row before.
+fn end_into<A: Allocator>(end: End, read: ReadByte, out: &mut Vec<u8, A>) -> Result<(), AllocError>
+    ensures said { OnOk result (out.new.items ≡ out.old.items ++ end_field end read.number read.line read.column) }
+    ensures told { OnOk result (IsSaid end) }
+{
+    match end {
+        End::Nothing => out.extend_from_slice(b" nothing"),
+        End::Earlier => out.extend_from_slice(b" earlier"),
+        End::Made => out.extend_from_slice(b" made"),
+        End::Unkept => out.extend_from_slice(b" unkept"),
+        End::Untold => Err(AllocError),
+        End::Read(_) => read_into(read, out),
+    }
+}
+
+// Says that a byte was read.
+fn read_into<A: Allocator>(read: ReadByte, out: &mut Vec<u8, A>) -> Result<(), AllocError>
+    ensures { OnOk result (out.new.items ≡ out.old.items ++ read_field read.number read.line read.column) }
+{
+    word_into(b" read", read.number, out)?;
+    word_into(b"", read.line, out)?;
+    word_into(b"", read.column, out)
+}
+
+// The byte of all input that a session read next, where a way ends so: the session has dropped a front of the input.
+fn read_at<A: Allocator + Copy>(session: &Session<A>, tape: &[u8], end: End) -> ReadByte {
+    let End::Read(n) = end else {
+        return ReadByte {
+            number: 0,
+            line: 0,
+            column: 0,
+        };
+    };
+    let kept = session
+        .machine()
+        .position()
+        .saturating_add(session.unread().len());
     let number = tape.len().saturating_sub(kept).saturating_add(n);
     let (line, column) = line_of(tape, number);
-    word_into(b" read", number as u64, out)?;
-    word_into(b"", line, out)?;
-    word_into(b"", column, out)
+    ReadByte {
+        number: number as u64,
+        line,
+        column,
+    }
 }
 
 // The line and the column, counted from 1, of the byte of this number.
