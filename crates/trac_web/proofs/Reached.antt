@@ -12,7 +12,7 @@ use Rattle.trac_run.proofs.Stepped.{steps_both, steps_many}
 pub walked_all : (n : ℕ) (old new : PlainSession) (steps : ℕ) (why : Option Refusal) → IsWalk Step no_goal n old steps why new → why ≡ None → steps ≡ n
 walked_all n old new steps why walk none =
     let stopped : HasEnded no_goal n steps new =
-        subst (λ w. MatchOption w (HasEnded no_goal n steps new) (λ refusal. (steps < n) × (0 < steps → no_goal new.last ≡ false) × Answers Step new (Refused refusal) new)) none walk.stopped in
+    subst (λ w. MatchOption w (HasEnded no_goal n steps new) (λ refusal. (steps < n) × (0 < steps → no_goal new.last ≡ false) × Answers Step new (Refused refusal) new)) none walk.stopped in
     ⊎_elim (λ all. all) (λ met. absurd (cc met.1)) stopped
 
 steps_commit_some : (keep : ℕ) (p q : PlainSession) → answer (Commit keep) p ≡ done q → TakesSteps 0 p q

@@ -18,8 +18,8 @@ module _ {A : Type 0} (step released : ℕ) where
       let next : Rows A = told.0 in
       let adds : AddsRow old call next = told.1 in
       let longer : next.text.items ≡ before ++ row step released call =
-          adds.text ∙ ap (λ (t : List ℕ). t ++ row old.step old.released call) text
-          ∙ ap (λ s. before ++ row s old.released call) begins ∙ ap (λ r. before ++ row step r call) after in
+      adds.text ∙ ap (λ (t : List ℕ). t ++ row old.step old.released call) text
+      ∙ ap (λ s. before ++ row s old.released call) begins ∙ ap (λ r. before ++ row step r call) after in
       let rest = added_all calls (before ++ row step released call) next new (adds.begins ∙ begins) (adds.after ∙ after) longer told.2 in
       (rest.0, rest.1, rest.2 ∙ append_assoc before (row step released call) (rows_of step released calls))
 

@@ -58,7 +58,11 @@ pub fn deliver(text: &[u8], ending: Ending, output: &mut [u8], written: &mut usi
     let count = text.len().min(output.len());
     output[..count].copy_from_slice(&text[..count]);
     *written = count;
-    ended(ending, output.len() <= text.len(), output.len() < text.len())
+    ended(
+        ending,
+        output.len() <= text.len(),
+        output.len() < text.len(),
+    )
 }
 
 // How a request ended whose reply fills the buffer, and perhaps is longer.

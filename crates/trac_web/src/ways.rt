@@ -94,11 +94,7 @@ fn place_in(spot: Spot<'_>, released: u64) -> Option<Place<'_>>
             byte: spot.third as usize,
         }),
         4 => Some(Place::Form(spot.name, spot.first as usize)),
-        5 => Some(Place::Held(
-            spot.first as usize,
-            spot.name,
-            spot.second as usize,
-        )),
+        5 => Some(Place::Held(spot.first as usize, spot.name, spot.second as usize)),
         _ => None,
     }
 }
