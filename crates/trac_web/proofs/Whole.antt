@@ -1,0 +1,54 @@
+-- What was read and written of whole texts.
+use Rattle.std.proofs.Common.{◌≡◌, ◌<◌, ℕ, List, [], ◌++◌, length, sym, ap, subst, ◌∙◌}
+use Rattle.std.specs.Prelude.{Some, ◌↔◌}
+use Rattle.std.specs.Io.KnownBytes.{Keeps}
+use Rattle.trac_rules.specs.declared.limit.TheConstants.{TAPE_LIMIT}
+use Rattle.trac_rules.specs.declared.width.Width.{Width}
+use Rattle.trac_rules.specs.Fronts.{IsFrontOf}
+use Rattle.trac_rules.specs.Running.{Output, output_of}
+use Rattle.trac_streams.specs.declared.ending.Ending.{Ending}
+use Rattle.trac_streams.specs.declared.ending.Ending.TheVariants.{Limit}
+use Rattle.trac_run.specs.Runs.{Runs, Shows}
+use Rattle.trac_debug.specs.Debugging.{MayShow, RepliesToFirst}
+use Rattle.trac_debug.specs.Debugs.{Debugs, UnlessFault, UnlessWrite}
+use Rattle.trac_walk.specs.Ends.{MayEnd}
+use Rattle.trac_web.specs.Requests.{WritesReplies, WritesRun, WritesTalk}
+
+-- a run that read this text, of which a rest was left, and wrote all of that, where nothing was before
+pub whole_run : (width : Width) (budget most : ℕ) (text rest before all : List ℕ) (ending : Ending) → before ≡ [] →
+    Runs (Some text) (Some rest) (Some before) (Some all) (λ t. output_of width t budget) most ending → WritesRun width budget text all ending
+whole_run width budget most text rest before all ending none r =
+    let stated : List ℕ → Output = λ t. output_of width t budget in
+    let is_text : r.got ++ rest ≡ text = sym r.took in
+    let is_all : r.written ≡ all = sym (r.gave ∙ ap (λ b. b ++ r.written) none) in
+    record {
+      front = subst (λ w. IsFrontOf w (stated text).bytes) is_all (subst (λ t. IsFrontOf r.written (stated t).bytes) is_text (r.front rest r.at_end));
+      shows = subst (λ w. Shows ending w (stated text)) is_all (subst (λ t. Shows ending r.written (stated t)) is_text (r.shows rest r.at_end));
+    }
+
+-- the same of a session of the debugger
+pub whole_replies : (tape : List ℕ) (limit : ℕ) (width : Width) (commands rest before all : List ℕ) (ending : Ending) → before ≡ [] →
+    Debugs (Some commands) (Some rest) (Some before) (Some all) (MayShow tape limit width) (RepliesToFirst tape limit width) ending →
+    (TAPE_LIMIT < length tape → ending ≡ Limit) → WritesReplies tape limit width commands all ending
+whole_replies tape limit width commands rest before all ending none d too_long =
+    let is_text : d.got ++ rest ≡ commands = sym d.took in
+    let is_all : d.written ≡ all = sym (d.gave ∙ ap (λ b. b ++ d.written) none) in
+    record {
+      front =
+          subst (λ w. (text : List ℕ) × (stop : Ending) × MayShow tape limit width commands text stop × IsFrontOf w text) is_all
+          (subst (λ t. (text : List ℕ) × (stop : Ending) × MayShow tape limit width t text stop × IsFrontOf d.written text) is_text (d.front rest d.at_end));
+      whole =
+          subst (λ w. UnlessFault ending (MayShow tape limit width commands w ending)) is_all
+          (subst (λ t. UnlessFault ending (MayShow tape limit width t d.written ending)) is_text (d.whole rest d.at_end));
+      replied = d.replied;
+      few_lines = d.few_lines;
+      replies =
+          subst (λ w. UnlessWrite ending (RepliesToFirst tape limit width d.replied commands w)) is_all
+          (subst (λ t. UnlessWrite ending (RepliesToFirst tape limit width d.replied t d.written)) is_text (d.replies rest d.at_end));
+      too_long = too_long;
+    }
+
+-- a dialogue, which wrote all of that
+pub whole_talk : (program before all : List ℕ) (ending : Ending) → before ≡ [] → MayEnd ending → (ending ≡ Limit) ↔ (TAPE_LIMIT < length program) →
+    (ending ≡ Limit → Keeps (Some before) (Some all)) → WritesTalk program all ending
+whole_talk program before all ending none ends too_long nothing = record { ends = ends; too_long = too_long; nothing = λ is. nothing is ∙ none }

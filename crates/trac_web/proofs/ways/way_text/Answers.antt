@@ -1,0 +1,13 @@
+use Rattle.std.proofs.Common.{sym}
+use Rattle.trac_follow.specs.Places.{place_of}
+use Rattle.trac_web.proofs.ways.way_text.Goals as goal
+
+pub returns-in-Ok-clause-way : goal.returns-in-Ok-clause-way
+returns-in-Ok-clause-way g c = record {
+  p = c.in_ok-window.window.session;
+  reached = c.in_ok-window.ensures.reached;
+  released = c.in_ok-window.window.released;
+  place = place_of c.in-Some.place;
+  there = sym c.in-Some.ensures;
+  way = c.in-Ok.ensures;
+}

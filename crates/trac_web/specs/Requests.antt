@@ -1,0 +1,48 @@
+-- What each request writes, of whole texts.
+use Rattle.std.specs.Prelude.{◌≡◌, ◌↔◌, ℕ, ◌<◌, ◌≤◌, List, [], length}
+use Rattle.trac_rules.specs.declared.width.Width.{Width}
+use Rattle.trac_rules.specs.declared.limit.TheConstants.{JOURNAL_LIMIT, TAPE_LIMIT}
+use Rattle.trac_rules.specs.Fronts.{IsFrontOf}
+use Rattle.trac_rules.specs.Running.{output_of}
+use Rattle.trac_streams.specs.declared.ending.Ending.{Ending}
+use Rattle.trac_streams.specs.declared.ending.Ending.TheVariants.{Limit}
+use Rattle.trac_streams.specs.declared.lines.TheConstants.{LINE_COUNT_LIMIT}
+use Rattle.trac_streams.specs.declared.options.TheConstants.{BUDGET_LIMIT}
+use Rattle.trac_run.specs.Runs.{Shows}
+use Rattle.trac_debug.specs.Debugging.{MayShow, RepliesToFirst}
+use Rattle.trac_debug.specs.Debugs.{UnlessFault, UnlessWrite}
+use Rattle.trac_walk.specs.Ends.{MayEnd}
+
+-- ---- numbers that are taken
+
+-- so many steps a run may be allowed
+abbrev pub IsBudget : ℕ → Type 0
+IsBudget budget = (1 ≤ budget) × (budget ≤ BUDGET_LIMIT)
+
+-- so many records a journal may be allowed
+abbrev pub IsJournal : ℕ → Type 0
+IsJournal journal = (1 ≤ journal) × (journal ≤ JOURNAL_LIMIT)
+
+-- ---- texts that are written
+
+-- a run of a program, with all of its input, wrote this and ended so: it is what the rules print by so many steps; where the buffer is full,
+-- or memory was refused, a front of that
+pub record WritesRun (width : Width) (budget : ℕ) (input written : List ℕ) (ending : Ending) : Type 0 where
+  pub front : IsFrontOf written (output_of width input budget).bytes
+  pub shows : Shows ending written (output_of width input budget)
+
+-- the debugger over this tape replied so to these commands, and ended so: it is a text that may be shown; where the buffer is full, or
+-- memory was refused, a front of one, and if the buffer is not full, of whole replies. It ends for the tape where that is too long
+pub record WritesReplies (tape : List ℕ) (limit : ℕ) (width : Width) (commands written : List ℕ) (ending : Ending) : Type 0 where
+  pub front : (text : List ℕ) × (stop : Ending) × MayShow tape limit width commands text stop × IsFrontOf written text
+  pub whole : UnlessFault ending (MayShow tape limit width commands written ending)
+  pub replied : ℕ
+  pub few_lines : replied ≤ LINE_COUNT_LIMIT
+  pub replies : UnlessWrite ending (RepliesToFirst tape limit width replied commands written)
+  pub too_long : TAPE_LIMIT < length tape → ending ≡ Limit
+
+-- a dialogue over this program ended so: how it may end, and nothing is said of a program that is too long
+pub record WritesTalk (program written : List ℕ) (ending : Ending) : Type 0 where
+  pub ends : MayEnd ending
+  pub too_long : (ending ≡ Limit) ↔ (TAPE_LIMIT < length program)
+  pub nothing : ending ≡ Limit → written ≡ []

@@ -1,0 +1,15 @@
+//! The processor and its debuggers for a host that is no process, as a page of a browser: over slices alone.
+#![tactic(auto)]
+
+mod debugging;
+mod exports;
+mod judging;
+mod outcome;
+mod reply;
+mod rows;
+mod running;
+mod walking;
+mod ways;
+
+pub use exports::{trac_web_debug, trac_web_run, trac_web_walk, trac_web_way};
+pub use outcome::Outcome;
