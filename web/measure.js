@@ -1,0 +1,73 @@
+// A run to where it waits, ends, or has taken as many steps as it may.
+
+// So many steps are taken at once, and then what was printed is taken.
+const STRIDE = 65536;
+// The way to a state drops what was printed after so many steps or bytes.
+const FAR = 1000000;
+const MUCH = 4 << 20;
+
+// What a run comes to: how many steps it takes, why no more, the last state, what was printed, and at which steps that is
+// dropped on the way to a state.
+async function measure(engine, tape, isClosed, budget) {
+  const most = isClosed ? budget : await stepsOfOpen(engine, tape, budget);
+  const commands = "s STRIDE\nc\n".replace("STRIDE", STRIDE).repeat(Math.floor(most / STRIDE)) + `s ${most % STRIDE}\nc\np\n`;
+  const { bytes } = await engine.ask("debug", tape, { commands }, 4 << 20);
+  const replies = new Replies(bytes);
+  const run = { end: 0, why: null, landmarks: [], output: null, state: null };
+  const parts = [];
+  let steps = 0, printed = 0;
+  for (let left = Math.floor(most / STRIDE) + 1; left > 0; left--) {
+    const { done, why } = replies.moved("forward");
+    const text = replies.committed();
+    [run.end, run.why, steps, printed] = [run.end + done, why, steps + done, printed + text.length];
+    if (text) parts.push(text);
+    if (steps > FAR - STRIDE || printed > MUCH || (why === "TooLong" && done > 0)) {
+      run.landmarks.push(run.end);
+      [steps, printed] = [0, 0];
+    }
+  }
+  run.state = new State(replies.state(), { position: 0, printed: 0 });
+  replies.end();
+  run.output = joinedBytes(parts);
+  run.stand = standOf(run.state);
+  if (run.stand === "refused" && run.end >= budget) run.stand = "spent";
+  return run;
+}
+
+// How many steps a run takes whose input may go on: trac-walk says it.
+async function stepsOfOpen(engine, tape, budget) {
+  const text = await walked(engine, tape, [`s ${budget}`]);
+  return stepSaid(text);
+}
+
+// What trac-walk says to some lines.
+async function walked(engine, tape, lines, room = 1 << 16) {
+  const { bytes } = await engine.ask("walk", tape, { commands: lines.join("\n") + "\n" }, room);
+  return new TextDecoder("latin1").decode(bytes);
+}
+
+// The number of the step where it stands after all that.
+function stepSaid(text) {
+  const last = text.trimEnd().split("\n").pop();
+  const found = /^(?:here: )?(\d+)  /.exec(last);
+  if (!found) throw new NotUnderstood(last.slice(0, 80));
+  return Number(found[1]);
+}
+
+// The bytes of texts as the debugger prints them, joined.
+function joinedBytes(texts) {
+  const bytes = new Uint8Array(texts.reduce((sum, text) => sum + lengthOf(text), 0));
+  let at = 0;
+  for (const text of texts) at = putBytes(bytes, at, text);
+  return bytes;
+}
+
+function putBytes(bytes, at, text) {
+  for (let place = 0; place < text.length; place++) {
+    if (text.charCodeAt(place) === 92) {
+      bytes[at++] = parseInt(text.slice(place + 2, place + 4), 16);
+      place += 3;
+    } else bytes[at++] = text.charCodeAt(place);
+  }
+  return at;
+}

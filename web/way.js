@@ -1,0 +1,115 @@
+// Where a byte comes from: the calls that carried it, each a link, and the byte of the program that it was read from.
+
+const DEEDS = { prints: "prints it", sets: "sets it", gives: "gives it", makes: "makes it", there: "it is there already" };
+// So often a byte that a call made is followed on by itself, through the same argument of calls of the same name.
+const MOST_HOPS = 200;
+const SHOWN_ROWS = 30;
+
+class Way {
+  constructor(page) {
+    this.page = page;
+    this.rows = [];
+    this.turn = 0;
+    byId("way-list").addEventListener("click", (event) => {
+      const link = event.target.closest("[data-go]");
+      if (link) page.go(Number(link.dataset.go));
+    });
+  }
+
+  // Forgets what was followed.
+  clear() {
+    this.turn++;
+    this.rows = [];
+    byId("way-section").hidden = true;
+    byId("way-list").replaceChildren();
+    if (window.Highlight) CSS.highlights.delete("followed");
+    this.page.editor.light("read", []);
+  }
+
+  // Follows a byte of a text that is shown. From an argument of a call on the way, it goes on from there.
+  async follow(holder, number) {
+    const turn = ++this.turn;
+    const row = holder.closest(".way-row");
+    const kept = row ? this.rows.slice(0, Number(row.dataset.row) + 1) : [];
+    const range = rangeOfByte(holder, number);
+    if (range && window.Highlight) CSS.highlights.set("followed", new Highlight(range));
+    const found = await this.gather(holder.dataset.place, Number(holder.dataset.step), number, turn);
+    if (turn !== this.turn) return;
+    this.rows = [...kept, ...found];
+    this.draw();
+  }
+
+  // The calls on the way of a byte; where a call made it of an argument that was followed, the same argument of the next such
+  // call is followed too.
+  async gather(place, step, number, turn) {
+    const rows = [];
+    let from = { place, step, number };
+    for (let hop = 0; from && hop < MOST_HOPS && turn === this.turn; hop++) {
+      const way = await followed(this.page, from.place, from.step, from.number);
+      const states = await this.page.story.at(shortened(way).map((row) => row.step).filter((one) => one >= 0));
+      for (const row of shortened(way)) rows.push({ ...row, state: states.get(row.step) });
+      from = onward(from, await this.page.story.at([from.step]), rows[rows.length - 1]);
+    }
+    return rows;
+  }
+
+  draw() {
+    const list = byId("way-list");
+    byId("way-section").hidden = false;
+    list.replaceChildren(...this.rows.map((row, index) => this.row(row, index)));
+    const last = this.rows[this.rows.length - 1];
+    this.page.editor.light("read", last?.deed === "reads" ? [last.byte] : []);
+    list.lastChild?.scrollIntoView({ block: "nearest" });
+  }
+
+  row(row, index) {
+    const line = make("div", "way-row");
+    line.dataset.row = String(index);
+    if (row.left) {
+      line.append(make("span", "note", `.. ${grouped(row.left)} more calls`));
+      return line;
+    }
+    const link = make("button", "", `step ${grouped(row.step)}`);
+    link.type = "button";
+    link.dataset.go = String(row.step);
+    line.append(link);
+    const calls = row.state?.parts.calls ?? [];
+    if (calls.length && ruleOf(row.state) === "p") {
+      const call = make("span", "code");
+      addCall(call, calls[calls.length - 1], calls.length - 1, row.step, 60, false);
+      line.append(call);
+    }
+    line.append(make("span", row === this.rows[this.rows.length - 1] ? "deed way-end" : "deed", this.words(row)));
+    return line;
+  }
+
+  // What the call did with the byte.
+  words(row) {
+    if (row.deed === "makes" && row === this.rows[this.rows.length - 1]) return "makes it: click an argument to follow that";
+    if (row.deed !== "reads") return DEEDS[row.deed];
+    const { program } = this.page;
+    if (row.byte < program.length) return `reads it: ${lineAndColumn(program, row.byte)}`;
+    return `reads it: byte ${grouped(row.byte - program.length + 1)} of the input after the program`;
+  }
+}
+
+// Of a long way the latest calls, how many more there are, and the last one.
+function shortened(rows) {
+  if (rows.length <= SHOWN_ROWS) return rows;
+  return [...rows.slice(0, SHOWN_ROWS - 2), { left: rows.length - SHOWN_ROWS + 1, step: -1 }, rows[rows.length - 1]];
+}
+
+// From where a made byte is followed on: the same argument, if it was one of a call of the same name.
+function onward(from, states, last) {
+  const found = /^argument \d+ (\d+)$/.exec(from.place);
+  const state = states.get(from.step);
+  if (!found || last?.deed !== "makes" || !last.state || ruleOf(state) !== "p" || ruleOf(last.state) !== "p") return null;
+  const [old, now] = [state, last.state].map(({ parts }) => parts.calls[parts.calls.length - 1]);
+  const text = now.texts[Number(found[1])];
+  if (old.texts[0] !== now.texts[0] || !text || last.step >= from.step) return null;
+  return {
+    place: `argument ${last.state.parts.calls.length - 1} ${found[1]}`,
+    step: last.step,
+    number: Math.min(from.number, lengthOf(text) - 1),
+  };
+}
