@@ -2,36 +2,38 @@
 
 // So many steps are taken at once, and then what was printed is taken.
 const STRIDE = 65536;
-// The way to a state drops what was printed after so many steps or bytes.
-const FAR = 1000000;
-const MUCH = 4 << 20;
 
-// What a run comes to: how many steps it takes, why no more, the last state, what was printed, and at which steps that is
-// dropped on the way to a state.
+// What a run comes to: how many steps it takes, why no more, the last state, what was printed, and landmarks on the way: how much
+// was read and printed until then.
 async function measure(engine, tape, isClosed, budget) {
   const most = isClosed ? budget : await stepsOfOpen(engine, tape, budget);
-  const commands = "s STRIDE\nc\n".replace("STRIDE", STRIDE).repeat(Math.floor(most / STRIDE)) + `s ${most % STRIDE}\nc\np\n`;
+  const commands = `s ${STRIDE}\np\nc\n`.repeat(Math.floor(most / STRIDE)) + `s ${most % STRIDE}\np\nc\n`;
   const { bytes } = await engine.ask("debug", tape, { commands }, 4 << 20);
   const replies = new Replies(bytes);
   const run = { end: 0, why: null, landmarks: [], output: null, state: null };
-  const parts = [];
-  let steps = 0, printed = 0;
+  const texts = [], before = { position: 0, printed: 0 };
   for (let left = Math.floor(most / STRIDE) + 1; left > 0; left--) {
     const { done, why } = replies.moved("forward");
+    run.state = new State(replies.state(), { ...before });
     const text = replies.committed();
-    [run.end, run.why, steps, printed] = [run.end + done, why, steps + done, printed + text.length];
-    if (text) parts.push(text);
-    if (steps > FAR - STRIDE || printed > MUCH || (why === "TooLong" && done > 0)) {
-      run.landmarks.push(run.end);
-      [steps, printed] = [0, 0];
-    }
+    if (text) texts.push(text);
+    before.position += positionIn(run.state.text);
+    before.printed += lengthOf(text);
+    [run.end, run.why] = [run.end + done, why];
+    if (done > 0) run.landmarks.push({ step: run.end, ...before });
   }
-  run.state = new State(replies.state(), { position: 0, printed: 0 });
   replies.end();
-  run.output = joinedBytes(parts);
+  run.output = joinedBytes(texts);
   run.stand = standOf(run.state);
+  run.read = before.position;
   if (run.stand === "refused" && run.end >= budget) run.stand = "spent";
   return run;
+}
+
+// The number that a state says was read.
+function positionIn(text) {
+  const at = text.lastIndexOf("\nposition ");
+  return Number(text.slice(at + "\nposition ".length, text.indexOf("\n", at + 1)));
 }
 
 // How many steps a run takes whose input may go on: trac-walk says it.

@@ -59,12 +59,11 @@ class Page {
       this.view.outputTo = undefined;
       this.shown();
       await this.go(run.end);
-      this.showEnding();
       this.gather(this.run);
     } catch (fault) {
       this.say(fault);
     } finally {
-      if (turn === this.turn || !this.run) this.busy(false);
+      if (!byId("stop").hidden) this.busy(false);
     }
   }
 
@@ -79,7 +78,7 @@ class Page {
     this.tree.note = "";
     this.tree.show({ steps: [], depths: [], texts: [], parents: [] });
     drawTimeline(this.tree.calls, end);
-    this.busy(false);
+    this.showEnding();
   }
 
   // Another program is opened: nothing of the last run is shown.
@@ -130,11 +129,13 @@ class Page {
     try {
       const text = await walked(this.engine, this.tape, [`s ${run.end}`, `t ${MOST_CALLS} all`], 1 << 22);
       if (run !== this.run) return;
-      const calls = callsSaid(text);
+      const calls = callsSaid(text, run.end);
       this.tree.note = calls.steps.length === MOST_CALLS ? ", the last of the run" : "";
       this.tree.show(calls);
       this.tree.mark(this.step);
       drawTimeline(calls, run.end);
+      calls.prints = await printsOf(this.engine, this.tape, calls, run.end);
+      if (run === this.run) drawTimeline(calls, run.end);
     } catch (fault) {
       this.say(fault);
     }
@@ -170,10 +171,12 @@ class Page {
     const step = Math.min(Math.max(wanted, 0), this.run.end);
     const turn = ++this.turn;
     try {
-      const states = await this.story.around(step, this.run.end);
+      this.story.cursor = step;
+      const states = await this.story.around(step, this.run.end, () => turn === this.turn);
       if (turn !== this.turn || !states) return;
       this.step = step;
       this.draw(states);
+      this.story.widen(this.run.end);
     } catch (fault) {
       this.say(fault);
     }
@@ -189,7 +192,6 @@ class Page {
     const next = after && moveFrom(at, after);
     const { step } = this;
     const parts = at.parts;
-    if (step === this.run.end) this.run.read = parts.position;
     showSentences(step, move, next, this.endKind());
     showScanned(parts, move, step);
     showActive(parts, move, next, step);
@@ -255,9 +257,8 @@ class Page {
   // A move of trac-walk. What it says beside where it stands is shown.
   async walk(line) {
     const text = await walked(this.engine, this.tape, [`g ${this.step}`, line]);
-    const said = text.trimEnd().split("\n").slice(1, -1).join(" ");
     await this.go(stepSaid(text));
-    this.note(said);
+    this.note(noteOf(text.trimEnd().split("\n").slice(1, -1).join(" ")));
   }
 
   async returnTo() {
@@ -354,9 +355,14 @@ class Page {
   }
 }
 
+// What trac-walk says beside where it stands, without its own commands.
+function noteOf(text) {
+  return text.replace(/: i TEXT feeds a line, e ends the input/g, "").replace(/ ?\bm goes to step (\d+), where the search ended/g, " (step $1)");
+}
+
 // Where what comes next was written: a byte of all input, or nothing.
 async function placeInProgram(page, step) {
-  const state = (await page.story.around(step, page.run.end))?.at;
+  const state = page.story.kept(step);
   if (!state) return null;
   const places = [];
   if (state.active) places.push("active");

@@ -135,7 +135,7 @@ function showRest(parts, before, length) {
     ["meta character", meta, before && before.meta !== parts.meta],
     ["trace", parts.trace ? "on" : "off", before && before.trace !== parts.trace],
     ["read", `${grouped(parts.position)} of ${grouped(length)} bytes`, before && before.position !== parts.position],
-    ["printed", `${grouped(parts.printed)} bytes`, before && before.printed !== parts.printed],
+    ["printed", parts.printed === 1 ? "1 byte" : `${grouped(parts.printed)} bytes`, before && before.printed !== parts.printed],
   ];
   byId("rest").replaceChildren(...rows.map(([name, value, isChanged]) => {
     const row = make("div", isChanged ? "changed" : "");

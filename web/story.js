@@ -3,11 +3,13 @@
 
 // So much is kept of states, and is taken in one reply, in bytes.
 const KEPT_STATES = 64 << 20;
-const WINDOW = 2 << 20;
-const WINDOW_STEPS = 1000;
+const WINDOW = 4 << 20;
+// So many states are fetched where one is wanted, and so many later, to be there when they are.
+const NEAR_STEPS = 60;
+const WIDE_STEPS = 1000;
 
 class Story {
-  // The input, and at which steps what was printed is dropped on the way.
+  // The input, and landmarks of the run: at these steps what was printed is dropped on the way to a state.
   constructor(engine, tape, landmarks) {
     this.engine = engine;
     this.tape = tape;
@@ -20,24 +22,25 @@ class Story {
     this.fetching = Promise.resolve();
   }
 
-  // Commands that go to a step. What was printed is dropped on the way where it is much.
+  // Commands that go to a step, the last of which prints the state there.
   way(step) {
-    const stops = [...this.landmarks.filter((stop) => stop < step), step];
-    return stops.map((stop, index) => stop - (index ? stops[index - 1] : 0)).filter((count) => count > 0)
-      .map((count) => `s ${count}\np\nc\n`);
+    const stops = this.landmarks.filter((mark) => mark.step < step);
+    const commands = stops.map((mark, index) => `s ${mark.step - (index ? stops[index - 1].step : 0)}\nc\n`);
+    const last = stops[stops.length - 1] ?? { step: 0, position: 0, printed: 0 };
+    commands.push(`s ${step - last.step}\np\nc\n`);
+    return { commands, last };
   }
 
   // Reads the replies to those; returns what was read and printed until then.
-  static passed(replies, commands) {
-    const before = { position: 0, printed: 0 };
-    for (const command of commands) {
-      const { done, why } = replies.moved("forward");
-      if (why || command !== `s ${done}\np\nc\n`) throw new NotUnderstood(`the way is ${why}`);
-      const lines = replies.state();
-      before.position += Number(/\nposition (\d+)\noutput \[[^\n]*$/.exec(lines)[1]);
-      before.printed += lengthOf(replies.committed());
+  static passed(replies, { commands, last }) {
+    for (let left = commands.length; left > 1; left--) {
+      replies.moved("forward");
+      replies.committed();
     }
-    return before;
+    const { why } = replies.moved("forward");
+    if (why) throw new NotUnderstood(`the way is ${why}`);
+    const position = last.position + positionIn(replies.state());
+    return { position, printed: last.printed + lengthOf(replies.committed()) };
   }
 
   // The state at a step where it is kept, or nothing.
@@ -46,19 +49,25 @@ class Story {
     return window && window.states[step - window.from];
   }
 
-  // The state at a step with its neighbours, so that what steps did can be told. All are of one window.
-  async around(step, end) {
-    this.cursor = step;
+  // The state at a step with its neighbours, so that what steps did can be told. All are of one window. Nothing where it is no
+  // more wanted once its turn comes.
+  async around(step, end, isWanted = () => true) {
     const [from, to] = [Math.max(step - 1, 0), Math.min(step + 1, end)];
-    if (!this.windowOf(from, to)) await this.alone(() => this.windowOf(from, to) || this.fetch(from, to, end));
+    if (!this.windowOf(from, to)) {
+      await this.alone(() => !isWanted() || this.windowOf(from, to) || this.fetch(from, to, end, NEAR_STEPS));
+    }
     const window = this.windowOf(from, to);
+    if (!window) return null;
     const at = (one) => window.states[one - window.from] ?? null;
     return { before: step > 0 ? at(step - 1) : null, at: at(step), after: step < end ? at(step + 1) : null };
   }
 
-  // The same without waiting, where they are kept.
-  aroundKept(step, end) {
-    return this.windowOf(Math.max(step - 1, 0), Math.min(step + 1, end)) ? this.around(step, end) : null;
+  // Fetches more states around the cursor, once nothing else is fetched.
+  widen(end) {
+    const step = this.cursor;
+    const [from, to] = [Math.max(step - WIDE_STEPS / 4, 0), Math.min(step + WIDE_STEPS / 4, end)];
+    if (this.size > 16384 || this.windowOf(from, to)) return;
+    this.alone(() => this.cursor !== step || this.fetch(from, to, end, WIDE_STEPS)).catch(() => {});
   }
 
   windowOf(from, to) {
@@ -72,26 +81,23 @@ class Story {
     return done;
   }
 
-  // Fetches the states from a step to another, and as many on both sides as are small together.
-  async fetch(from, to, end) {
-    const count = Math.min(Math.max(Math.floor(WINDOW / this.size), to - from + 1), WINDOW_STEPS);
-    const side = Math.floor((count - (to - from + 1)) / 2);
-    const first = Math.max(from - side, 0), last = Math.min(to + side, end);
-    try {
-      this.keep(await this.window(first, last));
-    } catch (fault) {
-      if (!(fault instanceof Refused) || side === 0) throw fault;
-      this.size = WINDOW;
-      this.keep(await this.window(from, to));
-    }
+  // Fetches the states from a step to another, and on both sides as many more as are small together.
+  async fetch(from, to, end, most) {
+    const count = Math.min(Math.floor(WINDOW / this.size), most);
+    const side = Math.max(Math.floor((count - (to - from + 1)) / 2), 0);
+    const window = await this.window(Math.max(from - side, 0), Math.min(to + side, end), WINDOW);
+    if (window) this.keep(window);
+    // (they are larger than those before)
+    if (!this.windowOf(from, to)) this.keep(await this.window(from, to));
   }
 
-  // The states of some steps.
-  async window(first, last) {
+  // The states of some steps: of so many bytes, if there is a bound, or nothing.
+  async window(first, last, bound) {
     const way = this.way(first);
-    const commands = way.join("") + "p\n" + "s 1\np\n".repeat(last - first);
-    const room = Math.min(Math.max((last - first + 2) * this.size * 2, 1 << 20), 1 << 25);
-    const { bytes } = await this.engine.ask("debug", this.tape, { commands }, room);
+    const commands = way.commands.join("") + "p\n" + "s 1\np\n".repeat(last - first);
+    const room = Math.max((last - first + 2) * this.size * 2, 1 << 18);
+    const { status, bytes } = await this.engine.ask("debug", this.tape, { commands, most: bound }, room);
+    if (status !== 0) return this.front(bytes, way, first);
     const replies = new Replies(bytes);
     const before = Story.passed(replies, way);
     const states = [new State(replies.state(), before)];
@@ -101,7 +107,21 @@ class Story {
       states.push(new State(replies.state(), before));
     }
     replies.end();
-    return { from: first, states, length: states.reduce((sum, state) => sum + state.text.length, 0) };
+    return windowOf(first, states);
+  }
+
+  // The states that a reply has as a whole whose end is cut off, or nothing.
+  front(bytes, way, first) {
+    const states = [];
+    try {
+      const replies = new Replies(bytes);
+      const before = Story.passed(replies, way);
+      states.push(new State(replies.state(), before));
+      while (replies.moved("forward").done === 1) states.push(new State(replies.state(), before));
+    } catch (fault) {
+      if (!(fault instanceof NotUnderstood)) throw fault;
+    }
+    return states.length ? windowOf(first, states) : null;
   }
 
   // Keeps a window, and forgets those that are farthest from the cursor where there is too much.
@@ -121,7 +141,7 @@ class Story {
     const missing = rising.filter((step) => !found.get(step));
     if (missing.length) {
       const way = this.way(missing[0]);
-      const commands = [...way, "p\n"];
+      const commands = [...way.commands, "p\n"];
       missing.slice(1).forEach((step, index) => commands.push(`s ${step - missing[index]}\np\n`));
       const { bytes } = await this.engine.ask("debug", this.tape, { commands: commands.join("") }, 1 << 22);
       const replies = new Replies(bytes);
@@ -133,4 +153,9 @@ class Story {
     }
     return found;
   }
+}
+
+// A window of states.
+function windowOf(from, states) {
+  return { from, states, length: states.reduce((sum, state) => sum + state.text.length, 0) };
 }

@@ -1,11 +1,32 @@
 // Over the slider: how many calls are begun, where something is printed, and where a form changes.
 
-const PRINTING = new Set(["ps", "pf"]);
+// So many calls of ps are looked for.
+const MOST_PRINTS = 200000;
 const FORMING = new Set(["ds", "dd", "da", "ss", "cr", "cs", "cc", "cn", "in", "sb", "fb", "eb"]);
 
 // The name of a call as it is listed, in small letters.
 function nameSaid(text) {
   return /^##?\(([A-Za-z]{2})[,)]/.exec(text)?.[1].toLowerCase() ?? "";
+}
+
+// The steps that printed something: where ps is performed, the idle program's too, and those that print a form.
+async function printsOf(engine, tape, calls, end) {
+  const names = calls.texts.map(nameSaid);
+  const own = names.filter((name) => name === "ps").length;
+  const most = Math.min(own + tape.reduce((sum, byte) => sum + (byte === 39 ? 1 : 0), 2), MOST_PRINTS);
+  const { bytes } = await engine.ask("debug", tape, { commands: `u ps ${end}\ns 1\nc\n`.repeat(most) }, 1 << 20);
+  const replies = new Replies(bytes);
+  const steps = calls.steps.filter((_, index) => names[index] === "pf");
+  let step = 0;
+  for (let left = most; left > 0; left--) {
+    const until = replies.moved("until");
+    const forward = replies.moved("forward");
+    const text = replies.committed();
+    step += until.done + forward.done;
+    if (step > end || until.why || forward.why) break;
+    if (text !== "") steps.push(step - 1);
+  }
+  return steps;
 }
 
 function drawTimeline(calls, end) {
@@ -26,13 +47,11 @@ function drawTimeline(calls, end) {
   pen.lineTo(across(calls.steps[calls.steps.length - 1] ?? 0), floor);
   pen.fill();
   pen.stroke();
-  const ticks = [[PRINTING, "--put-line", floor, 1], [FORMING, "--form", floor + height * 0.17, 0.5]];
-  for (const [names, colour, top, part] of ticks) {
+  const forming = calls.steps.filter((_, index) => FORMING.has(nameSaid(calls.texts[index])));
+  // (what changes a form is a shorter mark)
+  for (const [steps, colour, top, part] of [[calls.prints ?? [], "--put-line", floor, 1], [forming, "--form", floor + height * 0.19, 0.7]]) {
     pen.fillStyle = style.getPropertyValue(colour);
-    calls.steps.forEach((step, index) => {
-      // (what changes a form is dotted)
-      if (names.has(nameSaid(calls.texts[index]))) pen.fillRect(across(step), top + scale, 2 * scale, height * 0.15 * part);
-    });
+    for (const step of steps) pen.fillRect(across(step), top + scale, 2 * scale, height * 0.15 * part);
   }
-  byId("timeline-note").textContent = calls.steps.length ? `at most ${grouped(deepest)} begun` : "";
+  byId("timeline-note").textContent = calls.steps.length ? `, at most ${grouped(deepest)} at once` : "";
 }

@@ -4,18 +4,16 @@
 const MOST_CALLS = 100000;
 const CALL_LINE = /^(\d+) {2}((?: {2})*)(##?\(.*)$/;
 
-// The calls that trac-walk lists.
-function callsSaid(text) {
+// The calls that trac-walk lists, before the step where it stands.
+function callsSaid(text, end) {
   const calls = { steps: [], depths: [], texts: [], parents: [] };
   for (const line of text.split("\n")) {
     const found = CALL_LINE.exec(line);
-    if (!found) continue;
+    if (!found || Number(found[1]) >= end) continue;
     calls.steps.push(Number(found[1]));
     calls.depths.push(found[2].length / 2);
     calls.texts.push(found[3]);
   }
-  // the last line says where the walk stands
-  if (calls.steps.length) for (const part of ["steps", "depths", "texts"]) calls[part].pop();
   calls.parents = parentsOf(calls.depths);
   return calls;
 }

@@ -49,15 +49,17 @@
     doubts: (instance, { tape, budget }) => ["trac_web_doubts", [...instance.put(tape), BigInt(budget), DECIMALS]],
   };
 
-  // Answers a request: a reply that is too long for its room is asked for again with twice the room.
+  // Answers a request: a reply that is too long for its room is asked for again with twice the room or more. Where so much is not
+  // wanted, its front is enough.
   function answer(module, request) {
-    for (let room = request.room; room <= MOST; room *= 2) {
+    const most = request.most ?? MOST;
+    for (let room = Math.min(request.room, most); ; room = Math.min(Math.max(room * 2, 1 << 22), most)) {
       const instance = new Instance(module);
       const { status, bytes } = instance.call(...CALLS[request.call](instance, request), room);
       if (status === 5) throw new RangeError("no memory");
-      if (status !== FULL) return { status, bytes };
+      if (status !== FULL || (room === most && request.most)) return { status, bytes };
+      if (room === most) throw new RangeError("the reply is too long");
     }
-    throw new RangeError("the reply is too long");
   }
 
   // Answers a request, or says why not.
