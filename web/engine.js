@@ -16,10 +16,16 @@ class Engine {
   // The bytes of the module, and the text of the Worker.
   constructor(module, source) {
     this.module = module;
+    this.source = source;
     this.address = URL.createObjectURL(new Blob([source], { type: "text/javascript" }));
     this.last = 0;
     this.waiting = new Map();
     this.start();
+  }
+
+  // Another one, for what goes on in the background.
+  twin() {
+    return new Engine(this.module, this.source);
   }
 
   // Begins a Worker. What an earlier one still says is dropped. It is ready once it has said what the module has.

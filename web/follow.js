@@ -5,19 +5,20 @@ const KINDS = { output: 0, active: 1, base: 2, argument: 3, form: 4, held: 5 };
 const ENDS = { made: "makes", read: "reads", earlier: "there", unkept: "there" };
 
 // The way of a byte that stands at a place of the state after a step.
-async function followed(page, place, step, number) {
+async function followed(page, place, step, number, engine = page.engine) {
   const [kind, ...words] = place.split(" ");
   const numbers = words.map(Number);
   let name = new Uint8Array(0);
   if (kind === "form" || kind === "held") {
     const { forms, blocks } = (await page.story.at([step])).get(step).parts;
-    name = bytesOf((kind === "form" ? forms[numbers[0]] : blocks[numbers[0]].forms[numbers[1]]).name);
-    numbers.splice(0, 2, ...(kind === "held" ? [blocks[numbers[0]].number] : []));
+    const [block, held] = numbers.splice(0);
+    name = bytesOf((kind === "form" ? forms[block] : blocks[block].forms[held]).name);
+    if (kind === "held") numbers.push(blocks[block].number);
   }
   numbers.push(number);
   while (numbers.length < 3) numbers.push(0);
   const request = { step, kind: KINDS[kind], numbers, name };
-  const { status, bytes } = await page.engine.ask("way", page.tape, request, 1 << 16);
+  const { status, bytes } = await engine.ask("way", page.tape, request, 1 << 16);
   if (status !== 0) throw new NotUnderstood(`the way of this byte has status ${status}`);
   return wayRows(bytes);
 }

@@ -3,16 +3,32 @@
 // So many steps are taken at once, and then what was printed is taken.
 const STRIDE = 65536;
 
+// With so much output landmarks stand nearer to each other, for a way to a state has what was printed since the last.
+const MUCH_OUTPUT = 1 << 20;
+const MOST_LANDMARKS = 64;
+
 // What a run comes to: how many steps it takes, why no more, the last state, what was printed, and landmarks on the way: how much
 // was read and printed until then.
 async function measure(engine, tape, isClosed, budget) {
   const most = isClosed ? budget : await stepsOfOpen(engine, tape, budget);
-  const commands = `s ${STRIDE}\np\nc\n`.repeat(Math.floor(most / STRIDE)) + `s ${most % STRIDE}\np\nc\n`;
-  const { bytes } = await engine.ask("debug", tape, { commands }, 4 << 20);
+  const run = await strode(engine, tape, most, STRIDE, 4 << 20);
+  if (run.output.length > MUCH_OUTPUT) {
+    const nearer = Math.min(STRIDE, Math.ceil(run.end / MOST_LANDMARKS));
+    run.landmarks = (await strode(engine, tape, run.end, nearer, run.output.length * 3)).landmarks;
+  }
+  run.stand = standOf(run.state);
+  if (run.stand === "refused" && run.end >= budget) run.stand = "spent";
+  return run;
+}
+
+// A run of so many steps, some at a time.
+async function strode(engine, tape, most, stride, room) {
+  const commands = `s ${stride}\np\nc\n`.repeat(Math.floor(most / stride)) + `s ${most % stride}\np\nc\n`;
+  const { bytes } = await engine.ask("debug", tape, { commands }, room);
   const replies = new Replies(bytes);
   const run = { end: 0, why: null, landmarks: [], output: null, state: null };
   const texts = [], before = { position: 0, printed: 0 };
-  for (let left = Math.floor(most / STRIDE) + 1; left > 0; left--) {
+  for (let left = Math.floor(most / stride) + 1; left > 0; left--) {
     const { done, why } = replies.moved("forward");
     run.state = new State(replies.state(), { ...before });
     const text = replies.committed();
@@ -24,9 +40,7 @@ async function measure(engine, tape, isClosed, budget) {
   }
   replies.end();
   run.output = joinedBytes(texts);
-  run.stand = standOf(run.state);
   run.read = before.position;
-  if (run.stand === "refused" && run.end >= budget) run.stand = "spent";
   return run;
 }
 

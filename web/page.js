@@ -5,7 +5,9 @@ const SPEED = 8;
 
 class Page {
   constructor(engine) {
+    // one processor answers at once, the other gathers what may come later
     this.engine = engine;
+    this.background = engine.twin();
     this.editor = new Editor(() => this.changed());
     // the program that was run, the lines of input with the steps at which they came, and whether the input has ended
     this.program = new Uint8Array(0);
@@ -38,12 +40,14 @@ class Page {
     this.isClosed = false;
     this.budget = BUDGET;
     this.program = this.editor.bytes();
+    this.isStale = false;
     await this.perform();
   }
 
   // Runs the program with its input, and goes to the end.
   async perform() {
     this.play(0);
+    this.note("");
     this.joined = null;
     this.way.clear();
     const turn = ++this.turn;
@@ -127,14 +131,14 @@ class Page {
   // Gathers the calls of the run, and its doubts.
   async gather(run) {
     try {
-      const text = await walked(this.engine, this.tape, [`s ${run.end}`, `t ${MOST_CALLS} all`], 1 << 22);
+      const text = await walked(this.background, this.tape, [`s ${run.end}`, `t ${MOST_CALLS} all`], 1 << 22);
       if (run !== this.run) return;
       const calls = callsSaid(text, run.end);
       this.tree.note = calls.steps.length === MOST_CALLS ? ", the last of the run" : "";
       this.tree.show(calls);
       this.tree.mark(this.step);
       drawTimeline(calls, run.end);
-      calls.prints = await printsOf(this.engine, this.tape, calls, run.end);
+      calls.prints = await printsOf(this.background, this.tape, calls, run.end);
       if (run === this.run) drawTimeline(calls, run.end);
     } catch (fault) {
       this.say(fault);
@@ -161,7 +165,7 @@ class Page {
 
   // The program is not what was run.
   changed() {
-    this.isTyped = true;
+    [this.isTyped, this.isStale] = [true, true];
     if (this.run) byId("program-note").textContent = "changed since the run";
   }
 
@@ -215,22 +219,27 @@ class Page {
     return stand === "refused" && why === "Memory" ? "Memory" : stand;
   }
 
-  // Lights the place in the program where what comes next was written, once the cursor rests.
-  light(step) {
-    clearTimeout(this.lighting);
-    this.lighting = setTimeout(async () => {
-      const place = await placeInProgram(this, step).catch(() => null);
-      if (step !== this.step) return;
-      this.editor.light("lit", place === null || place >= this.program.length ? [] : [place]);
-      byId("program-note").textContent = place === null || this.isStale() ? this.isStale() ? "changed since the run" : ""
-        : place < this.program.length ? `here: ${lineAndColumn(this.program, place)}` : "here: in the input";
-    }, this.playing ? 0 : 60);
+  // Lights the place in the program where what comes next was written. While that is looked for, only the last step is kept in mind.
+  async light(step) {
+    this.lightWanted = step;
+    if (this.isLighting || this.isStale) return;
+    this.isLighting = true;
+    try {
+      for (let at = null; at !== this.lightWanted && this.run;) {
+        at = this.lightWanted;
+        this.lit(at, await placeInProgram(this, at).catch(() => null));
+      }
+    } finally {
+      this.isLighting = false;
+    }
   }
 
-  // Whether the editor has another program than was run.
-  isStale() {
-    const bytes = this.editor.bytes();
-    return bytes.length !== this.program.length || bytes.some((byte, at) => byte !== this.program[at]);
+  // Lights a byte of the program, or none.
+  lit(step, place) {
+    if (step !== this.step || this.isStale || !this.run) return;
+    const isInProgram = place !== null && place < this.program.length;
+    this.editor.light("lit", isInProgram ? [place] : []);
+    byId("program-note").textContent = isInProgram ? `here: ${lineAndColumn(this.program, place)}` : place === null ? "" : "here: in the input";
   }
 
   // Does what a button or a key is for.
@@ -330,6 +339,7 @@ class Page {
     this.turn++;
     this.play(0);
     this.engine.stop();
+    this.background.stop();
     this.busy(false);
     this.note("stopped");
   }
@@ -368,7 +378,7 @@ async function placeInProgram(page, step) {
   if (state.active) places.push("active");
   if (state.parts.calls.length) places.push(`argument ${state.parts.calls.length - 1} 0`);
   for (const place of places) {
-    const rows = await followed(page, place, step, 0).catch(() => []);
+    const rows = await followed(page, place, step, 0, page.background).catch(() => []);
     const last = rows[rows.length - 1];
     if (last?.deed === "reads") return last.byte;
   }

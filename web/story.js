@@ -28,7 +28,9 @@ class Story {
     const commands = stops.map((mark, index) => `s ${mark.step - (index ? stops[index - 1].step : 0)}\nc\n`);
     const last = stops[stops.length - 1] ?? { step: 0, position: 0, printed: 0 };
     commands.push(`s ${step - last.step}\np\nc\n`);
-    return { commands, last };
+    // (what is printed up to the next landmark bounds what is printed up to the step, twice, and once in what was dropped before)
+    const next = this.landmarks[stops.length];
+    return { commands, last, room: last.printed + 2 * ((next ?? last).printed - last.printed) };
   }
 
   // Reads the replies to those; returns what was read and printed until then.
@@ -95,8 +97,9 @@ class Story {
   async window(first, last, bound) {
     const way = this.way(first);
     const commands = way.commands.join("") + "p\n" + "s 1\np\n".repeat(last - first);
-    const room = Math.max((last - first + 2) * this.size * 2, 1 << 18);
-    const { status, bytes } = await this.engine.ask("debug", this.tape, { commands, most: bound }, room);
+    const room = way.room + Math.max((last - first + 2) * this.size * 2, 1 << 18);
+    const most = bound && way.room + bound;
+    const { status, bytes } = await this.engine.ask("debug", this.tape, { commands, most }, room);
     if (status !== 0) return this.front(bytes, way, first);
     const replies = new Replies(bytes);
     const before = Story.passed(replies, way);
@@ -143,7 +146,7 @@ class Story {
       const way = this.way(missing[0]);
       const commands = [...way.commands, "p\n"];
       missing.slice(1).forEach((step, index) => commands.push(`s ${step - missing[index]}\np\n`));
-      const { bytes } = await this.engine.ask("debug", this.tape, { commands: commands.join("") }, 1 << 22);
+      const { bytes } = await this.engine.ask("debug", this.tape, { commands: commands.join("") }, way.room + (1 << 22));
       const replies = new Replies(bytes);
       const before = Story.passed(replies, way);
       missing.forEach((step, index) => {
