@@ -82,10 +82,9 @@ function branchOf(move) {
 // A call in words: name, what it is for, what it printed, and its value. Texts stand in lists of one.
 function wordsOfCall(move) {
   const name = move.call.texts[0];
-  const words = [[")"], " ends the function, and ", [callText(move.call)], " is performed: ", [name], " ",
-    primitiveOf(name)];
   const branch = branchOf(move);
-  if (branch) words.push("; ", branch);
+  const words = [[")"], " ends the function, and ", [callText(move.call)], " is performed: ",
+    ...(branch ? [branch] : [[name], " ", primitiveOf(name)])];
   if (move.printed) words.push("; printed is ", [move.printed]);
   if (move.value === "") words.push("; its value is null");
   else words.push("; its value is ", [move.value], move.scanned ? ", to be scanned" : ", which is not scanned");

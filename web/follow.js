@@ -28,7 +28,7 @@ function wayRows(bytes) {
   const text = new TextDecoder("latin1").decode(bytes);
   const rows = [];
   for (let at = 0; at < text.length;) {
-    const row = /(\d+) (prints|puts|gives|made|read|earlier|nothing|unkept)((?: (?:output|active|base|argument|form|held))?(?: \d+)*)( |\n)/y;
+    const row = /(\d+) (prints|sets|gives|made|read|earlier|nothing|unkept)((?: (?:output|active|base|argument|form|held))?(?: \d+)*)( |\n)/y;
     row.lastIndex = at;
     const found = row.exec(text);
     if (!found) throw new NotUnderstood("a row of a way");
@@ -44,7 +44,7 @@ function wayRows(bytes) {
 }
 
 function wayRow([, step, deed, rest]) {
-  const words = { prints: "prints", puts: "sets", gives: "gives", nothing: "nothing", ...ENDS };
+  const words = { prints: "prints", sets: "sets", gives: "gives", nothing: "nothing", ...ENDS };
   const row = { step: Number(step), deed: words[deed] };
   if (deed === "read") row.byte = Number(rest.trim().split(" ")[0]);
   return row;

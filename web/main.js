@@ -107,7 +107,7 @@ function startFollowing(page) {
     return undefined;
   });
   document.addEventListener("keydown", (event) => {
-    const text = event.target.closest?.("pre[tabindex], td[tabindex], #active");
+    const text = event.target.closest?.("[data-place][tabindex], #active");
     if (!text || event.ctrlKey || event.altKey || event.metaKey || event.shiftKey) return;
     if (chooseSign(page, text, event.key)) {
       event.preventDefault();
@@ -125,7 +125,7 @@ function chooseSign(page, text, key) {
   const chosen = Number(text.dataset.chosen ?? numbers[numbers.length - 1]);
   const holder = text.dataset.place ? text : text.querySelector("[data-place]");
   if (key === "Enter") {
-    page.follow(holder, chosen);
+    page.follow(holder, chosen).then(() => page.way.focus());
     return true;
   }
   const at = text.dataset.chosen === undefined ? numbers.length : Math.max(numbers.indexOf(chosen), 0);

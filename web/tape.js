@@ -20,7 +20,7 @@ function scannedParts(parts) {
   return list;
 }
 
-// Adds the end of those parts to a line; the last so many signs of the last part have come by the last step.
+// Adds the end of those parts to a line. Returns what the last step moved or put at its end, if it did.
 function addScanned(line, list, move, step) {
   const come = move ? move.moved || move.grown : "";
   const end = list[list.length - 1];
@@ -44,7 +44,7 @@ function addScanned(line, list, move, step) {
     left -= part.text.length;
   }
   line.append(...shown);
-  return come && line.lastChild?.dataset?.place && split !== null ? line.lastChild : null;
+  return split === null ? null : line.lastChild.lastChild;
 }
 
 // What the last step deleted, which stood before what it put there.
@@ -55,12 +55,18 @@ function goneOf(move) {
   return move.taken;
 }
 
+// Shows the scanned text up to the mark. What was moved or put there stands after what was deleted, but for the parenthesis after
+// protected text.
 function showScanned(parts, move, step) {
   const line = make("div", "line");
-  const list = scannedParts(parts);
-  addScanned(line, list, move, step);
+  const come = addScanned(line, scannedParts(parts), move, step);
   const gone = goneOf(move);
-  if (gone) line.append(addTextCells(make("span"), gone, 0, "gone", 60));
+  if (gone) {
+    const struck = addTextCells(make("span"), gone, 0, "gone", 60);
+    if (come) come.before(struck);
+    else line.append(struck);
+  }
+  if (move?.rule === "(") line.append(addTextCells(make("span"), ")", 0, "gone"));
   byId("neutral").replaceChildren(line);
 }
 

@@ -53,6 +53,12 @@ class Way {
     return rows;
   }
 
+  // The argument of the call at the end of the way that is followed next by the keys.
+  focus() {
+    const found = byId("way-list").lastChild?.querySelectorAll("[data-place][tabindex]") ?? [];
+    (found[found.length - 1] ?? byId("way-list").lastChild?.querySelector("button"))?.focus();
+  }
+
   draw() {
     const list = byId("way-list");
     byId("way-section").hidden = false;
@@ -77,6 +83,7 @@ class Way {
     if (calls.length && ruleOf(row.state) === "p") {
       const call = make("span", "code");
       addCall(call, calls[calls.length - 1], calls.length - 1, row.step, 60, false);
+      if (row.deed === "makes") call.querySelectorAll(".argument:not(.name)").forEach((argument, at) => reachable(argument, `argument ${at + 1}`));
       line.append(call);
     }
     line.append(make("span", row === this.rows[this.rows.length - 1] ? "deed way-end" : "deed", this.words(row)));
@@ -91,6 +98,13 @@ class Way {
     if (row.byte < program.length) return `reads it: ${lineAndColumn(program, row.byte)}`;
     return `reads it: byte ${grouped(row.byte - program.length + 1)} of the input after the program`;
   }
+}
+
+// Lets a text be reached by keys, under a name.
+function reachable(element, label) {
+  element.tabIndex = 0;
+  element.setAttribute("role", "group");
+  element.setAttribute("aria-label", `${label}: ${element.textContent}`);
 }
 
 // Of a long way the latest calls, how many more there are, and the last one.
