@@ -34,8 +34,9 @@ class Page {
     return this.joined;
   }
 
-  // Runs the program of the editor from its start, without input.
+  // Runs the program of the editor from its start, without input. A run that still goes on is stopped.
   async start() {
+    if (this.isBusy) this.engine.stop();
     this.inputs = [];
     this.isClosed = false;
     this.budget = BUDGET;
@@ -50,13 +51,11 @@ class Page {
     this.note("");
     this.joined = null;
     this.way.clear();
-    const turn = ++this.turn;
+    const turn = this.began = ++this.turn;
     this.busy(true);
-    const began = performance.now();
     try {
       const run = await measure(this.engine, this.tape, this.isClosed, this.budget);
       if (turn !== this.turn) return;
-      this.took = performance.now() - began;
       [this.run, this.step] = [run, run.end];
       this.story = new Story(this.engine, this.tape, run.landmarks);
       this.story.size = Math.max(run.state.text.length, 100);
@@ -67,7 +66,7 @@ class Page {
     } catch (fault) {
       this.say(fault);
     } finally {
-      if (!byId("stop").hidden) this.busy(false);
+      if (turn === this.began) this.busy(false);
     }
   }
 
@@ -345,8 +344,8 @@ class Page {
   }
 
   busy(isBusy) {
+    this.isBusy = isBusy;
     byId("stop").hidden = !isBusy;
-    byId("run").disabled = isBusy;
     if (isBusy) byId("ending").textContent = "It runs.";
     else if (byId("ending").textContent === "It runs.") byId("ending").textContent = "The run was stopped.";
   }
