@@ -77,7 +77,7 @@ class Page {
     byId("slider").max = String(end);
     showOutput(this.view, output, output.length, 0, end);
     byId("program-note").textContent = "";
-    this.tree.doubts = new Map();
+    showDoubts(this, []);
     this.tree.note = "";
     this.tree.show({ steps: [], depths: [], texts: [], parents: [] });
     drawTimeline(this.tree.calls, end);
@@ -91,7 +91,7 @@ class Page {
     this.run = null;
     this.isTyped = false;
     this.way.clear();
-    for (const id of ["player", "panels", "input-form"]) byId(id).hidden = true;
+    for (const id of ["player", "panels", "input-form", "doubts-section"]) byId(id).hidden = true;
     byId("output").replaceChildren();
     this.view.outputKey = null;
     for (const id of ["ending", "output-note", "program-note"]) byId(id).textContent = "";
@@ -134,14 +134,21 @@ class Page {
       if (run !== this.run) return;
       const calls = callsSaid(text, run.end);
       this.tree.note = calls.steps.length === MOST_CALLS ? ", the last of the run" : "";
+      this.view.hasMarks = calls.texts.some((text) => /^##?\(ds,.*<(\d+|\^)>/i.test(text));
       this.tree.show(calls);
       this.tree.mark(this.step);
       drawTimeline(calls, run.end);
+      if (this.engine.can("doubts")) await this.gatherDoubts(run);
       calls.prints = await printsOf(this.background, this.tape, calls, run.end);
       if (run === this.run) drawTimeline(calls, run.end);
     } catch (fault) {
       this.say(fault);
     }
+  }
+
+  async gatherDoubts(run) {
+    const { bytes } = await this.background.ask("doubts", this.tape, { budget: Math.max(run.end, 1), most: 1 << 20 }, 1 << 16);
+    if (run === this.run) showDoubts(this, doubtsSaid(bytes).filter(({ step }) => step < run.end));
   }
 
   // Takes a line of input at the step where the cursor is. What was typed later is dropped, if that is wanted.
@@ -199,8 +206,8 @@ class Page {
     showScanned(parts, move, step);
     showActive(parts, move, next, step);
     showBegun(parts, step);
-    showForms(parts, before?.parts, step);
-    showBlocks(parts, step);
+    showForms(parts, before?.parts, step, this.view.hasMarks);
+    showBlocks(parts, step, this.view.hasMarks);
     showRest(parts, before?.parts, this.tape.length);
     showOutput(this.view, this.run.output, parts.printed, move ? lengthOf(move.printed) : 0, step);
     this.tree.mark(step);

@@ -54,9 +54,15 @@ function showBegun(parts, step) {
 }
 
 // A form's text with gaps as pills and the pointer as a bar. Items are counted, gaps too. Where the text may have such signs
-// itself, that is said.
+// itself, it stands as the debugger prints it, and its items have no numbers.
 function addForm(parent, text, isDoubtful) {
   const front = boundary(text, Math.min(text.length, 2000));
+  if (isDoubtful) {
+    addText(parent, text.slice(0, front));
+    parent.append(make("span", "note", " (some of these < > may be text)"));
+    if (front < text.length) parent.append(leftOut(lengthOf(text.slice(front))));
+    return;
+  }
   let item = 0;
   for (const part of text.slice(0, front).split(/(<(?:\d+|\^)>)/)) {
     if (part === "<^>") parent.append(labelled(make("span", "pointer"), "pointer"));
@@ -70,22 +76,21 @@ function addForm(parent, text, isDoubtful) {
     }
   }
   if (front < text.length) parent.append(leftOut(lengthOf(text.slice(front))));
-  if (isDoubtful) parent.append(make("span", "note", " (some of these < > may be text)"));
 }
 
-// Whether more in a form looks like the pointer than there is.
-function isDoubtfulForm(text) {
-  return text.split("<^>").length !== 2;
+// Whether bytes of a form may look like gaps or the pointer: more look like the pointer than there is, or such bytes were given to ds.
+function isDoubtfulForm(text, hasMarks) {
+  return text.split("<^>").length !== 2 || (hasMarks && /<\d+>/.test(text));
 }
 
 // A row for a form, with its place: of a form by its number in the state.
-function formRow(form, place, step, isChanged) {
+function formRow(form, place, step, isChanged, hasMarks) {
   const row = make("tr", isChanged ? "changed" : "");
   const head = make("th");
   head.scope = "row";
   addTextCells(head, form.name, 0, "", 60);
   const cell = placed(make("td"), place, step);
-  addForm(cell, form.text, isDoubtfulForm(form.text));
+  addForm(cell, form.text, isDoubtfulForm(form.text, hasMarks));
   cell.tabIndex = 0;
   cell.setAttribute("role", "group");
   cell.setAttribute("aria-label", `the form ${plainOf(form.name, 30)}`);
@@ -100,21 +105,21 @@ function formRow(form, place, step, isChanged) {
 }
 
 // Shows forms. Those that the last step changed are marked.
-function showForms(parts, before, step) {
+function showForms(parts, before, step, hasMarks) {
   const old = new Map((before?.forms ?? parts.forms).map(({ name, text }) => [name, text]));
   const rows = parts.forms.slice(0, ROWS)
-    .map((form, index) => formRow(form, `form ${index}`, step, old.get(form.name) !== form.text));
+    .map((form, index) => formRow(form, `form ${index}`, step, old.get(form.name) !== form.text, hasMarks));
   if (parts.forms.length > ROWS) rows.push(noteRow(`and ${grouped(parts.forms.length - ROWS)} more`));
   if (parts.forms.length === 0) rows.push(noteRow("none"));
   byId("forms").replaceChildren(...rows);
 }
 
-function showBlocks(parts, step) {
+function showBlocks(parts, step, hasMarks) {
   byId("blocks-section").hidden = parts.blocks.length === 0;
   const rows = [];
   for (const [place, block] of parts.blocks.slice(0, ROWS).entries()) {
     rows.push(noteRow(`block ${block.number}${block.isErased ? ", erased" : ""}`));
-    block.forms.slice(0, ROWS).forEach((form, index) => rows.push(formRow(form, `held ${place} ${index}`, step, false)));
+    block.forms.slice(0, ROWS).forEach((form, index) => rows.push(formRow(form, `held ${place} ${index}`, step, false, hasMarks)));
   }
   byId("blocks").replaceChildren(...rows);
 }
