@@ -1,6 +1,9 @@
 // The program: a box of text over the same text, on which places are lit. Bytes are the truth: what the box cannot give back as it
 // was is shown for reading only.
 
+// A longer program is painted only once its typist rests.
+const LONG = 65536;
+
 class Editor {
   constructor(changed) {
     this.box = byId("source");
@@ -11,7 +14,9 @@ class Editor {
     this.eol = "\n";
     this.name = "program.trac";
     this.box.addEventListener("input", () => {
-      this.repaint();
+      clearTimeout(this.later);
+      if (this.box.value.length < LONG) this.repaint();
+      else this.later = setTimeout(() => this.repaint(), 150);
       changed();
     });
     this.repaint();

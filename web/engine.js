@@ -20,6 +20,8 @@ class Engine {
     this.address = URL.createObjectURL(new Blob([source], { type: "text/javascript" }));
     this.last = 0;
     this.waiting = new Map();
+    // what is told how many requests wait
+    this.told = () => {};
     this.start();
   }
 
@@ -65,6 +67,7 @@ class Engine {
     const request = this.waiting.get(answer.number);
     if (!request) return;
     this.waiting.delete(answer.number);
+    this.told(this.waiting.size);
     if (answer.refused) request.reject(new Refused(answer.refused));
     else request.resolve(answer);
   }
@@ -75,6 +78,7 @@ class Engine {
     const number = ++this.last;
     return new Promise((resolve, reject) => {
       this.waiting.set(number, { resolve, reject });
+      this.told(this.waiting.size);
       this.worker.postMessage({ number, call, tape, room, ...more });
     });
   }
@@ -89,6 +93,7 @@ class Engine {
   fail(fault) {
     const requests = [...this.waiting.values()];
     this.waiting.clear();
+    this.told(0);
     this.isReady.reject(fault);
     for (const request of requests) request.reject(fault);
   }

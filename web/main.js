@@ -69,6 +69,10 @@ function startFiles(page) {
     openFile(page, event.dataTransfer.files[0]);
   });
   listLibrary(page);
+  // what was typed and not saved is not to be lost
+  addEventListener("beforeunload", (event) => {
+    if (page.isTyped && page.editor.bytes().length > 0) event.preventDefault();
+  });
 }
 
 // Whether keys write where the focus is.

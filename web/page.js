@@ -2,6 +2,8 @@
 
 const BUDGET = 2000000;
 const SPEED = 8;
+// After so many milliseconds an answer can be stopped.
+const LATE = 300;
 
 class Page {
   constructor(engine) {
@@ -130,16 +132,15 @@ class Page {
   // Gathers the calls of the run, and its doubts.
   async gather(run) {
     try {
-      const text = await walked(this.background, this.tape, [`s ${run.end}`, `t ${MOST_CALLS} all`], 1 << 22);
+      const calls = await callsOf(this.background, this.tape, run.end);
       if (run !== this.run) return;
-      const calls = callsSaid(text, run.end);
       this.tree.note = calls.steps.length === MOST_CALLS ? ", the last of the run" : "";
       this.view.hasMarks = calls.texts.some((text) => /^##?\(ds,.*<(\d+|\^)>/i.test(text));
       this.tree.show(calls);
       this.tree.mark(this.step);
       drawTimeline(calls, run.end);
       if (this.engine.can("doubts")) await this.gatherDoubts(run);
-      calls.prints = await printsOf(this.background, this.tape, calls, run.end);
+      calls.prints = await printsOf(this.background, this.tape, calls, run);
       if (run === this.run) drawTimeline(calls, run.end);
     } catch (fault) {
       this.say(fault);
@@ -284,7 +285,8 @@ class Page {
     const forms = (await this.story.around(this.step, this.run.end)).at.parts.forms;
     const wanted = name ?? (forms.length === 1 ? forms[0].name : null);
     if (wanted === null) byId("forms").querySelector("button")?.focus();
-    else await this.walk(`w ${wanted}`);
+    // (a name with blanks cannot be said to w, but its ds can be met)
+    else await this.walk(/^[^ "#\\][^ "\\]*$/.test(wanted) ? `w ${wanted}` : `r ds ${quoted(wanted)}`);
   }
 
   async followName() {
@@ -348,6 +350,17 @@ class Page {
     this.background.stop();
     this.busy(false);
     this.note("stopped");
+  }
+
+  // Stop is there where an answer takes long, too.
+  waits(count) {
+    clearTimeout(this.late);
+    if (count === 0 && !this.isBusy) byId("stop").hidden = true;
+    else if (count > 0) {
+      this.late = setTimeout(() => {
+        byId("stop").hidden = false;
+      }, LATE);
+    }
   }
 
   busy(isBusy) {

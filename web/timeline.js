@@ -9,9 +9,14 @@ function nameSaid(text) {
   return /^##?\(([A-Za-z]{2})[,)]/.exec(text)?.[1].toLowerCase() ?? "";
 }
 
-// The steps that printed something: where ps is performed, the idle program's too, and those that print a form.
-async function printsOf(engine, tape, calls, end) {
+// So much output is looked at for where it was printed.
+const MOST_LOOKED = 4 << 20;
+
+// The steps that printed something: where ps is performed, the idle program's too, and those that print a form. Of much output, the
+// calls of ps.
+async function printsOf(engine, tape, calls, { end, output }) {
   const names = calls.texts.map(nameSaid);
+  if (output.length > MOST_LOOKED) return calls.steps.filter((_, index) => names[index] === "ps" || names[index] === "pf");
   const own = names.filter((name) => name === "ps").length;
   const most = Math.min(own + tape.reduce((sum, byte) => sum + (byte === 39 ? 1 : 0), 2), MOST_PRINTS);
   const { bytes } = await engine.ask("debug", tape, { commands: `u ps ${end}\ns 1\nc\n`.repeat(most) }, 1 << 20);

@@ -2,7 +2,18 @@
 
 // So many calls are listed, the last of the run.
 const MOST_CALLS = 100000;
+// So long is a list of calls at most, in bytes.
+const MOST_LIST = 1 << 25;
 const CALL_LINE = /^(\d+) {2}((?: {2})*)(##?\(.*)$/;
+
+// The calls of a run. Where they are too long together, they are cut.
+async function callsOf(engine, tape, end) {
+  for (const list of [`t ${MOST_CALLS} all`, `t ${MOST_CALLS}`]) {
+    const { status, bytes } = await engine.ask("walk", tape, { commands: `s ${end}\n${list}\n`, most: MOST_LIST }, 1 << 22);
+    if (status === 0) return callsSaid(new TextDecoder("latin1").decode(bytes), end);
+  }
+  return callsSaid("", end);
+}
 
 // The calls that trac-walk lists, before the step where it stands.
 function callsSaid(text, end) {

@@ -51,6 +51,11 @@ function moreKeys(page) {
   ];
 }
 
+// A text, as the debugger prints it, as a word of trac-walk in quotes.
+function quoted(text) {
+  return `"${text.replaceAll('"', '\\"')}"`;
+}
+
 // The name of a key as a press of it says.
 function keyOf(event) {
   return event.shiftKey && event.key.startsWith("Arrow") ? `Shift+${event.key}` : event.key;
