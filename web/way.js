@@ -26,31 +26,29 @@ class Way {
     this.page.editor.light("read", []);
   }
 
-  // Follows a byte of a text that is shown. From an argument of a call on the way, it goes on from there.
+  // Follows a byte of a text that is shown. From an argument of a call on the way, it goes on from there. Where a call made the byte
+  // of an argument that was followed, the same argument of the next such call is followed too.
   async follow(holder, number) {
     const turn = ++this.turn;
     const row = holder.closest(".way-row");
-    const kept = row ? this.rows.slice(0, Number(row.dataset.row) + 1) : [];
+    this.rows = row?.dataset.row ? this.rows.slice(0, Number(row.dataset.row) + 1) : [];
     const range = rangeOfByte(holder, number);
     if (range && window.Highlight) CSS.highlights.set("followed", new Highlight(range));
-    const found = await this.gather(holder.dataset.place, Number(holder.dataset.step), number, turn);
-    if (turn !== this.turn) return;
-    this.rows = [...kept, ...found];
-    this.draw();
+    let from = { place: holder.dataset.place, step: Number(holder.dataset.step), number };
+    for (let hop = 0; from && hop < MOST_HOPS && turn === this.turn; hop++) from = await this.hop(from, turn);
   }
 
-  // The calls on the way of a byte; where a call made it of an argument that was followed, the same argument of the next such
-  // call is followed too.
-  async gather(place, step, number, turn) {
-    const rows = [];
-    let from = { place, step, number };
-    for (let hop = 0; from && hop < MOST_HOPS && turn === this.turn; hop++) {
-      const way = await followed(this.page, from.place, from.step, from.number);
-      const states = await this.page.story.at(shortened(way).map((row) => row.step).filter((one) => one >= 0));
-      for (const row of shortened(way)) rows.push({ ...row, state: states.get(row.step) });
-      from = onward(from, await this.page.story.at([from.step]), rows[rows.length - 1]);
-    }
-    return rows;
+  // One way of a byte. It is shown as soon as it is known, and its calls once they are. Returns from where to go on, if from anywhere.
+  async hop(from, turn) {
+    const found = shortened(await followed(this.page, from.place, from.step, from.number));
+    if (turn !== this.turn) return null;
+    this.rows.push(...found);
+    this.draw();
+    const states = await this.page.story.at([from.step, ...found.map((row) => row.step).filter((step) => step >= 0)]);
+    if (turn !== this.turn) return null;
+    for (const row of found) row.state = states.get(row.step);
+    this.draw();
+    return onward(from, states, found[found.length - 1]);
   }
 
   // The argument of the call at the end of the way that is followed next by the keys.
