@@ -126,13 +126,14 @@ function chooseSign(page, text, key) {
   const cells = [...text.querySelectorAll("[data-byte]")];
   if (cells.length === 0 || !["ArrowLeft", "ArrowRight", "Enter"].includes(key)) return false;
   const numbers = cells.flatMap(numbersOf);
-  const chosen = Number(text.dataset.chosen ?? numbers[numbers.length - 1]);
+  const isForward = text.id === "active";
+  const chosen = Number(text.dataset.chosen ?? numbers[isForward ? 0 : numbers.length - 1]);
   const holder = text.dataset.place ? text : text.querySelector("[data-place]");
   if (key === "Enter") {
     page.follow(holder, chosen).then(() => page.way.focus());
     return true;
   }
-  const at = text.dataset.chosen === undefined ? numbers.length : Math.max(numbers.indexOf(chosen), 0);
+  const at = text.dataset.chosen === undefined ? (isForward ? -1 : numbers.length) : Math.max(numbers.indexOf(chosen), 0);
   const number = numbers[Math.min(Math.max(at + (key === "ArrowLeft" ? -1 : 1), 0), numbers.length - 1)];
   text.dataset.chosen = String(number);
   const range = rangeOfByte(text, number);
@@ -187,6 +188,10 @@ function startPage(page) {
   });
   byId("end-input").addEventListener("click", () => page.endInput());
   document.addEventListener("keydown", (event) => onKey(page, event, keys));
+  // a button that the mouse has pressed is not to be pressed again by the space key
+  document.addEventListener("click", (event) => {
+    if (event.detail > 0) event.target.closest("#buttons button, #run")?.blur();
+  });
   startFollowing(page);
   startFiles(page);
   startLooks(page);

@@ -62,11 +62,12 @@ function showScanned(parts, move, step) {
   const come = addScanned(line, scannedParts(parts), move, step);
   const gone = goneOf(move);
   if (gone) {
-    const struck = addTextCells(make("span"), gone, 0, "gone", 60);
+    // (it stands there no more, so it has no numbers)
+    const struck = addShort(make("span"), gone, "gone", 60);
     if (come) come.before(struck);
     else line.append(struck);
   }
-  if (move?.rule === "(") line.append(addTextCells(make("span"), ")", 0, "gone"));
+  if (move?.rule === "(") line.append(make("span", "gone", ")"));
   byId("neutral").replaceChildren(line);
 }
 
@@ -84,6 +85,7 @@ function showActive(parts, move, next, step) {
   }
   if (shown < active.length) line.append(make("span", "left-out", ` … ${grouped(lengthOf(active.slice(shown)))} more`));
   byId("active").replaceChildren(line);
+  delete byId("active").dataset.chosen;
 }
 
 // The sentences of the last step and of the next one.

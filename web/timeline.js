@@ -40,7 +40,8 @@ function drawTimeline(calls, end) {
   const [width, height] = [canvas.width = Math.max(canvas.clientWidth * scale, 1), canvas.height = Math.max(canvas.clientHeight * scale, 1)];
   const pen = canvas.getContext("2d");
   const style = getComputedStyle(document.documentElement);
-  const deepest = calls.depths.reduce((most, depth) => Math.max(most, depth + 1), 1);
+  // (the call itself is begun too, and that of the idle program around it)
+  const deepest = calls.depths.reduce((most, depth) => Math.max(most, depth + 2), 1);
   const across = (step) => step / Math.max(end, 1) * (width - 2 * scale);
   const floor = height * 0.66;
   pen.fillStyle = style.getPropertyValue("--depth");
@@ -48,7 +49,7 @@ function drawTimeline(calls, end) {
   pen.lineWidth = scale;
   pen.beginPath();
   pen.moveTo(0, floor);
-  calls.steps.forEach((step, index) => pen.lineTo(across(step), floor - (calls.depths[index] + 1) / deepest * (floor - 2 * scale)));
+  calls.steps.forEach((step, index) => pen.lineTo(across(step), floor - (calls.depths[index] + 2) / deepest * (floor - 2 * scale)));
   pen.lineTo(across(calls.steps[calls.steps.length - 1] ?? 0), floor);
   pen.fill();
   pen.stroke();
