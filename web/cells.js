@@ -66,12 +66,13 @@ function placed(element, place, step) {
   return element;
 }
 
-// The byte under a point: its element, its number, and where it stands.
+// The byte under a point: its number, and the element that says where it stands.
 function byteUnder(x, y) {
   const element = document.elementFromPoint(x, y)?.closest("[data-byte]");
   const holder = element?.closest("[data-place]");
   if (!holder) return null;
-  return { holder, cell: element, number: Number(element.dataset.byte) + unitUnder(element, x, y) * Number(element.dataset.per ?? 0) };
+  const within = unitUnder(element, x, y) * Number(element.dataset.per ?? 0);
+  return { holder, number: Number(element.dataset.byte) + within };
 }
 
 // Which unit of an element's text is under a point.

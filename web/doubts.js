@@ -16,7 +16,10 @@ function doubtsSaid(bytes) {
 // Lists the first doubts, each as a link to its step, marks all of them in the program, and each under its call.
 function showDoubts(page, doubts) {
   page.tree.doubts = new Map();
-  for (const { step, words } of doubts) page.tree.doubts.set(step, [page.tree.doubts.get(step), words].filter(Boolean).join("; "));
+  for (const { step, words } of doubts) {
+    const said = page.tree.doubts.get(step);
+    page.tree.doubts.set(step, said ? `${said}; ${words}` : words);
+  }
   page.tree.draw();
   const inProgram = doubts.filter(({ byte }) => byte !== null && byte < page.program.length);
   page.editor.light("doubtful", inProgram.map(({ byte }) => byte), false);

@@ -1,5 +1,5 @@
-// The program: a box of text over the same text, on which places are lit. Bytes are the truth: what the box cannot give back as it
-// was is shown for reading only.
+// The program: a box of text over the same text, on which places are lit. Bytes are the truth: what the box cannot give back
+// as it was is shown for reading only.
 
 // A longer program is painted only once its typist rests.
 const LONG = 65536;
@@ -45,8 +45,7 @@ class Editor {
     let text = "";
     for (const run of runsOf(bytes)) {
       this.fixed.places.push({ byte: run.from, unit: text.length, per: run.perUnit ?? 1 });
-      if (run.text !== undefined) text += run.text;
-      else text += run.byte === 10 || run.byte === 9 ? String.fromCharCode(run.byte) : run.byte < 32 ? String.fromCharCode(0x2400 + run.byte) : "\ufffd";
+      text += run.text ?? standIn(run.byte);
     }
     this.box.value = text;
   }
@@ -69,8 +68,9 @@ class Editor {
       return place ? place.unit + Math.floor((number - place.byte) / place.per) : 0;
     }
     const bytes = this.bytes();
-    const text = bytes.length === this.box.value.length ? null : new TextDecoder("utf-8", { ignoreBOM: true }).decode(bytes.subarray(0, number + 1));
-    return text === null ? number : Math.max(text.replaceAll("\r\n", "\n").length - 1, 0);
+    if (bytes.length === this.box.value.length) return number;
+    const text = new TextDecoder("utf-8", { ignoreBOM: true }).decode(bytes.subarray(0, number + 1));
+    return Math.max(text.replaceAll("\r\n", "\n").length - 1, 0);
   }
 
   // Lights bytes of the program in a way that has a name. Where it is wanted, they come in view.
@@ -94,6 +94,12 @@ class Editor {
     if (at.top >= frame.top && at.bottom <= frame.bottom) return;
     this.frame.scrollTop += at.top - frame.top - frame.height / 2;
   }
+}
+
+// What is shown in place of a byte that has no sign.
+function standIn(byte) {
+  if (byte === 10 || byte === 9) return String.fromCharCode(byte);
+  return byte < 32 ? String.fromCharCode(0x2400 + byte) : "\ufffd";
 }
 
 // The text of bytes that are UTF-8, or nothing.

@@ -4,6 +4,10 @@
 const KINDS = { output: 0, active: 1, base: 2, argument: 3, form: 4, held: 5 };
 const ENDS = { made: "makes", read: "reads", earlier: "there", unkept: "there" };
 
+// A row: its step, what was done, and where; where that is a form, its name follows.
+const ROW = new RegExp("(\\d+) (prints|sets|gives|made|read|earlier|nothing|unkept)"
+  + "((?: (?:output|active|base|argument|form|held))?(?: \\d+)*)( |\n)", "y");
+
 // The way of a byte that stands at a place of the state after a step.
 async function followed(page, place, step, number, engine = page.engine) {
   const [kind, ...words] = place.split(" ");
@@ -28,7 +32,7 @@ function wayRows(bytes) {
   const text = new TextDecoder("latin1").decode(bytes);
   const rows = [];
   for (let at = 0; at < text.length;) {
-    const row = /(\d+) (prints|sets|gives|made|read|earlier|nothing|unkept)((?: (?:output|active|base|argument|form|held))?(?: \d+)*)( |\n)/y;
+    const row = new RegExp(ROW);
     row.lastIndex = at;
     const found = row.exec(text);
     if (!found) throw new NotUnderstood("a row of a way");

@@ -147,11 +147,13 @@ function numbersOf(cell) {
   const from = Number(cell.dataset.byte), per = Number(cell.dataset.per ?? 0);
   if (!per) return [from];
   const text = cell.firstChild.data;
-  return Array.from(text, (_, unit) => unit).filter((unit) => !/[\udc00-\udfff]/.test(text[unit] ?? "")).map((unit) => from + unit * per);
+  const units = Array.from({ length: text.length }, (_, unit) => unit).filter((unit) => !/[\udc00-\udfff]/.test(text[unit]));
+  return units.map((unit) => from + unit * per);
 }
 
 function isDark() {
-  return (document.documentElement.dataset.theme ?? (matchMedia("(prefers-color-scheme: dark)").matches ? "dark" : "")) === "dark";
+  const { theme } = document.documentElement.dataset;
+  return theme ? theme === "dark" : matchMedia("(prefers-color-scheme: dark)").matches;
 }
 
 function startLooks(page) {
@@ -178,7 +180,9 @@ function startPage(page) {
     page.play(0);
     page.go(Number(event.target.value));
   });
-  byId("depth").addEventListener("click", (event) => page.go(Math.round(event.offsetX / event.target.clientWidth * (page.run?.end ?? 0))));
+  byId("depth").addEventListener("click", ({ offsetX, target }) => {
+    page.go(Math.round(offsetX / target.clientWidth * (page.run?.end ?? 0)));
+  });
   byId("input-form").addEventListener("submit", (event) => {
     event.preventDefault();
     const box = byId("input");

@@ -2,7 +2,8 @@
 
 const SHOWN_OUTPUT = 8192;
 
-// Shows the output up to so many bytes, of which the last step has printed some. Of a long one a part is shown, which buttons move.
+// Shows the output up to so many bytes, of which the last step has printed some. Of a long one a part is shown, which buttons
+// move.
 function showOutput(view, bytes, printed, fresh, step) {
   const last = Math.min(view.outputTo ?? printed, printed);
   const first = startOfSign(bytes, Math.max(last - SHOWN_OUTPUT, 0));

@@ -5,6 +5,12 @@ const SPEED = 8;
 // After so many milliseconds an answer can be stopped.
 const LATE = 300;
 
+// What is said where the processor could not answer.
+const REFUSALS = {
+  "no memory": "Memory was refused: a form may grow with each call.",
+  "the reply is too long": "This is too long to be shown.",
+};
+
 class Page {
   constructor(engine) {
     // one processor answers at once, the other gathers what may come later
@@ -156,8 +162,8 @@ class Page {
   async feed(bytes) {
     const later = this.inputs.filter(({ step }) => step >= this.step && step < this.run.end);
     if (later.length > 0 && this.step < this.run.end) {
-      const isWanted = await ask(`${later.length === 1 ? "One line" : `${later.length} lines`} of input came after step ${grouped(this.step)}. `
-        + "Take this line in place of that?");
+      const lines = later.length === 1 ? "One line" : `${later.length} lines`;
+      const isWanted = await ask(`${lines} of input came after step ${grouped(this.step)}. Take this line in place of that?`);
       if (!isWanted) return;
       this.inputs = this.inputs.filter(({ step }) => step < this.step);
     }
@@ -226,7 +232,8 @@ class Page {
     return stand === "refused" && why === "Memory" ? "Memory" : stand;
   }
 
-  // Lights the place in the program where what comes next was written. While that is looked for, only the last step is kept in mind.
+  // Lights the place in the program where what comes next was written. While that is looked for, only the last step is kept in
+  // mind.
   async light(step) {
     this.lightWanted = step;
     if (this.isLighting || this.isStale) return;
@@ -246,7 +253,8 @@ class Page {
     if (step !== this.step || this.isStale || !this.run) return;
     const isInProgram = place !== null && place < this.program.length;
     this.editor.light("lit", isInProgram ? [place] : []);
-    byId("program-note").textContent = isInProgram ? `here: ${lineAndColumn(this.program, place)}` : place === null ? "" : "here: in the input";
+    const where = isInProgram ? lineAndColumn(this.program, place) : "in the input";
+    byId("program-note").textContent = place === null ? "" : `here: ${where}`;
   }
 
   // Does what a button or a key is for.
@@ -377,7 +385,7 @@ class Page {
   // Says what went wrong. The page goes on.
   say(fault) {
     if (fault instanceof Stopped) return;
-    const words = fault instanceof Refused ? `Memory was refused, or the answer is too long for a page: ${fault.why}.` : fault.message;
+    const words = fault instanceof Refused ? REFUSALS[fault.why] ?? `Memory was refused (${fault.why}).` : fault.message;
     this.note(words);
     if (byId("ending").textContent === "It runs.") byId("ending").textContent = words;
     if (!(fault instanceof Refused) && !(fault instanceof NotUnderstood)) throw fault;
@@ -386,7 +394,8 @@ class Page {
 
 // What trac-walk says beside where it stands, without its own commands.
 function noteOf(text) {
-  return text.replace(/: i TEXT feeds a line, e ends the input/g, "").replace(/ ?\bm goes to step (\d+), where the search ended/g, " (step $1)");
+  return text.replace(/: i TEXT feeds a line, e ends the input/g, "")
+    .replace(/ ?\bm goes to step (\d+), where the search ended/g, " (step $1)");
 }
 
 // Where what comes next was written: a byte of all input, or nothing.

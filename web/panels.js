@@ -78,7 +78,8 @@ function addForm(parent, text, isDoubtful) {
   if (front < text.length) parent.append(leftOut(lengthOf(text.slice(front))));
 }
 
-// Whether bytes of a form may look like gaps or the pointer: more look like the pointer than there is, or such bytes were given to ds.
+// Whether bytes of a form may look like gaps or the pointer: more look like the pointer than there is, or such bytes were given
+// to ds.
 function isDoubtfulForm(text, hasMarks) {
   return text.split("<^>").length !== 2 || (hasMarks && /<\d+>/.test(text));
 }
@@ -119,7 +120,9 @@ function showBlocks(parts, step, hasMarks) {
   const rows = [];
   for (const [place, block] of parts.blocks.slice(0, ROWS).entries()) {
     rows.push(noteRow(`block ${block.number}${block.isErased ? ", erased" : ""}`));
-    block.forms.slice(0, ROWS).forEach((form, index) => rows.push(formRow(form, `held ${place} ${index}`, step, false, hasMarks)));
+    for (const [index, form] of block.forms.slice(0, ROWS).entries()) {
+      rows.push(formRow(form, `held ${place} ${index}`, step, false, hasMarks));
+    }
   }
   byId("blocks").replaceChildren(...rows);
 }

@@ -3,7 +3,8 @@
 class NotUnderstood extends Error {}
 
 const STATE_LINE = new RegExp(
-  "^(?:(?:active|base|meta|output) \\[T\\]|call ##? (?:\\[T\\])+|(?:form|held) \\[T\\] \\[T\\]|block \\d+(?: erased)?|trace (?:on|off)|(?:position|journal) \\d+)$"
+  ("^(?:(?:active|base|meta|output) \\[T\\]|call ##? (?:\\[T\\])+|(?:form|held) \\[T\\] \\[T\\]"
+    + "|block \\d+(?: erased)?|trace (?:on|off)|(?:position|journal) \\d+)$")
     .replaceAll("T", "[^\\][\\\\]*(?:\\\\x[0-9a-f]{2}[^\\][\\\\]*)*"),
 );
 

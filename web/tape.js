@@ -38,7 +38,9 @@ function addScanned(line, list, move, step) {
     const from = boundary(part.text, Math.max(part.text.length - left, 0));
     const cut = part === end && split !== null ? Math.max(split, from) : part.text.length;
     addTextCells(holder, part.text.slice(from, cut), lengthOf(part.text.slice(0, from)));
-    if (cut < part.text.length) addTextCells(holder, part.text.slice(cut), lengthOf(part.text.slice(0, cut)), move.moved ? "moved" : "put");
+    if (cut < part.text.length) {
+      addTextCells(holder, part.text.slice(cut), lengthOf(part.text.slice(0, cut)), move.moved ? "moved" : "put");
+    }
     if (from > 0) shown.unshift(holder, make("span", "left-out", "… "));
     else shown.unshift(holder);
     left -= part.text.length;

@@ -12,8 +12,8 @@ function nameSaid(text) {
 // So much output is looked at for where it was printed.
 const MOST_LOOKED = 4 << 20;
 
-// The steps that printed something: where ps is performed, the idle program's too, and those that print a form. Of much output, the
-// calls of ps.
+// The steps that printed something: where ps is performed, the idle program's too, and those that print a form. Of much output,
+// the calls of ps.
 async function printsOf(engine, tape, calls, { end, output }) {
   const names = calls.texts.map(nameSaid);
   if (output.length > MOST_LOOKED) return calls.steps.filter((_, index) => names[index] === "ps" || names[index] === "pf");
@@ -37,7 +37,8 @@ async function printsOf(engine, tape, calls, { end, output }) {
 function drawTimeline(calls, end) {
   const canvas = byId("depth");
   const scale = devicePixelRatio || 1;
-  const [width, height] = [canvas.width = Math.max(canvas.clientWidth * scale, 1), canvas.height = Math.max(canvas.clientHeight * scale, 1)];
+  const width = Math.max(canvas.clientWidth * scale, 1), height = Math.max(canvas.clientHeight * scale, 1);
+  [canvas.width, canvas.height] = [width, height];
   const pen = canvas.getContext("2d");
   const style = getComputedStyle(document.documentElement);
   // (the call itself is begun too, and that of the idle program around it)
@@ -49,13 +50,15 @@ function drawTimeline(calls, end) {
   pen.lineWidth = scale;
   pen.beginPath();
   pen.moveTo(0, floor);
-  calls.steps.forEach((step, index) => pen.lineTo(across(step), floor - (calls.depths[index] + 2) / deepest * (floor - 2 * scale)));
+  const above = (depth) => floor - (depth + 2) / deepest * (floor - 2 * scale);
+  calls.steps.forEach((step, index) => pen.lineTo(across(step), above(calls.depths[index])));
   pen.lineTo(across(calls.steps[calls.steps.length - 1] ?? 0), floor);
   pen.fill();
   pen.stroke();
   const forming = calls.steps.filter((_, index) => FORMING.has(nameSaid(calls.texts[index])));
   // (what changes a form is a shorter mark)
-  for (const [steps, colour, top, part] of [[calls.prints ?? [], "--put-line", floor, 1], [forming, "--form", floor + height * 0.19, 0.7]]) {
+  const marks = [[calls.prints ?? [], "--put-line", floor, 1], [forming, "--form", floor + height * 0.19, 0.7]];
+  for (const [steps, colour, top, part] of marks) {
     pen.fillStyle = style.getPropertyValue(colour);
     for (const step of steps) pen.fillRect(across(step), top + scale, 2 * scale, height * 0.15 * part);
   }

@@ -77,7 +77,8 @@ class Tree {
     } else this.walk();
     this.places = new Map(this.shown.map((index, place) => [index, place]));
     const count = this.calls.steps.length;
-    byId("tree-count").textContent = this.isFlat ? `${grouped(this.shown.length)} of ${grouped(count)}` : `${grouped(count)}${this.note}`;
+    const of = this.isFlat ? `${grouped(this.shown.length)} of ` : "";
+    byId("tree-count").textContent = `${of}${grouped(count)}${this.note}`;
     this.draw();
   }
 
@@ -191,7 +192,10 @@ class Tree {
     const place = this.places.get(this.chosen) ?? this.places.get(this.current) ?? 0;
     const index = this.shown[place];
     const page = Math.max(Math.floor(this.box.clientHeight / this.rowHeight) - 1, 1);
-    const to = { ArrowDown: place + 1, ArrowUp: place - 1, PageDown: place + page, PageUp: place - page, Home: 0, End: Infinity }[event.key];
+    const places = {
+      ArrowDown: place + 1, ArrowUp: place - 1, PageDown: place + page, PageUp: place - page, Home: 0, End: Infinity,
+    };
+    const to = places[event.key];
     if (index === undefined) return;
     if (to !== undefined) this.choose(Math.min(Math.max(to, 0), this.shown.length - 1));
     else if (event.key === "ArrowRight") this.fold(index, false);

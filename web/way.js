@@ -26,8 +26,8 @@ class Way {
     this.page.editor.light("read", []);
   }
 
-  // Follows a byte of a text that is shown. From an argument of a call on the way, it goes on from there. Where a call made the byte
-  // of an argument that was followed, the same argument of the next such call is followed too.
+  // Follows a byte of a text that is shown. From an argument of a call on the way, it goes on from there. Where a call made the
+  // byte of an argument that was followed, the same argument of the next such call is followed too.
   async follow(holder, number) {
     const turn = ++this.turn;
     const row = holder.closest(".way-row");
@@ -38,7 +38,8 @@ class Way {
     for (let hop = 0; from && hop < MOST_HOPS && turn === this.turn; hop++) from = await this.hop(from, turn);
   }
 
-  // One way of a byte. It is shown as soon as it is known, and its calls once they are. Returns from where to go on, if from anywhere.
+  // One way of a byte. It is shown as soon as it is known, and its calls once they are. Returns from where to go on, if from
+  // anywhere.
   async hop(from, turn) {
     const found = shortened(await followed(this.page, from.place, from.step, from.number));
     if (turn !== this.turn) return null;
@@ -81,7 +82,9 @@ class Way {
     if (calls.length && ruleOf(row.state) === "p") {
       const call = make("span", "code");
       addCall(call, calls[calls.length - 1], calls.length - 1, row.step, 60, false);
-      if (row.deed === "makes") call.querySelectorAll(".argument:not(.name)").forEach((argument, at) => reachable(argument, `argument ${at + 1}`));
+      if (row.deed === "makes") {
+        call.querySelectorAll(".argument:not(.name)").forEach((text, at) => reachable(text, `argument ${at + 1}`));
+      }
       line.append(call);
     }
     line.append(make("span", row === this.rows[this.rows.length - 1] ? "deed way-end" : "deed", this.words(row)));

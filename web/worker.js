@@ -1,5 +1,5 @@
-// The Worker of the page. It is given the module once. Each request after that is done by a new instance of it, so nothing is left of
-// one for the next.
+// The Worker of the page. It is given the module once. Each request after that is done by a new instance of it, so nothing is
+// left of one for the next.
 "use strict";
 (() => {
   // A reply may be so long, in bytes.
@@ -44,8 +44,10 @@
       ["trac_web_debug", [...instance.put(tape), ...instance.put(encode(commands)), JOURNAL, DECIMALS]],
     walk: (instance, { tape, commands }) =>
       ["trac_web_walk", [...instance.put(tape), ...instance.put(encode(commands)), JOURNAL, KEEP, DECIMALS]],
-    way: (instance, { tape, step, kind, numbers, name }) =>
-      ["trac_web_way", [...instance.put(tape), BigInt(step), BigInt(kind), ...numbers.map(BigInt), ...instance.put(name), JOURNAL, DECIMALS]],
+    way: (instance, { tape, step, kind, numbers, name }) => {
+      const place = [step, kind, ...numbers].map(BigInt);
+      return ["trac_web_way", [...instance.put(tape), ...place, ...instance.put(name), JOURNAL, DECIMALS]];
+    },
     doubts: (instance, { tape, budget }) => ["trac_web_doubts", [...instance.put(tape), BigInt(budget), DECIMALS]],
   };
 
