@@ -135,8 +135,10 @@ class Page {
     await this.perform();
   }
 
-  // Gathers the calls of the run, and its doubts.
+  // Gathers the calls of the run, its doubts, and where it prints.
   async gather(run) {
+    byId("tree-count").textContent = "are listed ..";
+    this.isGathering = true;
     try {
       const calls = await callsOf(this.background, this.tape, run.end);
       if (run !== this.run) return;
@@ -145,17 +147,15 @@ class Page {
       this.tree.show(calls);
       this.tree.mark(this.step);
       drawTimeline(calls, run.end);
-      if (this.engine.can("doubts")) await this.gatherDoubts(run);
+      const doubts = await doubtsOf(this.background, this, run);
+      if (run === this.run) showDoubts(this, doubts);
       calls.prints = await printsOf(this.background, this.tape, calls, run);
       if (run === this.run) drawTimeline(calls, run.end);
     } catch (fault) {
       this.say(fault);
+    } finally {
+      if (run === this.run) this.isGathering = false;
     }
-  }
-
-  async gatherDoubts(run) {
-    const { bytes } = await this.background.ask("doubts", this.tape, { budget: Math.max(run.end, 1), most: 1 << 20 }, 1 << 16);
-    if (run === this.run) showDoubts(this, doubtsSaid(bytes).filter(({ step }) => step < run.end));
   }
 
   // Takes a line of input at the step where the cursor is. What was typed later is dropped, if that is wanted.
@@ -401,12 +401,14 @@ function noteOf(text) {
 // Where what comes next was written: a byte of all input, or nothing.
 async function placeInProgram(page, step) {
   const state = page.story.kept(step);
+  // (while much is gathered, the other processor may have time)
+  const engine = page.isGathering && page.engine.waiting.size === 0 ? page.engine : page.background;
   if (!state) return null;
   const places = [];
   if (state.active) places.push("active");
   if (state.parts.calls.length) places.push(`argument ${state.parts.calls.length - 1} 0`);
   for (const place of places) {
-    const rows = await followed(page, place, step, 0, page.background).catch(() => []);
+    const rows = await followed(page, place, step, 0, engine).catch(() => []);
     const last = rows[rows.length - 1];
     if (last?.deed === "reads") return last.byte;
   }
