@@ -129,7 +129,8 @@ class Story {
 
   // Keeps a window, and forgets those that are farthest from the cursor where there is too much.
   keep(window) {
-    this.windows.push(window);
+    const isWithin = ({ from, states }) => from >= window.from && from + states.length <= window.from + window.states.length;
+    this.windows = [...this.windows.filter((one) => !isWithin(one)), window];
     this.size = Math.max(Math.ceil(window.length / window.states.length), 100);
     const away = ({ from, states }) => Math.max(from - this.cursor, this.cursor - from - states.length, 0);
     this.windows.sort((a, b) => away(a) - away(b));

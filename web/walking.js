@@ -1,20 +1,23 @@
 // Moves through a run. Where a call is meant, trac-walk says the step.
 
+// So many milliseconds the beginning of a token is looked for.
+const PATIENCE = 400;
+
 // How many steps there are from a state to where its token ends: a run of plain bytes is one.
 function tokenLength(state) {
   return ruleOf(state) === "x" ? plainRun(state.active) : 1;
 }
 
-// The step where the token begins that ends at a step.
+// The step where the token begins that ends at a step; of a long run of plain bytes, where it is looked for no longer.
 async function tokenStart(page, step) {
-  let at = step - 1;
-  for (let tries = 0; at > 0 && tries < 20000; tries++) {
-    const state = page.story.kept(at) ?? (await page.story.around(at, page.run.end)).at;
-    const before = page.story.kept(at - 1) ?? (await page.story.around(at - 1, page.run.end)).at;
-    if (ruleOf(state) !== "x" || ruleOf(before) !== "x") break;
+  const began = performance.now();
+  const rule = async (one) => ruleOf(page.story.kept(one) ?? (await page.story.around(one, page.run.end)).at);
+  let at = Math.max(step - 1, 0);
+  while (at > 0 && performance.now() - began < PATIENCE) {
+    if (await rule(at) !== "x" || await rule(at - 1) !== "x") break;
     at--;
   }
-  return Math.max(at, 0);
+  return at;
 }
 
 // What can be done in the player: a button's sign, what it is for, its keys, and what it does.
