@@ -79,15 +79,15 @@ function branchOf(move) {
     : "the number of argument 1 is not greater, so it gives argument 4";
 }
 
-// A call in words: name, what it is for, what it printed, and its value. Texts stand in lists of one.
+// A call in words: name, what it is for, what it printed, and its value. Texts stand in lists, with what they are after them.
 function wordsOfCall(move) {
   const name = move.call.texts[0];
   const branch = branchOf(move);
-  const words = [[")"], " ends the function, and ", [callText(move.call)], " is performed: ",
+  const words = [[")"], " ends the function, and ", [callText(move.call), "call"], " is performed: ",
     ...(branch ? [branch] : [[name], " ", primitiveOf(name)])];
   if (move.printed) words.push("; printed is ", [move.printed]);
   if (move.value === "") words.push("; its value is null");
-  else words.push("; its value is ", [move.value], move.scanned ? ", to be scanned" : ", which is not scanned");
+  else words.push("; its value is ", [move.value, "value"], move.scanned ? ", to be scanned" : ", which is not scanned");
   return words;
 }
 
@@ -96,7 +96,7 @@ function callText(call) {
   return (call.neutral ? "##(" : "#(") + call.texts.join(",") + ")";
 }
 
-// Shows words in an element: lists of one are texts of the program.
+// Shows words in an element: what stands first in a list is a text of the program.
 function showWords(parent, lead, words) {
   parent.replaceChildren(make("b", "", lead));
   for (const word of words) {

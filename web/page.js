@@ -209,7 +209,7 @@ class Page {
     const next = after && moveFrom(at, after);
     const { step } = this;
     const parts = at.parts;
-    showSentences(step, move, next, this.endKind());
+    showSentences(step, move, next, this.endKind(), { before, at, after });
     showScanned(parts, move, step);
     showActive(parts, move, next, step);
     showBegun(parts, step);

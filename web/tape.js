@@ -90,10 +90,36 @@ function showActive(parts, move, next, step) {
   delete byId("active").dataset.chosen;
 }
 
-// The sentences of the last step and of the next one.
-function showSentences(step, move, next, stand) {
-  showWords(byId("last"), move ? `Step ${grouped(step)}: ` : "Start: ", move ? RULES[move.rule](move) : ["nothing is done yet"]);
-  showWords(byId("next"), "Next: ", next ? RULES[next.rule](next) : [STANDS[stand].words]);
+// The sentences of the last step and of the next one: of the state before, here, and after.
+function showSentences(step, move, next, stand, { before, at, after }) {
+  if (move) showSentence(byId("last"), `Step ${grouped(step)}: `, move, step - 1, before, at);
+  else showWords(byId("last"), "Start: ", ["nothing is done yet"]);
+  if (next) showSentence(byId("next"), "Next: ", next, step, at, after);
+  else showWords(byId("next"), "Next: ", [STANDS[stand].words]);
+}
+
+// What the step after a number of steps does. The call and its value can be followed where they stand.
+function showSentence(parent, lead, move, step, before, after) {
+  parent.replaceChildren(make("b", "", lead));
+  for (const word of RULES[move.rule](move)) {
+    if (!Array.isArray(word)) parent.append(word);
+    else if (word[1] === "call") {
+      const code = make("span", "code");
+      addCall(code, move.call, before.parts.calls.length - 1, step, 60, false);
+      parent.append(code);
+    } else if (word[1] === "value") {
+      const { place, first } = placeOfValue(move, after.parts);
+      parent.append(placed(addTextCells(make("span"), move.value, first, "code", 72), place, step + 1));
+    } else addShort(parent, word[0], "code", 72);
+  }
+}
+
+// Where the value of a call stands once it is performed: before the active text, or at the end of the current text.
+function placeOfValue(move, parts) {
+  if (move.scanned) return { place: "active", first: 0 };
+  const inner = parts.calls[parts.calls.length - 1];
+  const place = inner ? `argument ${parts.calls.length - 1} ${inner.texts.length - 1}` : "base";
+  return { place, first: lengthOf(currentOf(parts)) - lengthOf(move.value) };
 }
 
 // Why there is no next step, as docs/running.md says it.
