@@ -21,26 +21,36 @@ async function measure(engine, tape, isClosed, budget) {
   return run;
 }
 
-// A run of so many steps, some at a time.
+// A run of so many steps, some at a time. Its last two states are there to be shown.
 async function strode(engine, tape, most, stride, room) {
-  const commands = `s ${stride}\np\nc\n`.repeat(Math.floor(most / stride)) + `s ${most % stride}\np\nc\n`;
+  const turns = Math.floor((Math.max(most, 1) - 1) / stride);
+  const rest = Math.max(most, 1) - 1 - turns * stride;
+  const commands = `${`s ${stride}\np\nc\n`.repeat(turns)}s ${rest}\np\nc\np\ns 1\np\nc\n`;
   const { bytes } = await engine.ask("debug", tape, { commands }, room);
-  const replies = new Replies(bytes);
-  const run = { end: 0, why: null, landmarks: [], output: null, state: null };
+  return runSaid(new Replies(bytes), turns + 1);
+}
+
+// What the replies to that say.
+function runSaid(replies, strides) {
+  const run = { end: 0, why: null, landmarks: [] };
   const texts = [], before = { position: 0, printed: 0 };
-  for (let left = Math.floor(most / stride) + 1; left > 0; left--) {
+  for (let left = strides; left > 0; left--) {
     const { done, why } = replies.moved("forward");
-    run.state = new State(replies.state(), { ...before });
-    const text = replies.committed();
-    if (text) texts.push(text);
-    before.position += positionIn(run.state.text);
-    before.printed += lengthOf(text);
+    before.position += positionIn(replies.state());
+    texts.push(replies.committed());
+    before.printed += lengthOf(texts[texts.length - 1]);
     [run.end, run.why] = [run.end + done, why];
     if (done > 0) run.landmarks.push({ step: run.end, ...before });
   }
+  const states = [new State(replies.state(), before)];
+  const { done, why } = replies.moved("forward");
+  states.push(new State(replies.state(), before));
+  texts.push(replies.committed());
   replies.end();
+  if (done === 1) run.window = windowOf(run.end, states);
+  [run.end, run.why, run.state] = [run.end + done, why, states[1]];
+  run.read = before.position + positionIn(run.state.text);
   run.output = joinedBytes(texts);
-  run.read = before.position;
   return run;
 }
 

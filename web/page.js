@@ -66,7 +66,7 @@ class Page {
       if (turn !== this.turn) return;
       [this.run, this.step] = [run, run.end];
       this.story = new Story(this.engine, this.tape, run.landmarks);
-      this.story.size = Math.max(run.state.text.length, 100);
+      if (run.window) this.story.keep(run.window);
       this.view.outputTo = undefined;
       this.shown();
       await this.go(run.end);
