@@ -66,13 +66,28 @@ function primitiveOf(name) {
   return known ?? "an unknown name, which does nothing and gives null";
 }
 
-// A call in words: name, what it is for, what it printed, and its value. Texts stand in lists of one.
+// Which branch a decision took, where that can be seen: `eq` compares bytes, and `gr` tells it by its value.
+function branchOf(move) {
+  const [name, first, second, third = "", fourth = ""] = move.call.texts;
+  const kind = name.toLowerCase();
+  if (kind === "eq") {
+    return first === second ? "arguments 1 and 2 are the same, so it gives argument 3"
+      : "arguments 1 and 2 differ, so it gives argument 4";
+  }
+  if (kind !== "gr" || third === fourth) return null;
+  return move.value === third ? "the number of argument 1 is greater, so it gives argument 3"
+    : "the number of argument 1 is not greater, so it gives argument 4";
+}
+
+// A call in words: name, what it is for, what it printed, and its value. Texts stand in lists, with what they are after them.
 function wordsOfCall(move) {
   const name = move.call.texts[0];
-  const words = [[")"], " ends the function, and ", [callText(move.call)], " is performed: ", [name], " ", primitiveOf(name)];
+  const branch = branchOf(move);
+  const words = [[")"], " ends the function, and ", [callText(move.call), "call"], " is performed: ",
+    ...(branch ? [branch] : [[name], " ", primitiveOf(name)])];
   if (move.printed) words.push("; printed is ", [move.printed]);
   if (move.value === "") words.push("; its value is null");
-  else words.push("; its value is ", [move.value], move.scanned ? ", to be scanned" : ", which is not scanned");
+  else words.push("; its value is ", [move.value, "value"], move.scanned ? ", to be scanned" : ", which is not scanned");
   return words;
 }
 
@@ -81,27 +96,11 @@ function callText(call) {
   return (call.neutral ? "##(" : "#(") + call.texts.join(",") + ")";
 }
 
-// Shows words in an element: lists of one are texts of the program.
+// Shows words in an element: what stands first in a list is a text of the program.
 function showWords(parent, lead, words) {
   parent.replaceChildren(make("b", "", lead));
   for (const word of words) {
     if (Array.isArray(word)) addShort(parent, word[0], "code", 72);
     else parent.append(word);
   }
-}
-
-// The words of the step that led here, and of the next one.
-function showRules(step) {
-  const last = moveOf(step - 1), next = moveOf(step);
-  const number = data.first + step;
-  const early = data.first ? "the first step that this page has" : "nothing is done yet";
-  showWords(document.getElementById("last"), last ? `Step ${number}: ` : `At ${number}: `, last ? RULES[last.rule](last) : [early]);
-  showWords(document.getElementById("next"), "Next: ", next ? RULES[next.rule](next) : endWords());
-}
-
-// Why there is no next step.
-function endWords() {
-  if (!data.why) return ["the page ends here, and the program did not end: it goes on"];
-  if (data.why === "Large") return ["the page ends here, and the program did not end: ", REASONS.Large];
-  return ["the debugger takes no further step: ", data.why, ": ", REASONS[data.why] ?? "see docs/debugger.md"];
 }

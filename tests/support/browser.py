@@ -104,7 +104,7 @@ class Browser:
         for event in self.events:
             if event.get("method") == "Network.requestWillBeSent":
                 url = event["params"]["request"]["url"]
-                if not url.startswith(("file:", "about:", "data:")):
+                if not url.startswith(("file:", "about:", "data:", "blob:")):
                     faults.append(event)
         return faults
 

@@ -1,0 +1,46 @@
+// What was printed, up to the step where the cursor is.
+
+const SHOWN_OUTPUT = 8192;
+
+// Shows the output up to so many bytes, of which the last step has printed some. Of a long one a part is shown, which buttons
+// move.
+function showOutput(view, bytes, printed, fresh, step) {
+  const last = Math.min(view.outputTo ?? printed, printed);
+  const first = startOfSign(bytes, Math.max(last - SHOWN_OUTPUT, 0));
+  const key = [first, last, printed, fresh].join();
+  const parent = placed(byId("output"), "output", step);
+  if (view.output === bytes && view.outputKey === key) return;
+  [view.output, view.outputKey] = [bytes, key];
+  const split = Math.max(first, Math.min(printed - fresh, last));
+  parent.replaceChildren();
+  delete parent.dataset.chosen;
+  if (first > 0) parent.append(turnButton("earlier", first, view));
+  addCells(parent, bytes.subarray(first, split), first, true);
+  if (split < last) {
+    const mark = make("mark", "put");
+    addCells(mark, bytes.subarray(split, last), split, true);
+    parent.append(mark);
+  }
+  if (last < printed) parent.append(turnButton("later", Math.min(last + SHOWN_OUTPUT, printed), view));
+  byId("output-note").textContent = printed === 0 ? "nothing printed yet"
+    : first > 0 || last < printed ? `bytes ${grouped(first + 1)} to ${grouped(last)} of ${grouped(printed)}` : "";
+  parent.scrollTop = parent.scrollHeight;
+}
+
+// A button that shows an earlier or later part, up to a byte.
+function turnButton(word, to, view) {
+  const button = make("button", "link", word);
+  button.type = "button";
+  button.addEventListener("click", () => {
+    view.outputTo = to;
+    view.redraw();
+  });
+  return button;
+}
+
+// The place of the first byte of a sign.
+function startOfSign(bytes, at) {
+  let place = at;
+  while (place > 0 && at - place < 3 && (bytes[place] & 0xc0) === 0x80) place--;
+  return place;
+}

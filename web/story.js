@@ -1,0 +1,165 @@
+// The states of a run. To go to one is to run the program anew up to it: so there is no limit to going back. Those around the
+// cursor are kept.
+
+// So much is kept of states, and is taken in one reply, in bytes.
+const KEPT_STATES = 64 << 20;
+const WINDOW = 4 << 20;
+// So many states are fetched where one is wanted, and so many later, to be there when they are.
+const NEAR_STEPS = 60;
+const WIDE_STEPS = 1000;
+
+class Story {
+  // The input, and landmarks of the run: at these steps what was printed is dropped on the way to a state.
+  constructor(engine, tape, landmarks) {
+    this.engine = engine;
+    this.tape = tape;
+    this.landmarks = landmarks;
+    // windows of states: their first step, the states, and how long they are
+    this.windows = [];
+    // how long a state near here is, and where the cursor is
+    this.size = 1000;
+    this.cursor = 0;
+    this.fetching = Promise.resolve();
+  }
+
+  // Commands that go to a step, the last of which prints the state there.
+  way(step) {
+    const stops = this.landmarks.filter((mark) => mark.step < step);
+    const commands = stops.map((mark, index) => `s ${mark.step - (index ? stops[index - 1].step : 0)}\nc\n`);
+    const last = stops[stops.length - 1] ?? { step: 0, position: 0, printed: 0 };
+    commands.push(`s ${step - last.step}\np\nc\n`);
+    // (what is printed up to the next landmark bounds what is printed up to the step, twice, and once in what was dropped before)
+    const next = this.landmarks[stops.length];
+    return { commands, last, room: last.printed + 2 * ((next ?? last).printed - last.printed) };
+  }
+
+  // Reads the replies to those; returns what was read and printed until then.
+  static passed(replies, { commands, last }) {
+    for (let left = commands.length; left > 1; left--) {
+      replies.moved("forward");
+      replies.committed();
+    }
+    const { why } = replies.moved("forward");
+    if (why) throw new NotUnderstood(`the way is ${why}`);
+    const position = last.position + positionIn(replies.state());
+    return { position, printed: last.printed + lengthOf(replies.committed()) };
+  }
+
+  // The state at a step where it is kept, or nothing.
+  kept(step) {
+    const window = this.windowOf(step, step);
+    return window && window.states[step - window.from];
+  }
+
+  // The state at a step with its neighbours, so that what steps did can be told. All are of one window. Nothing where it is no
+  // more wanted once its turn comes.
+  async around(step, end, isWanted = () => true) {
+    const [from, to] = [Math.max(step - 1, 0), Math.min(step + 1, end)];
+    if (!this.windowOf(from, to)) {
+      await this.alone(() => !isWanted() || this.windowOf(from, to) || this.fetch(from, to, end, NEAR_STEPS));
+    }
+    const window = this.windowOf(from, to);
+    if (!window) return null;
+    const at = (one) => window.states[one - window.from] ?? null;
+    return { before: step > 0 ? at(step - 1) : null, at: at(step), after: step < end ? at(step + 1) : null };
+  }
+
+  // Fetches more states around the cursor, once nothing else is fetched.
+  widen(end) {
+    const step = this.cursor;
+    const [from, to] = [Math.max(step - WIDE_STEPS / 4, 0), Math.min(step + WIDE_STEPS / 4, end)];
+    if (this.size > 16384 || this.windowOf(from, to)) return;
+    this.alone(() => this.cursor !== step || this.fetch(from, to, end, WIDE_STEPS)).catch(() => {});
+  }
+
+  windowOf(from, to) {
+    return this.windows.find((window) => window.from <= from && to < window.from + window.states.length);
+  }
+
+  // One request at a time.
+  alone(work) {
+    const done = this.fetching.then(work);
+    this.fetching = done.catch(() => {});
+    return done;
+  }
+
+  // Fetches the states from a step to another, and on both sides as many more as are small together.
+  async fetch(from, to, end, most) {
+    const count = Math.min(Math.floor(WINDOW / this.size), most);
+    const side = Math.max(Math.floor((count - (to - from + 1)) / 2), 0);
+    const window = await this.window(Math.max(from - side, 0), Math.min(to + side, end), WINDOW);
+    if (window) this.keep(window);
+    // (they are larger than those before)
+    if (!this.windowOf(from, to)) this.keep(await this.window(from, to));
+  }
+
+  // The states of some steps: of so many bytes, if there is a bound, or nothing.
+  async window(first, last, bound) {
+    const way = this.way(first);
+    const commands = way.commands.join("") + "p\n" + "s 1\np\n".repeat(last - first);
+    const room = way.room + Math.max((last - first + 2) * this.size * 2, 1 << 18);
+    const most = bound && way.room + bound;
+    const { status, bytes } = await this.engine.ask("debug", this.tape, { commands, most }, room);
+    if (status !== 0) return this.front(bytes, way, first);
+    const replies = new Replies(bytes);
+    const before = Story.passed(replies, way);
+    const states = [new State(replies.state(), before)];
+    for (let step = first; step < last; step++) {
+      const { done, why } = replies.moved("forward");
+      if (done !== 1 || why) throw new NotUnderstood(`step ${step} is ${why}`);
+      states.push(new State(replies.state(), before));
+    }
+    replies.end();
+    return windowOf(first, states);
+  }
+
+  // The states that a reply has as a whole whose end is cut off, or nothing.
+  front(bytes, way, first) {
+    const states = [];
+    try {
+      const replies = new Replies(bytes);
+      const before = Story.passed(replies, way);
+      states.push(new State(replies.state(), before));
+      while (replies.moved("forward").done === 1) states.push(new State(replies.state(), before));
+    } catch (fault) {
+      if (!(fault instanceof NotUnderstood)) throw fault;
+    }
+    return states.length ? windowOf(first, states) : null;
+  }
+
+  // Keeps a window, and forgets those that are farthest from the cursor where there is too much.
+  keep(window) {
+    const isWithin = ({ from, states }) => from >= window.from && from + states.length <= window.from + window.states.length;
+    this.windows = [...this.windows.filter((one) => !isWithin(one)), window];
+    this.size = Math.max(Math.ceil(window.length / window.states.length), 100);
+    const away = ({ from, states }) => Math.max(from - this.cursor, this.cursor - from - states.length, 0);
+    this.windows.sort((a, b) => away(a) - away(b));
+    let sum = 0;
+    this.windows = this.windows.filter((one) => one === window || (sum += one.length) <= KEPT_STATES - window.length);
+  }
+
+  // The states at some steps, from one run.
+  async at(steps) {
+    const rising = [...new Set(steps)].sort((a, b) => a - b);
+    const found = new Map(rising.map((step) => [step, this.kept(step)]));
+    const missing = rising.filter((step) => !found.get(step));
+    if (missing.length) {
+      const way = this.way(missing[0]);
+      const commands = [...way.commands, "p\n"];
+      missing.slice(1).forEach((step, index) => commands.push(`s ${step - missing[index]}\np\n`));
+      const { bytes } = await this.engine.ask("debug", this.tape, { commands: commands.join("") }, way.room + (1 << 22));
+      const replies = new Replies(bytes);
+      const before = Story.passed(replies, way);
+      missing.forEach((step, index) => {
+        if (index && replies.moved("forward").why) throw new NotUnderstood("the run ends before this step");
+        found.set(step, new State(replies.state(), before));
+      });
+    }
+    return found;
+  }
+}
+
+// A window of states.
+function windowOf(from, states) {
+  return { from, states, length: states.reduce((sum, state) => sum + state.text.length, 0) };
+}

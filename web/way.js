@@ -1,0 +1,130 @@
+// Where a byte comes from: the calls that carried it, each a link, and the byte of the program that it was read from.
+
+const DEEDS = { prints: "prints it", sets: "sets it", gives: "gives it", makes: "makes it", there: "it is there already" };
+// So often a byte that a call made is followed on by itself, through the same argument of calls of the same name.
+const MOST_HOPS = 200;
+const SHOWN_ROWS = 30;
+
+class Way {
+  constructor(page) {
+    this.page = page;
+    this.rows = [];
+    this.turn = 0;
+    byId("way-list").addEventListener("click", (event) => {
+      const link = event.target.closest("[data-go]");
+      if (link) page.go(Number(link.dataset.go));
+    });
+  }
+
+  // Forgets what was followed.
+  clear() {
+    this.turn++;
+    this.rows = [];
+    byId("way-section").hidden = true;
+    byId("way-list").replaceChildren();
+    if (window.Highlight) CSS.highlights.delete("followed");
+    this.page.editor.light("read", []);
+  }
+
+  // Follows a byte of a text that is shown. From an argument of a call on the way, it goes on from there. Where a call made the
+  // byte of an argument that was followed, the same argument of the next such call is followed too.
+  async follow(holder, number) {
+    const turn = ++this.turn;
+    const row = holder.closest(".way-row");
+    this.rows = row?.dataset.row ? this.rows.slice(0, Number(row.dataset.row) + 1) : [];
+    const range = rangeOfByte(holder, number);
+    if (range && window.Highlight) CSS.highlights.set("followed", new Highlight(range));
+    let from = { place: holder.dataset.place, step: Number(holder.dataset.step), number };
+    for (let hop = 0; from && hop < MOST_HOPS && turn === this.turn; hop++) from = await this.hop(from, turn);
+  }
+
+  // One way of a byte. It is shown as soon as it is known, and its calls once they are. Returns from where to go on, if from
+  // anywhere.
+  async hop(from, turn) {
+    const found = shortened(await followed(this.page, from.place, from.step, from.number));
+    if (turn !== this.turn) return null;
+    this.rows.push(...found);
+    this.draw();
+    const states = await this.page.story.at([from.step, ...found.map((row) => row.step).filter((step) => step >= 0)]);
+    if (turn !== this.turn) return null;
+    for (const row of found) row.state = states.get(row.step);
+    this.draw();
+    return onward(from, states, found[found.length - 1]);
+  }
+
+  // The argument of the call at the end of the way that is followed next by the keys.
+  focus() {
+    const found = byId("way-list").lastChild?.querySelectorAll("[data-place][tabindex]") ?? [];
+    (found[found.length - 1] ?? byId("way-list").lastChild?.querySelector("button"))?.focus();
+  }
+
+  draw() {
+    const list = byId("way-list");
+    byId("way-section").hidden = false;
+    list.replaceChildren(...this.rows.map((row, index) => this.row(row, index)));
+    const last = this.rows[this.rows.length - 1];
+    this.page.editor.light("read", last?.deed === "reads" ? [last.byte] : []);
+    list.lastChild?.scrollIntoView({ block: "nearest" });
+  }
+
+  row(row, index) {
+    const line = make("div", "way-row");
+    line.dataset.row = String(index);
+    if (row.left) {
+      line.append(make("span", "note", `.. ${grouped(row.left)} more calls`));
+      return line;
+    }
+    const link = make("button", "", `step ${grouped(row.step)}`);
+    link.type = "button";
+    link.dataset.go = String(row.step);
+    line.append(link);
+    const calls = row.state?.parts.calls ?? [];
+    if (calls.length && ruleOf(row.state) === "p") {
+      const call = make("span", "code");
+      addCall(call, calls[calls.length - 1], calls.length - 1, row.step, 60, false);
+      if (row.deed === "makes") {
+        call.querySelectorAll(".argument:not(.name)").forEach((text, at) => reachable(text, `argument ${at + 1}`));
+      }
+      line.append(call);
+    }
+    line.append(make("span", row === this.rows[this.rows.length - 1] ? "deed way-end" : "deed", this.words(row)));
+    return line;
+  }
+
+  // What the call did with the byte.
+  words(row) {
+    if (row.deed === "makes" && row === this.rows[this.rows.length - 1]) return "makes it: click an argument to follow that";
+    if (row.deed !== "reads") return DEEDS[row.deed];
+    const { program } = this.page;
+    if (row.byte < program.length) return `reads it: ${lineAndColumn(program, row.byte)}`;
+    return `reads it: byte ${grouped(row.byte - program.length + 1)} of the input after the program`;
+  }
+}
+
+// Lets a text be reached by keys, under a name.
+function reachable(element, label) {
+  element.tabIndex = 0;
+  element.setAttribute("role", "group");
+  element.setAttribute("aria-label", `${label}: ${element.textContent}`);
+}
+
+// Of a long way the latest calls, how many more there are, and the last one.
+function shortened(rows) {
+  if (rows.length <= SHOWN_ROWS) return rows;
+  return [...rows.slice(0, SHOWN_ROWS - 2), { left: rows.length - SHOWN_ROWS + 1, step: -1 }, rows[rows.length - 1]];
+}
+
+// From where a made byte is followed on: the same argument, if it was one of a call of the same name.
+function onward(from, states, last) {
+  const found = /^argument \d+ (\d+)$/.exec(from.place);
+  const state = states.get(from.step);
+  if (!found || last?.deed !== "makes" || !last.state || ruleOf(state) !== "p" || ruleOf(last.state) !== "p") return null;
+  const [old, now] = [state, last.state].map(({ parts }) => parts.calls[parts.calls.length - 1]);
+  const text = now.texts[Number(found[1])];
+  if (old.texts[0] !== now.texts[0] || !text || last.step >= from.step) return null;
+  return {
+    place: `argument ${last.state.parts.calls.length - 1} ${found[1]}`,
+    step: last.step,
+    number: Math.min(from.number, lengthOf(text) - 1),
+  };
+}
