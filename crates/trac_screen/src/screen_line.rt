@@ -109,6 +109,11 @@ impl<A: Allocator + Copy> ScreenLine<A> {
         self.end_into(out)
     }
 
+    /// What it has so far.
+    pub fn bytes(&self) -> &[u8] {
+        self.bytes.as_slice()
+    }
+
     /// Cuts the line to the screen, and puts it at the end of a text.
     pub fn end_into(mut self, out: &mut Vec<u8, A>) -> Result<(), AllocError> {
         let width = self.width;

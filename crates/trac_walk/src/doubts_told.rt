@@ -69,8 +69,8 @@ fn place_into<A: Allocator + Copy>(
     }
 }
 
-// The byte that a doubt is about: the first one of an argument or of a name, or the one that comes next.
-fn place_of<'p, A: Allocator + Copy>(walker: &Walker<A>, doubt: Doubt) -> Place<'p> {
+/// The byte that a doubt of the next step is about: the first one of an argument or of a name, or the one that comes next.
+pub fn place_of<'p, A: Allocator + Copy>(walker: &Walker<A>, doubt: Doubt) -> Place<'p> {
     let function = match doubt {
         Doubt::Unended(_) => 0,
         _ => walker.glance().depth.saturating_sub(1),

@@ -16,7 +16,7 @@ use trac_screen::{
 };
 use trac_session::Machine;
 
-// Of the way nothing is said.
+/// A witness of a byte's way of which nothing is said.
 #[derive(Clone, Copy)]
 pub struct Unsaid;
 
