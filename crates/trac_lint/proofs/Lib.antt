@@ -1,0 +1,4 @@
+-- Places, one byte after another.
+pub mod Passed
+-- What is written of a report.
+pub mod Written

@@ -1,0 +1,4 @@
+-- Places in files.
+pub mod Spots
+-- What is written of a program, and how that ends.
+pub mod Findings
