@@ -1,0 +1,12 @@
+//! Doubts of a whole program: it is run to its end, and each doubt is told once for each place of its files.
+#![tactic(auto)]
+
+mod linting;
+mod memory;
+mod report;
+mod source;
+mod sources;
+
+pub use linting::{Settings, lint};
+pub use report::{Found, Halt, PLACE_LIMIT};
+pub use sources::Sources;
