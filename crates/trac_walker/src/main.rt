@@ -1,13 +1,15 @@
-//! The program `trac-walk`: a debugger of TRAC T-64 for a person at a terminal.
+//! The program `trac-walk`: a debugger of TRAC T-64 for a person at a terminal. With the first word --lint it is
+//! `trac-lint`, which looks for doubts.
 #![tactic(auto)]
 
-ghost use Rattle.std.specs.Prelude.{◌≤◌, IfOk};
-ghost use Rattle.trac_words.specs.Words.{IsWalkLine};
+mod linting;
 
+ghost use Rattle.std.specs.Prelude.{◌≤◌};
+
+use linting::lint_by;
 use std::alloc::{AllocError, Global};
 use std::env::Args;
 use std::process::ExitCode;
-use std::rt::Env;
 use std::{env, io};
 use trac_rules::limit::JOURNAL_LIMIT;
 use trac_streams::{Ending, say, tape_in};
@@ -16,67 +18,78 @@ use trac_words::help::NOT_TEXT;
 use trac_words::walk_words::{WalkLine, read_walk_line};
 
 /// A MiB, in bytes.
-const MIB: u64 = 1 << 20;
+pub(crate) const MIB: u64 = 1 << 20;
 
 /// The status of a command line that is not understood.
 const NOT_UNDERSTOOD: u8 = 2;
 
+/// The first word that asks for doubts. The launcher `trac-lint` writes it.
+const LINT: &str = "--lint";
+
 fn main(rt: HostRuntime) -> ExitCode {
-    match asked_line(&rt) {
-        Ok(
-            WalkLine::Walk {
-                path,
-                options,
-                keep,
-                prompt,
-            },
-        ) => {
+    match env::args(&rt) {
+        Ok(words) => obey(&rt, words),
+        Err(error) if error.kind() == io::ErrorKind::OutOfMemory => say(&rt, Ending::Memory),
+        Err(_) => not_understood(&rt, NOT_TEXT),
+    }
+}
+
+// Does what a command line asks for.
+fn obey(rt: &HostRuntime, words: Args<Global>) -> ExitCode {
+    match obey_words(rt, words) {
+        Ok(status) => status,
+        Err(AllocError) => say(rt, Ending::Memory),
+    }
+}
+
+// The same. The error is that memory was refused for the words, here and below.
+fn obey_words(rt: &HostRuntime, words: Args<Global>) -> Result<ExitCode, AllocError> {
+    let words: Vec<String> = words.collect(rt.alloc())?;
+    obey_texts(rt, words.as_slice())
+}
+
+fn obey_texts(rt: &HostRuntime, words: &[String]) -> Result<ExitCode, AllocError> {
+    let texts: Vec<&str> = words.iter().map(|word| word.as_str()).collect(rt.alloc())?;
+    match texts.as_slice() {
+        [_, first, ..] if *first == LINT => lint_by(rt, texts.as_slice().split_at(1).1),
+        texts => walk_by(rt, texts),
+    }
+}
+
+// Walks as the words of a command line ask for.
+fn walk_by(rt: &HostRuntime, words: &[&str]) -> Result<ExitCode, AllocError> {
+    Ok(match read_walk_line(rt.alloc(), words)? {
+        WalkLine::Walk {
+            path,
+            options,
+            keep,
+            prompt,
+        } => {
             let settings = Settings {
                 journal: options.journal,
                 keep: keep * MIB,
                 decimals: options.decimals,
                 prompt,
             };
-            say(&rt, walk_file(&rt, path.as_str(), settings))
+            say(rt, walk_file(rt, path.as_str(), settings))
         }
-        Ok(WalkLine::Help(text)) => match print!(rt; "{text}") {
-            Ok(()) => ExitCode::SUCCESS,
-            Err(_) => say(&rt, Ending::Write),
-        },
-        Ok(WalkLine::Bad(text)) => {
-            let _ = eprint!(rt; "{text}");
-            ExitCode::from(NOT_UNDERSTOOD)
-        }
-        Err(AllocError) => say(&rt, Ending::Memory),
+        WalkLine::Help(text) => shown(rt, text.as_str()),
+        WalkLine::Bad(text) => not_understood(rt, text.as_str()),
+    })
+}
+
+// Shows a text that was asked for.
+pub(crate) fn shown(rt: &HostRuntime, text: &str) -> ExitCode {
+    match print!(rt; "{text}") {
+        Ok(()) => ExitCode::SUCCESS,
+        Err(_) => say(rt, Ending::Write),
     }
 }
 
-// What the words of the command line ask for. The error is that memory was refused.
-fn asked_line(rt: &(impl Env + AllocGlobal)) -> Result<WalkLine, AllocError>
-    ensures { IfOk result IsWalkLine }
-{
-    match env::args(rt) {
-        Ok(words) => line_in(rt.alloc(), words),
-        Err(error) if error.kind() == io::ErrorKind::OutOfMemory => Err(AllocError),
-        Err(_) => {
-            let text = String::from_str(rt.alloc(), NOT_TEXT)?;
-            Ok(WalkLine::Bad(text))
-        }
-    }
-}
-
-fn line_in(alloc: Global, words: Args<Global>) -> Result<WalkLine, AllocError>
-    ensures { IfOk result IsWalkLine }
-{
-    let words: Vec<String> = words.collect(alloc)?;
-    line_of(alloc, words.as_slice())
-}
-
-fn line_of(alloc: Global, words: &[String]) -> Result<WalkLine, AllocError>
-    ensures { IfOk result IsWalkLine }
-{
-    let texts: Vec<&str> = words.iter().map(|word| word.as_str()).collect(alloc)?;
-    read_walk_line(alloc, texts.as_slice())
+// Says why a command line is not understood.
+pub(crate) fn not_understood(rt: &HostRuntime, text: &str) -> ExitCode {
+    let _ = eprint!(rt; "{text}");
+    ExitCode::from(NOT_UNDERSTOOD)
 }
 
 // Walks through the program in the file at this path.

@@ -6,6 +6,8 @@ use Rattle.trac_streams.specs.declared.options.Options.{Options}
 use Rattle.trac_words.specs.declared.walk_words.TheConstants.{KEEP_LIMIT}
 use Rattle.trac_words.specs.declared.walk_words.WalkLine.{WalkLine}
 use Rattle.trac_words.specs.declared.walk_words.WalkLine.TheVariants as walks
+use Rattle.trac_words.specs.declared.lint_words.LintLine.{LintLine}
+use Rattle.trac_words.specs.declared.lint_words.LintLine.TheVariants as lints
 use Rattle.trac_words.specs.declared.words.Line.{Line}
 use Rattle.trac_words.specs.declared.words.Line.TheVariants.{Run, Debug, Help, Bad}
 
@@ -27,3 +29,9 @@ abbrev pub IsWalkLine : WalkLine → Type 0
 IsWalkLine (walks.Walk path options keep prompt) = AreWithin options × (1 ≤ keep) × (keep ≤ KEEP_LIMIT)
 IsWalkLine (walks.Help text) = Unit {0}
 IsWalkLine (walks.Bad text) = Unit {0}
+
+-- and the numbers of a search for doubts
+abbrev pub IsLintLine : LintLine → Type 0
+IsLintLine (lints.Lint paths input steps keep decimals) = (1 ≤ steps) × (steps ≤ BUDGET_LIMIT) × (1 ≤ keep) × (keep ≤ KEEP_LIMIT)
+IsLintLine (lints.Help text) = Unit {0}
+IsLintLine (lints.Bad text) = Unit {0}

@@ -79,6 +79,19 @@ Exit status: 0 at the end; 2 the command line is not understood; 4 FILE is too l
 6 FILE or the commands cannot be read; 7 the output cannot be written; 70 ./trac-walk of a checkout
 has no program to run; 130 Ctrl-C was typed.";
 
+/// How `trac-lint` is used, in one line.
+pub const LINT_USAGE: &str = "trac-lint [OPTIONS] <FILE>...";
+
+/// What stands at the end of the help of `trac-lint`.
+pub const LINT_USE: &str = "\
+What a program prints is thrown away. Each doubt is told once for each place, as
+  FILE:3:5: no primitive is named pr (step 124)
+which is line 3, column 5; trac-walk FILE shows that step by g 124.
+
+Exit status: 0 no doubt; 1 some doubts; 2 the command line is not understood, a file cannot be read
+or is too long, no memory, or the output cannot be written; 70 ./trac-lint of a checkout has no
+program to run; 130 Ctrl-C was typed. If a program is stopped before its end, standard error says so.";
+
 /// The tip for a word that `trac` or `trac run` does not understand: a file is often named there.
 pub const RUN_TIP: &str = "to run the program in FILE, put < before its name: trac run < FILE";
 

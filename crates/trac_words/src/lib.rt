@@ -1,7 +1,8 @@
-//! The command lines of the programs `trac` and `trac-walk`: what their words ask for.
+//! The command lines of `trac`, `trac-walk` and `trac-lint`: what their words ask for.
 #![tactic(auto)]
 
 pub mod help;
+pub mod lint_words;
 mod tips;
 pub mod walk_words;
 pub mod words;

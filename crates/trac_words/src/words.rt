@@ -96,8 +96,13 @@ pub(crate) fn options_in(found: &ArgMatches<'_>, budget: u64) -> Options
     Options {
         budget,
         journal: journal_in(found),
-        decimals: decimals_of(found.get_one("decimals")).unwrap_or(Width::W128),
+        decimals: width_in(found),
     }
+}
+
+/// How wide numbers are to be.
+pub(crate) fn width_in(found: &ArgMatches<'_>) -> Width {
+    decimals_of(found.get_one("decimals")).unwrap_or(Width::W128)
 }
 
 /// The path of the file that is named. The error is that memory was refused.
@@ -245,8 +250,8 @@ fn journal<'a>(alloc: Global, help: &'a str) -> Arg<'a> {
         .value_parser(value_parser!(u64).range(1..=JOURNAL_LIMIT as i64))
 }
 
-// The option that says how wide numbers are.
-fn decimals<'a>(alloc: Global, widths: &'a [PossibleValue<'a>]) -> Arg<'a> {
+/// The option that says how wide numbers are.
+pub(crate) fn decimals<'a>(alloc: Global, widths: &'a [PossibleValue<'a>]) -> Arg<'a> {
     Arg::new(alloc, "decimals")
         .long("decimals")
         .value_name("BITS")
