@@ -1,4 +1,4 @@
-# Completion of trac, trac-walk, trac-play, trac-page and trac-course for bash: subcommands, options, and a FILE where one is
+# Completion of trac, trac-walk, trac-lint, trac-play, trac-page and trac-course for bash: subcommands, options, and a FILE where one is
 # wanted.
 _trac() {
     local word=${COMP_WORDS[COMP_CWORD]} before=${COMP_WORDS[COMP_CWORD - 1]} words=''
@@ -33,7 +33,7 @@ _trac_file() {
     local word=${COMP_WORDS[COMP_CWORD]}
     COMPREPLY=()
     case ${COMP_WORDS[COMP_CWORD - 1]} in
-        --budget | --journal | --keep | --first | --last | --to) ;;
+        --budget | --steps | --journal | --keep | --first | --last | --to) ;;
         --decimals) mapfile -t COMPREPLY < <(compgen -W '64 128' -- "$word") ;;
         *)
             if [[ $word == -* ]]; then
@@ -46,9 +46,11 @@ _trac_file() {
     esac
 }
 _trac_walk() { _trac_file '--journal --keep --decimals --prompt'; }
+_trac_lint() { _trac_file '--steps --input --decimals --keep'; }
 _trac_play() { _trac_file '--budget --journal --decimals'; }
 _trac_page() { _trac_file '--first --last --to --program'; }
 complete -F _trac_walk trac-walk
+complete -F _trac_lint trac-lint
 complete -F _trac_play trac-play
 complete -F _trac_page trac-page
 
