@@ -1,4 +1,6 @@
 -- How a walk ends.
 pub mod Ends
+-- Steps to go back to.
+pub mod Places
 -- What is said of the way of a byte.
 pub mod Ways

@@ -11,6 +11,7 @@ mod later;
 mod missing;
 mod origins;
 mod output;
+mod places;
 mod replying;
 mod standing;
 mod walker;

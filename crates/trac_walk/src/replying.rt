@@ -4,6 +4,7 @@ use crate::call_list::calls_into;
 use crate::carrying_out::carry_out;
 use crate::doubts_told::doubts_into;
 use crate::origins::{way_into, written_into};
+use crate::places::Places;
 use crate::standing::stand_into;
 use crate::walker::Walker;
 use std::alloc::{AllocError, Allocator};
@@ -29,7 +30,7 @@ pub struct Memo<'p, A: Allocator + Copy> {
     // whether it was said that steps are forgotten
     told: bool,
     // the steps at which moves began that can be taken back, the latest last
-    places: Vec<u64, A>,
+    places: Places<A>,
     // whether an empty line follows on from where a byte of the output came from
     follows_on: bool,
 }
@@ -41,7 +42,7 @@ impl<'p, A: Allocator + Copy> Memo<'p, A> {
             program,
             last: Vec::new(alloc),
             told: false,
-            places: Vec::new(alloc),
+            places: Places::new(alloc),
             follows_on: false,
         }
     }
@@ -51,25 +52,6 @@ impl<'p, A: Allocator + Copy> Memo<'p, A> {
         self.last = Vec::from_slice(alloc, line)?;
         self.follows_on = false;
         Ok(())
-    }
-
-    // Keeps a step to go back to, unless the walk stands there. The error is that memory was refused.
-    fn keep_place(&mut self, place: u64, step: u64) -> Result<(), AllocError> {
-        if place == step {
-            return Ok(());
-        }
-        Ok(self.places.push(place)?)
-    }
-
-    // Takes out the latest step to go back to that is another than this and not before the first one that is kept.
-    fn take_place(&mut self, step: u64, first_step: u64) -> Option<u64> {
-        for _ in 0..self.places.len() {
-            let place = self.places.pop()?;
-            if place != step && place >= first_step {
-                return Some(place);
-            }
-        }
-        None
     }
 }
 
@@ -195,9 +177,9 @@ fn keep_start<A: Allocator + Copy>(
     stop: Option<Stop>,
 ) -> Result<(), AllocError> {
     match (way, stop) {
-        (_, Some(Stop::UnmetUpTo(_, reached))) => memo.keep_place(reached, walker.step()),
+        (_, Some(Stop::UnmetUpTo(_, reached))) => memo.places.keep(reached, walker.step()),
         (Move::Forward(_) | Move::Back(_), _) => Ok(()),
-        _ => memo.keep_place(start, walker.step()),
+        _ => memo.places.keep(start, walker.step()),
     }
 }
 
@@ -210,7 +192,7 @@ fn recall<A: Allocator + Copy>(
     out: &mut Vec<u8, A>,
 ) -> Result<(), AllocError> {
     memo.keep_line(alloc, line)?;
-    match memo.take_place(walker.step(), walker.first_step()) {
+    match memo.places.take(walker.step(), walker.first_step()) {
         None => out.extend_from_slice(NO_PLACE)?,
         Some(place) => {
             let stop = carry_out(walker, Move::To(place));
@@ -233,7 +215,7 @@ fn follow<A: Allocator + Copy>(
     let start = walker.step();
     way_into(alloc, walker, memo.program, spot, out)?;
     memo.follows_on = is_printed(spot) && walker.step() != start;
-    memo.keep_place(start, walker.step())
+    memo.places.keep(start, walker.step())
 }
 
 // Whether a byte is meant that was printed.
@@ -262,7 +244,7 @@ fn follow_on<A: Allocator + Copy>(
             stand_into(alloc, walker, out)?;
         }
     }
-    memo.keep_place(start, walker.step())
+    memo.places.keep(start, walker.step())
 }
 
 // Whether a move stopped because what it looked for is not met.
