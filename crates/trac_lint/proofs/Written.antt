@@ -1,11 +1,10 @@
 -- What is written of a report, whole or in part.
-use Rattle.std.proofs.Common.{◌≡◌, ◌≢◌, ◌<◌, ℕ, List, [], ◌∷◌, ◌++◌, length, refl, sym, ap, subst, ◌∙◌}
+use Rattle.std.proofs.Common.{◌≡◌, ℕ, List, [], ◌∷◌, refl}
 use Rattle.std.specs.Prelude.{Option}
 use Rattle.std.specs.Io.KnownBytes.{Appends, Keeps}
 use Rattle.trac_rules.specs.Fronts.{IsFrontOf}
 use Rattle.trac_streams.proofs.Known.{Appends-kept}
 use Rattle.trac_streams.specs.Written.{WritesFront}
-use Rattle.trac_lint.specs.declared.report.Found.{Found}
 use Rattle.trac_lint.specs.declared.report.Halt.{Halt}
 use Rattle.trac_lint.specs.declared.report.Halt.TheVariants.{Write}
 use Rattle.trac_lint.specs.Findings.{IsReport, IsWritten}

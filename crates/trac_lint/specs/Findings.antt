@@ -7,7 +7,7 @@ use Rattle.trac_lint.specs.declared.sources.Spot.{Spot}
 use Rattle.trac_lint.specs.declared.report.TheConstants.{PLACE_LIMIT}
 use Rattle.trac_lint.specs.declared.report.Found.{Found}
 use Rattle.trac_lint.specs.declared.report.Halt.{Halt}
-use Rattle.trac_lint.specs.declared.report.Halt.TheVariants.{Ended, Spent, Limit, TooLong, Memory, Write}
+use Rattle.trac_lint.specs.declared.report.Halt.TheVariants.{TooLong, Memory, Write}
 
 -- a line: a place, what is doubtful there, and the number of the step
 abbrev pub spot_text : Spot → List ℕ
