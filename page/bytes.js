@@ -54,11 +54,20 @@ function signOf(byte) {
   return byte === 127 ? "DEL" : byte.toString(16);
 }
 
+const byId = (id) => document.getElementById(id);
+
 // Makes an element with a class and a text.
 function make(tag, name, text) {
   const element = document.createElement(tag);
   if (name) element.className = name;
   if (text !== undefined) element.textContent = text;
+  return element;
+}
+
+// Gives an element a name for screen readers.
+function labelled(element, label) {
+  element.setAttribute("role", "img");
+  element.setAttribute("aria-label", label);
   return element;
 }
 
@@ -101,4 +110,11 @@ function plainOf(text, most) {
   let plain = "";
   for (const piece of piecesOf(text.slice(0, front))) plain += piece.plain ?? `‹${signOf(piece.byte)}›`;
   return front < text.length ? plain + "…" : plain;
+}
+
+// Line and column of a byte, both counted from 1, as trac-walk counts them.
+function lineAndColumn(bytes, number) {
+  const front = bytes.subarray(0, number);
+  const line = front.reduce((count, byte) => count + (byte === 10 ? 1 : 0), 1);
+  return `line ${grouped(line)}, column ${grouped(number - front.lastIndexOf(10))}`;
 }

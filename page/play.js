@@ -1,7 +1,7 @@
 // Moving through the run: slider, buttons, keys, the address, and playing.
 
 const SPEEDS = [1, 2, 4, 8, 15, 30, 60, 120, 300, 1000];
-const player = { way: 0, speed: 3, owed: 0, then: 0, frame: 0, timer: 0, address: "" };
+const player = { way: 0, speed: 3, owed: 0, then: 0, frame: 0, timer: 0, address: "", hasLetters: true, tree: null, announcer: null };
 
 // Goes to a step, and shows it. The way is that of the step, so that the colours are those of what was just done.
 function go(step) {
@@ -9,23 +9,29 @@ function go(step) {
   const isBack = wanted < run.at;
   if (wanted !== run.at) document.documentElement.dataset.way = isBack ? "back" : "forward";
   goToStep(wanted);
+  byId("missing").textContent = "";
   draw();
+  player.announcer.step(isBack ? `Back: ${byId("next").textContent}` : undefined);
 }
 
 // Shows the state where the run is.
 function draw() {
   const step = run.at;
+  const isBack = document.documentElement.dataset.way === "back";
   const last = moveOf(step - 1), next = moveOf(step);
-  const end = callsEnd(run.lines);
-  showRules(step);
-  showNeutral(run.lines, end, last);
-  showActive(run.lines, last, next);
-  showState(run.lines, step, last);
-  showCall(step);
+  const parts = partsOf(run.lines, data.before);
+  showRules(step, parts.calls);
+  const most = { ...(looks.whole ? MOST_WHOLE : MOST_SHOWN), isBack };
+  showScanned(parts, last, most);
+  showActive(parts, last, next, most);
+  if (looks.whole) bring(byId("tape"), byId("mark"));
+  showState(parts, step, last, most);
+  player.tree.mark(data.first + step);
   const slider = byId("slider");
   slider.value = String(step);
-  slider.setAttribute("aria-valuetext", `step ${data.first + step} of ${data.first + run.count}`);
-  byId("place").textContent = `#${grouped(data.first + step)}`;
+  const number = grouped(data.first + step);
+  slider.setAttribute("aria-valuetext", player.way ? "it plays" : `step ${number} of ${grouped(data.first + run.count)}`);
+  byId("place").textContent = `#${number}`;
   keepAddress();
 }
 
@@ -40,30 +46,32 @@ function keepAddress() {
   }, 400);
 }
 
-// Goes to the step that the address names, where somebody else has changed it.
+// Goes to the step that the address names. If the page has no such step, it goes to the nearest one, and says so.
 function followAddress() {
   player.address = location.hash;
-  const step = stepOfAddress();
-  if (step !== null && step !== run.at) stopAndGo(step);
-}
-
-// The step that the address names, or none.
-function stepOfAddress() {
-  const number = /^#(\d{1,12})$/.exec(location.hash);
-  return number ? Number(number[1]) - data.first : null;
+  const named = location.hash.slice(1);
+  const step = /^\d+$/.test(named) ? Number(named) - data.first : 0;
+  if (player.way) play(0);
+  go(step);
+  if (named === "" || `${data.first + run.at}` === named.replace(/^0+(?=\d)/, "")) return;
+  const have = `this page has steps ${grouped(data.first)} to ${grouped(data.first + run.count)}`;
+  const asked = named.length > 30 ? `${named.slice(0, 30)}…` : named;
+  const missing = /^\d+$/.test(named) ? `T${have.slice(1)}, not ${asked}.` : `“${asked}” is no number of a step: ${have}.`;
+  byId("missing").textContent = missing;
+  player.announcer.say("note", missing);
 }
 
 // Plays in a direction (1 or -1), or stops (0).
 function play(way) {
   player.way = way;
+  player.announcer.playing(way !== 0);
   if (way > 0 && run.at === run.count) go(0);
   if (way < 0 && run.at === 0) go(run.count);
   byId("play").setAttribute("aria-pressed", String(way > 0));
   byId("play").textContent = way > 0 ? "■" : "▶";
   byId("play-back").setAttribute("aria-pressed", String(way < 0));
   byId("play-back").textContent = way < 0 ? "■" : "◀";
-  // a screen reader is not to be flooded
-  byId("rules").setAttribute("aria-live", way ? "off" : "polite");
+  if (!way) draw();
   cancelAnimationFrame(player.frame);
   player.owed = way ? 1 : 0;
   player.then = performance.now();
@@ -94,11 +102,16 @@ function stopAndGo(step) {
   go(step);
 }
 
+// Goes to the next or the last place where a call is performed next.
+function goToCall(isForward) {
+  stopAndGo(player.tree.stepBeside(data.first + run.at, isForward) - data.first);
+}
+
 const ACTIONS = {
   forward: () => stopAndGo(run.at + 1),
   back: () => stopAndGo(run.at - 1),
-  "call-forward": () => stopAndGo(callStep(run.at, true)),
-  "call-back": () => stopAndGo(callStep(run.at, false)),
+  "call-forward": () => goToCall(true),
+  "call-back": () => goToCall(false),
   start: () => stopAndGo(0),
   end: () => stopAndGo(run.count),
   play: () => play(player.way > 0 ? 0 : 1),
@@ -109,6 +122,7 @@ const ACTIONS = {
   whole: () => toggle("whole", "whole"),
   theme: () => changeTheme(),
   read: () => showHelp(),
+  find: () => byId("filter").focus(),
 };
 
 // Opens what says how to read the page, and the keys.
@@ -126,7 +140,8 @@ function toggle(id, name) {
   looks[name] = isOn;
   draw();
   drawTicks();
-  redrawCalls();
+  player.tree.mark(-1);
+  player.tree.mark(data.first + run.at);
 }
 
 // Goes from dark to light or back.
@@ -144,41 +159,32 @@ function nameTheme() {
   byId("theme").textContent = isDark() ? "Light" : "Dark";
 }
 
-// What a key does. In a text box keys write; space and Enter press the button that has the focus.
+// Keys that move, and those that are letters or signs, which can be turned off.
+const KEYS = { ArrowRight: "forward", ArrowLeft: "back", Home: "start", End: "end" };
+const LETTERS = { "+": "faster", "=": "faster", "-": "slower", l: "large", w: "whole", d: "theme", "?": "read", "/": "find" };
+
+// What a key does. In a text box keys write; space and Enter press what has the focus.
 function actionOf(event) {
-  if (event.ctrlKey || event.altKey || event.metaKey) return null;
-  const isTyping = event.target.id === "filter";
-  if (isTyping) return null;
-  const name = {
-    ArrowRight: event.shiftKey ? "call-forward" : "forward",
-    ArrowLeft: event.shiftKey ? "call-back" : "back",
-    Home: "start",
-    End: "end",
-    "+": "faster",
-    "=": "faster",
-    "-": "slower",
-    l: "large",
-    w: "whole",
-    d: "theme",
-    "?": "read",
-  }[event.key];
+  const { key, target, shiftKey } = event;
+  if (event.ctrlKey || event.altKey || event.metaKey || target.id === "filter") return null;
+  if (shiftKey && key === "ArrowRight") return "call-forward";
+  if (shiftKey && key === "ArrowLeft") return "call-back";
+  const name = KEYS[key] ?? (player.hasLetters ? LETTERS[key] : null);
   if (name) return name;
-  if (event.key !== " " || event.target.closest("button, summary")) return null;
+  if (key !== " " || target.closest("button, summary, [type=checkbox]")) return null;
   if (player.way) return player.way > 0 ? "play" : "play-back";
-  return event.shiftKey ? "play-back" : "play";
+  return shiftKey ? "play-back" : "play";
 }
 
 function onKey(event) {
   const filter = byId("filter");
-  if (event.key === "/" && event.target !== filter) {
-    filter.focus();
-    event.preventDefault();
-  } else if (event.key === "Escape" && event.target === filter) {
+  if (event.key === "Escape" && event.target === filter) {
     filter.value = "";
-    filterCalls("");
+    player.tree.searched();
     filter.blur();
   } else if (event.key === "Enter" && event.target === filter) {
-    if (calls.shown.length) stopAndGo(calls.shown[0].step);
+    const { shown, calls } = player.tree;
+    if (shown.length) stopAndGo(calls.steps[shown[0]] - data.first);
   } else {
     const name = actionOf(event);
     if (!name) return;
@@ -218,32 +224,33 @@ function showExtent() {
 
 function start() {
   byId("slider").max = String(run.count);
-  byId("tape-section").hidden = data.tape === null;
   for (const [id, action] of Object.entries(ACTIONS)) {
-    byId(id).addEventListener("click", (event) => {
+    byId(id)?.addEventListener("click", (event) => {
       action();
       // a button that the mouse has pressed is not to be pressed again by the space key
       if (event.detail > 0) event.currentTarget.blur();
     });
   }
   byId("slider").addEventListener("input", (event) => stopAndGo(Number(event.target.value)));
+  byId("letters").addEventListener("change", (event) => {
+    player.hasLetters = event.target.checked;
+  });
+  byId("filter").addEventListener("input", () => player.announcer.say("note", `${byId("tree-count").textContent} calls`));
   document.addEventListener("keydown", onKey);
   addEventListener("hashchange", followAddress);
-  addEventListener("resize", () => {
-    drawTicks();
-    drawCalls();
-  });
+  addEventListener("resize", drawTicks);
   matchMedia("(prefers-color-scheme: dark)").addEventListener("change", () => {
     nameTheme();
     drawTicks();
   });
-  startCalls(stopAndGo);
+  player.announcer = new Announcer();
+  player.tree = new CallTree((step) => stopAndGo(step - data.first));
+  player.tree.show(gatherCalls());
+  startProgram();
   showExtent();
   nameTheme();
   changeSpeed(0);
-  filterCalls("");
-  player.address = location.hash;
-  go(stepOfAddress() ?? 0);
+  followAddress();
   document.documentElement.dataset.way = "forward";
   drawTicks();
 }

@@ -12,17 +12,44 @@ const run = {
   kept: new Map([[0, data.state.slice()]]),
 };
 
+// What these rules take, and what they put at the end of the current text or after the lines of begun functions.
+const RULED = { ",": [",", "[]"], a: ["#(", "call # []"], n: ["##(", "call ## []"] };
+
+// Where the lines of begun functions end.
+function callsEnd(lines) {
+  let low = 2, high = lines.length;
+  while (low < high) {
+    const middle = (low + high) >> 1;
+    if (lines[middle].startsWith("call ")) low = middle + 1;
+    else high = middle;
+  }
+  return low;
+}
+
+// The edits of the step that is taken next, or was taken last. What the state tells is not kept: of a text that moves to the
+// current text, there is that text alone, and of some rules nothing.
+function editsOf(step) {
+  const kept = data.steps[step];
+  if (Array.isArray(kept)) return kept;
+  const isDone = step < run.at, end = callsEnd(run.lines), last = run.lines[end - 1].length;
+  const [taken, put] = RULED[data.rules[step]] ?? [kept, kept];
+  const active = [0, "active [".length, taken, ""];
+  if (kept !== 0) return [active, [end - 1, last - 1 - (isDone ? put.length : 0), "", put]];
+  if (taken === ",") return [active, [end - 1, last - (isDone ? put.length : 0), "", put]];
+  return [active, [end - (isDone ? 1 : 0), [], [put]]];
+}
+
 // Takes a step forward.
 function stepForward() {
-  for (const edit of data.steps[run.at]) change(edit, 0);
+  for (const edit of editsOf(run.at)) change(edit, 0);
   run.at++;
   if (run.at % KEPT === 0 && !run.kept.has(run.at)) run.kept.set(run.at, run.lines.slice());
 }
 
 // Takes a step back.
 function stepBack() {
+  const edits = editsOf(run.at - 1);
   run.at--;
-  const edits = data.steps[run.at];
   for (let index = edits.length - 1; index >= 0; index--) change(edits[index], 1);
 }
 
@@ -51,36 +78,19 @@ function goToStep(step) {
   while (run.at > step) stepBack();
 }
 
-// The text of a line with one text.
-function inside(line) {
-  return line.slice(line.indexOf("[") + 1, -1);
-}
-
-// The texts of a line with several.
-function textsOf(line) {
-  return line.slice(line.indexOf("[") + 1, -1).split("][");
-}
-
-// Where the lines of begun functions end.
-function callsEnd(lines) {
-  let end = 2;
-  while (lines[end].startsWith("call ")) end++;
-  return end;
-}
-
-// A begun function of a line.
-function callOf(line) {
-  return { neutral: line.startsWith("call ##"), texts: textsOf(line) };
-}
-
 // The rule of step number `step`, counted from 0 within the page, and what it takes, moves and puts.
 function moveOf(step) {
   if (step < 0 || step >= run.count) return null;
   const move = { rule: data.rules[step], taken: "", put: "", moved: "", printed: "", call: null, grown: "" };
-  for (const edit of data.steps[step]) {
+  const kept = data.steps[step];
+  if (!Array.isArray(kept)) move.taken = kept || RULED[move.rule][0];
+  else for (const edit of kept) {
     if (edit.length === 3) {
       const line = edit[1][edit[1].length - 1];
-      if (move.rule === "p" && line && line.startsWith("call ")) move.call = callOf(line);
+      if (move.rule === "p" && line && line.startsWith("call ")) {
+        move.call = new Begun(line);
+        move.depth = edit[0] + edit[1].length - 3;
+      }
     } else if (edit[0] === 0) [move.taken, move.put] = [edit[2], edit[3]];
     else if (move.rule === "p" && move.grown === "" && !move.call) move.grown = edit[3];
   }

@@ -62,6 +62,15 @@ function byteAt(program, line, column) {
   return start + column - 1;
 }
 
+// Says of the last step and of the next one what was hardly meant.
+function markDoubts({ tree, step }) {
+  for (const [id, of] of [["last", step - 1], ["next", step]]) {
+    const words = tree.doubts.get(of);
+    byId(id).querySelector(".doubt")?.remove();
+    if (words) byId(id).append(" ", make("span", "doubt", words));
+  }
+}
+
 // Lists the first doubts, each as a link to its step, marks all of them in the program, and each under its call.
 function showDoubts(page, doubts) {
   page.tree.doubts = new Map();
@@ -70,6 +79,7 @@ function showDoubts(page, doubts) {
     page.tree.doubts.set(step, said ? `${said}; ${words}` : words);
   }
   page.tree.draw();
+  markDoubts(page);
   const inProgram = doubts.filter(({ byte }) => byte !== null && byte < page.program.length);
   page.editor.light("doubtful", inProgram.map(({ byte }) => byte), false);
   byId("doubts-section").hidden = doubts.length === 0;

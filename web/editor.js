@@ -110,9 +110,3 @@ function textOf(bytes) {
     return null;
   }
 }
-
-// Line and column of a byte, both counted from 1, as trac-walk counts them.
-function lineAndColumn(bytes, number) {
-  const line = bytes.subarray(0, number).reduce((count, byte) => count + (byte === 10 ? 1 : 0), 1);
-  return `line ${grouped(line)}, column ${grouped(number - bytes.lastIndexOf(10, number - 1))}`;
-}

@@ -22,10 +22,10 @@ class Engine {
     this.waiting = new Map();
     // what is told how many requests wait
     this.told = () => {};
-    this.start();
+    this.worker = null;
   }
 
-  // Another one, for what goes on in the background.
+  // Another one, for what goes on beside. Its Worker begins with its first request.
   twin() {
     return new Engine(this.module, this.source);
   }
@@ -75,6 +75,7 @@ class Engine {
   // Asks for a call of the module over bytes: its name, the input, what else it takes, and the room that is tried first for the
   // answer.
   ask(call, tape, more = {}, room = 1 << 20) {
+    if (!this.worker) this.start();
     const number = ++this.last;
     return new Promise((resolve, reject) => {
       this.waiting.set(number, { resolve, reject });
@@ -85,16 +86,16 @@ class Engine {
 
   // Ends what is going on, at once.
   stop() {
-    this.worker.terminate();
+    this.worker?.terminate();
+    this.worker = null;
     this.fail(new Stopped("stopped"));
-    this.start();
   }
 
   fail(fault) {
     const requests = [...this.waiting.values()];
     this.waiting.clear();
     this.told(0);
-    this.isReady.reject(fault);
+    this.isReady?.reject(fault);
     for (const request of requests) request.reject(fault);
   }
 }
@@ -108,5 +109,12 @@ function bytesOfElement(id) {
 async function engineOfPage() {
   const packed = new Blob([bytesOfElement("module")]);
   const module = await new Response(packed.stream().pipeThrough(new DecompressionStream("deflate"))).arrayBuffer();
-  return new Engine(module, document.getElementById("worker").textContent);
+  const engine = new Engine(module, document.getElementById("worker").textContent);
+  try {
+    engine.start();
+  } catch (fault) {
+    // (where no Worker may begin, the page goes on without)
+    engine.isReady.reject(fault);
+  }
+  return engine;
 }

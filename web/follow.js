@@ -8,9 +8,12 @@ const ENDS = { made: "makes", read: "reads", earlier: "there", unkept: "there" }
 const ROW = new RegExp("(\\d+) (prints|sets|gives|made|read|earlier|nothing|unkept)"
   + "((?: (?:output|active|base|argument|form|held))?(?: \\d+)*)( |\n)", "y");
 
-// The way of a byte that stands at a place of the state after a step.
-async function followed(page, place, step, number, engine = page.engine) {
+// The way of a byte that stands at a place of the state after a step. (A byte of the output is followed from where it was there
+// first, or soon after.)
+async function followed(page, place, at, number, engine = page.engine) {
   const [kind, ...words] = place.split(" ");
+  const mark = kind === "output" ? page.run.landmarks.find(({ step, printed }) => step <= at && printed > number) : undefined;
+  const step = mark?.step ?? at;
   const numbers = words.map(Number);
   let name = new Uint8Array(0);
   if (kind === "form" || kind === "held") {

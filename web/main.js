@@ -39,17 +39,14 @@ function listLibrary(page) {
     });
     list.append(part);
   }
-  list.addEventListener("change", async () => {
-    const program = programs[Number(list.value)];
-    const isChosen = list.value !== "";
-    list.value = "";
-    if (!isChosen || !await mayDrop(page)) return;
+  startList(list, async (index) => {
+    const program = programs[Number(index)];
+    if (!await mayDrop(page)) return;
     openProgram(page, program.name, Uint8Array.from(atob(program.text), (sign) => sign.charCodeAt(0)));
   });
 }
 
 function startFiles(page) {
-  byId("open").addEventListener("click", () => byId("file").click());
   byId("file").addEventListener("change", async (event) => {
     await openFile(page, event.target.files[0]);
     event.target.value = "";
@@ -69,86 +66,25 @@ function startFiles(page) {
     openFile(page, event.dataTransfer.files[0]);
   });
   listLibrary(page);
+  new Course(page, async (name, bytes) => {
+    if (await mayDrop(page)) openProgram(page, name, bytes);
+  });
   // what was typed and not saved is not to be lost
   addEventListener("beforeunload", (event) => {
     if (page.isTyped && page.editor.bytes().length > 0) event.preventDefault();
   });
 }
 
-// Whether keys write where the focus is.
-function isWriting(element) {
-  return element.closest("textarea, select, dialog, input:not([type='range'])") !== null;
-}
-
-function onKey(page, event, keys) {
-  if ((event.ctrlKey || event.metaKey) && event.key === "Enter") {
-    event.preventDefault();
-    page.start().then(() => byId("output").focus());
-    return;
-  }
-  if (event.ctrlKey || event.altKey || event.metaKey || event.isComposing) return;
-  if (event.key === "Escape" && isWriting(event.target) && !event.target.closest("dialog")) {
-    event.target.blur();
-    return;
-  }
-  if (isWriting(event.target) || !page.run) return;
-  // space and Enter press the button that has the focus; arrows move the slider
-  if ((event.key === " " || event.key === "Enter") && event.target.closest("button, summary")) return;
-  const action = keys.get(keyOf(event));
-  if (!action) return;
-  event.preventDefault();
-  page.act(action);
-}
-
-// A click on a sign follows it; in a text that has the focus, arrows choose a sign and Enter follows it.
+// A click on a sign follows it.
 function startFollowing(page) {
   document.addEventListener("click", (event) => {
     const who = event.target.closest("[data-who]");
     if (who) return void page.act({ does: () => page.whoChanged(who.dataset.who) });
     if (!page.run || event.target.closest("button, .link") || !getSelection().isCollapsed) return undefined;
-    const found = byteUnder(event.clientX, event.clientY);
+    const found = byteNear(event.clientX, event.clientY);
     if (found) page.follow(found.holder, found.number);
     return undefined;
   });
-  document.addEventListener("keydown", (event) => {
-    const text = event.target.closest?.("[data-place][tabindex], #active");
-    if (!text || event.ctrlKey || event.altKey || event.metaKey || event.shiftKey) return;
-    if (chooseSign(page, text, event.key)) {
-      event.preventDefault();
-      event.stopImmediatePropagation();
-    }
-  }, true);
-  document.addEventListener("focusout", () => window.Highlight && CSS.highlights.delete("chosen"));
-}
-
-// Moves the choice of a sign within a text, or follows it. Returns whether the key was for that.
-function chooseSign(page, text, key) {
-  const cells = [...text.querySelectorAll("[data-byte]")];
-  if (cells.length === 0 || !["ArrowLeft", "ArrowRight", "Enter"].includes(key)) return false;
-  const numbers = cells.flatMap(numbersOf);
-  const isForward = text.id === "active";
-  const chosen = Number(text.dataset.chosen ?? numbers[isForward ? 0 : numbers.length - 1]);
-  const holder = text.dataset.place ? text : text.querySelector("[data-place]");
-  if (key === "Enter") {
-    page.follow(holder, chosen).then(() => page.way.focus());
-    return true;
-  }
-  const at = text.dataset.chosen === undefined ? (isForward ? -1 : numbers.length) : Math.max(numbers.indexOf(chosen), 0);
-  const number = numbers[Math.min(Math.max(at + (key === "ArrowLeft" ? -1 : 1), 0), numbers.length - 1)];
-  text.dataset.chosen = String(number);
-  const range = rangeOfByte(text, number);
-  if (range && window.Highlight) CSS.highlights.set("chosen", new Highlight(range));
-  page.note(`byte ${grouped(number + 1)}: ${range}`);
-  return true;
-}
-
-// The numbers of the first bytes of an element's signs.
-function numbersOf(cell) {
-  const from = Number(cell.dataset.byte), per = Number(cell.dataset.per ?? 0);
-  if (!per) return [from];
-  const text = cell.firstChild.data;
-  const units = Array.from({ length: text.length }, (_, unit) => unit).filter((unit) => !/[\udc00-\udfff]/.test(text[unit]));
-  return units.map((unit) => from + unit * per);
 }
 
 function isDark() {
@@ -159,29 +95,23 @@ function isDark() {
 function startLooks(page) {
   const named = () => {
     byId("theme").textContent = isDark() ? "Light" : "Dark";
-    if (page.run) drawTimeline(page.tree.calls, page.run.end);
+    page.timeline.draw();
   };
   byId("theme").addEventListener("click", () => {
     document.documentElement.dataset.theme = isDark() ? "light" : "dark";
     named();
   });
-  matchMedia("(prefers-color-scheme: dark)").addEventListener("change", named);
-  addEventListener("resize", named);
+  for (const looks of ["(prefers-color-scheme: dark)", "(forced-colors: active)"]) matchMedia(looks).addEventListener("change", named);
   byId("help-button").addEventListener("click", () => page.help());
   named();
 }
 
 function startPage(page) {
-  const keys = new Map();
-  for (const action of [...page.actions, ...moreKeys(page)]) action.keys.forEach((key) => keys.set(key, action));
   byId("run").addEventListener("click", () => page.start());
   byId("stop").addEventListener("click", () => page.stop());
   byId("slider").addEventListener("input", (event) => {
     page.play(0);
     page.go(Number(event.target.value));
-  });
-  byId("depth").addEventListener("click", ({ offsetX, target }) => {
-    page.go(Math.round(offsetX / target.clientWidth * (page.run?.end ?? 0)));
   });
   byId("input-form").addEventListener("submit", (event) => {
     event.preventDefault();
@@ -191,21 +121,26 @@ function startPage(page) {
     page.feed(bytes).then(() => box.focus());
   });
   byId("end-input").addEventListener("click", () => page.endInput());
-  document.addEventListener("keydown", (event) => onKey(page, event, keys));
   // a button that the mouse has pressed is not to be pressed again by the space key
   document.addEventListener("click", (event) => {
     if (event.detail > 0) event.target.closest("#buttons button, #run")?.blur();
   });
+  startKeys(page);
+  startAnnouncing(page);
   startFollowing(page);
+  startChoosing(page);
+  startSwipes(page);
   startFiles(page);
+  startSharing(page);
   startLooks(page);
 }
 
 engineOfPage().then(async (engine) => {
   const page = new Page(engine);
   startPage(page);
-  await engine.ready;
+  await engine.ready.catch((fault) => playRecorded(page, fault));
+  await openAddress(page);
   document.documentElement.dataset.ready = "yes";
 }).catch((fault) => {
-  byId("ending").textContent = `The processor does not run in this browser: ${fault.message}`;
+  byId("ending").textContent = `This page takes Chromium 105, Firefox 121, Safari 16.4 or later: ${fault.message}`;
 });

@@ -42,11 +42,18 @@ function moveFrom(before, after) {
   if (rule === "u") [move.taken, move.moved] = [active, active.slice(1)];
   if (rule === "w") move.taken = active.slice(0, 4);
   if (rule === "," || rule === ";" || rule === ")") move.taken = active[0];
+  if (rule === ",") move.ended = endedBy(before.parts.calls);
   if (rule === "a" || rule === "n") move.taken = rule === "a" ? "#(" : "##(";
   if (rule === "#") move.taken = move.moved = "#";
   if (rule === "x") move.taken = move.moved = active[0] === "\\" ? active.slice(0, 4) : active[0];
   if (rule === "p") performed(move, before, after);
   return move;
+}
+
+// The argument that is gathered.
+function endedBy(calls) {
+  const call = calls[calls.length - 1];
+  return { call, index: call.texts.length - 1 };
 }
 
 // The call that a step performs, with its value: before the active text, or at the end of the current text.

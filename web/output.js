@@ -13,11 +13,10 @@ function showOutput(view, bytes, printed, fresh, step) {
   [view.output, view.outputKey] = [bytes, key];
   const split = Math.max(first, Math.min(printed - fresh, last));
   parent.replaceChildren();
-  delete parent.dataset.chosen;
   if (first > 0) parent.append(turnButton("earlier", first, view));
   addCells(parent, bytes.subarray(first, split), first, true);
   if (split < last) {
-    const mark = make("mark", "put");
+    const mark = make("ins", "put");
     addCells(mark, bytes.subarray(split, last), split, true);
     parent.append(mark);
   }

@@ -4,6 +4,10 @@ const BUDGET = 2000000;
 const SPEED = 8;
 // After so many milliseconds an answer can be stopped.
 const LATE = 300;
+// Less than so much output may be had with each state.
+const SMALL_OUTPUT = 1 << 16;
+// So many begun calls are shown, and so many signs of an argument, of a form, and on each side of the mark.
+const MOST_SHOWN = { side: 300, boxes: 12, mostOfCall: 400, mostOfForm: 2000 };
 
 // What is said where the processor could not answer.
 const REFUSALS = {
@@ -13,9 +17,11 @@ const REFUSALS = {
 
 class Page {
   constructor(engine) {
-    // one processor answers at once, the other gathers what may come later
+    // one processor answers at once, another tells what is beside that, and one gathers what may come later
     this.engine = engine;
+    this.ahead = engine.twin();
     this.background = engine.twin();
+    engine.told = (count) => this.waits(count);
     this.editor = new Editor(() => this.changed());
     // the program that was run, the lines of input with the steps at which they came, and whether the input has ended
     this.program = new Uint8Array(0);
@@ -30,10 +36,14 @@ class Page {
     this.turn = 0;
     this.playing = 0;
     this.view = { redraw: () => this.redraw() };
-    this.tree = new Tree((step) => this.go(step));
+    this.tree = new CallTree((step) => this.go(step));
     this.way = new Way(this);
+    this.announcer = new Announcer();
     this.actions = actionsOf(this);
     showActions(this, this.actions);
+    this.big = new Big(this);
+    this.timeline = new Timeline(this);
+    this.exact = new Exact(this);
   }
 
   // All input: the program, and what was typed.
@@ -42,10 +52,9 @@ class Page {
     return this.joined;
   }
 
-  // Runs the program of the editor from its start, without input. A run that still goes on is stopped.
-  async start() {
-    if (this.isBusy) this.engine.stop();
-    this.inputs = [];
+  // Runs the program of the editor from its start, with no input but what is given.
+  async start(given = new Uint8Array(0)) {
+    this.inputs = given.length ? [{ step: 0, bytes: given }] : [];
     this.isClosed = false;
     this.budget = BUDGET;
     this.program = this.editor.bytes();
@@ -60,15 +69,16 @@ class Page {
     this.joined = null;
     this.way.clear();
     const turn = this.began = ++this.turn;
+    this.drop();
     this.busy(true);
     try {
       const run = await measure(this.engine, this.tape, this.isClosed, this.budget);
       if (turn !== this.turn) return;
       [this.run, this.step] = [run, run.end];
-      this.story = new Story(this.engine, this.tape, run.landmarks);
+      this.story = new Story(this.engine, this.tape, run.landmarks, this.ahead);
       if (run.window) this.story.keep(run.window);
       this.view.outputTo = undefined;
-      this.shown();
+      keepFocus(() => this.shown());
       await this.go(run.end);
       this.gather(this.run);
     } catch (fault) {
@@ -88,13 +98,19 @@ class Page {
     showDoubts(this, []);
     this.tree.note = "";
     this.tree.show({ steps: [], depths: [], texts: [], parents: [] });
-    drawTimeline(this.tree.calls, end);
+    this.timeline.show(this.tree.calls, end);
     this.showEnding();
+  }
+
+  // What is still asked of an earlier run is dropped.
+  drop() {
+    for (const engine of [this.engine, this.ahead, this.background]) if (engine.waiting.size) engine.stop();
   }
 
   // Another program is opened: nothing of the last run is shown.
   forget() {
     this.turn++;
+    this.drop();
     this.play(0);
     this.run = null;
     this.isTyped = false;
@@ -114,6 +130,7 @@ class Page {
     if (stand === "done" && !this.isClosed && this.hasText(this.run.read)) {
       ending.textContent = `After ${grouped(end)} steps the program waits: its last text has no ' at its end, so it is not run.`;
     }
+    this.announcer.say("ending", endingSaid(ending.textContent, this.run.output));
     if (stand === "spent") ending.append(this.button("go on", () => this.goOn()));
     byId("input-form").hidden = this.isClosed || (stand !== "waits" && stand !== "done");
   }
@@ -138,23 +155,21 @@ class Page {
   // Gathers the calls of the run, its doubts, and where it prints.
   async gather(run) {
     byId("tree-count").textContent = "are listed ..";
-    this.isGathering = true;
     try {
       const calls = await callsOf(this.background, this.tape, run.end);
       if (run !== this.run) return;
-      this.tree.note = calls.steps.length === MOST_CALLS ? ", the last of the run" : "";
+      this.tree.note = calls.from > 0 ? ", the last of the run" : "";
       this.view.hasMarks = calls.texts.some((text) => /^##?\(ds,.*<(\d+|\^)>/i.test(text));
       this.tree.show(calls);
       this.tree.mark(this.step);
-      drawTimeline(calls, run.end);
+      this.timeline.show(calls, run.end);
       const doubts = await doubtsOf(this.background, this, run);
       if (run === this.run) showDoubts(this, doubts);
       calls.prints = await printsOf(this.background, this.tape, calls, run);
-      if (run === this.run) drawTimeline(calls, run.end);
+      calls.idles = await idlesOf(this.background, this.tape, calls, run);
+      if (run === this.run) this.timeline.show(calls, run.end);
     } catch (fault) {
       this.say(fault);
-    } finally {
-      if (run === this.run) this.isGathering = false;
     }
   }
 
@@ -182,8 +197,8 @@ class Page {
     if (this.run) byId("program-note").textContent = "changed since the run";
   }
 
-  // Goes to a step, and shows it.
-  async go(wanted) {
+  // Goes to a step, and shows it; where a token was passed on the way, with what that came to.
+  async go(wanted, passed = null) {
     if (!this.run) return;
     const step = Math.min(Math.max(wanted, 0), this.run.end);
     const turn = ++this.turn;
@@ -191,8 +206,10 @@ class Page {
       this.story.cursor = step;
       const states = await this.story.around(step, this.run.end, () => turn === this.turn);
       if (turn !== this.turn || !states) return;
-      this.step = step;
-      this.draw(states);
+      [this.step, this.passed] = [step, passed];
+      keepFocus(() => this.draw(states));
+      // (the end of a run is said in place of its last step)
+      if (step < this.run.end || !this.announcer.words.has("ending")) this.announcer.step();
       this.story.widen(this.run.end);
     } catch (fault) {
       this.say(fault);
@@ -200,30 +217,47 @@ class Page {
   }
 
   redraw() {
-    return this.go(this.step);
+    return this.go(this.step, this.passed);
   }
 
   // Shows a state, with what the last step did and the next one does.
-  draw({ before, at, after }) {
-    const move = before && moveFrom(before, at);
-    const next = after && moveFrom(at, after);
+  draw(states) {
+    const last = lastOf(this, states), next = nextOf(this, states);
+    const { before, at } = states;
     const { step } = this;
+    const move = last?.move;
     const parts = at.parts;
-    showSentences(step, move, next, this.endKind(), { before, at, after });
-    showScanned(parts, move, step);
-    showActive(parts, move, next, step);
-    showBegun(parts, step);
-    showForms(parts, before?.parts, step, this.view.hasMarks);
-    showBlocks(parts, step, this.view.hasMarks);
-    showRest(parts, before?.parts, this.tape.length);
+    showSentences(step, last, next, this.endKind(), states);
+    markDoubts(this);
+    showScanned(parts, move, { ...MOST_SHOWN, step });
+    showActive(parts, move, next?.move, { ...MOST_SHOWN, step });
+    this.drawPanels(parts, before?.parts, step);
     showOutput(this.view, this.run.output, parts.printed, move ? lengthOf(move.printed) : 0, step);
     this.tree.mark(step);
     byId("slider").value = String(step);
     byId("slider").setAttribute("aria-valuetext", `step ${grouped(step)} of ${grouped(this.run.end)}`);
     byId("place").value = grouped(step);
-    for (const id of ["start", "call-back", "over-back", "begin", "token-back", "back"]) byId(id).disabled = step === 0;
-    for (const id of ["end", "call", "over", "out", "token", "forward"]) byId(id).disabled = step === this.run.end;
+    for (const id of ["start", "call-back", "over-back", "begin", "token-back", "back"]) setOff(byId(id), step === 0);
+    for (const id of ["end", "call", "over", "out", "token", "forward"]) setOff(byId(id), step === this.run.end);
+    // (this has the browser lay out the page at once)
+    if (this.big.isOn) this.big.bring();
     this.light(step);
+  }
+
+  // Shows what the state has beside its text, and marks what the last step changed.
+  drawPanels(parts, before, step) {
+    const old = new Set(before?.lines.slice(2 + before.calls.length));
+    const shown = {
+      ...MOST_SHOWN,
+      step,
+      isChanged: (line) => before !== undefined
+        && (line < 2 + parts.calls.length ? before.lines[line] !== parts.lines[line] : !old.has(parts.lines[line])),
+      isDoubtful: (_, text) => isDoubtfulForm(text, this.view.hasMarks),
+    };
+    showBegun(parts.calls, shown);
+    showForms(parts.forms, shown);
+    showBlocks(parts.blocks, shown);
+    showRest(Object.keys(SETTINGS), parts, this.tape.length, (name) => before && before[name] !== parts[name]);
   }
 
   endKind() {
@@ -262,6 +296,7 @@ class Page {
     if (action.id !== "play") this.play(0);
     if (action.id) this.from = this.step;
     this.note("");
+    if (action.id && isOff(byId(action.id))) return void this.note(this.step === 0 ? "this is the start" : "this is the end");
     try {
       await action.does();
     } catch (fault) {
@@ -271,18 +306,25 @@ class Page {
 
   async token() {
     const { at } = await this.story.around(this.step, this.run.end);
-    await this.go(this.step + tokenLength(at));
+    const [from, to] = [this.step, this.step + tokenLength(this, at, this.step)];
+    await this.go(to, { from, to });
   }
 
   async tokenBack() {
-    await this.go(await tokenStart(this, this.step));
+    const to = this.step;
+    // (a long token that was just passed need not be looked for)
+    const from = this.passed?.to === to ? this.passed.from : await tokenStart(this, to);
+    await this.go(from, { from, to });
   }
 
   // A move of trac-walk. What it says beside where it stands is shown.
   async walk(line) {
-    const text = await walked(this.engine, this.tape, [`g ${this.step}`, line]);
-    await this.go(stepSaid(text));
-    this.note(noteOf(text.trimEnd().split("\n").slice(1, -1).join(" ")));
+    const { story } = this;
+    const isSmall = story.isSmall && this.run.output.length < SMALL_OUTPUT;
+    const { said, step, window } = await movedTo(this.engine, this.tape, this.step, line, isSmall);
+    if (window && story === this.story) story.keep(window);
+    await this.go(step);
+    this.note(noteOf(said));
   }
 
   async returnTo() {
@@ -293,8 +335,17 @@ class Page {
     const forms = (await this.story.around(this.step, this.run.end)).at.parts.forms;
     const wanted = name ?? (forms.length === 1 ? forms[0].name : null);
     if (wanted === null) byId("forms").querySelector("button")?.focus();
-    // (a name with blanks cannot be said to w, but its ds can be met)
-    else await this.walk(/^[^ "#\\][^ "\\]*$/.test(wanted) ? `w ${wanted}` : `r ds ${quoted(wanted)}`);
+    else await this.go(await this.changeOf(wanted));
+  }
+
+  // The step of the call that changed a form last.
+  async changeOf(name) {
+    const { engine, tape, story, step } = this;
+    const { calls } = this.tree;
+    const listed = calls.steps.length ? calls : await callsOf(engine, tape, step);
+    const found = await lastChange(engine, tape, story, listed, step, name);
+    if (found === null) this.note("no call that is listed changed it");
+    return found ?? step;
   }
 
   async followName() {
@@ -328,7 +379,7 @@ class Page {
     this.playing = 0;
     const button = byId("play");
     if (button) button.textContent = way ? "pause" : "play";
-    byId("next").setAttribute("aria-live", way ? "off" : "polite");
+    this.announcer.playing(Boolean(way));
     if (way) this.playOn();
   }
 
@@ -336,8 +387,7 @@ class Page {
     this.playing = setTimeout(async () => {
       const playing = this.playing;
       if (this.step >= this.run.end) return this.play(0);
-      const { at } = await this.story.around(this.step, this.run.end);
-      await this.go(this.step + tokenLength(at));
+      await this.token();
       if (this.playing === playing) this.playOn();
       return undefined;
     }, 1000 / SPEED);
@@ -354,8 +404,7 @@ class Page {
   stop() {
     this.turn++;
     this.play(0);
-    this.engine.stop();
-    this.background.stop();
+    this.drop();
     this.busy(false);
     this.note("stopped");
   }
@@ -363,7 +412,9 @@ class Page {
   // Stop is there where an answer takes long, too.
   waits(count) {
     clearTimeout(this.late);
-    if (count === 0 && !this.isBusy) byId("stop").hidden = true;
+    if (count === 0 && !this.isBusy) keepFocus(() => {
+      byId("stop").hidden = true;
+    });
     else if (count > 0) {
       this.late = setTimeout(() => {
         byId("stop").hidden = false;
@@ -373,13 +424,16 @@ class Page {
 
   busy(isBusy) {
     this.isBusy = isBusy;
-    byId("stop").hidden = !isBusy;
+    keepFocus(() => {
+      byId("stop").hidden = !isBusy;
+    });
     if (isBusy) byId("ending").textContent = "It runs.";
     else if (byId("ending").textContent === "It runs.") byId("ending").textContent = "The run was stopped.";
   }
 
   note(words) {
     byId("note").textContent = words;
+    this.announcer.say("note", words);
   }
 
   // Says what went wrong. The page goes on.
@@ -401,14 +455,12 @@ function noteOf(text) {
 // Where what comes next was written: a byte of all input, or nothing.
 async function placeInProgram(page, step) {
   const state = page.story.kept(step);
-  // (while much is gathered, the other processor may have time)
-  const engine = page.isGathering && page.engine.waiting.size === 0 ? page.engine : page.background;
   if (!state) return null;
   const places = [];
   if (state.active) places.push("active");
   if (state.parts.calls.length) places.push(`argument ${state.parts.calls.length - 1} 0`);
   for (const place of places) {
-    const rows = await followed(page, place, step, 0, engine).catch(() => []);
+    const rows = await followed(page, place, step, 0, page.ahead).catch(() => []);
     const last = rows[rows.length - 1];
     if (last?.deed === "reads") return last.byte;
   }

@@ -11,7 +11,9 @@ const STATE_LINE = new RegExp(
 // Replies, read one after the other.
 class Replies {
   constructor(bytes) {
-    this.text = new TextDecoder("latin1").decode(bytes);
+    this.bytes = bytes;
+    this.decoder = new TextDecoder("latin1");
+    this.text = this.decoder.decode(bytes);
     this.at = 0;
   }
 
@@ -38,11 +40,11 @@ class Replies {
     return line.slice("commit [".length, -1);
   }
 
-  // The lines of a state, as they stand, without the last one.
+  // The lines of a state, as they stand, without the last one. (What is kept of them does not keep all replies.)
   state() {
     const end = this.text.indexOf("\njournal ", this.at);
     if (end < 0 || !this.text.startsWith("active [", this.at)) throw new NotUnderstood("no state");
-    const text = this.text.slice(this.at, end);
+    const text = this.decoder.decode(this.bytes.subarray(this.at, end));
     this.at = end + 1;
     if (!STATE_LINE.test(this.line())) throw new NotUnderstood("no number of steps");
     return text;
@@ -87,48 +89,4 @@ class State {
     const base = this.text.indexOf("\n", this.text.indexOf("\n") + 1);
     return this.text.startsWith("call ", base + 1);
   }
-}
-
-// The text within the brackets of a line, and the texts of a line with several.
-function textIn(line) {
-  return line.slice(line.indexOf("[") + 1, -1);
-}
-
-function textsIn(line) {
-  return textIn(line).split("][");
-}
-
-function partsOf(lines, before) {
-  const parts = { active: textIn(lines[0]), base: textIn(lines[1]), calls: [], forms: [], blocks: [] };
-  let at = 2;
-  for (; lines[at].startsWith("call "); at++) {
-    parts.calls.push({ neutral: lines[at].startsWith("call ##"), texts: textsIn(lines[at]) });
-  }
-  for (; lines[at].startsWith("form "); at++) parts.forms.push(formOf(lines[at]));
-  for (; !lines[at].startsWith("meta "); at++) {
-    if (lines[at].startsWith("held ")) parts.blocks[parts.blocks.length - 1].forms.push(formOf(lines[at]));
-    else {
-      const [, number, erased] = lines[at].split(" ");
-      parts.blocks.push({ number: Number(number), isErased: Boolean(erased), forms: [] });
-    }
-  }
-  parts.meta = textIn(lines[at]);
-  parts.trace = lines[at + 1] === "trace on";
-  parts.position = before.position + Number(lines[at + 2].slice("position ".length));
-  const output = textIn(lines[at + 3]);
-  parts.printed = before.printed + lengthOf(output);
-  parts.output = output;
-  parts.outputFrom = before.printed;
-  return parts;
-}
-
-function formOf(line) {
-  const [name, text] = textsIn(line.replace("] [", "]["));
-  return { name, text };
-}
-
-// The text that what is scanned goes to.
-function currentOf(parts) {
-  const inner = parts.calls[parts.calls.length - 1];
-  return inner ? inner.texts[inner.texts.length - 1] : parts.base;
 }

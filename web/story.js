@@ -9,9 +9,11 @@ const NEAR_STEPS = 60;
 const WIDE_STEPS = 1000;
 
 class Story {
-  // The input, and landmarks of the run: at these steps what was printed is dropped on the way to a state.
-  constructor(engine, tape, landmarks) {
+  // The input, and landmarks of the run: at these steps what was printed is dropped on the way to a state. One processor is asked
+  // for what is wanted now, the other, if there is one, for what may be wanted soon.
+  constructor(engine, tape, landmarks, ahead = engine) {
     this.engine = engine;
+    this.ahead = ahead;
     this.tape = tape;
     this.landmarks = landmarks;
     // windows of states: their first step, the states, and how long they are
@@ -20,6 +22,9 @@ class Story {
     this.size = 1000;
     this.cursor = 0;
     this.fetching = Promise.resolve();
+    this.isWidening = false;
+    // the states that were shown last: of these alone the parts are kept
+    this.shown = [];
   }
 
   // Commands that go to a step, the last of which prints the state there.
@@ -61,15 +66,27 @@ class Story {
     const window = this.windowOf(from, to);
     if (!window) return null;
     const at = (one) => window.states[one - window.from] ?? null;
-    return { before: step > 0 ? at(step - 1) : null, at: at(step), after: step < end ? at(step + 1) : null };
+    const states = { before: step > 0 ? at(step - 1) : null, at: at(step), after: step < end ? at(step + 1) : null };
+    this.show(Object.values(states).filter((state) => state));
+    return states;
   }
 
-  // Fetches more states around the cursor, once nothing else is fetched.
+  // Forgets the parts of the states that were shown before these.
+  show(states) {
+    for (const state of this.shown) if (!states.includes(state)) state.kept = null;
+    this.shown = states;
+  }
+
+  // Fetches more states around the cursor, while nobody waits for them.
   widen(end) {
     const step = this.cursor;
     const [from, to] = [Math.max(step - WIDE_STEPS / 4, 0), Math.min(step + WIDE_STEPS / 4, end)];
-    if (this.size > 16384 || this.windowOf(from, to)) return;
-    this.alone(() => this.cursor !== step || this.fetch(from, to, end, WIDE_STEPS)).catch(() => {});
+    if (this.isWidening || this.size > 16384 || this.windowOf(from, to)) return;
+    this.isWidening = true;
+    this.fetch(from, to, end, WIDE_STEPS, this.ahead).catch(() => {}).finally(() => {
+      this.isWidening = false;
+      if (this.cursor !== step) this.widen(end);
+    });
   }
 
   windowOf(from, to) {
@@ -84,22 +101,22 @@ class Story {
   }
 
   // Fetches the states from a step to another, and on both sides as many more as are small together.
-  async fetch(from, to, end, most) {
+  async fetch(from, to, end, most, engine = this.engine) {
     const count = Math.min(Math.floor(WINDOW / this.size), most);
     const side = Math.max(Math.floor((count - (to - from + 1)) / 2), 0);
-    const window = await this.window(Math.max(from - side, 0), Math.min(to + side, end), WINDOW);
+    const window = await this.window(engine, Math.max(from - side, 0), Math.min(to + side, end), WINDOW);
     if (window) this.keep(window);
     // (they are larger than those before)
-    if (!this.windowOf(from, to)) this.keep(await this.window(from, to));
+    if (!this.windowOf(from, to)) this.keep(await this.window(engine, from, to));
   }
 
   // The states of some steps: of so many bytes, if there is a bound, or nothing.
-  async window(first, last, bound) {
+  async window(engine, first, last, bound) {
     const way = this.way(first);
     const commands = way.commands.join("") + "p\n" + "s 1\np\n".repeat(last - first);
     const room = way.room + Math.max((last - first + 2) * this.size * 2, 1 << 18);
     const most = bound && way.room + bound;
-    const { status, bytes } = await this.engine.ask("debug", this.tape, { commands, most }, room);
+    const { status, bytes } = await engine.ask("debug", this.tape, { commands, most }, room);
     if (status !== 0) return this.front(bytes, way, first);
     const replies = new Replies(bytes);
     const before = Story.passed(replies, way);
@@ -136,6 +153,16 @@ class Story {
     this.windows.sort((a, b) => away(a) - away(b));
     let sum = 0;
     this.windows = this.windows.filter((one) => one === window || (sum += one.length) <= KEPT_STATES - window.length);
+  }
+
+  // Whether states here are small, so that it costs little to have some more.
+  get isSmall() {
+    return this.size < 1 << 16;
+  }
+
+  // How many sets of so many states are small together.
+  roomFor(count) {
+    return Math.max(Math.floor(WINDOW / (this.size * count)), 1);
   }
 
   // The states at some steps, from one run.

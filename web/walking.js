@@ -1,25 +1,5 @@
 // Moves through a run. Where a call is meant, trac-walk says the step.
 
-// So many milliseconds the beginning of a token is looked for.
-const PATIENCE = 400;
-
-// How many steps there are from a state to where its token ends: a run of plain bytes is one.
-function tokenLength(state) {
-  return ruleOf(state) === "x" ? plainRun(state.active) : 1;
-}
-
-// The step where the token begins that ends at a step; of a long run of plain bytes, where it is looked for no longer.
-async function tokenStart(page, step) {
-  const began = performance.now();
-  const rule = async (one) => ruleOf(page.story.kept(one) ?? (await page.story.around(one, page.run.end)).at);
-  let at = Math.max(step - 1, 0);
-  while (at > 0 && performance.now() - began < PATIENCE) {
-    if (await rule(at) !== "x" || await rule(at - 1) !== "x") break;
-    at--;
-  }
-  return at;
-}
-
 // What can be done in the player: a button's sign, what it is for, its keys, and what it does.
 function actionsOf(page) {
   const walk = (line) => () => page.walk(line);
@@ -50,13 +30,9 @@ function moreKeys(page) {
     { keys: ["D"], words: "back to the last doubt", does: () => page.doubt(-1) },
     { keys: ["g"], words: "to the number of a step", does: () => byId("place").select() },
     { keys: ["/"], words: "search the calls", does: () => byId("filter").focus() },
+    { keys: ["f"], words: "rule and text alone, in large type, and back", does: () => page.big.toggle() },
     { keys: ["?", "h"], words: "this help", does: () => page.help() },
   ];
-}
-
-// A text, as the debugger prints it, as a word of trac-walk in quotes.
-function quoted(text) {
-  return `"${text.replaceAll('"', '\\"')}"`;
 }
 
 // The name of a key as a press of it says.
@@ -66,6 +42,12 @@ function keyOf(event) {
 
 const KEY_NAMES = { ArrowLeft: "←", ArrowRight: "→", "Shift+ArrowLeft": "Shift+←", "Shift+ArrowRight": "Shift+→", " ": "Space" };
 
+// The name of a button for those who do not see it, or say it: it has the word that is seen.
+function buttonName({ sign, words }) {
+  const word = /[a-z]+/.exec(sign)?.[0] ?? "";
+  return words.includes(word) ? words : `${word}: ${words}`;
+}
+
 // Shows buttons and the list of keys.
 function showActions(page, actions) {
   const bar = byId("buttons");
@@ -74,7 +56,7 @@ function showActions(page, actions) {
     button.type = "button";
     button.id = action.id;
     button.title = `${action.words} (${action.keys.map((key) => KEY_NAMES[key] ?? key).join(", ")})`;
-    button.setAttribute("aria-label", action.words);
+    button.setAttribute("aria-label", buttonName(action));
     button.addEventListener("click", () => page.act(action));
     bar.append(button);
     if (action.id === "play") bar.append(placeBox(page));
@@ -82,7 +64,7 @@ function showActions(page, actions) {
   for (const { keys, words } of [...actions, ...moreKeys(page)]) {
     const row = make("div");
     const name = make("dt");
-    keys.forEach((key) => name.append(make("kbd", "", KEY_NAMES[key] ?? key), " "));
+    keys.forEach((key) => name.append(make("kbd", key.length === 1 ? "single" : "", KEY_NAMES[key] ?? key), " "));
     row.append(name, make("dd", "", words));
     byId("keys").append(row);
   }

@@ -78,13 +78,16 @@ class Way {
     link.type = "button";
     link.dataset.go = String(row.step);
     line.append(link);
+    // (until the state comes, the call stands as it is listed)
+    const listed = row.state ? undefined : this.page.tree.textAt(row.step);
+    if (listed !== undefined) line.append(make("span", "code", listed.length > 60 ? `${listed.slice(0, 60)}…` : listed));
     const calls = row.state?.parts.calls ?? [];
     if (calls.length && ruleOf(row.state) === "p") {
       const call = make("span", "code");
       addCall(call, calls[calls.length - 1], calls.length - 1, row.step, 60, false);
       if (row.deed === "makes") {
         call.querySelectorAll(".argument:not(.name)").forEach((text, at) => reachable(text, `argument ${at + 1}`));
-      }
+      } else reachable(call, "call");
       line.append(call);
     }
     line.append(make("span", row === this.rows[this.rows.length - 1] ? "deed way-end" : "deed", this.words(row)));

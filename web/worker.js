@@ -27,10 +27,11 @@
       return [address, BigInt(bytes.length)];
     }
 
-    // Calls a function with these words, and a room of so many bytes for its reply.
-    call(name, words, size) {
+    // Calls a function with these words, and a room of so many bytes for its reply. It may write some numbers beside.
+    call(name, words, size, beside = 0) {
       const output = this.room(size), written = this.room(8);
-      const status = this.exports[name](...words, output, BigInt(size), written);
+      const others = Array.from({ length: beside }, () => this.room(8));
+      const status = this.exports[name](...words, output, BigInt(size), written, ...others);
       const length = Number(new DataView(this.exports.memory.buffer).getBigUint64(Number(written), true));
       return { status, bytes: new Uint8Array(this.exports.memory.buffer, Number(output), length).slice() };
     }
@@ -38,8 +39,9 @@
 
   const encode = (text) => new TextEncoder().encode(text);
 
-  // What each call takes before the room for its reply.
+  // What each call takes before the room for its reply, and how many numbers it writes beside.
   const CALLS = {
+    run: (instance, { tape, budget }) => ["trac_web_run", [...instance.put(tape), BigInt(budget), DECIMALS], 1],
     debug: (instance, { tape, commands }) =>
       ["trac_web_debug", [...instance.put(tape), ...instance.put(encode(commands)), JOURNAL, DECIMALS]],
     walk: (instance, { tape, commands }) =>
@@ -57,7 +59,8 @@
     const most = request.most ?? MOST;
     for (let room = Math.min(request.room, most); ; room = Math.min(Math.max(room * 2, 1 << 22), most)) {
       const instance = new Instance(module);
-      const { status, bytes } = instance.call(...CALLS[request.call](instance, request), room);
+      const [name, words, beside] = CALLS[request.call](instance, request);
+      const { status, bytes } = instance.call(name, words, room, beside);
       if (status === 5) throw new RangeError("no memory");
       if (status !== FULL || (room === most && request.most)) return { status, bytes };
       if (room === most) throw new RangeError("the reply is too long");

@@ -1,4 +1,5 @@
-"""A page in Chromium without a window, spoken to by its DevTools protocol over two pipes."""
+"""A page in a browser without a window: in Chromium, spoken to by its DevTools protocol over two pipes, or in Firefox. Both
+classes have the same methods: load, script, press, insert, click_at, touch, choose_file, faults, picture, end."""
 import base64
 import json
 import os
@@ -8,8 +9,13 @@ import subprocess
 import tempfile
 import time
 
+from firefox import Firefox  # noqa: F401
+
 # What keys have beside their names.
-CODES = {"ArrowLeft": 37, "ArrowRight": 39, "Home": 36, "End": 35, " ": 32, "Enter": 13, "Escape": 27}
+CODES = {
+    "Backspace": 8, "Tab": 9, "Enter": 13, "Escape": 27, " ": 32, "PageUp": 33, "PageDown": 34, "End": 35, "Home": 36,
+    "ArrowLeft": 37, "ArrowUp": 38, "ArrowRight": 39, "ArrowDown": 40, "Delete": 46,
+}
 
 
 def find():
@@ -18,16 +24,25 @@ def find():
 
 
 class Browser:
-    """One page of it, at a size, light or dark."""
+    """One page of it: at a size, light or dark, with forced colours, without motion, or without modules of WebAssembly."""
 
-    def __init__(self, width=1280, height=800, dark=False):
+    name = "Chromium"
+
+    @staticmethod
+    def is_here():
+        """Whether it is installed."""
+        return find() is not None
+
+    def __init__(self, width=1280, height=800, dark=False, forced=False, still=False, modules=True):
         self.room = tempfile.mkdtemp(prefix="trac-page-browser-")
         for_it, to_it = os.pipe()
         from_it, by_it = os.pipe()
         command = [
             "bash", "-c", 'exec "${@:3}" 3<&"$1" 4>&"$2"', "-", str(for_it), str(by_it),
             find(), "--headless=new", "--no-sandbox", "--disable-gpu", "--disable-dev-shm-usage", "--no-first-run",
-            "--remote-debugging-pipe", "--user-data-dir=" + self.room, "about:blank",
+            "--remote-debugging-pipe", "--user-data-dir=" + self.room,
+            # (without compiled code it has no modules either)
+            *([] if modules else ["--js-flags=--jitless"]), "about:blank",
         ]
         self.process = subprocess.Popen(
             command, pass_fds=(for_it, by_it), stdin=subprocess.DEVNULL, stdout=subprocess.DEVNULL, stderr=subprocess.DEVNULL
@@ -36,14 +51,24 @@ class Browser:
         os.close(by_it)
         self.reader, self.writer = from_it, to_it
         self.read, self.number, self.session, self.events = b"", 0, None, []
-        targets = self.call("Target.getTargets")["targetInfos"]
-        page = next(target for target in targets if target["type"] == "page")
-        self.session = self.call("Target.attachToTarget", targetId=page["targetId"], flatten=True)["sessionId"]
+        looks = {"prefers-color-scheme": "dark" if dark else "light", "forced-colors": "active" if forced else "none",
+                 "prefers-reduced-motion": "reduce" if still else "no-preference"}
+        self.looks = [{"name": name, "value": value} for name, value in looks.items()]
+        self.size = {"width": width, "height": height, "deviceScaleFactor": 1, "mobile": width < 500}
+        self.target = next(one for one in self.call("Target.getTargets")["targetInfos"] if one["type"] == "page")["targetId"]
+        self.open()
+
+    def open(self):
+        """Opens a page, in place of the one before, which is not asked."""
+        self.session, old = None, self.target
+        self.target = self.call("Target.createTarget", url="about:blank")["targetId"]
+        self.call("Target.closeTarget", targetId=old)
+        self.is_new = True
+        self.session = self.call("Target.attachToTarget", targetId=self.target, flatten=True)["sessionId"]
         for part in ("Page", "Runtime", "Log", "Network"):
             self.call(part + ".enable")
-        self.call("Emulation.setDeviceMetricsOverride", width=width, height=height, deviceScaleFactor=1, mobile=width < 500)
-        self.call("Emulation.setEmulatedMedia",
-                  features=[{"name": "prefers-color-scheme", "value": "dark" if dark else "light"}])
+        self.call("Emulation.setDeviceMetricsOverride", **self.size)
+        self.call("Emulation.setEmulatedMedia", features=self.looks)
 
     def call(self, method, **words):
         """Has it do something, and returns what it says."""
@@ -51,7 +76,9 @@ class Browser:
         message = {"id": self.number, "method": method, "params": words}
         if self.session:
             message["sessionId"] = self.session
-        os.write(self.writer, json.dumps(message).encode() + b"\0")
+        data = json.dumps(message).encode() + b"\0"
+        while data:
+            data = data[os.write(self.writer, data):]
         while True:
             said = self.message()
             if said.get("id") == self.number:
@@ -73,29 +100,55 @@ class Browser:
         return json.loads(message)
 
     def load(self, file, place=""):
-        """Loads a page from a file, and waits until it has started."""
-        self.events = []
-        self.call("Page.navigate", url="about:blank")
-        self.call("Page.navigate", url="file://{}{}".format(file, place))
+        """Loads a page, from a file if no address is given, and waits until it has started."""
+        if not self.is_new:
+            self.open()
+        self.is_new = False
+        self.events, self.address = [], file if "://" in file else "file://" + file
+        self.call("Page.navigate", url=self.address + place)
         for _ in range(600):
-            if self.script("document.readyState") == "complete" and self.script("location.protocol") == "file:":
+            if self.script("document.readyState") == "complete" and self.script("location.protocol") != "about:":
                 return
             time.sleep(0.05)
         raise OSError("the page was not loaded")
 
     def script(self, text):
-        """The value of a script in the page."""
-        said = self.call("Runtime.evaluate", expression=text, returnByValue=True)
+        """The value of a script in the page; where that is a promise, of what it comes to."""
+        said = self.call("Runtime.evaluate", expression=text, returnByValue=True, awaitPromise=True)
         if "exceptionDetails" in said:
             raise OSError(str(said["exceptionDetails"]))
         return said["result"].get("value")
 
-    def press(self, key, times=1, shift=False):
+    def press(self, key, times=1, shift=False, control=False):
         """Presses a key."""
+        sign = "" if control else {"Enter": "\r"}.get(key, key if len(key) == 1 else "")
+        words = {"key": key, "code": key, "modifiers": 8 * shift + 2 * control,
+                 "windowsVirtualKeyCode": CODES.get(key, ord(key.upper()) if key.isalnum() and len(key) == 1 else 0)}
         for _ in range(times):
-            for kind in ("rawKeyDown", "keyUp"):
-                self.call("Input.dispatchKeyEvent", type=kind, key=key, code=key, modifiers=8 if shift else 0,
-                          windowsVirtualKeyCode=CODES.get(key, 0))
+            self.call("Input.dispatchKeyEvent", type="keyDown" if sign else "rawKeyDown", text=sign, **words)
+            self.call("Input.dispatchKeyEvent", type="keyUp", **words)
+
+    def insert(self, text):
+        """Writes a text where the focus is, in place of what is chosen there."""
+        self.call("Input.insertText", text=text)
+
+    def click_at(self, x, y):
+        """Clicks there by the mouse."""
+        for kind in ("mousePressed", "mouseReleased"):
+            self.call("Input.dispatchMouseEvent", type=kind, x=x, y=y, button="left", clickCount=1)
+
+    def touch(self, *places):
+        """Puts a finger down at the first place, draws it over the others, and takes it up."""
+        for index, (x, y) in enumerate(places):
+            kind = "touchMove" if index else "touchStart"
+            self.call("Input.dispatchTouchEvent", type=kind, touchPoints=[{"x": x, "y": y}])
+        self.call("Input.dispatchTouchEvent", type="touchEnd", touchPoints=[])
+
+    def choose_file(self, selector, path):
+        """Gives a file to a control."""
+        top = self.call("DOM.getDocument")["root"]["nodeId"]
+        node = self.call("DOM.querySelector", nodeId=top, selector=selector)["nodeId"]
+        self.call("DOM.setFileInputFiles", files=[path], nodeId=node)
 
     def faults(self):
         """What it wrote to its console, or asked or fetched, since the page was loaded."""
@@ -104,7 +157,7 @@ class Browser:
         for event in self.events:
             if event.get("method") == "Network.requestWillBeSent":
                 url = event["params"]["request"]["url"]
-                if not url.startswith(("file:", "about:", "data:", "blob:")):
+                if not url.startswith(("file:", "about:", "data:", "blob:", self.address.split("#")[0])):
                     faults.append(event)
         return faults
 

@@ -128,13 +128,27 @@ def tail_of(shown, w):
         if back <= p and shown[p - back] == "\\": p += 4 - back; break
     return (".." if len(shown) > w else "") + shown[p:]
 
-def given(value):
-    """Says what a call gave."""
+PRIMITIVES = "ps rs rc hl cm tn tf eq gr ad su ml dv bu bi bc bs br ds dd da ss cr cl cs cc cn in ln pf sb fb eb".encode().split()
+# the value of these is always empty
+SILENT = "ps ds dd da ss cr pf cm tn tf sb fb eb".encode().split()
+
+def given(name, value):
+    """Says what a call of this name gave."""
+    if name.lower() in SILENT and not value: return ""
     return " gives " + esc(value) if value else " has an empty value"
+
+def argument(text):
+    """An argument as it would be written: of a long one what can be seen decides."""
+    return "(" + esc(text) + ")" if any(b in b",()" for b in text[:W + 1]) else esc(text)
+
+def gathered(f):
+    """A begun function, as the text that stands there."""
+    kind, args, g = f
+    return kind + "(" + ",".join(esc(a) for a in args + (g,))
 
 def function(f):
     kind, args, g = f
-    return kind + "(" + ",".join(esc(a) for a in args + (g,))
+    return kind + "(" + ",".join(argument(a) for a in args + (g,))
 
 def rule(s):
     a = s.active
@@ -214,9 +228,10 @@ class Walk:
 
     def listed(w, i, whole):
         """The line of `t` for the call that is performed at step i."""
-        fs, gave = w.states[i].frames, given(w.value_after(i))
-        call = "%d  %s%s)" % (i, "  " * min(12, max(0, len(fs) - 2)), function(fs[-1]))
-        return call + gave if whole else cut(cut(call, max(56, W - len(gave))) + gave)
+        fs = w.states[i].frames
+        gave = given(call(w.states[i])[0], w.value_after(i))
+        line = "%d  %s%s)" % (i, "  " * min(12, max(0, len(fs) - 2)), function(fs[-1]))
+        return line + gave if whole else cut(cut(line, max(56, W - len(gave))) + gave)
 
     def screen(w):
         s, lines = w.s(), []
@@ -224,13 +239,14 @@ class Walk:
         rows = ["begun   " + function(f) for f in fs]
         if len(fs) > 11: rows = rows[:3] + ["begun   .. %d more .." % (len(fs) - 11)] + rows[-8:]
         lines += rows
-        shown = esc(s.base) + "".join(function(f) for f in fs)
+        shown = esc(s.base) + "".join(gathered(f) for f in fs)
         lines.append("text    " + tail_of(shown, 34) + "[|]" + esc(s.active))
         text = s.out[-320:]
         rows = re.findall(rb"[^\n]*\n|[^\n]+$", text)[-4:] or [b""]
         for i, r in enumerate(rows): lines.append(("        " if i else "output  ") + tail_of(esc(r), 70))
         lines.append("forms   %d (f lists them), blocks 0, meta %s, trace %s" % (len(s.forms), esc(bytes([s.meta])), "on" if s.trace else "off"))
-        lines.append("step    %d, back to %d; %d bytes of input are not read, %d are printed" % (w.at, w.first, len(w.tape) - s.pos, w.gone + len(s.out)))
+        size = lambda n: "%d byte%s" % (n, "" if n == 1 else "s")
+        lines.append("step    %d, back to %d; %s of input not read, %s printed" % (w.at, w.first, size(len(w.tape) - s.pos), size(w.gone + len(s.out))))
         return [cut(l) for l in lines]
 
     def move(w, line):
@@ -266,10 +282,13 @@ class Walk:
                 wanted = tuple(x.encode("latin1") for x in rest)
                 goal = lambda s: call(s) is not None and call(s)[:len(wanted)] == wanted
             else: goal = own
+            before = dict(w.states), w.at, w.first, w.gone
             why = w.ahead(10**7, goal) if c == "u" else w.behind(goal)
             if c == "u" and why and not why.startswith("not met"):
                 why, place = "not met; " + why, w.at
-                if w.first <= start < w.at: w.at, recalled = start, "m goes to step %d, where the search ended" % place
+                if start < w.at:
+                    recalled = "m goes to step %d, where the search ended" % place
+                    w.states, w.at, w.first, w.gone = before
                 else: place = start
         elif c == "n": why = w.over()
         elif c == "N":
@@ -311,6 +330,8 @@ class Walk:
         if w.first > 0 and not w.told:
             w.told = True
             out.append("steps before %d are forgotten; --journal keeps more" % w.first)
+        if c in "ur" and why and rest and rest[0].encode("latin1").lower() not in PRIMITIVES:
+            out.append("no primitive has this name; a form is met by its call: u cl NAME, r cl NAME")
         return out + [w.where()]
 
     def over(w):

@@ -26,6 +26,12 @@ def plain(text):
     return bytes(byte for byte, _ in text)
 
 
+def written(argument):
+    """An argument as it would be written: in parentheses, if what a line of 80 columns shows of it has one or a comma."""
+    text = plain(argument)
+    return b"(" + text + b")" if any(mark in text[:81] for mark in b",()") else text
+
+
 def split_number(text):
     """What stands before the number at the end of a text, and the number."""
     digits = (NUMBER.search(plain(text)) or [b""])[0]
@@ -108,7 +114,7 @@ class Machine:
     def perform(self):
         """Performs the innermost begun call; false where it waits for input."""
         kind, arguments = self.frames[-1]
-        call = (kind + b"(" + b",".join(map(plain, arguments)) + b")").decode("latin-1")
+        call = (kind + b"(" + b",".join(map(written, arguments)) + b")").decode("latin-1")
         name = plain(arguments[0])
         action = getattr(self, "do_" + name.decode("latin-1").lower(), None) if len(name) == 2 else None
         result = action(arguments + [[]] * 5, lambda what: (self.step, call, what)) if action else ([], False)
@@ -292,8 +298,9 @@ def way_of(machine, asked):
     """The way of the byte that `y` is asked to follow."""
     if asked.startswith("#"):
         return machine.out[int(asked[1:]) - 1][1]
-    if not asked:
-        return machine.frames[-1][1][0][0][1]
+    if asked.startswith("."):
+        argument, place = map(int, asked[1:].split())
+        return machine.frames[-1][1][argument][place - 1][1]
     name, place = asked.split()
     return machine.forms[name.encode()][0][int(place) - 1][1]
 

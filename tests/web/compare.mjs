@@ -9,6 +9,8 @@ import os from 'node:os'
 import path from 'node:path'
 import { BUDGET, ENDED, Engine, LIMIT, MEMORY, NOT_UNDERSTOOD, TOO_LONG } from './engine.mjs'
 import * as random from './random.mjs'
+import { story } from './story.mjs'
+import { worker } from './worker.mjs'
 
 const [page, trac, tracWalk, programs, walks] = process.argv.slice(2)
 const engine = new Engine(page)
@@ -197,11 +199,11 @@ function ways() {
     }
 }
 
-const parts = { wholePrograms, hostile, wrongNumbers, rooms, memory, randomPrograms, scripts, dialogues, ways }
+const parts = { wholePrograms, hostile, wrongNumbers, rooms, memory, randomPrograms, scripts, dialogues, ways, story: () => story(holds), worker: () => worker(engine, holds) }
 try {
     for (const [name, part] of Object.entries(parts)) {
         const from = process.hrtime.bigint()
-        part()
+        await part()
         if (process.env.TRAC_WEB_TIMES) console.error(`${name}: ${Number(process.hrtime.bigint() - from) / 1e9} s`)
     }
 } finally {

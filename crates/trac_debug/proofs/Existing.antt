@@ -10,7 +10,7 @@ use Rattle.trac_rules.specs.Session as session
 use Rattle.trac_rules.specs.Session.{PlainSession, Goal, Answer, IsWalk, Answers, answer, committed, first_kept, refused, no_goal}
 use Rattle.trac_rules.proofs.Replies.{Back_refused, Step_refusals, answer_Commit}
 use Rattle.trac_session.specs.Goals.{is_call_of, outcome}
-use Rattle.trac_session.proofs.Walked.{GoesOn, Back_answered, Back_refused_same, Step_refused_same, goes_on_first, goes_on_more, stopped_walk, met_walk, whole_walk}
+use Rattle.trac_session.proofs.Walked.{GoesOn, Back_answered, Back_refused_same, Step_refused_same, goes_on_first, goes_on_more, stopped_walk, met_walk, one_walk, whole_walk}
 use Rattle.trac_streams.specs.declared.ending.Ending.{Ending}
 use Rattle.trac_streams.specs.declared.ending.Ending.TheVariants as endings
 use Rattle.trac_debug.specs.Commands.{LineCommand, Forward, Back, Until, Return, Print, Commit, Quit}
@@ -78,7 +78,7 @@ ends_otherwise refusal other is = let e : refusal ≡ Memory = cc in other e
 one_more : (command : session.Command) → IsPlain command → (goal : Goal) (n : ℕ) (old now : PlainSession) → GoesOn command goal old n now → (reply : Reply) (next : PlainSession) →
     answer command now ≡ record { reply = reply; session = next } → IsUnder command goal (n + 1) old ⊎ IsOver command goal (n + 1) old
 one_more command plain goal n old now on Done next h = ⊎_elim
-    (λ (met : goal next.last ≡ true). inr (n + 1, None, next, λ m l. met_walk command goal m n old now next on (omega arith) h met, λ none. cc))
+    (λ (met : goal next.last ≡ true). inr (n + 1, None, next, λ m l. met_walk command goal m n 1 old now next on (one_walk command goal now next h) (omega arith) (omega arith) met, λ none. cc))
     (λ (not_met : goal next.last ≡ false). inl (next, goes_on_more command goal old now next n on h not_met))
     (cases_Bool (goal next.last))
 one_more command plain goal n old now on (Refused refusal) next h =

@@ -1,18 +1,12 @@
 -- What is written of a report, whole or in part.
-use Rattle.std.proofs.Common.{◌≡◌, ℕ, List, [], ◌∷◌, refl}
+use Rattle.std.proofs.Common.{ℕ, List, refl}
 use Rattle.std.specs.Prelude.{Option}
 use Rattle.std.specs.Io.KnownBytes.{Appends, Keeps}
-use Rattle.trac_rules.specs.Fronts.{IsFrontOf}
-use Rattle.trac_streams.proofs.Known.{Appends-kept}
+use Rattle.trac_streams.proofs.Known.{Appends-kept, empty_front}
 use Rattle.trac_streams.specs.Written.{WritesFront}
 use Rattle.trac_lint.specs.declared.report.Halt.{Halt}
 use Rattle.trac_lint.specs.declared.report.Halt.TheVariants.{Write}
 use Rattle.trac_lint.specs.Findings.{IsReport, IsWritten}
-
--- a front of nothing is nothing
-pub front_is_nothing : (front text : List ℕ) → IsFrontOf front text → text ≡ [] → front ≡ []
-front_is_nothing [] text h e = refl
-front_is_nothing (b ∷ front) text h e = absurd (cc (h.1, e))
 
 -- all of it, and then nothing
 pub all_is_written : (a b c : Option (List ℕ)) (told : ℕ) (text : List ℕ) (halt : Halt) → IsReport told text → Appends a b text → Keeps b c → IsWritten a c (record { told = told; halt = halt })
@@ -28,6 +22,6 @@ pub front_is_written : (a b : Option (List ℕ)) (told : ℕ) (text : List ℕ) 
 front_is_written a b told text report wrote = record {
   written = wrote.written;
   gave = wrote.gave;
-  none = λ zero. front_is_nothing wrote.written text wrote.front (report.none zero);
+  none = λ zero. empty_front wrote.written text wrote.front (report.none zero);
   some = λ positive other. absurd (other refl);
 }

@@ -7,6 +7,7 @@ mod report;
 mod source;
 mod sources;
 
-pub use linting::{Settings, lint};
+pub use linting::{Settings, lint, said_of};
 pub use report::{Found, Halt, PLACE_LIMIT};
+pub use source::Origins;
 pub use sources::Sources;

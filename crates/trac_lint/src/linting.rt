@@ -1,11 +1,11 @@
 //! The doubts of a program that is run to its end.
-ghost use Rattle.std.specs.Prelude.{◌<◌, ◌≤◌};
+ghost use Rattle.std.specs.Prelude.{◌≤◌};
 ghost use Rattle.trac_lint.specs.Findings.{IsWritten};
 ghost use Rattle.trac_lint.specs.declared.report.TheConstants.{PLACE_LIMIT};
 
 use crate::memory::{Meeting, Memory};
 use crate::report::{Found, Halt, Report, halt_of, write_found};
-use crate::source::{number_of, read_number};
+use crate::source::{Origins, read_number};
 use crate::sources::Sources;
 use std::alloc::{AllocError, Allocator};
 use std::io::Write;
@@ -15,7 +15,7 @@ use trac_rules::width::Width;
 use trac_screen::{ScreenLine, doubt_into};
 use trac_session::Doubt;
 use trac_streams::Ending;
-use trac_walk::{Aim, Walker, place_of};
+use trac_walk::{Aim, Walker};
 
 /// How doubts are looked for.
 #[derive(Clone, Copy, Debug, PartialEq, Eq)]
@@ -28,20 +28,15 @@ pub struct Settings {
     pub decimals: Width,
 }
 
-// So many steps are gone back over at most to find where doubts come from, all ways together (this project's profile).
-const WAYS_LIMIT: u64 = 20_000_000;
-
 // A program that is run, and what was found in it.
 #[derive(Drop)]
 struct Linter<'s, A: Allocator + Copy> {
     alloc: A,
-    sources: Sources<'s>,
+    origins: Origins<'s>,
     walker: Walker<A>,
     memory: Memory<A>,
-    // how many doubts there were that are not told since as many are told as are
+    // at how many places there were doubts that are not told since as many are told as are
     more: u64,
-    // how many steps may still be gone back over
-    ways: u64,
 }
 
 /// Runs a program to its end, by so many steps at most, and writes a line for each doubt, once for each place: the
@@ -97,11 +92,10 @@ fn look_on<A: Allocator + Copy>(
     walker.end_input();
     let mut linter = Linter {
         alloc,
-        sources,
+        origins: Origins::new(sources),
         walker,
         memory: Memory::new(alloc),
         more: 0,
-        ways: WAYS_LIMIT,
     };
     let halt = linter.go(steps, report);
     match report.tell_more(alloc, linter.more) {
@@ -117,13 +111,13 @@ impl<'s, A: Allocator + Copy> Linter<'s, A> {
         for _ in 0..u64::MAX {
             let left = steps.saturating_sub(self.walker.step());
             if let Some(refusal) = self.walker.forward_to(aim, left) {
-                return halt_of(refusal);
+                return halt_of(refusal, self.walker.step());
             }
             if self.walker.step() >= steps {
                 break;
             }
             if let Err(refusal) = self.tell_all(report) {
-                return halt_of(refusal);
+                return halt_of(refusal, self.walker.step());
             }
         }
         Halt::Spent
@@ -134,7 +128,8 @@ impl<'s, A: Allocator + Copy> Linter<'s, A> {
         let doubts = self.walker.doubts(self.alloc)?;
         let is_new = self.memory.is_new(meeting_at(&self.walker))?;
         for doubt in doubts.iter() {
-            if report.is_full() {
+            if report.is_full() && self.origins.is_spent() {
+                // no place is found any more: each meeting counts for one
                 self.more = self.more.saturating_add(u64::from(is_new));
             } else if is_new || !self.memory.is_tired() {
                 self.tell(*doubt, report)?;
@@ -143,47 +138,43 @@ impl<'s, A: Allocator + Copy> Linter<'s, A> {
         Ok(())
     }
 
-    // Tells a doubt of the state at which it stands, unless it was told. One of which no place is known has that of the
-    // text that was read last.
-    fn tell(&mut self, doubt: Doubt, report: &mut Report<A>) -> Result<(), Refusal>
-        requires { report.old.told < PLACE_LIMIT }
-    {
+    // Tells a doubt of the state at which it stands, unless it was told, or counts it where no more are told. One of which no
+    // place is known has that of the text that was read last, and is not counted.
+    fn tell(&mut self, doubt: Doubt, report: &mut Report<A>) -> Result<(), Refusal> {
         let words = said_of(self.alloc, &self.walker, doubt)?;
-        let number = self.number(doubt)?;
-        if self.memory.was_told(doubt, number, words.bytes()) {
+        let number = self.origins.number(&mut self.walker, doubt)?;
+        if self.memory.is_kept(doubt, number, words.bytes()) {
             return Ok(());
+        }
+        if report.is_full() {
+            return self.count(doubt, number);
         }
         let number = match number {
             Some(number) => number,
             None => self.text(),
         };
-        self.memory.keep(doubt, number, words.bytes())?;
-        let spot = self.sources.spot(number);
+        self.memory.keep(doubt, number)?;
+        self.memory.keep_words(words.bytes())?;
+        let spot = self.origins.sources.spot(number);
         report.tell(self.alloc, spot, words.bytes(), self.walker.step())?;
         Ok(())
     }
 
-    // The number of the byte of the files from which that of a doubt comes; none where it is not known, or too many
-    // steps were gone back over. It goes back, and forward again.
-    fn number(&mut self, doubt: Doubt) -> Result<Option<u64>, Refusal> {
-        if self.ways == 0 {
-            return Ok(None);
+    // Counts a doubt that is not told, of the byte of this number, where one is known.
+    fn count(&mut self, doubt: Doubt, number: Option<u64>) -> Result<(), Refusal> {
+        if let Some(number) = number {
+            self.memory.keep(doubt, number)?;
+            self.more = self.more.saturating_add(1);
         }
-        let end = self.walker.step();
-        let place = place_of(&self.walker, doubt);
-        let number = number_of(&mut self.walker, &self.sources, place);
-        let steps = end.saturating_sub(self.walker.step());
-        self.ways = self.ways.saturating_sub(steps);
-        match self.walker.forward(steps) {
-            Some(refusal) => Err(refusal),
-            None => Ok(number),
-        }
+        Ok(())
     }
 
     // The number of the first byte of the text that was read last.
     fn text(&self) -> u64 {
         let meta = self.walker.sight().meta;
-        self.sources.text_before(read_number(&self.walker), meta)
+        self.origins
+            .sources
+            .text_before(read_number(&self.walker), meta)
     }
 }
 
@@ -197,8 +188,8 @@ fn meeting_at<A: Allocator + Copy>(walker: &Walker<A>) -> Meeting {
     }
 }
 
-// What is said of a doubt of the next step.
-fn said_of<A: Allocator + Copy>(
+/// What is said of a doubt of the next step. The error is that memory was refused.
+pub fn said_of<A: Allocator + Copy>(
     alloc: A,
     walker: &Walker<A>,
     doubt: Doubt,

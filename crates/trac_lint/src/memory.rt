@@ -7,6 +7,9 @@ use trac_rules::doubt::Doubt;
 // So many meetings are told apart; later ones are taken for some that were before (this project's profile).
 const MEETING_LIMIT: usize = 1_000_000;
 
+// So many places are told apart; later ones are taken for some that were before (this project's profile).
+const KEPT_LIMIT: usize = 1_000_000;
+
 // After so many doubts in a row at places that were told, while the same text is read, only those of new meetings are
 // followed (this project's profile).
 const REPEAT_LIMIT: u32 = 64;
@@ -20,22 +23,24 @@ pub(crate) struct Meeting {
     pub(crate) rest: usize,
 }
 
-// A doubt that was told, of the byte of this number, in these words.
-#[derive(Drop)]
-struct Told<A: Allocator + Copy> {
-    doubt: Doubt,
+// A doubt of the byte of this number: its kind, and the number that it has beside.
+#[derive(Clone, Copy, PartialEq, Eq, PartialOrd, Ord, Debug)]
+struct Place {
     number: u64,
-    words: Vec<u8, A>,
+    kind: u8,
+    detail: usize,
 }
 
-/// What was met and told.
+/// What was met, and told or counted.
 #[derive(Drop)]
 pub(crate) struct Memory<A: Allocator + Copy> {
     alloc: A,
     // where doubts were met
     met: BTreeSet<Meeting, A>,
-    told: Vec<Told<A>, A>,
-    // how many doubts in a row were told before, and how much was read then
+    // the places of doubts, and the words of those that were told
+    places: BTreeSet<Place, A>,
+    told: Vec<Vec<u8, A>, A>,
+    // how many doubts in a row were kept before, and how much was read then
     repeats: u32,
     read: u64,
 }
@@ -46,13 +51,14 @@ impl<A: Allocator + Copy> Memory<A> {
         Memory {
             alloc,
             met: BTreeSet::new(alloc),
+            places: BTreeSet::new(alloc),
             told: Vec::new(alloc),
             repeats: 0,
             read: 0,
         }
     }
 
-    /// Whether so many doubts in a row were told before that only those of new meetings are followed.
+    /// Whether so many doubts in a row were kept before that only those of new meetings are followed.
     pub(crate) fn is_tired(&self) -> bool {
         self.repeats >= REPEAT_LIMIT
     }
@@ -72,36 +78,53 @@ impl<A: Allocator + Copy> Memory<A> {
         }
     }
 
-    /// Whether this doubt was told of the byte of this number, or, where none is known, in these words; counted if it
-    /// was.
-    pub(crate) fn was_told(&mut self, doubt: Doubt, number: Option<u64>, words: &[u8]) -> bool {
-        for told in self.told.iter() {
-            let is_same = match number {
-                Some(number) => told.doubt == doubt && told.number == number,
-                None => told.words.as_slice() == words,
-            };
-            if is_same {
-                self.repeats = self.repeats.saturating_add(1);
-                return true;
+    /// Whether this doubt of the byte of this number is kept, or, where none is known, it was told in these words; counted
+    /// if so. Where no more places can be kept, each is taken for one that is.
+    pub(crate) fn is_kept(&mut self, doubt: Doubt, number: Option<u64>, words: &[u8]) -> bool {
+        let is_kept = match number {
+            Some(number) => {
+                self.places.len() >= KEPT_LIMIT || self.places.contains(&place_of(doubt, number))
             }
-        }
-        false
+            None => self.told.iter().any(|told| told.as_slice() == words),
+        };
+        self.repeats = self.repeats.saturating_add(u32::from(is_kept));
+        is_kept
     }
 
-    /// Keeps that this doubt is told. The error is that memory was refused.
-    pub(crate) fn keep(
-        &mut self,
-        doubt: Doubt,
-        number: u64,
-        words: &[u8],
-    ) -> Result<(), AllocError> {
-        let words = Vec::from_slice(self.alloc, words)?;
-        self.told.push(Told {
-            doubt,
-            number,
-            words,
-        })?;
+    /// Keeps this doubt of the byte of this number. The error is that memory was refused, here and below.
+    pub(crate) fn keep(&mut self, doubt: Doubt, number: u64) -> Result<(), AllocError> {
         self.repeats = 0;
-        Ok(())
+        match self.places.insert(place_of(doubt, number)) {
+            Ok(_) => Ok(()),
+            Err(_) => Err(AllocError),
+        }
+    }
+
+    /// Keeps that a doubt is told in these words.
+    pub(crate) fn keep_words(&mut self, words: &[u8]) -> Result<(), AllocError> {
+        let words = Vec::from_slice(self.alloc, words)?;
+        Ok(self.told.push(words)?)
+    }
+}
+
+// A doubt of the byte of this number, as places are told apart.
+fn place_of(doubt: Doubt, number: u64) -> Place {
+    let (kind, detail) = match doubt {
+        Doubt::NoPrimitive => (0, 0),
+        Doubt::FormUncalled => (1, 0),
+        Doubt::NoForm => (2, 0),
+        Doubt::NoBlock => (3, 0),
+        Doubt::Unused(k) => (4, k),
+        Doubt::NoNumber(k) => (5, k),
+        Doubt::NoResult => (6, 0),
+        Doubt::Nowhere(k) => (7, k),
+        Doubt::Unended(count) => (8, count),
+        Doubt::Unclosed => (9, 0),
+        Doubt::EndsNothing => (10, 0),
+    };
+    Place {
+        number,
+        kind,
+        detail,
     }
 }

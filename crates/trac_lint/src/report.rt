@@ -20,8 +20,8 @@ pub enum Halt {
     Ended,
     /// As many steps were taken as are allowed.
     Spent,
-    /// The next step would pass a limit.
-    Limit,
+    /// The next step, after so many, would pass a limit.
+    Limit(u64),
     /// The program and what it reads are longer than a tape may be.
     TooLong,
     /// Memory was refused.
@@ -47,8 +47,8 @@ impl Found {
     {
         match self.halt {
             Halt::TooLong | Halt::Memory | Halt::Write => 2,
-            Halt::Ended | Halt::Spent | Halt::Limit if self.told > 0 => 1,
-            Halt::Ended | Halt::Spent | Halt::Limit => 0,
+            Halt::Ended | Halt::Spent | Halt::Limit(_) if self.told > 0 => 1,
+            Halt::Ended | Halt::Spent | Halt::Limit(_) => 0,
         }
     }
 }
@@ -191,11 +191,11 @@ fn more_of<A: Allocator + Copy>(alloc: A, more: u64) -> Result<Vec<u8, A>, Alloc
     Ok(line)
 }
 
-/// Why a run ended whose next step is refused so.
-pub(crate) fn halt_of(refusal: Refusal) -> Halt {
+/// Why a run ended whose next step, after so many, is refused so.
+pub(crate) fn halt_of(refusal: Refusal, steps: u64) -> Halt {
     match refusal {
         Refusal::NotMet => Halt::Spent,
-        Refusal::TooLong => Halt::Limit,
+        Refusal::TooLong => Halt::Limit(steps),
         Refusal::Memory => Halt::Memory,
         _ => Halt::Ended,
     }

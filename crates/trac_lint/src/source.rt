@@ -4,16 +4,65 @@ use crate::sources::Sources;
 use std::alloc::Allocator;
 use trac_follow::{End, Place};
 use trac_rules::doubt::Doubt;
+use trac_rules::refusal::Refusal;
 use trac_walk::{Unsaid, Walker, place_of};
 
 // Of a byte that a call made the call's name is followed, whose bytes may be made too: so often at most.
 const MADE_LIMIT: usize = 1_000;
 
-/// Goes back to where the byte at a place was read, and returns its number, the first byte of all files being number 0.
-/// Where a call made it, the name of that call is followed instead; where it is the idle program's own, it is the first
-/// byte of the text that this reads. None where the first step that is kept has it already, or a name on its way is too
-/// long to be kept. It takes no memory.
-pub(crate) fn number_of<A: Allocator + Copy>(
+// So many steps are gone back over at most to find where doubts come from, all ways together (this project's profile).
+const WAYS_LIMIT: u64 = 20_000_000;
+
+/// Finds from which bytes of the files the bytes come that doubts are about, until it has gone back over 20,000,000 steps.
+#[derive(Clone, Copy)]
+pub struct Origins<'s> {
+    pub(crate) sources: Sources<'s>,
+    // how many steps may still be gone back over
+    ways: u64,
+}
+
+impl<'s> Origins<'s> {
+    /// Of the bytes of these files.
+    pub fn new(sources: Sources<'s>) -> Self {
+        Origins {
+            sources,
+            ways: WAYS_LIMIT,
+        }
+    }
+
+    /// Whether so many steps were gone back over that no place is found any more.
+    pub(crate) fn is_spent(&self) -> bool {
+        self.ways == 0
+    }
+
+    /// The number of the byte of the files from which that of a doubt of the next step comes, the first being number 0; none
+    /// where it is not known, or too many steps were gone back over. It goes back, and forward again; the refusal is of a
+    /// step on that way.
+    pub fn number<A: Allocator + Copy>(
+        &mut self,
+        walker: &mut Walker<A>,
+        doubt: Doubt,
+    ) -> Result<Option<u64>, Refusal> {
+        if self.ways == 0 {
+            return Ok(None);
+        }
+        let end = walker.step();
+        let place = place_of(walker, doubt);
+        let number = number_of(walker, &self.sources, place);
+        let steps = end.saturating_sub(walker.step());
+        self.ways = self.ways.saturating_sub(steps);
+        match walker.forward(steps) {
+            Some(refusal) => Err(refusal),
+            None => Ok(number),
+        }
+    }
+}
+
+// Goes back to where the byte at a place was read, and returns its number, the first byte of all files being number 0.
+// Where a call made it, the name of that call is followed instead; where it is the idle program's own, it is the first
+// byte of the text that this reads. None where the first step that is kept has it already, or a name on its way is too
+// long to be kept. It takes no memory.
+fn number_of<A: Allocator + Copy>(
     walker: &mut Walker<A>,
     sources: &Sources<'_>,
     place: Place<'_>,

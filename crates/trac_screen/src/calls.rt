@@ -1,5 +1,6 @@
 //! A call with its value, in one line.
 
+use crate::default::gives_nothing;
 use crate::notes::refused;
 use crate::screen_line::ScreenLine;
 use crate::sight::{Sight, last_of};
@@ -41,7 +42,7 @@ pub fn outcome_into<A: Allocator + Copy>(
     line: &mut ScreenLine<A>,
 ) -> Result<(), AllocError> {
     match why {
-        None => value_into(before.value(sight), before.takes_default, line),
+        None => value_into(before.value(sight), before, line),
         Some(refusal) => {
             line.say(b": ")?;
             line.say(refused(refusal))
@@ -49,13 +50,15 @@ pub fn outcome_into<A: Allocator + Copy>(
     }
 }
 
-// Puts a value at the end of the line of its call. That it is empty is said in words that no shown value can follow.
+// Puts a value at the end of the line of its call. That it is empty is said in words that no shown value can follow; of a
+// primitive whose value always is, nothing is said.
 fn value_into<A: Allocator + Copy>(
     value: &[u8],
-    is_default: bool,
+    before: Before,
     line: &mut ScreenLine<A>,
 ) -> Result<(), AllocError> {
-    let words: &[u8] = match (is_default, value.is_empty()) {
+    let words: &[u8] = match (before.takes_default, value.is_empty()) {
+        (false, true) if before.gives_nothing => b"",
         (false, true) => b" has an empty value",
         (true, true) => b" defaults to an empty value",
         (false, false) => b" gives ",
@@ -74,6 +77,8 @@ pub struct Before {
     around: usize,
     // whether the value is the default argument
     takes_default: bool,
+    // whether it is one of a primitive that never gives one
+    gives_nothing: bool,
 }
 
 impl Before {
@@ -83,6 +88,7 @@ impl Before {
             active: sight.active.len().saturating_sub(1),
             around: sight.around.len(),
             takes_default,
+            gives_nothing: gives_nothing(sight),
         }
     }
 

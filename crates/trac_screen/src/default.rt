@@ -1,4 +1,4 @@
-//! Whether a call gives its default argument.
+//! Whether a call gives its default argument, or nothing whatever it is given.
 
 use crate::sight::{Sight, performed_in};
 use std::alloc::Allocator;
@@ -26,6 +26,27 @@ pub fn takes_default<A: Allocator + Copy>(
             reads_nothing(reading, arguments, sight.store, width)
         }
         _ => Ok(false),
+    }
+}
+
+/// Whether the call that the next step performs is one of a primitive whose value is always empty.
+pub fn gives_nothing<A: Allocator + Copy>(sight: &Sight<'_, A>) -> bool {
+    match performed_in(sight) {
+        Some(arguments) => never_gives(primitive_named(arguments.get(0))),
+        None => false,
+    }
+}
+
+// Whether the value of a primitive is empty whatever it is given. An unknown name is no primitive's.
+fn never_gives(primitive: Primitive) -> bool {
+    match primitive {
+        Primitive::PrintString | Primitive::SetMeta | Primitive::SetTrace(_) => true,
+        Primitive::HandleBlock(_) => true,
+        Primitive::Handle(action) => !matches!(
+            action,
+            FormAction::Call | FormAction::Read(_) | FormAction::ListNames
+        ),
+        _ => false,
     }
 }
 

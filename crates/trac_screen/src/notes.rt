@@ -53,8 +53,14 @@ pub enum Stop {
     NoName,
     /// There is no form of this name.
     NoSuchForm,
-    /// There is no form whose name is a dot; an argument was meant, and one number more is wanted.
-    NoByteOfArgument,
+    /// The innermost begun function has no argument of this number.
+    NoArgument(u64),
+    /// Its argument of this number has so many bytes, one at least, and which one is meant was not said.
+    WhichByte(u64, u64),
+    /// It has so many, one at least, and a byte after these was named.
+    ShortArgument(u64, u64),
+    /// The call is the idle program's.
+    Idle,
 }
 
 // What may have been meant where there is no form of a name.
@@ -118,7 +124,40 @@ fn say_stop<A: Allocator + Copy>(
         Stop::AtFirst | Stop::NotMet | Stop::NoForm => line.count(first_step),
         Stop::NoValueSince => say_count(first_step, b", the first that is kept, ends here", line),
         Stop::NotPrintedSince | Stop::PrintedEarlier => line.count(first_step),
+        Stop::NoArgument(argument) => line.count(argument),
+        Stop::WhichByte(argument, len) => say_which(argument, len, line),
+        Stop::ShortArgument(argument, len) => say_length(argument, len, line),
         _ => Ok(()),
+    }
+}
+
+// How a byte of an argument is named that has so many, after its number.
+fn say_which<A: Allocator + Copy>(
+    argument: u64,
+    len: u64,
+    line: &mut ScreenLine<A>,
+) -> Result<(), AllocError> {
+    say_count(argument, b" is not empty: y . ", line)?;
+    line.count(argument)?;
+    match len {
+        1 => line.say(b" 1 follows its byte"),
+        len => {
+            line.say(b" K follows its byte K, 1 to ")?;
+            line.count(len)
+        }
+    }
+}
+
+// How many bytes an argument has, after its number.
+fn say_length<A: Allocator + Copy>(
+    argument: u64,
+    len: u64,
+    line: &mut ScreenLine<A>,
+) -> Result<(), AllocError> {
+    say_count(argument, b" has ", line)?;
+    match len {
+        1 => line.say(b"1 byte"),
+        len => say_count(len, b" bytes", line),
     }
 }
 
@@ -155,7 +194,9 @@ fn reason(stop: Stop) -> &'static [u8] {
         Stop::NoByte => b"no byte stands there",
         Stop::NoName => b"no byte of the name of this call is scanned",
         Stop::NoSuchForm => b"there is no form of this name",
-        Stop::NoByteOfArgument => b"there is no form of this name; byte K of argument A is y . A K",
+        Stop::NoArgument(_) => b"this call has no argument ",
+        Stop::WhichByte(_, _) | Stop::ShortArgument(_, _) => b"argument ",
+        Stop::Idle => b"this call is the idle program's: it is written nowhere in FILE",
     }
 }
 

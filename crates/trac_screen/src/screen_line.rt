@@ -80,6 +80,18 @@ impl<A: Allocator + Copy> ScreenLine<A> {
         escaped_into(front(text, self.width.saturating_add(1)), &mut self.bytes)
     }
 
+    /// Puts an argument of a call at the end. With a comma or a parenthesis it stands in parentheses, as it would be written, so
+    /// that it is not taken for several. Of a long one what can be seen decides.
+    pub fn show_argument(&mut self, text: &[u8]) -> Result<(), AllocError> {
+        let seen = front(text, self.width.saturating_add(1));
+        if !has_marks(seen) {
+            return self.show(seen);
+        }
+        self.say(b"(")?;
+        self.show(seen)?;
+        self.say(b")")
+    }
+
     /// Puts blanks at the end, two or as many as lead to this column.
     pub fn pad(&mut self, column: usize) -> Result<(), AllocError> {
         self.say(b"  ")?;
@@ -144,6 +156,11 @@ pub fn shown_tail(shown: &[u8], most: usize) -> &[u8] {
         }
     }
     shown.split_at(place).1
+}
+
+// Whether a text has a byte that would end an argument, or begin or end a protected text.
+fn has_marks(text: &[u8]) -> bool {
+    text.iter().any(|byte| matches!(*byte, b',' | b'(' | b')'))
 }
 
 // Where a line of shown bytes can be cut, at this place at the latest: not within a byte that is shown by four.

@@ -127,7 +127,7 @@ pub fn begun_into<A: Allocator + Copy>(
         if i > 0 {
             line.say(b",")?;
         }
-        line.show(arguments.get(i))?;
+        line.show_argument(arguments.get(i))?;
     }
     Ok(())
 }

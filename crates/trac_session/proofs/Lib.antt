@@ -3,6 +3,7 @@ pub mod Summed
 pub mod Walked
 pub mod Passed
 pub mod RunsEnd
+pub mod Quiet
 pub mod Performed
 pub mod Windowed
 pub mod Told

@@ -84,6 +84,20 @@ Step_passed Holds limit bytes ended old new m k n p view all proper plain fits k
     ∙ ap (λ (u : State). Some (record q { earlier = earlier_of new k.state; last = u })) (sym there)
     ∙ ap (λ (w : Width). Some (plain_of limit w bytes ended new k.state)) (sym (ap (λ (u : Shown). u.width) moved))
 
+-- they moved the first bytes of the active text
+pub Step_moved : (limit : ℕ) (bytes : List ℕ) (ended : Bool) (old new : List Record) (m k : Shown) (n : ℕ) (p : PlainSession) →
+    plain_of limit m.width bytes ended old m.state ≡ p → IsProper m.state → BeginsPlain n m.state → new ≡ replicate n Moved ++ old → k ≡ record m { state = moved_on n m.state } →
+    HasMovedBack n (plain_of limit k.width bytes ended new k.state) p
+Step_moved limit bytes ended old new m k n p view proper plain kept moved =
+    let there : k.state ≡ moved_on n m.state = ap (λ (u : Shown). u.state) moved in
+    subst (λ (q : PlainSession). HasMovedBack n (plain_of limit k.width bytes ended new k.state) q) view
+    (record {
+      others = ap (λ (w : Width). plain_of limit w bytes ended old m.state) (sym (ap (λ (u : Shown). u.width) moved));
+      within = plain.within;
+      last = there;
+      earlier = earlier_of-passed old new m.state k.state n proper plain.within kept there;
+    })
+
 -- the fields stay sound
 pub IsSound-passed : (limit : ℕ) (bytes : List ℕ) (old new : List Record) (m k : Shown) (n : ℕ) → IsProper m.state → BeginsPlain n m.state →
     length old + n ≤ limit → new ≡ replicate n Moved ++ old → k ≡ record m { state = moved_on n m.state } → ((j : ℕ) → j ≤ n → HasRoom m (moved_on j m.state)) →

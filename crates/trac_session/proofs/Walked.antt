@@ -1,5 +1,5 @@
 -- Walks, step by step.
-use Rattle.std.proofs.Common.{◌≡◌, ℕ, zero, suc, ◌+◌, ◌<◌, ◌≤◌, ◌&&◌, true, false, length, refl, sym, ap, subst, ◌∙◌, arith, inl, inr, ⊎_elim}
+use Rattle.std.proofs.Common.{◌≡◌, ℕ, zero, suc, ◌+◌, ◌-◌, ◌<◌, ◌≤◌, ◌&&◌, true, false, length, refl, sym, ap, subst, ◌∙◌, arith, inl, inr, ⊎_elim}
 use Rattle.std.proofs.lemmas.Bool.{cases_lt}
 use Rattle.std.specs.Prelude.{Option, None, Some, nat_lt, option_and_then}
 use Rattle.trac_rules.specs.declared.refusal.Refusal.{Refusal}
@@ -139,14 +139,51 @@ stopped_walk command goal n k old p q refusal on l same h = record {
   );
 }
 
--- the goal is met
-pub met_walk : (command : Command) (goal : Goal) (n k : ℕ) (old p q : PlainSession) → GoesOn command goal old k p → k < n → answer command p ≡ done q → goal q.last ≡ true →
-    IsWalk command goal n old (k + 1) None q
-met_walk command goal n k old p q on l h met = record {
+-- before the last of so many accepted steps more, which are a walk too, the goal is not met
+unmet_further : (command : Command) (goal : Goal) (old p q : PlainSession) (n k : ℕ) → GoesOn command goal old n p → IsWalk command goal k p k None q →
+    (j : ℕ) → (r : PlainSession) → 0 < j → j < n + k → repeated command j old ≡ Some r → goal r.last ≡ false
+unmet_further command goal old p q n k on more j r some few there = ⊎_elim
+    (λ (before : j < n + 1). on.unmet j r some (omega arith) there)
+    (λ (l : n + 1 ≤ j).
+    let both : n + (j - n) ≡ j = omega arith in
+    more.unmet (j - n) r (omega arith) (omega arith) (sym (repeated-from command n (j - n) old p on.walked) ∙ ap (λ m. repeated command m old) both ∙ there))
+    (cases_lt j (n + 1))
+
+-- a walk goes on after them where it is not met then either
+pub goes_on_further : (command : Command) (goal : Goal) (old p q : PlainSession) (n k : ℕ) → GoesOn command goal old n p → IsWalk command goal k p k None q → goal q.last ≡ false →
+    GoesOn command goal old (n + k) q
+goes_on_further command goal old p q n k on more not_met =
+    let walked : repeated command (n + k) old ≡ Some q = repeated-from command n k old p on.walked ∙ more.walked in
+    record {
+      walked = walked;
+      unmet = λ j r some few there. ⊎_elim
+          (λ (l : j < n + k). unmet_further command goal old p q n k on more j r some l there)
+          (λ (l : n + k ≤ j). ap (λ (s : PlainSession). goal s.last) (same_after command j (n + k) old r q (omega arith) there walked) ∙ not_met)
+          (cases_lt j (n + k));
+    }
+
+-- one accepted step is a walk, whatever its goal
+pub one_walk : (command : Command) (goal : Goal) (p q : PlainSession) → answer command p ≡ done q → IsWalk command goal 1 p 1 None q
+one_walk command goal p q h = record {
   within = omega arith;
-  walked = repeated-more command k old p q on.walked h;
-  unmet = λ j r some fewer there. on.unmet j r some (omega arith) there;
-  stopped = inr (omega arith, met);
+  walked = repeated-more command 0 p p q refl h;
+  unmet = λ k r some few there. absurd (omega (arith, some, few));
+  stopped = inl refl;
+}
+
+-- so are so many, where no state before the last of them meets it
+pub run_walk : (command : Command) (goal : Goal) (n : ℕ) (p q : PlainSession) → repeated command n p ≡ Some q →
+    ((k : ℕ) → (r : PlainSession) → 0 < k → k < n → repeated command k p ≡ Some r → goal r.last ≡ false) → IsWalk command goal n p n None q
+run_walk command goal n p q walked unmet = record { within = omega arith; walked = walked; unmet = unmet; stopped = inl refl }
+
+-- the goal is met
+pub met_walk : (command : Command) (goal : Goal) (n m k : ℕ) (old p q : PlainSession) → GoesOn command goal old m p → IsWalk command goal k p k None q → 0 < k → m + k ≤ n →
+    goal q.last ≡ true → IsWalk command goal n old (m + k) None q
+met_walk command goal n m k old p q on more some few met = record {
+  within = few;
+  walked = repeated-from command m k old p on.walked ∙ more.walked;
+  unmet = unmet_further command goal old p q m k on more;
+  stopped = inr (omega (arith, some), met);
 }
 
 -- all steps are taken

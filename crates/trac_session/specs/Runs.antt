@@ -1,7 +1,10 @@
 -- Steps that move a byte each, which a session passes at once, there and back.
-use Rattle.std.specs.Prelude.{◌≡◌, ◌<◌, ◌≤◌, ◌++◌, ℕ, List, [], ◌∷◌, length, Option, Some}
+use Rattle.std.specs.Prelude.{◌≡◌, ◌<◌, ◌≤◌, ◌++◌, ℕ, List, [], ◌∷◌, length, Option, None, Some}
 use Rattle.trac_rules.specs.declared.refusal.Refusal.{Refusal}
 use Rattle.trac_rules.specs.declared.refusal.Refusal.TheVariants.{Memory}
+use Rattle.trac_rules.specs.declared.width.Width.{Width}
+use Rattle.trac_rules.specs.Doubts.{doubts}
+use Rattle.trac_rules.specs.Goals.{next_call}
 use Rattle.trac_rules.specs.PlainRuns.{BeginsPlain, moved_on, on_the_way}
 use Rattle.trac_rules.specs.Records.{Moved, recorded}
 use Rattle.trac_rules.specs.Session.{PlainSession}
@@ -29,3 +32,8 @@ HasNoPlain p = length p.earlier < p.limit → BeginsPlain 1 p.last → ⊥
 abbrev pub IsAsked : Option Refusal → State → Type 0
 IsAsked (Some Memory) s = BeginsPlain 1 s → ⊥
 IsAsked why s = Unit {0}
+
+-- the next step performs no call, and there is no doubt of it, however wide numbers are: so it is of each step that moves a byte
+pub record IsQuiet (s : State) : Type 0 where
+  pub no_call : next_call s ≡ None
+  pub no_doubt : (width : Width) → doubts width s ≡ []

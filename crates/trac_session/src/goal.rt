@@ -1,9 +1,11 @@
 //! What walks look for.
-ghost use Rattle.std.specs.Prelude.{◌≡◌, bytes_eq, is_some, map, option_copied, Some};
+ghost use Rattle.std.specs.Prelude.{◌≡◌, bytes_eq, is_some, map, option_copied, false, Some, true};
 ghost use Rattle.std.specs.List.{starts_with};
 ghost use Rattle.trac_rules.specs.Goals.{frame_at, has_other_form, is_begun_with, is_call_with, is_end_of, is_form_as, is_idle_printing, is_idle_reading, is_own_call, is_same_form, is_same_item, next_call};
 ghost use Rattle.trac_rules.specs.declared.item.Item.{Item};
+ghost use Rattle.trac_rules.specs.State.{State};
 ghost use Rattle.trac_session.specs.Goals.{goal_of};
+ghost use Rattle.trac_session.specs.Runs.{IsQuiet};
 
 use crate::doubts::has_doubt;
 use std::alloc::{AllocError, Allocator, Global};
@@ -52,6 +54,19 @@ impl<'a, A: Allocator + Copy> Clone for Goal<'a, A> {
 }
 
 impl<'a, A: Allocator + Copy> Copy for Goal<'a, A> {}
+
+impl<'a, A: Allocator + Copy> Goal<'a, A> {
+    // Whether the goal is met only where the next step performs a call or has a doubt.
+    pub(crate) fn is_never_met_quietly(&self) -> bool
+        ensures { result ≡ true → (s : State) → IsQuiet s → goal_of self.now s ≡ false }
+    {
+        match self {
+            Goal::Call(_) | Goal::OwnCall | Goal::End(_) => true,
+            Goal::OtherForm(..) | Goal::Doubtful(_) => true,
+            Goal::Shallower(_) | Goal::Rest(_) | Goal::Unprinted(_) => false,
+        }
+    }
+}
 
 // Whether a machine shows a state that meets the goal. Here and below the machine may be of any representation: that the gap
 // buffer is one is shown once, where a session passes its machine on, and not at each call.

@@ -13,6 +13,7 @@ impl<A: Allocator + Copy> Session<A> {
     #[inline(always)]
     pub(crate) fn pass_plain(&mut self, most: u64) -> u64
         ensures passed { repeated Step result self.old ≡ Some self.new }
+        ensures moved { HasMovedBack result self.new self.old }
         ensures most { result ≤ most }
         ensures weight { weights_from self.new.earlier ≡ weights_from self.old.earlier }
         ensures end { result < most → HasNoPlain self.new }

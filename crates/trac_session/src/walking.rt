@@ -1,12 +1,13 @@
 //! Walks over several steps.
-ghost use Rattle.std.specs.Prelude.{◌≡◌, ◌<◌, ◌≤◌, ◌&&◌, Some, length, max, nat_lt};
-ghost use Rattle.trac_rules.specs.Session.{Step, Back, Answers, IsWalk, no_goal, repeated};
+ghost use Rattle.std.specs.Prelude.{◌≡◌, ◌<◌, ◌≤◌, ◌&&◌, IfErr, IfOk, None, Some, length, max, nat_lt, ℕ};
+ghost use Rattle.trac_rules.specs.declared.reply.Reply.TheVariants.{Refused};
+ghost use Rattle.trac_rules.specs.Session.{PlainSession, Step, Back, Answers, IsWalk, no_goal, repeated};
 ghost use Rattle.trac_session.specs.declared.walking.Direction.TheVariants.{Forward};
 ghost use Rattle.trac_session.specs.Directions.{command_towards};
 ghost use Rattle.trac_session.specs.Goals.{IsSearch, goal_of, is_call_of, outcome};
 ghost use Rattle.trac_session.specs.Replies.{reply_of};
 ghost use Rattle.trac_session.specs.Returns.{IsReturn};
-ghost use Rattle.trac_session.specs.Runs.{HasNoPlain, IsAsked};
+ghost use Rattle.trac_session.specs.Runs.{HasNoPlain, IsAsked, IsQuiet};
 ghost use Rattle.trac_session.specs.Within.{IsWalkWithin};
 
 use crate::goal::{Goal, is_met};
@@ -41,37 +42,62 @@ impl<A: Allocator + Copy> Session<A> {
         is_met(self.machine(), goal)
     }
 
-    // Goes this way by up to `n` steps, until one is refused, which the walk returns, or the goal is met.
-    fn walk(&mut self, direction: Direction, goal: &Goal<'_, A>, n: u64) -> Walk
-        ensures { IsWalk (command_towards direction) (goal_of goal.now) n self.old result.done result.why self.new }
-    {
-        for done in 0..n {
-            if let Err(refusal) = self.go(direction) {
-                return Walk {
-                    done,
-                    why: Some(refusal),
-                };
-            }
-            if self.has_met(goal) {
-                return Walk {
-                    done: done + 1,
-                    why: None,
-                };
-            }
-        }
-        Walk { done: n, why: None }
-    }
-
     // Goes this way over bytes that a step each moves, at most so many, all at once. Returns how many steps these are.
     fn pass(&mut self, direction: Direction, most: u64) -> u64
         ensures passed { repeated (command_towards direction) result self.old ≡ Some self.new }
         ensures most { result ≤ most }
+        ensures quiet { (k : ℕ) → (p : PlainSession) → 0 < k → k < result → repeated (command_towards direction) k self.old ≡ Some p → IsQuiet p.last }
         ensures end { direction ≡ Forward → result < most → HasNoPlain self.new }
     {
+        // For what it says: the states are steps of one another, so that a step that moved a byte does nothing else.
+        let _machine = self.machine();
         match direction {
             Direction::Forward => self.pass_plain(most),
             Direction::Backward => self.pass_back(most),
         }
+    }
+
+    // Goes this way by a step, or over bytes that a step each moves where no state before such a step meets the goal: by up to
+    // so many steps. Returns how many these are.
+    #[inline(always)]
+    fn go_on(&mut self, direction: Direction, goal: &Goal<'_, A>, most: u64) -> Result<u64, Refusal>
+        requires { 0 < most }
+        ensures refused { IfErr result (λ refusal. Answers (command_towards direction) self.old (Refused refusal) self.new) }
+        ensures some { IfOk result (λ steps. 0 < steps) }
+        ensures most { IfOk result (λ steps. steps ≤ most) }
+        ensures walk { IfOk result (λ steps. IsWalk (command_towards direction) (goal_of goal.now) steps self.old steps None self.new) }
+    {
+        if goal.is_never_met_quietly() {
+            let passed = self.pass(direction, most);
+            if passed > 0 {
+                return Ok(passed);
+            }
+        }
+        self.go(direction)?;
+        Ok(1)
+    }
+
+    // Goes this way by up to `n` steps, until one is refused, which the walk returns, or the goal is met.
+    fn walk(&mut self, direction: Direction, goal: &Goal<'_, A>, n: u64) -> Walk
+        ensures { IsWalk (command_towards direction) (goal_of goal.now) n self.old result.done result.why self.new }
+    {
+        let mut done = 0;
+        while done < n {
+            let steps = match self.go_on(direction, goal, n - done) {
+                Ok(steps) => steps,
+                Err(refusal) => {
+                    return Walk {
+                        done,
+                        why: Some(refusal),
+                    };
+                }
+            };
+            done += steps;
+            if self.has_met(goal) {
+                return Walk { done, why: None };
+            }
+        }
+        Walk { done, why: None }
     }
 
     // Goes this way by up to `n` steps, until one is refused, which the walk returns. It has no goal, so bytes that a step

@@ -1,7 +1,9 @@
 //! Moves, carried out.
+ghost use Rattle.trac_walk.specs.Searches.{IsAsToldOf};
 
 use crate::aim::Aim;
 use crate::output::{printed, printed_text};
+use crate::searching::Search;
 use crate::walker::Walker;
 use std::alloc::Allocator;
 use trac_orders::Move;
@@ -70,19 +72,19 @@ fn to_start<A: Allocator + Copy>(walker: &mut Walker<A>) -> Option<Stop> {
     stopped
 }
 
-// Forward to a goal. Where it is not met before a step is refused, back to where it began, if that is still kept.
-fn until<A: Allocator + Copy>(walker: &mut Walker<A>, aim: Aim<'_>) -> Option<Stop> {
+// Forward to a goal. Where it is not met before a step is refused, the walker stays as it was.
+fn until<A: Allocator + Copy>(walker: &mut Walker<A>, aim: Aim<'_>) -> Option<Stop>
+    ensures { IsAsToldOf result walker.old.window walker.new.window }
+{
     let start = walker.step();
-    let refusal = match walker.forward_to(aim, SEARCH_LIMIT)? {
-        Refusal::NotMet => return Some(Stop::Spent),
-        refusal => refusal,
-    };
-    let reached = walker.step();
-    if start == reached || start < walker.first_step() {
-        return Some(Stop::Unmet(refusal));
+    match walker.search(aim, SEARCH_LIMIT) {
+        Search::Met => None,
+        Search::Spent => Some(Stop::Spent),
+        Search::Unmet(refusal, 0) => Some(Stop::Unmet(refusal)),
+        Search::Unmet(refusal, done) => {
+            Some(Stop::UnmetUpTo(refusal, start.saturating_add(done)))
+        }
     }
-    let _ = walker.back(reached.saturating_sub(start));
-    Some(Stop::UnmetUpTo(refusal, reached))
 }
 
 // What a walk to a call looks for.

@@ -1,7 +1,7 @@
 //! The doubts of the next step, with their places.
 
 use crate::calls_told::LINE_COUNT;
-use crate::origins::{Unsaid, origin_of, read_as};
+use crate::origins::{Unsaid, is_idle, origin_of, read_as};
 use crate::walker::Walker;
 use std::alloc::{AllocError, Allocator};
 use trac_follow::{End, Place};
@@ -93,12 +93,7 @@ fn first_byte<'p>(function: usize, argument: usize) -> Place<'p> {
 // Where a byte comes from, to which the walker has gone back. For a byte of the idle program that is the text that it
 // reads.
 fn written_at<A: Allocator + Copy>(walker: &Walker<A>, program: &[u8], end: End) -> Origin {
-    let is_idle = match end {
-        End::Made => walker.sight().active.is_empty(),
-        End::Earlier => walker.step() == 0,
-        _ => false,
-    };
-    if is_idle {
+    if is_idle(walker, &end) {
         read_as(text_begins(walker), program)
     } else {
         origin_of(walker, program, end)

@@ -13,6 +13,7 @@ mod origins;
 mod output;
 mod places;
 mod replying;
+mod searching;
 mod standing;
 mod walker;
 mod walking;

@@ -33,13 +33,14 @@ impl<A: Allocator + Copy> Witness<A> for InForms<A> {
     }
 }
 
-/// Whether this argument of the innermost begun function is there, and empty.
-pub fn is_empty_argument<A: Allocator + Copy>(walker: &Walker<A>, argument: u64) -> bool {
+/// How many bytes this argument of the innermost begun function has. `Err`: no function is begun, or it has no such argument.
+pub fn argument_len<A: Allocator + Copy>(walker: &Walker<A>, argument: u64) -> Result<u64, Stop> {
     match walker.sight().begun {
-        Some((_, arguments)) => {
-            argument < arguments.count() as u64 && arguments.get(argument as usize).is_empty()
+        None => Err(Stop::Outside),
+        Some((_, arguments)) if argument < arguments.count() as u64 => {
+            Ok(arguments.get(argument as usize).len() as u64)
         }
-        None => false,
+        Some(_) => Err(Stop::NoArgument(argument)),
     }
 }
 

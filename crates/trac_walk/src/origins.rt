@@ -2,7 +2,7 @@
 
 use crate::calls_told::{Way, told_way};
 use crate::later::printed_later_into;
-use crate::missing::{empty_argument_into, empty_form_into, is_empty_argument};
+use crate::missing::{argument_len, empty_argument_into, empty_form_into};
 use crate::output::{last_printed, printed, printed_text};
 use crate::standing::stand_into;
 use crate::walker::Walker;
@@ -42,8 +42,14 @@ pub fn way_into<A: Allocator + Copy>(
     spot: Spot<'_>,
     out: &mut Vec<u8, A>,
 ) -> Result<(), AllocError> {
+    if let Some(argument) = argument_meant(walker, spot) {
+        return argument_into(alloc, walker, program, argument, out);
+    }
     match place_of(walker, spot) {
-        Ok(place) if stands_at(walker, spot) => followed_into(alloc, walker, program, place, out),
+        Ok(place) if stands_at(walker, spot) => match spot {
+            Spot::Next => name_into(alloc, walker, program, place, out),
+            _ => followed_into(alloc, walker, program, place, out),
+        },
         Ok(_) => missing_into(alloc, walker, program, spot, out),
         Err(stop) => unfollowed_into(alloc, walker, spot, stop, out),
     }
@@ -58,13 +64,55 @@ pub fn followed_into<A: Allocator + Copy>(
     out: &mut Vec<u8, A>,
 ) -> Result<(), AllocError> {
     let (way, found) = told_way(alloc, walker, place);
-    let read = number_read(walker, &found.end);
-    let origin = match found.end {
+    way_told_into(alloc, walker, program, &way, found.end, out)
+}
+
+// The same of the first byte of the name of the call that comes next. Of one that is the idle program's it says so, and goes
+// forward again.
+fn name_into<A: Allocator + Copy>(
+    alloc: A,
+    walker: &mut Walker<A>,
+    program: &[u8],
+    place: Place<'_>,
+    out: &mut Vec<u8, A>,
+) -> Result<(), AllocError> {
+    let end = walker.step();
+    let (way, found) = told_way(alloc, walker, place);
+    if !is_idle(walker, &found.end) {
+        return way_told_into(alloc, walker, program, &way, found.end, out);
+    }
+    match walker.go_to(end) {
+        None => stay(alloc, walker, Stop::Idle, out),
+        Some(refusal) => stay(alloc, walker, Stop::Refused(refusal), out),
+    }
+}
+
+/// Whether a way that ended so, to which the walker has gone back, ended at a byte of the idle program: where that is loaded,
+/// or at the start.
+pub fn is_idle<A: Allocator + Copy>(walker: &Walker<A>, end: &End) -> bool {
+    match end {
+        End::Made => walker.sight().active.is_empty(),
+        End::Earlier => walker.step() == 0,
+        _ => false,
+    }
+}
+
+// What is said of a way that ended so, to which the walker has gone back.
+fn way_told_into<A: Allocator + Copy>(
+    alloc: A,
+    walker: &Walker<A>,
+    program: &[u8],
+    way: &Way<A>,
+    end: End,
+    out: &mut Vec<u8, A>,
+) -> Result<(), AllocError> {
+    let read = number_read(walker, &end);
+    let origin = match end {
         End::Nothing => return stay(alloc, walker, Stop::NoByte, out),
         End::Unkept | End::Untold => return Err(AllocError),
         end => origin_of(walker, program, end),
     };
-    calls_into(&way, out)?;
+    calls_into(way, out)?;
     end_into(alloc, walker, way.left_out(), origin, out)?;
     source_into(alloc, program, read, out)?;
     out.extend_from_slice(b"here: ")?;
@@ -97,6 +145,7 @@ pub fn written_into<A: Allocator + Copy>(
     let found = walker.trace(place, &mut Unsaid).end;
     let read = number_read(walker, &found);
     let origin = origin_of(walker, program, found);
+    let is_idle = is_idle(walker, &found);
     let source = walker.step();
     if let Some(refusal) = walker.forward(end.saturating_sub(source)) {
         return stay(alloc, walker, Stop::Refused(refusal), out);
@@ -104,6 +153,7 @@ pub fn written_into<A: Allocator + Copy>(
     match found {
         End::Nothing => return stay(alloc, walker, Stop::NoName, out),
         End::Unkept | End::Untold => return Err(AllocError),
+        _ if is_idle => return stay(alloc, walker, Stop::Idle, out),
         _ => {}
     }
     origin_into(origin, source, &mut line)?;
@@ -138,28 +188,39 @@ fn missing_into<A: Allocator + Copy>(
     spot: Spot<'_>,
     out: &mut Vec<u8, A>,
 ) -> Result<(), AllocError> {
-    if let Some(argument) = argument_in(walker, spot) {
-        return empty_argument_into(alloc, walker, program, argument as usize, out);
-    }
     match spot {
         Spot::OfForm(name, _) if is_empty_form(walker, name) => {
             empty_form_into(alloc, walker, name, out)
         }
+        Spot::OfArgument(argument, _) => match argument_len(walker, argument) {
+            Ok(0) => empty_argument_into(alloc, walker, program, argument as usize, out),
+            Ok(len) => stay(alloc, walker, Stop::ShortArgument(argument, len), out),
+            Err(stop) => stay(alloc, walker, stop, out),
+        },
         spot => stay(alloc, walker, absent(walker, spot), out),
     }
 }
 
-// The empty argument that is meant: `y . A` is read as of a form whose name is a dot, so it is meant where there is none.
-fn argument_in<A: Allocator + Copy>(walker: &Walker<A>, spot: Spot<'_>) -> Option<u64> {
-    let argument = match spot {
-        Spot::OfArgument(argument, _) => argument,
-        Spot::OfForm(b".", argument) if walker.sight().store.get(b".").is_none() => argument,
-        _ => return None,
-    };
-    if is_empty_argument(walker, argument) {
-        Some(argument)
-    } else {
-        None
+// The argument that `y . A` means: it is read as of a form whose name is a dot, so it is meant where there is none.
+fn argument_meant<A: Allocator + Copy>(walker: &Walker<A>, spot: Spot<'_>) -> Option<u64> {
+    match spot {
+        Spot::OfForm(b".", argument) if walker.sight().store.get(b".").is_none() => Some(argument),
+        _ => None,
+    }
+}
+
+// Of an empty argument what left it so; of another one how a byte of it is meant.
+fn argument_into<A: Allocator + Copy>(
+    alloc: A,
+    walker: &mut Walker<A>,
+    program: &[u8],
+    argument: u64,
+    out: &mut Vec<u8, A>,
+) -> Result<(), AllocError> {
+    match argument_len(walker, argument) {
+        Ok(0) => empty_argument_into(alloc, walker, program, argument as usize, out),
+        Ok(len) => stay(alloc, walker, Stop::WhichByte(argument, len), out),
+        Err(stop) => stay(alloc, walker, stop, out),
     }
 }
 
@@ -218,16 +279,8 @@ fn place_of<'s, A: Allocator + Copy>(
 fn absent<A: Allocator + Copy>(walker: &Walker<A>, spot: Spot<'_>) -> Stop {
     match spot {
         Spot::Next => Stop::NoName,
-        Spot::OfForm(name, _) if walker.sight().store.get(name).is_none() => absent_form(name),
+        Spot::OfForm(name, _) if walker.sight().store.get(name).is_none() => Stop::NoSuchForm,
         _ => Stop::NoByte,
-    }
-}
-
-// What is said where there is no form of this name: a dot may have been meant for an argument.
-fn absent_form(name: &[u8]) -> Stop {
-    match name {
-        b"." => Stop::NoByteOfArgument,
-        _ => Stop::NoSuchForm,
     }
 }
 

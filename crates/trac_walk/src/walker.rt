@@ -6,6 +6,7 @@ ghost use Rattle.trac_streams.specs.Tape.{MayRefuseTape};
 ghost use Rattle.trac_walk.specs.Ways.{number_of_step};
 
 use crate::aim::{Aim, goal_for};
+use crate::searching::search_steps;
 use std::alloc::{AllocError, Allocator};
 use trac_follow::{Place, Traced, Witness, trace};
 use trac_forms::{Form, FormError, Store};
@@ -21,9 +22,6 @@ use trac_window::Window;
 // takes at most so many bytes for each that it weighs.
 const WEIGHED_BYTES: u64 = 12;
 
-// A search looks after so many steps whether the records weigh too much.
-const SEARCH_STEPS: u64 = 16;
-
 /// A session over a program, and how far it is from the start. Where the journal is full or its records weigh too much, and
 /// where there is no room for more output, the walker forgets the older half of the steps, with what they printed, and goes on.
 #[derive(Drop)]
@@ -35,9 +33,12 @@ pub struct Walker<A: Allocator + Copy> {
     // how much the records may weigh
     weight: u64,
     // why some were forgotten first; not said where the journal was full
-    reason: Option<Forgetting>,
-    // how many bytes of input there were so far
-    fed: u64,
+    pub(crate) reason: Option<Forgetting>,
+    // all input so far, which begins with the program
+    input: Vec<u8, A>,
+    // whether it has ended
+    has_ended: bool,
+    alloc: A,
 }
 
 impl<A: Allocator + Copy> Walker<A> {
@@ -52,13 +53,40 @@ impl<A: Allocator + Copy> Walker<A> {
         ensures refused { IfErr result (MayRefuseTape tape.now) }
     {
         let window = Window::over(alloc, tape, limit, width)?;
+        let Ok(input) = Vec::from_slice(alloc, tape) else {
+            return Err(Ending::Memory);
+        };
         Ok(Walker {
             window,
             limit,
             weight: keep / WEIGHED_BYTES,
             reason: None,
-            fed: tape.len() as u64,
+            input,
+            has_ended: false,
+            alloc,
         })
+    }
+
+    /// At the start of the program again, with all input so far.
+    /// Refused as `TooLong`, where that has more than 33,554,432 bytes, and as `Memory`.
+    pub(crate) fn window_anew(&self) -> Result<Window<A>, Refusal> {
+        let input = self.input.as_slice();
+        // (It is within these since `new`.)
+        let limit = self.limit.max(1).min(JOURNAL_LIMIT);
+        let mut window = match Window::over(self.alloc, input, limit, self.width()) {
+            Ok(window) => window,
+            Err(Ending::Limit) => return Err(Refusal::TooLong),
+            Err(_) => return Err(Refusal::Memory),
+        };
+        if self.has_ended {
+            window.session.end();
+        }
+        Ok(window)
+    }
+
+    /// How much the records may weigh.
+    pub(crate) fn weight(&self) -> u64 {
+        self.weight
     }
 
     /// The machine, which shows the state.
@@ -151,16 +179,23 @@ impl<A: Allocator + Copy> Walker<A> {
         let Ok(line) = with_line_feed(alloc, text) else {
             return Err(Refusal::Memory);
         };
-        self.window.session.feed(line.as_slice())?;
-        self.fed = self.fed.saturating_add(line.len() as u64);
-        Ok(())
+        let len = self.input.len();
+        let Ok(()) = self.input.extend_from_slice(line.as_slice()) else {
+            return Err(Refusal::Memory);
+        };
+        let fed = self.window.session.feed(line.as_slice());
+        if fed.is_err() {
+            self.input.truncate(len);
+        }
+        fed
     }
 
     /// Which byte of all input that of this number of the tape is, the first being number 0.
     pub fn input_number(&self, n: usize) -> u64 {
         let read = self.sight().position as u64;
         let there = read.saturating_add(self.unread().len() as u64);
-        self.fed.saturating_sub(there).saturating_add(n as u64)
+        let fed = self.input.len() as u64;
+        fed.saturating_sub(there).saturating_add(n as u64)
     }
 
     /// Goes back to where the byte at a place comes from, or the item of a form, and tells a witness of each call on the
@@ -174,6 +209,7 @@ impl<A: Allocator + Copy> Walker<A> {
 
     /// Ends the input.
     pub fn end_input(&mut self) {
+        self.has_ended = true;
         self.window.session.end();
     }
 
@@ -294,7 +330,7 @@ fn walk_on<A: Allocator + Copy>(
     weight: u64,
 ) -> Walk {
     match aim {
-        Some(aim) => session.forward_to(goal_for(aim), most.min(SEARCH_STEPS)),
+        Some(aim) => session.forward_to(goal_for(aim), most.min(search_steps(session.machine()))),
         None => session.forward_within(most, weight),
     }
 }

@@ -1,11 +1,14 @@
 //! The command line of `trac-lint`, carried out.
 
 use crate::{MIB, not_understood, shown};
-use std::alloc::AllocError;
+use std::alloc::{AllocError, Global};
 use std::process::ExitCode;
 use trac_lint::{Found, Halt, Settings, Sources, lint};
 use trac_streams::{Ending, tape_in};
 use trac_words::lint_words::{LintLine, read_lint_line};
+
+// What is said where memory was refused.
+const NO_MEMORY: &str = "there is no memory";
 
 // The status where a file is not looked through.
 const FAILED: u8 = 2;
@@ -48,62 +51,87 @@ fn lint_all(rt: &HostRuntime, paths: &[String], input: &str, settings: Settings)
 
 // The status of one.
 fn lint_file(rt: &HostRuntime, path: &str, input: &str, settings: Settings) -> u8 {
-    let Some(mut tape) = file_at(rt, path) else {
+    let (Ok(name), Ok(input_name)) = (one_line(rt.alloc(), path), one_line(rt.alloc(), input))
+    else {
+        return told(rt, path, NO_MEMORY);
+    };
+    let Some(mut tape) = file_at(rt, path, name.as_str()) else {
         return FAILED;
     };
     let len = tape.len();
     if !input.is_empty() {
-        let Some(more) = file_at(rt, input) else {
+        let Some(more) = file_at(rt, input, input_name.as_str()) else {
             return FAILED;
         };
         if tape.extend_from_slice(more.as_slice()).is_err() {
-            return told(rt, path, "there is no memory");
+            return told(rt, name.as_str(), NO_MEMORY);
         }
     }
     let sources = Sources {
-        name: path.as_bytes(),
-        input_name: input.as_bytes(),
+        name: name.as_bytes(),
+        input_name: input_name.as_bytes(),
         tape: tape.as_slice(),
         len,
     };
     let found = lint(rt.alloc(), sources, &mut rt.stdout(), settings);
-    tell_halt(rt, path, found, settings.steps);
+    tell_halt(rt, name.as_str(), found, settings.steps);
     found.status()
 }
 
-// The bytes of the file at this path; none, which is said, where they cannot be had.
-fn file_at(rt: &HostRuntime, path: &str) -> Option<Vec<u8>> {
+// A path as it stands in a line: of a control character, such as a line feed, `\x` and two hexadecimal digits.
+fn one_line(alloc: Global, path: &str) -> Result<String, AllocError> {
+    let mut line = String::new(alloc);
+    for character in path.chars() {
+        if !character.is_control() {
+            line.push(character)?;
+            continue;
+        }
+        line.push_str("\\x")?;
+        for digit in [character as u32 / 16, character as u32 % 16] {
+            line.push(char::from_digit(digit, 16).unwrap_or('?'))?;
+        }
+    }
+    Ok(line)
+}
+
+// The bytes of the file at this path; none, which is said under this name, where they cannot be had.
+fn file_at(rt: &HostRuntime, path: &str, name: &str) -> Option<Vec<u8>> {
     let why = match tape_in(rt, path) {
         Ok(tape) => return Some(tape),
         Err(Ending::Limit) => "it has more than 33554432 bytes",
-        Err(Ending::Memory) => "there is no memory",
+        Err(Ending::Memory) => NO_MEMORY,
         Err(_) => "it cannot be read",
     };
-    told(rt, path, why);
+    told(rt, name, why);
     None
 }
 
 // Says of a file why it is not looked through.
-fn told(rt: &HostRuntime, path: &str, why: &str) -> u8 {
-    let _ = eprint!(rt; "trac-lint: {path}: {why}\n");
+fn told(rt: &HostRuntime, name: &str, why: &str) -> u8 {
+    let _ = eprint!(rt; "trac-lint: {name}: {why}\n");
     FAILED
 }
 
 // Says why a program was not run to its end, if it was not.
-fn tell_halt(rt: &HostRuntime, path: &str, found: Found, steps: u64) {
+fn tell_halt(rt: &HostRuntime, name: &str, found: Found, steps: u64) {
     let why = match found.halt {
         Halt::Ended => return,
         Halt::Spent => {
             let _ = eprint!(rt;
-                "trac-lint: {path}: stopped after {steps} steps; --steps allows more\n"
+                "trac-lint: {name}: stopped after {steps} steps; --steps allows more\n"
             );
             return;
         }
-        Halt::Limit =>
-            "stopped where a limit is passed: too much text, or too many arguments, forms or blocks",
+        Halt::Limit(steps) => {
+            let _ = eprint!(rt;
+                "trac-lint: {name}: stopped after {steps} steps, where a limit is passed: \
+                too much text, or too many arguments, forms or blocks\n"
+            );
+            return;
+        }
         Halt::TooLong => "with its input it has more than 33554432 bytes",
         Halt::Memory => "stopped, there is no memory to go on",
         Halt::Write => "the output cannot be written",
     };
-    told(rt, path, why);
+    told(rt, name, why);
 }

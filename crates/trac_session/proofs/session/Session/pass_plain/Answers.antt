@@ -3,7 +3,7 @@ use Rattle.trac_journal.specs.Journaled.{Journaled}
 use Rattle.trac_rules.specs.Session.{Step}
 use Rattle.trac_step.specs.Layout.{Shown}
 use Rattle.trac_session.specs.Journal.{IsWithinReach}
-use Rattle.trac_session.proofs.Passed.{IsSound-passed, Step_passed, moved_weigh_nothing, no_plain_ahead}
+use Rattle.trac_session.proofs.Passed.{IsSound-passed, Step_moved, Step_passed, moved_weigh_nothing, no_plain_ahead}
 use Rattle.trac_session.proofs.Summed.{journal_weighs}
 use Rattle.trac_session.proofs.Trailed.{walked}
 use Rattle.trac_session.proofs.session.Session.pass_plain.Goals as goal
@@ -30,6 +30,12 @@ returns-clause-passed g c =
     let m = c.self.inside.machine in
     Step_passed (IsWithinReach m (length c.self.inside.tape.items)) _ _ _ c.self.inside.journal.records c.push_moved.new.self.records m c.move_plain-count.new.self c.move_plain-count.result _
     c.self.view_is c.self.invariant.sound.records c.move_plain-count.ensures.proper c.move_plain-count.ensures.plain fits kept c.move_plain-count.ensures.moved
+
+pub returns-clause-moved : goal.returns-clause-moved
+returns-clause-moved g c =
+    let m = c.self.inside.machine in
+    Step_moved _ _ _ c.self.inside.journal.records c.push_moved.new.self.records m c.move_plain-count.new.self c.move_plain-count.result _
+    c.self.view_is c.move_plain-count.ensures.proper c.move_plain-count.ensures.plain (ap (λ (j : Journaled). j.records) c.push_moved.ensures) c.move_plain-count.ensures.moved
 
 pub returns-clause-weight : goal.returns-clause-weight
 returns-clause-weight g c =

@@ -1,0 +1,43 @@
+// What is said to those who do not see the page: at a step its sentence, while it plays nothing, and the last one at its end.
+
+// So many milliseconds it waits whether more is to be said.
+const PAUSE = 80;
+// What is said first.
+const SAID = ["ending", "note", "step"];
+
+class Announcer {
+  constructor() {
+    this.box = byId("said");
+    this.words = new Map();
+    this.isSilent = false;
+  }
+
+  // Says words of a kind soon, in place of those of that kind which are not said yet.
+  say(kind, words) {
+    if (this.isSilent) return;
+    if (words) this.words.set(kind, words);
+    else this.words.delete(kind);
+    if (kind === "ending") this.words.delete("step");
+    clearTimeout(this.later);
+    this.later = setTimeout(() => this.now(), PAUSE);
+  }
+
+  // Says what the step did that was shown last.
+  step(words = byId("last").textContent) {
+    this.say("step", words);
+  }
+
+  now() {
+    const words = SAID.map((kind) => this.words.get(kind)).filter((said) => said).join(" ");
+    this.words.clear();
+    if (words) this.box.replaceChildren(words);
+  }
+
+  // Nothing is said while it plays; at the end of that, where it stands.
+  playing(isPlaying) {
+    const ends = this.isSilent && !isPlaying;
+    this.isSilent = isPlaying;
+    clearTimeout(this.later);
+    if (ends) this.step();
+  }
+}

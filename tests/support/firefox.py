@@ -1,0 +1,203 @@
+"""A page in Firefox without a window, spoken to by its Marionette protocol over a socket."""
+import base64
+import json
+import os
+import shutil
+import socket
+import subprocess
+import tempfile
+import time
+
+# What stands for keys that write no sign.
+KEYS = {
+    "Backspace": "\ue003", "Tab": "\ue004", "Enter": "\ue006", "Shift": "\ue008", "Control": "\ue009", "Escape": "\ue00c",
+    "PageUp": "\ue00e", "PageDown": "\ue00f", "End": "\ue010", "Home": "\ue011", "ArrowLeft": "\ue012", "ArrowUp": "\ue013",
+    "ArrowRight": "\ue014", "ArrowDown": "\ue015", "Delete": "\ue017",
+}
+# How the browser itself is to look, and that it asks nobody for anything.
+SETTINGS = {
+    "marionette.port": 0,
+    "app.normandy.enabled": False,
+    "app.update.disabledForTesting": True,
+    "browser.shell.checkDefaultBrowser": False,
+    "datareporting.policy.dataSubmissionEnabled": False,
+    "extensions.systemAddon.update.enabled": False,
+    "messaging-system.rsexperimentloader.enabled": False,
+    "network.captive-portal-service.enabled": False,
+    "network.connectivity-service.enabled": False,
+    "services.settings.server": "data:,#remote-settings-dummy/v1",
+    "toolkit.telemetry.server": "",
+}
+# In the browser's own part: the page has so many pixels, and what it asks for is noted.
+SIZE = """
+const [width, height] = arguments;
+const { style } = gBrowser.selectedBrowser;
+for (const [name, size] of [["width", width], ["height", height]]) {
+  for (const part of ["", "min-", "max-"]) style.setProperty(part + name, `${size}px`, "important");
+}
+window.askedFor = [];
+Services.obs.addObserver((request) => {
+  const { triggeringPrincipal } = request.QueryInterface(Ci.nsIHttpChannel).loadInfo;
+  if (!triggeringPrincipal.isSystemPrincipal) window.askedFor.push(request.URI.spec);
+}, "http-on-opening-request");
+"""
+CLEAR = "Services.console.reset(); window.askedFor.length = 0;"
+FAULTS = """
+const said = Services.console.getMessageArray().filter((one) => one instanceof Ci.nsIScriptError);
+const own = said.filter(({ sourceName, category }) => /^(file|blob|data|http):/.test(sourceName) || /CSP/.test(category));
+const words = ({ errorMessage, sourceName, lineNumber }) => `${errorMessage} (${sourceName}, ${lineNumber})`;
+return [...own.map(words), ...window.askedFor];
+"""
+
+
+def find():
+    """Firefox's command, or None."""
+    return shutil.which("firefox-esr") or shutil.which("firefox")
+
+
+class Firefox:
+    """One page of it: at a size, light or dark, with forced colours, without motion, or without modules of WebAssembly."""
+
+    name = "Firefox"
+
+    @staticmethod
+    def is_here():
+        """Whether it is installed."""
+        return find() is not None
+
+    def __init__(self, width=1280, height=800, dark=False, forced=False, still=False, modules=True):
+        self.room = tempfile.mkdtemp(prefix="trac-page-browser-")
+        looks = {
+            "layout.css.prefers-color-scheme.content-override": 0 if dark else 1,
+            "browser.display.document_color_use": 2 if forced else 0,
+            "ui.useAccessibilityTheme": int(forced),
+            "ui.prefersReducedMotion": int(still),
+            "javascript.options.wasm": modules,
+        }
+        with open(os.path.join(self.room, "user.js"), "w") as settings:
+            for name, value in {**SETTINGS, **looks}.items():
+                settings.write("user_pref({}, {});\n".format(json.dumps(name), json.dumps(value)))
+        command = [find(), "--headless", "--marionette", "--remote-allow-system-access", "--no-remote", "--profile", self.room]
+        nothing = subprocess.DEVNULL
+        self.process = subprocess.Popen(command + ["about:blank"], stdin=nothing, stdout=nothing, stderr=nothing)
+        self.socket, self.read, self.number = socket.create_connection(("127.0.0.1", self.port()), 60), b"", 0
+        self.message()
+        self.call("WebDriver:NewSession", capabilities={"alwaysMatch": {"pageLoadStrategy": "normal"}})
+        self.inside(SIZE, width, height)
+
+    def port(self):
+        """Where it listens, once it does."""
+        place = os.path.join(self.room, "MarionetteActivePort")
+        for _ in range(6000):
+            if os.path.exists(place):
+                with open(place) as said:
+                    text = said.read()
+                if text.strip():
+                    return int(text)
+            if self.process.poll() is not None:
+                raise OSError("Firefox has ended")
+            time.sleep(0.01)
+        raise OSError("Firefox does not listen")
+
+    def message(self):
+        """The next message: its length, a colon, and JSON. Within a minute."""
+        while b":" not in self.read:
+            self.more()
+        length, self.read = self.read.split(b":", 1)
+        while len(self.read) < int(length):
+            self.more()
+        message, self.read = self.read[:int(length)], self.read[int(length):]
+        return json.loads(message)
+
+    def more(self):
+        """Takes more of what it says."""
+        more = self.socket.recv(1 << 20)
+        if not more:
+            raise OSError("the browser has ended")
+        self.read += more
+
+    def call(self, method, **words):
+        """Has it do something, and returns what it says."""
+        self.number += 1
+        message = json.dumps([0, self.number, method, words]).encode()
+        self.socket.sendall(b"%d:" % len(message) + message)
+        _, _, fault, result = self.message()
+        if fault:
+            raise OSError("{}: {}: {}".format(method, fault["error"], fault["message"]))
+        return result
+
+    def inside(self, text, *words):
+        """The value of a script in the browser's own part."""
+        self.call("Marionette:SetContext", value="chrome")
+        try:
+            return self.call("WebDriver:ExecuteScript", script=text, args=list(words))["value"]
+        finally:
+            self.call("Marionette:SetContext", value="content")
+
+    def load(self, file, place=""):
+        """Loads a page, from a file if no address is given, and waits until it has started."""
+        self.call("WebDriver:Navigate", url="about:blank")
+        self.address = file if "://" in file else "file://" + file
+        self.inside(CLEAR)
+        self.call("WebDriver:Navigate", url=self.address + place)
+
+    def script(self, text):
+        """The value of an expression in the page."""
+        return self.call("WebDriver:ExecuteScript", script="return ({}\n);".format(text), args=[])["value"]
+
+    def perform(self, kind, actions, **words):
+        """What a finger, the mouse or the keys do, one after the other."""
+        self.call("WebDriver:PerformActions", actions=[{"type": kind, "id": kind, "actions": actions, **words}])
+        self.call("WebDriver:ReleaseActions")
+
+    def press(self, key, times=1, shift=False, control=False):
+        """Presses a key."""
+        held = ["Shift"] * shift + ["Control"] * control
+        for _ in range(times):
+            ways = [("keyDown", one) for one in held + [key]] + [("keyUp", one) for one in [key] + held[::-1]]
+            self.perform("key", [{"type": way, "value": KEYS.get(one, one)} for way, one in ways])
+
+    def insert(self, text):
+        """Writes a text where the focus is, in place of what is chosen there."""
+        self.script("document.execCommand('insertText', false, {})".format(json.dumps(text)))
+
+    def click_at(self, x, y):
+        """Clicks there by the mouse."""
+        self.point("mouse", [(x, y)])
+
+    def touch(self, *places):
+        """Puts a finger down at the first place, draws it over the others, and takes it up."""
+        self.point("touch", places)
+
+    def point(self, kind, places):
+        """Presses at the first place, and lets go at the last."""
+        moves = [{"type": "pointerMove", "x": round(x), "y": round(y), "duration": 20 * (index > 0)}
+                 for index, (x, y) in enumerate(places)]
+        down, up = ({"type": way, "button": 0} for way in ("pointerDown", "pointerUp"))
+        self.perform("pointer", [moves[0], down] + moves[1:] + [up], parameters={"pointerType": kind})
+
+    def choose_file(self, selector, path):
+        """Gives a file to a control."""
+        element = self.call("WebDriver:FindElement", using="css selector", value=selector)["value"]
+        self.call("WebDriver:ElementSendKeys", id=next(iter(element.values())), text=path)
+
+    def faults(self):
+        """What it wrote to its console, or asked for, since the page was loaded."""
+        return [fault for fault in self.inside(FAULTS) if not fault.startswith(self.address.split("#")[0])]
+
+    def picture(self, file):
+        """Keeps a screenshot."""
+        data = self.call("WebDriver:TakeScreenshot", full=False)["value"]
+        with open(file, "wb") as out:
+            out.write(base64.b64decode(data))
+
+    def end(self):
+        """Ends it."""
+        try:
+            self.call("Marionette:Quit", flags=["eForceQuit"])
+            self.process.wait(20)
+        except (OSError, subprocess.TimeoutExpired):
+            self.process.kill()
+            self.process.wait()
+        self.socket.close()
+        shutil.rmtree(self.room, ignore_errors=True)

@@ -1,0 +1,126 @@
+"""What the page asks of the processor: whole programs, runs that are stopped, answers that come late, and forms under any
+names."""
+import base64
+import glob
+import json
+import os
+import time
+
+from pages import TOP, check
+
+LONG = os.path.join(TOP, "examples", "long-way-back.trac")
+ENDLESS = os.path.join(TOP, "examples", "endless.trac")
+# So soon Stop ends the Worker, in seconds.
+SOON = 0.2
+# Notes when Workers are ended, and may leave them running.
+WATCH = """(() => {{
+  const end = Worker.prototype.terminate;
+  window.ended = [];
+  Worker.prototype.terminate = function () {{
+    window.ended.push(performance.now());
+    if (!{leaves}) end.call(this);
+  }};
+}})()"""
+STOP = """(() => {
+  window.ended = [];
+  const from = performance.now();
+  document.getElementById('stop').click();
+  return { after: window.ended.map((at) => at - from), said: document.getElementById('ending').textContent, took: performance.now() - from };
+})()"""
+# Forms under names that no command line takes, and the call that changed each last.
+CHANGED = (
+    ("a b", "#(CC,a b)"), ("c,\"d", "#(ss,“c,\"d”,1)"), ("", "#(ds,empty,5)"), ("#8 \\", "#(in,#8 \\,8)"), ("LF", "#(fb,B)"),
+)
+CHANGING = ("#(ds,a b,xyz)#(ds,(c,\"d),1)#(ds,(#8 \\),98765)#(ds,(\n),line)#(CC,a b)#(ss,(c,\"d),1)#(ds,,5)'"
+            "#(ds,a b c,2)#(cl,a b)#(sb,B,(\n))#(fb,B)#(in,(#8 \\),8)#(cc,a)#(in,(#8 \\),8)'")
+# Runs the module as the page's Worker does, without it.
+MODULE = """(async () => {
+  const bytes = Uint8Array.from(atob(document.getElementById('module').textContent.trim()), (sign) => sign.charCodeAt(0));
+  const stream = new Blob([bytes]).stream().pipeThrough(new DecompressionStream('deflate'));
+  const module = await WebAssembly.compile(await new Response(stream).arrayBuffer());
+  window.ranAs = (text, decimals) => {
+    const { trac_web_allocate: room, trac_web_run: run, memory } = new WebAssembly.Instance(module, {}).exports;
+    const input = Uint8Array.from(atob(text), (sign) => sign.charCodeAt(0));
+    const at = room(BigInt(input.length || 1)), output = room(1n << 22n), counts = room(16n);
+    new Uint8Array(memory.buffer).set(input, Number(at));
+    const status = run(at, BigInt(input.length), 1000000000n, BigInt(decimals), output, 1n << 22n, counts, counts + 8n);
+    const length = Number(new DataView(memory.buffer).getBigUint64(Number(counts), true));
+    const printed = new Uint8Array(memory.buffer, Number(output), length);
+    return [status, btoa(Array.from(printed, (byte) => String.fromCharCode(byte)).join(''))];
+  };
+  return true;
+})()"""
+
+
+def read(name, otherwise=None):
+    """The bytes of a file."""
+    if otherwise is not None and not os.path.exists(name):
+        return otherwise
+    with open(name, "rb") as file:
+        return file.read()
+
+
+def check_programs(page):
+    """Whole programs, with what they print, by both widths of numbers."""
+    page.script(MODULE)
+    wrong = []
+    for path in sorted(glob.glob(os.path.join(TOP, "tests", "programs", "*.trac"))):
+        name = path[:-len(".trac")]
+        wanted = [int(read(name + ".status", b"0")), read(name + ".out")]
+        for decimals, output in ((128, wanted[1]), (64, read(name + ".64", wanted[1]))):
+            status, printed = page.script("ranAs('{}', {})".format(base64.b64encode(read(path)).decode(), decimals))
+            if [status, base64.b64decode(printed)] != [wanted[0], output]:
+                wrong.append((name, decimals, status))
+    check(not wrong, "whole programs: {}".format(wrong))
+
+
+def check_stop(page):
+    """Stop ends a run at once, and what comes late of it is dropped."""
+    page.script(WATCH.format(leaves="false"))
+    said = []
+    for _ in range(3):
+        page.put(read(ENDLESS).decode())
+        page.click("document.getElementById('run')")
+        page.until("!document.getElementById('stop').hidden", "it runs")
+        said.append(page.script(STOP))
+    check(all(one["said"] == "The run was stopped." for one in said), "Stop is said: {}".format(said))
+    check(all(one["after"] and max(one["after"]) <= SOON * 1000 for one in said), "Stop ends the Worker: {}".format(said))
+    page.script(WATCH.format(leaves="true"))
+    page.click("document.getElementById('run')")
+    page.until("!document.getElementById('stop').hidden", "it runs")
+    page.script(STOP)
+    page.type("#(ps,again)'")
+    page.run()
+    time.sleep(2)
+    said = [page.text(name) for name in ("output", "ending", "place")] + [page.script("document.getElementById('slider').max")]
+    check(said[0] == "again" and said[1].startswith("After 2") and said[3] == "27", "a late answer is dropped: {}".format(said))
+
+
+def check_jumps(page):
+    """The last of some jumps counts, and one that takes long can be stopped."""
+    page.put(read(LONG).decode())
+    page.run()
+    page.script("[1000000, 999000, 5, 700000, 7].forEach((step) => { const box = document.getElementById('place'); "
+                "box.value = String(step); box.dispatchEvent(new Event('change')); })")
+    page.until("document.getElementById('slider').value === '7'", "the last jump counts")
+    time.sleep(1)
+    check(page.script("document.getElementById('slider').value") == "7", "no other comes after it")
+
+
+def check_changes(page):
+    """The call that changed a form last, whatever its name."""
+    page.type(CHANGING)
+    page.run()
+    end = page.script("document.getElementById('slider').value")
+    for name, call in CHANGED:
+        page.go(end)
+        page.script("[...document.querySelectorAll('#forms tr')].find((row) => row.querySelector('th span').textContent === {})"
+                    ".querySelector('[data-who]').click()".format(json.dumps(name)))
+        page.until("document.getElementById('slider').value !== '{}'".format(end), "who changed {!r}".format(name))
+        check(call in page.text("next"), "{!r} was changed by {}: {}".format(name, call, page.text("next")))
+
+
+def check_answers(page):
+    """All of it."""
+    for part in (check_programs, check_stop, check_jumps, check_changes):
+        part(page)

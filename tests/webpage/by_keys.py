@@ -1,0 +1,260 @@
+"""The page by keys alone: the order of the focus, every control, the tree of calls, keys that are switched off, and a focus that
+stays where it is."""
+from pages import FACTORIAL, check
+
+# What has the focus: its id, or what it is called and where it stands.
+FOCUS = ("(() => { const it = document.activeElement; const within = it.closest('[id]'); return it === document.body ? '' : it.id || "
+         "`${within.id}: ${it.getAttribute('aria-label') ?? it.textContent}`; })()")
+# Every stop of the Tab key that can be seen, in the order of the page; controls that stand side by side are one where the browser says so.
+STOPS = ("[...document.querySelectorAll('button, select, input, textarea, [tabindex]')].filter((it) => it.checkVisibility() && it.tabIndex >= 0 "
+         "&& !it.disabled && it.type !== 'file').map((it) => it.id || `${it.closest('[id]').id}: ${it.getAttribute('aria-label') ?? it.textContent}`)")
+STEP = "document.getElementById('slider').value"
+CHOSEN = "document.getElementById(document.getElementById('tree').getAttribute('aria-activedescendant'))"
+
+
+def at_step(page, step, what):
+    """Waits until the page is at a step."""
+    page.until("{} === '{}'".format(STEP, step), "{}: step {}, not {}".format(what, step, page.script(STEP)), 20)
+
+
+def focus(page, name):
+    """Gives the focus to what has an id, as Tab would."""
+    page.script("document.getElementById('{}').focus()".format(name))
+
+
+def started(kind, file, **words):
+    """The page with the wrong factorial run, its calls listed, and where its 0 comes from; all of that by keys."""
+    page = kind(file, **words)
+    focus(page, "source")
+    page.insert(open(FACTORIAL).read())
+    page.press("Enter", control=True)
+    page.until("document.activeElement.id === 'output'", "the output has the focus")
+    page.until("document.querySelectorAll('#tree .row').length > 5", "the calls are listed")
+    page.press("Enter")
+    page.until("document.getElementById('way-list').children.length === 2", "where the 0 comes from")
+    return page
+
+
+def check_order(page):
+    """Tab goes over every control in the order in which the page is read; the tree of calls is one stop."""
+    page.script("document.getElementById('help-button').getAttribute('aria-expanded') === 'true' || document.getElementById('help-button').click()")
+    wanted = page.script(STOPS)
+    page.script("(document.activeElement.blur(), getSelection().removeAllRanges(), document.querySelector('h1').tabIndex = -1, "
+                "document.querySelector('h1').focus())")
+    seen = []
+    for _ in range(len(wanted)):
+        page.press("Tab")
+        seen.append(page.script(FOCUS))
+    page.script("document.querySelector('h1').removeAttribute('tabindex')")
+    check(seen == wanted, "{}: the order of the focus: {}".format(page.name, [pair for pair in zip(seen, wanted) if pair[0] != pair[1]][:3]))
+    check(sum("tree" in name for name in seen) == 1, "the tree is one stop: {}".format(seen))
+    places = page.script("[...document.querySelectorAll('header, #help, #program-section, #result, #rules, #tape, #timeline, #buttons, #begun, #forms, #tree')]"
+                         ".map((it) => it.compareDocumentPosition(document.getElementById('tree')))")
+    check(all(place & 4 or place == 0 for place in places), "the tree is read last: {}".format(places))
+    page.script("document.getElementById('help-button').click()")
+
+
+def check_buttons(page):
+    """Each button of the player by Enter, the slider by arrows, the number of a step by typing."""
+    for name, before, after in (("start", 100, 0), ("end", 100, 276), ("back", 78, 77), ("forward", 77, 78), ("token", 0, 1),
+                                ("token-back", 138, 137), ("call", 0, 23), ("call-back", 265, 263), ("over", 77, 267),
+                                ("over-back", 263, 138), ("out", 138, 263), ("begin", 263, 132)):
+        page.go(before)
+        focus(page, name)
+        page.press("Enter")
+        at_step(page, after, "the button {} from {}".format(name, before))
+        check(page.script(FOCUS) == name, "{}: {} has the focus still, not {}".format(page.name, name, page.script(FOCUS)))
+    focus(page, "slider")
+    page.press("ArrowRight")
+    at_step(page, 133, "an arrow on the slider")
+    focus(page, "place")
+    page.script("document.getElementById('place').select()")
+    page.insert("50")
+    page.press("Enter")
+    at_step(page, 50, "a number that is typed")
+    page.press("Escape")
+    focus(page, "play")
+    page.press("Enter")
+    page.until("Number({}) > 52".format(STEP), "it plays")
+    page.press("Enter")
+    check(page.text("play") == "play", "it pauses")
+
+
+def check_others(page):
+    """A step on the way of a byte, the other looks, a program of the list, a doubt, and earlier output."""
+    page.script("document.querySelector('#way-list [data-go]').focus()")
+    page.press("Enter")
+    at_step(page, 267, "a call on the way")
+    focus(page, "theme")
+    for looks in ("dark", "light"):
+        page.press("Enter")
+        page.until("document.documentElement.dataset.theme === '{}'".format(looks), "the looks are " + looks)
+    focus(page, "library")
+    page.press("f")
+    check(page.text("program-name") == "", "going through a closed list opens nothing yet: " + page.text("program-name"))
+    page.press("Enter")
+    page.until("document.getElementById('question').open", "it asks, since a program was typed")
+    focus(page, "question-yes")
+    page.press("Enter")
+    page.until("document.getElementById('program-name').textContent === 'first.trac'", "first.trac: " + page.text("program-name"))
+    again(page, "#(pr,a)#(ps,({}))'".format("long " * 2000))
+    page.until("document.querySelector('#doubts button') !== null", "a doubt is listed")
+    page.script("document.querySelector('#doubts button').focus()")
+    page.press("Enter")
+    at_step(page, 13, "a doubt")
+    page.press("End")
+    page.until("document.getElementById('output-note').textContent.startsWith('bytes 1,809 to 10,000')", page.text("output-note"))
+    page.script("document.querySelector('#output button').focus()")
+    page.press("Enter")
+    page.until("document.getElementById('output-note').textContent.startsWith('bytes 1 to 1,808')", page.text("output-note"))
+    check("output" in page.script(FOCUS), "{}: earlier output keeps the focus: {}".format(page.name, page.script(FOCUS)))
+    again(page, open(FACTORIAL).read())
+    page.until("document.querySelectorAll('#tree .row').length > 5", "the calls are listed")
+
+
+def again(page, text):
+    """Types another program, and runs it."""
+    focus(page, "source")
+    page.script("document.getElementById('source').select()")
+    page.insert(text)
+    page.press("Enter", control=True)
+    page.until("document.activeElement.id === 'output' && document.getElementById('ending').textContent.startsWith('After')", "it is run")
+
+
+def check_texts(page):
+    """Signs of each text that the page shows are chosen by arrows and followed by Enter."""
+    page.go(90)
+    for name, keys in (("neutral", 1), ("active", 3), ("begun", 1), ("rules", 6), ("output", 0)):
+        if name == "output":
+            page.go(276)
+        page.script("document.getElementById('way-list').replaceChildren()")
+        focus(page, name)
+        page.press("ArrowRight", max(keys, 1))
+        check(page.text("note").startswith("byte "), "{}: the chosen sign of {}: {}".format(page.name, name, page.text("note")))
+        page.press("Enter")
+        page.until("document.getElementById('way-list').children.length > 0", "a sign of {} is followed".format(name), 20)
+    page.script("document.querySelector('#forms [data-place]').focus()")
+    page.press("ArrowLeft")
+    page.press("Enter")
+    page.until("document.activeElement.closest('.way-row') !== null", "a sign of a form is followed", 20)
+    page.script("document.querySelector('#forms [data-who]').focus()")
+    page.press("Enter")
+    at_step(page, 50, "who changed the form")
+
+
+def check_focus_stays(page):
+    """What has the focus has it after a step: it is there, or what stands in its place is."""
+    page.go(100)
+    stops = page.script("[...document.querySelectorAll('#player [tabindex], #player button, #panels [tabindex], #panels button')]"
+                        ".filter((it) => it.checkVisibility()).length")
+    dropped = []
+    for index in range(stops):
+        page.script("[...document.querySelectorAll('#player [tabindex], #player button, #panels [tabindex], #panels button')]"
+                    ".filter((it) => it.checkVisibility())[{}]?.focus()".format(index))
+        held = page.script(FOCUS)
+        for step in (101, 99, 276, 100):
+            page.go(step)
+        if page.script(FOCUS) != held:
+            dropped.append((held, page.script(FOCUS)))
+    page.script("document.querySelector('#forms [data-place]').focus()")
+    page.go(0)
+    check(page.script(FOCUS) == "active", "{}: a form that is not there any more leaves the focus to the text: {}".format(
+        page.name, page.script(FOCUS)))
+    check(stops > 15 and not dropped, "{}: the focus was dropped by a step: {}".format(page.name, dropped))
+
+
+def check_tree(page):
+    """Arrows, Home, End and letters within the tree; places among the calls of the same call; a focus that scrolling keeps."""
+    page.go(90)
+    page.script("document.getElementById('filter').focus()")
+    page.press("Tab")
+    check(page.script(FOCUS) == "tree", "the tree has the focus: " + page.script(FOCUS))
+    number = CHOSEN + ".querySelector('.number').textContent"
+    for key, step in (("Home", "23"), ("ArrowDown", "50"), ("ArrowUp", "23"), ("m", "265"), ("ArrowRight", "119"), ("ArrowRight", "117"),
+                      ("ArrowLeft", "119"), ("ArrowLeft", "119"), ("ArrowDown", "131"), ("ArrowLeft", "265"), ("End", "257")):
+        page.press(key)
+        shown = page.script(number)
+        check(shown == step, "{}: {} chooses the call at {}, not {}".format(page.name, key, step, shown))
+    wanted = ["role", "aria-level", "aria-posinset", "aria-setsize"]
+    # (beside it stand the calls of ds, ss, cl and eq; within it those of cl, which is folded, eq and ml)
+    page.press("Home")
+    page.press("m")
+    said = page.script("{}.map((name) => {}.getAttribute(name))".format(wanted, CHOSEN))
+    check(said == ["treeitem", "1", "5", "5"], "what is told of the call at 265: {}".format(said))
+    page.press("ArrowRight")
+    said = page.script("[...{}, 'aria-expanded'].map((name) => {}.getAttribute(name))".format(wanted, CHOSEN))
+    check(said == ["treeitem", "2", "1", "3", "false"], "what is told of the call at 119: {}".format(said))
+    page.press("Enter")
+    at_step(page, 119, "Enter in the tree")
+    check(page.script(FOCUS) == "tree", "the tree has the focus after that: " + page.script(FOCUS))
+    page.script("document.getElementById('tree').scrollTop = 100000")
+    page.script("new Promise((done) => requestAnimationFrame(() => requestAnimationFrame(() => done())))")
+    check(page.script(FOCUS) == "tree" and page.script(number) == "119", "scrolling keeps the focus and the chosen call")
+    page.press("Home")
+
+
+def check_switch(page):
+    """Keys of one sign can be switched off, from the help, by keys; the others go on."""
+    page.go(100)
+    page.script("document.activeElement.blur()")
+    page.press("s")
+    at_step(page, 101, "s")
+    page.press("?", shift=True)
+    page.until("!document.getElementById('help').hidden", "the help is there")
+    focus(page, "single-keys")
+    page.press(" ")
+    check(not page.script("document.getElementById('single-keys').checked"), "the switch is off")
+    page.script("document.activeElement.blur()")
+    # (Firefox has a search of its own at "/", where the page does not take that key)
+    for key in "sbnNoOruywdDmgh? " + ("/" if page.name == "Chromium" else ""):
+        page.press(key)
+    check(page.script(STEP) == "101", "no key of one sign is a step: " + page.script(STEP))
+    page.press("Home")
+    at_step(page, 0, "Home, while they are off")
+    check(page.text("play") == "play" and page.script(FOCUS) == "", "no key of one sign did anything: " + page.script(FOCUS))
+    focus(page, "single-keys")
+    page.press(" ")
+    page.press("Escape")
+    page.script("document.activeElement.blur()")
+    page.press("s")
+    at_step(page, 1, "s, after they are on again")
+    focus(page, "help-button")
+    page.press("Enter")
+    page.until("document.getElementById('help').hidden", "the help is gone")
+
+
+def check_input(page):
+    """A dialogue by keys: a line, the question whether another may take its place, and the end of input."""
+    focus(page, "source")
+    page.script("document.getElementById('source').select()")
+    page.insert("#(ps,(Who? ))#(ps,Hello ##(rs))'")
+    focus(page, "run")
+    page.press("Enter")
+    page.until("document.getElementById('ending').textContent.includes('waits for input')", "it waits")
+    focus(page, "input")
+    page.insert("Ann'")
+    page.press("Enter")
+    page.until("document.getElementById('output').textContent.endsWith('Hello Ann')", "it reads a line")
+    page.go(20)
+    focus(page, "input")
+    page.insert("Bob'")
+    page.press("Enter")
+    page.until("document.getElementById('question').open", "it asks")
+    page.press("Escape")
+    page.until("!document.getElementById('question').open && document.activeElement.id === 'input'", "Escape is no, and the focus is back")
+    page.press("Escape")
+    focus(page, "end-input")
+    page.press("Enter")
+    page.until("document.getElementById('ending').textContent.includes('the input has ended')", "the input ends")
+    page.until(FOCUS + " === 'output'", "the output has the focus then")
+
+
+def check_by_keys(kind, file):
+    """All that, in one browser."""
+    page = started(kind, file)
+    try:
+        for part in (check_order, check_others, check_buttons, check_texts, check_focus_stays, check_tree, check_switch, check_input):
+            part(page)
+            page.well(part.__name__)
+    finally:
+        page.end()

@@ -1,0 +1,108 @@
+"""The course in the page: its lessons, their programs, and what a check of an exercise says."""
+import glob
+import json
+import os
+
+from pages import TOP, check
+
+COURSE = os.path.join(TOP, "course")
+# Programs for exercise 5.1, and what a check says of each, as trac-course says it.
+CHECKED = (
+    ("#(ds,down,(#(cl,down)))'", "Run 1 of 2: it has not ended within 10,000,000 steps"),
+    ("#(ds,down,(#(ps,x)#(cl,down)))'", "Run 1 of 2: it prints more than 65,536 bytes"),
+    ("#(ds,down,(#(cl,down)#(cl,down)#(ds,x,#(cl,x)#(cl,x))))#(ds,x,12345678)'", "Run 1 of 2: it "),
+    ("", "it prints something elseIs printednothing"),
+    ("#(ds,down,(#(ps,3 2 1 stop)))'", "They differ from line 1, character 7 on."),
+    ("#(ds,down,(#(eq,N,0,(#(ps,(go\n\n))),(#(ps,N )#(cl,down,#(su,N,1))))))#(ss,down,N)'", "It is solved"),
+    ("#(ds,down,(#(eq,N,0,(#(ps,go)),(#(ps,N )#(cl,down,#(su,N,1))))))#(ss,down,N)'", "It is solved"),
+)
+
+
+def read(name):
+    """The text of a file of the course."""
+    with open(os.path.join(COURSE, name), encoding="utf-8", newline="") as file:
+        return file.read()
+
+
+def shows(page, title):
+    """Opens a lesson or an exercise from the list."""
+    page.script("(() => {{ const list = document.getElementById('course'); "
+                "list.value = [...list.options].find((one) => one.text.trim() === {}).value; "
+                "list.dispatchEvent(new Event('change')); }})()".format(json.dumps(title)))
+
+
+def press(page, word):
+    """Presses a button of what is open."""
+    page.script("[...document.querySelectorAll('#lesson-text button')].find((one) => one.textContent === '{}').click()"
+                .format(word))
+
+
+def judged(page, program):
+    """What a check says of a program."""
+    page.put(program)
+    press(page, "Check")
+    page.until("!['', 'It is checked ..'].includes(document.querySelector('.judged').textContent)", "a check says something")
+    return page.script("document.querySelector('.judged').textContent")
+
+
+def check_lessons(page):
+    """Each lesson has its text, and its programs can be opened."""
+    for path in sorted(glob.glob(os.path.join(COURSE, "[0-9]*", "lesson.md"))):
+        text = read(path)
+        shows(page, text.split("\n")[0].lstrip("# "))
+        names = page.script("[...document.querySelectorAll('#lesson-text .program button')].map((it) => it.textContent)")
+        there = [os.path.basename(file) for file in glob.glob(os.path.join(os.path.dirname(path), "*.trac"))]
+        check(sorted(names) == sorted("Open " + name for name in there), "{} has its programs: {}".format(path, names))
+        shown = page.text("lesson-text").replace("\n", " ")
+        last = [line for line in text.split("\n") if line and line[0].isalpha()][-1]
+        check(all(word in shown for word in last.replace("`", "").replace("*", "").split()), "{} is shown to its end".format(path))
+        check("```" not in shown, "{}: each block is one".format(path))
+    shows(page, "3. Forms")
+    page.put("")
+    press(page, "Open scan.trac")
+    if page.script("document.getElementById('question').open"):
+        page.click("document.getElementById('question-yes')")
+    page.until("document.getElementById('program-name').textContent === 'scan.trac'", "a program of the lesson is opened")
+    page.run()
+    check(page.text("output").strip() == "5 is #(ad,2,3)", "what it prints: " + page.text("output"))
+    page.click("document.getElementById('lesson-next')")
+    check(page.text("lesson-title").startswith("Exercise 3.1 "), "after a lesson its exercise: " + page.text("lesson-title"))
+
+
+def check_exercises(page):
+    """Of each exercise the solution is right, and the wrong one is not."""
+    for folder in sorted(glob.glob(os.path.join(COURSE, "[0-9]*", "[0-9]*", ""))):
+        shows(page, read(os.path.join(folder, "exercise.md")).split("\n")[0].lstrip("# "))
+        runs = page.script("document.querySelectorAll('#lesson-text .run').length")
+        check(runs == len(glob.glob(os.path.join(folder, "*.out"))), "{}: {} runs".format(folder, runs))
+        for name in ("solution.trac", "wrong.trac", "start.trac"):
+            if os.path.exists(os.path.join(folder, name)):
+                said = judged(page, read(os.path.join(folder, name)))
+                check(("It is solved" in said) == (name == "solution.trac"), "{}{}: {}".format(folder, name, said))
+    shows(page, "5.1 A countdown")
+    for program, part in CHECKED:
+        said = judged(page, program)
+        check(part in said, "a check of {!r} says {!r}".format(program, said[:300]))
+    press(page, "Hint")
+    press(page, "A solution")
+    unfolded = page.script("[...document.querySelectorAll('.unfolded')].map((one) => one.textContent).join()")
+    check("`" not in unfolded and "#(ds,down," in unfolded, "a hint and a solution: " + unfolded)
+
+
+def check_failure(page):
+    """A run that fails can be walked through: on its input, and from its start."""
+    shows(page, "8.1 " + read("08/1/exercise.md").split("\n")[0].split(" ", 2)[2])
+    said = judged(page, read("08/1/wrong.trac").rstrip("\n"))
+    check("Is printed" in said, "the wrong one fails: " + said)
+    press(page, "Run it on this input")
+    page.until("document.getElementById('ending').textContent.startsWith('After ')", "it is run on the input")
+    printed = page.script("document.querySelector('.judged .block').textContent").strip()
+    check(page.text("output").strip() == printed, "it prints what the check said: " + page.text("output"))
+    page.click("document.getElementById('lesson-close')")
+    check(page.script("document.getElementById('lesson').hidden"), "the lesson is closed")
+
+
+def check_course(page):
+    """All of it."""
+    for part in (check_lessons, check_exercises, check_failure):
+        part(page)

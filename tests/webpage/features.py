@@ -1,0 +1,29 @@
+"""Nothing is used that Chromium 105, Firefox 121 or Safari 16.4 lack, but where the page goes on without it."""
+import glob
+import os
+import re
+
+from pages import TOP, check
+
+# What later browsers alone have, or what Safari has in part.
+LATER = {
+    "js": (r"\bscheduler\b|OffscreenCanvas|requestIdleCallback|checkVisibility|withResolvers|fromAsync|[gG]roupBy\("
+           r"|\.to(Sorted|Spliced|Reversed)\(|\.with\(\d|isWellFormed|startViewTransition|[sg]etHTML|moveBefore|showPopover"
+           r"|navigation\.|\.(union|difference|isSubsetOf)\(|AbortSignal\.any|Intl\.(Segmenter|DurationFormat)|Temporal\."
+           r"|import .* with|/[gimsuy]*v[gimsuy]*\.(exec|test)|Uint8Array\.from(Base64|Hex)|\.values\(\)\.(map|filter|some)\("
+           r"|Promise\.try|RegExp\.escape|\busing \w+ ="),
+    "css": (r"field-sizing|@scope|@starting-style|@property|@container|:popover-open|anchor\(|text-wrap: pretty|light-dark\("
+            r"|interpolate-size|(^|[{;] *)&|calc-size|content-visibility|round\(|\bmod\(|text-decoration: \w[\w-]* [^;}]"
+            r"|(?<!-webkit-)(?<!-webkit-user-select: none; )user-select"),
+}
+
+
+def check_features():
+    """Each part of the pages, line by line."""
+    for path in sorted(glob.glob(os.path.join(TOP, "web", "*")) + glob.glob(os.path.join(TOP, "page", "*"))):
+        pattern = LATER.get(path.rsplit(".", 1)[-1])
+        if not pattern:
+            continue
+        with open(path, encoding="utf-8") as part:
+            found = [(number, line.strip()[:80]) for number, line in enumerate(part, 1) if re.search(pattern, line)]
+        check(not found, "{}: later browsers alone have this: {}".format(os.path.relpath(path, TOP), found))

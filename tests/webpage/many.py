@@ -1,0 +1,58 @@
+"""Much of what the page shows: 72,000 calls in the tree, and a step with 1,000 begun calls."""
+import names
+from pages import check
+
+# A form that calls itself: 3 calls at each turn, of cl, su and eq; before that ds, ss and a first cl, and at last eq.
+TURNS = "#(ds,L,(#(eq,N,0,,(#(cl,L,#(su,N,1))))))'#(ss,L,N)'#(cl,L,{})'"
+NUMBER = "document.getElementById(document.getElementById('tree').getAttribute('aria-activedescendant')).querySelector('.number').textContent"
+
+
+def check_calls(page):
+    """72,000 calls: those that can be seen are rows, and keys reach the first and the last."""
+    page.put(TURNS.format(24000))
+    page.run()
+    page.until("document.getElementById('tree-count').textContent === '72,004'", "72,004 calls are listed: " + page.text("tree-count"))
+    page.script("document.getElementById('filter').focus()")
+    page.press("Tab")
+    page.press("End")
+    last = page.script(NUMBER).replace(",", "")
+    page.press("Enter")
+    page.until("document.getElementById('slider').value === '{}'".format(last), "Enter goes to the last call, at " + last)
+    said = page.script("['aria-posinset', 'aria-setsize'].map((name) => document.querySelector('.row.chosen').getAttribute(name))")
+    check(said[0] == said[1], "it is the last of those beside it: {}".format(said))
+    page.press("Home")
+    check(page.script(NUMBER) == "15", "the first call: " + page.script(NUMBER))
+    check(page.script("document.querySelectorAll('#tree .row').length") < 60, "only rows that can be seen are made")
+    page.script("document.getElementById('tree').scrollTop = 1e7")
+    page.script("new Promise((done) => requestAnimationFrame(() => requestAnimationFrame(() => done())))")
+    check(page.script("document.activeElement.id") == "tree" and page.script(NUMBER) == "15", "scrolling keeps the focus and the chosen call")
+
+
+def check_begun(page):
+    """A step of 1,000 begun calls: the innermost are shown, how many there are is told, and the text beside the mark is there."""
+    page.put("#(ps," * 1000 + "deep" + ")" * 1000 + "'")
+    page.run()
+    # (the text is read at step 8; each call begins in 4 steps; then come the 4 letters)
+    page.go(8 + 1000 * 4 + 4)
+    # (the idle program's call is begun, too)
+    check(page.text("begun-count").startswith("1,001"), "how many calls are begun: " + page.text("begun-count"))
+    check(page.script("document.querySelectorAll('#begun .box').length") <= 20, "the innermost are shown")
+    check(page.script("document.getElementById('neutral').textContent").endswith("deep"), "the text before the mark")
+    check(names.nameless(page) == [], "all of them have names")
+    page.script("document.getElementById('begun').focus()")
+    page.press("ArrowRight")
+    check(page.text("note").startswith("byte 4: p"), "the innermost sign is chosen first: " + page.text("note"))
+    page.press("b")
+    page.until("document.getElementById('slider').value === '4011'", "a step back")
+    check(page.script("document.activeElement.id") == "begun", "the focus stays")
+
+
+def check_many(kind, file):
+    """All that, in Chromium."""
+    page = kind(file)
+    try:
+        for part in (check_calls, check_begun):
+            part(page)
+            page.well(part.__name__)
+    finally:
+        page.end()

@@ -1,0 +1,35 @@
+// Moves of trac-walk: where one arrives, and the states there, so that the run is not done anew for these.
+
+// What shows the state where a move arrives, and its neighbours.
+const LOOKS = ["p all", "b", "p all", "s", "p all", "s", "p all"];
+
+// A move from a step: what is said of it, the step where it arrives, and the states there, if they are wanted and came whole.
+async function movedTo(engine, tape, from, line, isWanted) {
+  const lines = [`g ${from}`, line, ...(isWanted ? LOOKS : [])];
+  const { bytes } = await engine.ask("walk", tape, { commands: `${lines.join("\n")}\n`, most: WINDOW }, 1 << 18);
+  const replies = new Replies(bytes);
+  const end = replies.text.indexOf("\nactive [");
+  const text = end < 0 ? replies.text : replies.text.slice(0, end);
+  const said = text.trimEnd().split("\n").slice(1, -1).join(" ");
+  return { said, step: stepSaid(text), window: end < 0 ? null : arrived(replies, stepSaid(text)) };
+}
+
+// The states at a step and beside it, in a dialogue that shows each after the line of its step.
+function arrived(replies, step) {
+  // (what was read and printed before the first step that is kept is not said)
+  if (/^steps before \d+ are forgotten/m.test(replies.text)) return null;
+  const before = { position: 0, printed: 0 }, found = new Map();
+  try {
+    for (let from = 0, at = 0; (at = replies.text.indexOf("\nactive [", from) + 1) > 0; from = replies.at) {
+      const number = stepSaid(replies.text.slice(from, at));
+      replies.at = at;
+      found.set(number, new State(replies.state(), before));
+    }
+  } catch (fault) {
+    if (!(fault instanceof NotUnderstood)) throw fault;
+  }
+  const first = found.has(step - 1) ? step - 1 : step;
+  const states = [];
+  for (let number = first; found.has(number); number++) states.push(found.get(number));
+  return states.length ? windowOf(first, states) : null;
+}

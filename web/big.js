@@ -1,0 +1,60 @@
+// The large view, for a class: the rule and the text fill the window, in large type.
+
+// Keys that are for what the large view leaves out: they leave it first.
+const OUTSIDE_KEYS = ["/", "?", "h"];
+
+class Big {
+  constructor(page) {
+    this.page = page;
+    this.button = byId("big");
+    this.button.addEventListener("click", () => this.toggle());
+    document.addEventListener("keydown", (event) => this.key(event), true);
+  }
+
+  get isOn() {
+    return document.documentElement.dataset.big === "yes";
+  }
+
+  toggle() {
+    if (this.isOn) this.leave();
+    else this.enter();
+  }
+
+  enter() {
+    if (!this.page.run) return;
+    this.before = document.activeElement;
+    document.documentElement.dataset.big = "yes";
+    this.shown();
+    this.button.focus({ preventScroll: true });
+    this.page.note("Esc leaves the large view");
+  }
+
+  leave() {
+    delete document.documentElement.dataset.big;
+    this.page.note("");
+    this.shown();
+    if (this.before?.isConnected && this.before !== document.body) this.before.focus();
+  }
+
+  // The window shows other parts now.
+  shown() {
+    this.button.setAttribute("aria-pressed", String(this.isOn));
+    dispatchEvent(new Event("resize"));
+    this.bring();
+  }
+
+  key(event) {
+    if (!this.isOn || event.ctrlKey || event.altKey || event.metaKey || isWriting(event.target)) return;
+    const leaves = event.key === "Escape";
+    if (leaves || (OUTSIDE_KEYS.includes(event.key) && isOn(event.key))) this.leave();
+    if (leaves) event.preventDefault();
+  }
+
+  // Brings the mark to the middle of the text.
+  bring() {
+    const tape = byId("tape");
+    const place = byId("mark").getBoundingClientRect().top - tape.getBoundingClientRect().top;
+    if (this.isOn) tape.scrollTop += place - tape.clientHeight * 0.45;
+    else tape.scrollTop = 0;
+  }
+}

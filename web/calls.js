@@ -1,0 +1,33 @@
+// The calls of a run, as trac-walk lists them.
+
+// So many calls are listed, the last of the run.
+const MOST_CALLS = 100000;
+// So long is a list of calls at most, in bytes.
+const MOST_LIST = 1 << 25;
+const CALL_LINE = /^(\d+) {2}((?: {2})*)(##?\(.*)$/;
+
+// The calls of a run. Where they are too long together, they are cut.
+async function callsOf(engine, tape, end) {
+  for (const list of [`t ${MOST_CALLS} all`, `t ${MOST_CALLS}`]) {
+    const { status, bytes } = await engine.ask("walk", tape, { commands: `s ${end}\n${list}\n`, most: MOST_LIST }, 1 << 22);
+    if (status === 0) return callsSaid(new TextDecoder("latin1").decode(bytes), end);
+  }
+  return callsSaid("", end);
+}
+
+// The calls that trac-walk lists, before the step where it stands.
+function callsSaid(text, end) {
+  const calls = { steps: [], depths: [], texts: [], parents: [] };
+  for (const line of text.split("\n")) {
+    const found = CALL_LINE.exec(line);
+    if (!found || Number(found[1]) >= end) continue;
+    calls.steps.push(Number(found[1]));
+    calls.depths.push(found[2].length / 2);
+    calls.texts.push(found[3]);
+  }
+  calls.parents = parentsOf(calls.depths);
+  // the first step whose calls are listed
+  const forgotten = [...text.matchAll(/^steps before (\d+) are forgotten/gm)].pop();
+  calls.from = calls.steps.length === MOST_CALLS ? calls.steps[0] : Number(forgotten?.[1] ?? 0);
+  return calls;
+}

@@ -1,0 +1,51 @@
+// Which call changed a form last: its text, its gaps or its pointer. States before and after calls say it, so its name may have
+// any bytes.
+
+// Calls that may change the form which they name first, and calls that may change others.
+const CHANGES_ONE = new Set(["ds", "ss", "cr", "cs", "cc", "cn", "in"]);
+const CHANGES_MANY = new Set(["dd", "da", "sb", "fb", "eb"]);
+// So many calls are looked at first, and each time so many times as many more.
+const FIRST_LOOK = 8;
+const MORE_LOOKS = 4;
+
+// Whether a call of this name may change a form.
+function isForming(name) {
+  return CHANGES_ONE.has(name) || CHANGES_MANY.has(name);
+}
+
+// Whether a call, as it is listed, may change the form of this name. (What is listed may be cut, and an argument with a comma or
+// parenthesis stands in parentheses.)
+function mayChange(text, form) {
+  const name = nameSaid(text);
+  const rest = text.slice(text.indexOf("(") + name.length + 2);
+  return CHANGES_MANY.has(name) || (CHANGES_ONE.has(name) && (rest.startsWith(form) || rest.startsWith("(" + form) || rest.includes("..")));
+}
+
+// The text of a form in a state, or nothing.
+function formIn(state, name) {
+  return state.parts.forms.find((form) => form.name === name)?.text;
+}
+
+// The last of these calls, before a step, that changed a form, or nothing.
+async function changeIn(story, calls, step, name) {
+  const steps = calls.steps.filter((one, index) => one < step && mayChange(calls.texts[index], name));
+  for (let count = FIRST_LOOK; steps.length; count *= MORE_LOOKS) {
+    const some = steps.splice(-Math.min(count, story.roomFor(3))).reverse();
+    // (one goes to the call that is found, so what stands before it is wanted too)
+    const around = (one) => [one - 1, one, one + 1];
+    const states = await story.at(some.flatMap(around));
+    const found = some.find((one) => formIn(states.get(one), name) !== formIn(states.get(one + 1), name));
+    if (found === undefined) continue;
+    story.keep(windowOf(found - 1, around(found).map((one) => states.get(one))));
+    return found;
+  }
+  return null;
+}
+
+// The step of the call that changed a form last, before a step, or nothing. Calls before those that are listed are listed anew.
+async function lastChange(engine, tape, story, listed, step, name) {
+  for (let calls = listed; ; calls = await callsOf(engine, tape, calls.from)) {
+    const found = await changeIn(story, calls, step, name);
+    if (found !== null || calls.from === 0) return found;
+  }
+}

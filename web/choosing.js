@@ -1,0 +1,88 @@
+// In a text that has the focus, arrows choose a sign and Enter follows it, as a click does.
+
+// Texts whose signs can be chosen.
+const TEXTS = "#output, #rules, #neutral, #active, #begun, [data-place][tabindex], .way-row .code[tabindex]";
+// In these, the first sign is chosen first, and not the last.
+const FORWARD = new Set(["active", "rules"]);
+
+// The signs of a text: the number of each, and the element that says where it stands.
+function signsIn(text) {
+  return [...text.querySelectorAll("[data-byte]")].flatMap((cell) => {
+    const holder = cell.closest("[data-place]");
+    return holder ? numbersOf(cell).map((number) => ({ holder, number })) : [];
+  });
+}
+
+// The numbers of the first bytes of an element's signs.
+function numbersOf(cell) {
+  const from = Number(cell.dataset.byte), per = Number(cell.dataset.per ?? 0);
+  if (!per) return [from];
+  const text = cell.firstChild.data;
+  const units = Array.from({ length: text.length }, (_, unit) => unit);
+  return units.filter((unit) => !/[\udc00-\udfff]/.test(text[unit])).map((unit) => from + unit * per);
+}
+
+// A sign of a text by a name, so that it is found again after a step.
+function signName({ holder, number }) {
+  return `${number} ${holder.dataset.place} ${holder.dataset.step}`;
+}
+
+// Moves the choice of a sign within a text, or follows it. Returns whether the key was for that.
+function chooseSign(page, text, key) {
+  if (!["ArrowLeft", "ArrowRight", "Enter"].includes(key)) return false;
+  const signs = signsIn(text);
+  if (signs.length === 0) return false;
+  const isForward = FORWARD.has(text.id);
+  const at = signs.findIndex((sign) => signName(sign) === text.dataset.chosen);
+  if (key === "Enter") {
+    const { holder, number } = signs.at(at >= 0 ? at : isForward ? 0 : -1);
+    page.follow(holder, number).then(() => page.way.focus());
+    return true;
+  }
+  const next = at < 0 ? (isForward ? 0 : signs.length - 1) : at + (key === "ArrowLeft" ? -1 : 1);
+  const sign = signs[Math.min(Math.max(next, 0), signs.length - 1)];
+  text.dataset.chosen = signName(sign);
+  showChosen(page, text, sign);
+  return true;
+}
+
+// Marks the chosen sign, brings it in view, and says what it is.
+function showChosen(page, text, { holder, number }) {
+  const range = rangeOfByte(holder, number);
+  if (!range) return;
+  if (window.Highlight) CSS.highlights.set("chosen", new Highlight(range));
+  bringInView(text, range);
+  page.note(`byte ${grouped(number + 1)}: ${range}`);
+}
+
+// Brings a range in view of its text, which scrolls, or is one line that is cut at its ends.
+function bringInView(text, range) {
+  const line = text.querySelector(":scope > .line");
+  const at = range.getBoundingClientRect(), box = text.getBoundingClientRect();
+  if (line) {
+    const shift = Number(line.dataset.shift ?? 0);
+    const by = at.left < box.left ? box.left - at.left : at.right > box.right ? box.right - at.right : 0;
+    line.dataset.shift = String(shift + by);
+    line.style.transform = `translateX(${shift + by}px)`;
+  } else if (at.top < box.top) text.scrollTop += at.top - box.top;
+  else if (at.bottom > box.bottom) text.scrollTop += at.bottom - box.bottom;
+}
+
+// Nothing is chosen any more: no sign is marked, and a line stands as it did.
+function forgetChosen(text) {
+  if (window.Highlight) CSS.highlights.delete("chosen");
+  const line = text.querySelector?.(":scope > .line[data-shift]");
+  if (!line) return;
+  delete line.dataset.shift;
+  line.style.transform = "";
+}
+
+function startChoosing(page) {
+  document.addEventListener("keydown", (event) => {
+    if (!event.target.matches?.(TEXTS) || event.ctrlKey || event.altKey || event.metaKey || event.shiftKey) return;
+    if (!page.run || !chooseSign(page, event.target, event.key)) return;
+    event.preventDefault();
+    event.stopImmediatePropagation();
+  }, true);
+  document.addEventListener("focusout", (event) => forgetChosen(event.target));
+}

@@ -1,0 +1,133 @@
+// The course: a lesson or an exercise beside the editor. An exercise is checked by running the program of the editor.
+
+const SHOWN_BYTES = 4096;
+
+class Course {
+  constructor(page, open) {
+    this.page = page;
+    // what opens a program, under a name
+    this.open = open;
+    const lessons = JSON.parse(byId("course-data").textContent);
+    // lessons, each before its exercises
+    this.items = lessons.flatMap((lesson) => [lesson, ...lesson.exercises]);
+    this.list();
+    byId("lesson-next").addEventListener("click", () => this.show(this.at + 1));
+    byId("lesson-close").addEventListener("click", () => this.close());
+  }
+
+  list() {
+    const list = byId("course");
+    list.append(new Option("The course ..", ""));
+    this.items.forEach(({ text, runs }, index) => {
+      const margin = runs ? "\u00a0\u00a0\u00a0" : "";
+      list.append(new Option(margin + titleOf(text), String(index)));
+    });
+    startList(list, (index) => this.show(Number(index)));
+  }
+
+  // Shows a lesson or an exercise.
+  show(index) {
+    this.at = index;
+    const item = this.items[index], next = this.items[index + 1];
+    const place = byId("lesson-text");
+    byId("lesson-title").textContent = (item.runs ? "Exercise " : "") + titleOf(item.text);
+    byId("lesson-next").hidden = !next;
+    if (next) byId("lesson-next").setAttribute("aria-label", `next: ${titleOf(next.text)}`);
+    place.replaceChildren();
+    addMarkdown(place, item.text, (name, text) => this.program(name, text));
+    if (item.runs) this.addExercise(place, item);
+    byId("lesson").hidden = false;
+    place.scrollTop = 0;
+    place.focus({ preventScroll: true });
+    byId("lesson").scrollIntoView({ block: "nearest" });
+  }
+
+  close() {
+    byId("lesson").hidden = true;
+    byId("course").focus();
+  }
+
+  button(word, does) {
+    const button = make("button", "", word);
+    button.type = "button";
+    button.addEventListener("click", () => does(button));
+    return button;
+  }
+
+  // A program that can be opened in the editor.
+  program(name, text) {
+    const frame = make("div", "program");
+    const open = this.button(`Open ${name}`, () => this.open(name, new TextEncoder().encode(text)));
+    frame.append(make("pre", "block", text.replace(/\n$/, "")), open);
+    return frame;
+  }
+
+  // What an exercise has beside its text: where it begins, its runs, a hint, a solution, and the check.
+  addExercise(place, { start, runs, hint, solution }) {
+    if (start) place.append(this.program("start.trac", start));
+    runs.forEach(([given, wanted], at) => place.append(this.run(at, given, wanted)));
+    this.said = make("div", "judged");
+    this.said.setAttribute("role", "status");
+    const bar = make("p", "bar");
+    const check = this.button("Check", () => this.check(runs));
+    check.className = "main";
+    const hinted = (at) => addMarkdown(at, `\n${hint}`, (name, text) => this.program(name, text));
+    const solved = (at) => at.append(this.program("solution.trac", solution));
+    bar.append(check, this.button("Hint", (button) => this.unfold(button, hinted)));
+    bar.append(this.button("A solution", (button) => this.unfold(button, solved)));
+    place.append(bar, this.said);
+  }
+
+  // A run: what stands after the program, and what must be printed.
+  run(at, given, wanted) {
+    const frame = make("div", "run");
+    frame.append(make("h3", "", `Run ${at + 1}`));
+    const parts = [["The input after the program", given], ["Must be printed", wanted]];
+    for (const [words, text] of parts.slice(given ? 0 : 1)) {
+      frame.append(make("p", "pale", words), this.block(new TextEncoder().encode(text)));
+    }
+    return frame;
+  }
+
+  // Bytes as a block, the first of them.
+  block(bytes) {
+    const block = make("pre", "block");
+    addCells(block, bytes.subarray(0, SHOWN_BYTES), 0, true);
+    if (bytes.length > SHOWN_BYTES) block.append(leftOut(bytes.length - SHOWN_BYTES));
+    if (bytes.length === 0) block.append(make("span", "note", "nothing"));
+    return block;
+  }
+
+  // Shows what a button is for below the buttons, once.
+  unfold(button, adds) {
+    button.disabled = true;
+    const place = make("div", "unfolded");
+    adds(place);
+    this.said.before(place);
+    place.scrollIntoView({ block: "nearest" });
+  }
+
+  // Checks the program of the editor, and says what differs.
+  async check(runs) {
+    const { page, said } = this;
+    const program = page.editor.bytes();
+    said.replaceChildren("It is checked ..");
+    try {
+      const failed = await judged(page.engine, program, runs);
+      if (failed) said.replaceChildren(...this.failure(failed, program, runs));
+      else said.replaceChildren(make("p", "right", "✓ It is solved."));
+    } catch (fault) {
+      said.replaceChildren(fault instanceof Stopped ? "The check was stopped." : fault.message);
+    }
+    said.lastChild.scrollIntoView?.({ block: "nearest" });
+  }
+
+  // What is said of a run that fails.
+  failure({ at, printed, why, where }, program, runs) {
+    const run = this.button("Run it on this input", () => this.page.start(inputAfter(program, runs[at][0])));
+    const last = make("p", "", where ? `${where[0].toUpperCase()}${where.slice(1)}. ` : "");
+    last.append(run);
+    const first = make("p", "wrong", `✗ Run ${at + 1} of ${runs.length}: ${why}`);
+    return [first, make("p", "pale", "Is printed"), this.block(printed), last];
+  }
+}

@@ -1,0 +1,84 @@
+// Calls that are seen in the list or named over the slider get their arguments one by one, as they stood when they were
+// performed, so that they look as they do in sentences: protected ones in quotes, and empty ones with their sign.
+
+// So many milliseconds they have to stay, so large are states at most on average, and so many are fetched for a part of
+// the page.
+const REST_TIME = 120;
+const MOST_STATE = 1 << 16;
+const MOST_ROWS = 120;
+
+// How long a call is in the text that lists it, with or without parentheses around what was protected; 0 where it is
+// cut.
+function listedLength(text, { neutral, texts }) {
+  const ways = [texts.map((one) => (isProtected(one) ? `(${one})` : one)), texts];
+  const found = ways.map((way) => `${neutral ? "##(" : "#("}${way.join(",")})`).find((way) => text.startsWith(way));
+  return found?.length ?? 0;
+}
+
+class CallTree extends Tree {
+  show(calls) {
+    // the calls as they stood, as far as they are known
+    this.exact = new Map();
+    super.show(calls);
+  }
+
+  draw() {
+    super.draw();
+    this.wants?.([...this.made.keys()]);
+  }
+
+  // What a row says of its call: once its arguments are known, protected ones stand in quotes.
+  fill(row, index) {
+    const text = this.calls.texts[index], call = this.exact.get(index);
+    const length = call ? listedLength(text, call) : 0;
+    if (length === 0) super.fill(row, index);
+    else row.append(addCallText(make("span"), call, 80), text.slice(length, length + 200));
+  }
+
+  // The call that is performed at a step, as it is listed, or nothing.
+  textAt(step) {
+    const index = this.at(step);
+    return this.calls.steps[index] === step ? this.calls.texts[index] : undefined;
+  }
+
+  // A call is known, or cannot be told.
+  learn(index, call) {
+    this.exact.set(index, call);
+    this.made.delete(index);
+  }
+}
+
+class Exact {
+  constructor(page) {
+    this.page = page;
+    this.tree = page.tree;
+    this.wanted = { tree: [], timeline: [] };
+    this.tree.wants = (indexes) => this.want("tree", indexes);
+    page.timeline.wants = (indexes) => this.want("timeline", indexes);
+  }
+
+  // A part of the page shows these calls now.
+  want(part, indexes) {
+    this.wanted[part] = indexes.slice(0, MOST_ROWS);
+    clearTimeout(this.later);
+    this.later = setTimeout(() => this.fetch(), REST_TIME);
+  }
+
+  async fetch() {
+    const { page, tree } = this;
+    const { run } = page;
+    const indexes = [...new Set(Object.values(this.wanted).flat())].filter((index) => !tree.exact.has(index));
+    if (!run || indexes.length === 0 || page.story.size > MOST_STATE) return;
+    const { calls } = tree;
+    const story = new Story(page.ahead, page.tape, run.landmarks);
+    const states = await story.at(indexes.map((index) => calls.steps[index])).catch(() => new Map());
+    if (tree.calls !== calls) return;
+    for (const index of indexes) {
+      const begun = states.get(calls.steps[index])?.parts.calls ?? [];
+      // (what cannot be told is not asked again)
+      tree.learn(index, begun[begun.length - 1] ?? null);
+    }
+    tree.draw();
+    page.timeline.choose(page.timeline.chosen);
+  }
+}

@@ -1,0 +1,49 @@
+// The focus stays where it is while the page is shown anew: what stands in place of its element has it then.
+
+const FOCUSABLE = "button, select, input, textarea, [tabindex]";
+// What has the focus where an element is gone, and nothing stands in its place.
+const INSTEAD = { stop: "run", input: "output", "end-input": "output", ending: "output", output: "output" };
+
+// Where an element stands: the element with an id that it is in, its name, and how many before it have the same.
+function addressOf(element) {
+  const within = element.closest("[id]");
+  if (!within) return null;
+  const name = nameOf(element);
+  const same = within === element ? [] : sameIn(within, name);
+  return { id: within.id, isSelf: within === element, name, count: same.indexOf(element) };
+}
+
+function nameOf(element) {
+  return element.getAttribute("aria-label") ?? element.textContent;
+}
+
+function sameIn(within, name) {
+  return [...within.querySelectorAll(FOCUSABLE)].filter((one) => nameOf(one) === name);
+}
+
+// Whether an element has a place in the page.
+function isShown(element) {
+  return element.getClientRects().length > 0;
+}
+
+// Does what may take away the element that has the focus.
+function keepFocus(does) {
+  const held = document.activeElement;
+  const address = held && held !== document.body ? addressOf(held) : null;
+  does();
+  if (!address || isShown(held)) return;
+  const within = byId(address.id);
+  const same = address.isSelf || !within ? [] : sameIn(within, address.name);
+  const next = [same[address.count], same.at(-1), within, byId(INSTEAD[address.id] ?? "active"), byId("source")];
+  next.find((one) => one?.matches(FOCUSABLE) && isShown(one))?.focus({ preventScroll: true });
+}
+
+// A button that does nothing here keeps the focus: so it is not disabled, but says that it is.
+function setOff(button, isOff) {
+  if (isOff) button.setAttribute("aria-disabled", "true");
+  else button.removeAttribute("aria-disabled");
+}
+
+function isOff(button) {
+  return button?.getAttribute("aria-disabled") === "true";
+}

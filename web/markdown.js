@@ -1,0 +1,62 @@
+// Texts of the course, as elements. They are Markdown with headings, paragraphs, items, and blocks of code in fences.
+
+const MARKED = /`([^`]+)`|\*\*([^*]+)\*\*|\*([^*]+)\*/g;
+const FENCE = /^```(\w*) ?(\S*)$/;
+const ITEM = /^(\d+\.|-) +(.*)$/;
+
+// The parts of a text: headings, paragraphs, items, and blocks with what their fences say.
+function partsOfText(text) {
+  const parts = [];
+  let block = null, open = null;
+  const add = (part) => {
+    parts.push(part);
+    return part;
+  };
+  for (const line of text.split("\n")) {
+    const fence = FENCE.exec(line), item = ITEM.exec(line);
+    if (block && fence) block = null;
+    else if (block) block.lines.push(line);
+    else if (fence) [block, open] = [add({ kind: fence[1], name: fence[2], lines: [] }), null];
+    else if (line === "") open = null;
+    else if (line.startsWith("#")) open = void add({ kind: "heading", lines: [line.replace(/^#+ /, "")] });
+    else if (item) open = add({ kind: item[1] === "-" ? "ul" : "ol", lines: [item[2]] });
+    else if (open) open.lines.push(line.trim());
+    else open = add({ kind: "p", lines: [line] });
+  }
+  return parts;
+}
+
+// Adds a text with its code, and with what is bold or slanted.
+function addMarked(parent, text) {
+  let from = 0;
+  for (const found of text.matchAll(MARKED)) {
+    const [whole, code, strong, slanted] = found;
+    const tag = code ? "code" : strong ? "strong" : "em";
+    parent.append(text.slice(from, found.index), make(tag, "", code ?? strong ?? slanted));
+    from = found.index + whole.length;
+  }
+  parent.append(text.slice(from));
+  return parent;
+}
+
+// Adds a text without its title. `shown` makes the element of a program in it, of its name and its text.
+function addMarkdown(parent, text, shown) {
+  for (const { kind, name, lines } of partsOfText(text).slice(1)) {
+    const whole = lines.join(" ");
+    const last = parent.lastElementChild;
+    if (kind === "trac") parent.append(shown(name, `${lines.join("\n")}\n`));
+    else if (kind === "console") parent.append(make("pre", "block", lines.join("\n")));
+    else if (kind === "heading") parent.append(addMarked(make("h3"), whole));
+    else if (kind === "p") parent.append(addMarked(make("p"), whole));
+    else {
+      const list = last?.localName === kind ? last : make(kind);
+      list.append(addMarked(make("li"), whole));
+      parent.append(list);
+    }
+  }
+}
+
+// The title of a text.
+function titleOf(text) {
+  return text.slice(0, text.indexOf("\n")).replace(/^#+ /, "");
+}

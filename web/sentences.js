@@ -1,0 +1,44 @@
+// The sentences of what led here and of what comes next: of the state before, here, and after.
+function showSentences(step, last, next, stand, { before, at, after }) {
+  const said = last && stepsSaid(last.from, step);
+  if (last) showSentence(byId("last"), `${said[0].toUpperCase()}${said.slice(1)}: `, last.move, step - 1, before, at);
+  else showWords(byId("last"), "Start: ", ["the idle program is there. ", ...IDLE_WORDS]);
+  if (next) showSentence(byId("next"), `Next, ${stepsSaid(step, next.to)}: `, next.move, step, at, after);
+  else showWords(byId("next"), "Next: ", [STANDS[stand].words]);
+}
+
+// What the step after a number of steps does. The call and its value can be followed where they stand.
+function showSentence(parent, lead, move, step, before, after) {
+  parent.replaceChildren(make("b", "", lead));
+  for (const word of move.words ?? RULES[move.rule](move)) {
+    if (word[1] === "call") {
+      const code = make("span", "code");
+      addCall(code, move.call, before.parts.calls.length - 1, step, 60, false);
+      parent.append(code);
+    } else if (Array.isArray(word) && word[1]?.startsWith("value") && move.value !== "") {
+      const { place, first } = placeOfValue(move, after.parts);
+      const value = placed(addTextCells(make("span"), move.value, first, "code", 72), place, step + 1);
+      if (move.scanned) parent.append(value);
+      else addArgument(parent, move.value, () => parent.appendChild(value));
+    } else addWord(parent, word);
+  }
+}
+
+// Where the value of a call stands once it is performed: before the active text, or at the end of the current text.
+function placeOfValue(move, parts) {
+  if (move.scanned) return { place: "active", first: 0 };
+  const inner = parts.calls[parts.calls.length - 1];
+  const place = inner ? `argument ${parts.calls.length - 1} ${inner.texts.length - 1}` : "base";
+  return { place, first: lengthOf(currentOf(parts)) - lengthOf(move.value) };
+}
+
+// Why there is no next step, as docs/running.md says it.
+const STANDS = {
+  done: { words: "all of the program is run; what you type now is read as more of it" },
+  waits: { words: "the program waits for input" },
+  halts: { words: "the program halts" },
+  ended: { words: "the input has ended" },
+  refused: { words: "a limit is passed: a form may grow with each call, or a text lack its '" },
+  Memory: { words: "memory was refused: a form may grow with each call" },
+  spent: { words: "the budget of steps is spent: a form may call itself without end" },
+};

@@ -1,0 +1,109 @@
+// Share: a link to what the page shows; and Open, which takes a file or such a link. The address is never written.
+
+// A link's run goes no further than this step by itself.
+const MOST_LINK_STEPS = 100000000;
+
+// What is shared: the program as it stands in the editor; and if that was run, the input and the step.
+function heldByPage(page) {
+  const isRun = page.run !== null && !page.isStale && !page.isBusy;
+  return {
+    program: isRun ? page.program : page.editor.bytes(),
+    inputs: isRun ? page.inputs : [],
+    isClosed: isRun && page.isClosed,
+    step: isRun ? page.step : null,
+  };
+}
+
+// Opens what a link holds: the program, and if it was run, a run with the same input, at the same step.
+async function openHeld(page, held) {
+  openProgram(page, "shared.trac", held.program);
+  if (held.step === null) return;
+  [page.inputs, page.isClosed, page.isStale] = [held.inputs, held.isClosed, false];
+  page.program = held.program;
+  page.budget = BUDGET * Math.ceil(Math.min(Math.max(held.step, 1), MOST_LINK_STEPS) / BUDGET);
+  await page.perform();
+  if (!page.run) return;
+  await page.go(held.step);
+  if (held.step > page.run.end) page.note(`the link is to step ${grouped(held.step)}, and the run ends before it`);
+}
+
+// Opens the link that is the address, if there is one. If it is wrong, that is said beside an empty editor.
+async function openAddress(page) {
+  if (location.hash.length < 2 || !await mayDrop(page)) return;
+  try {
+    await openHeld(page, await openedLink(location.hash));
+  } catch (fault) {
+    if (!(fault instanceof WrongLink)) throw fault;
+    openProgram(page, "program.trac", new Uint8Array(0));
+    byId("ending").textContent = fault.message;
+    page.announcer.say("ending", fault.message);
+  }
+}
+
+// Whether the page came over a network: else a link to it is worth nothing to others.
+function isServed() {
+  return location.protocol === "https:" || location.protocol === "http:";
+}
+
+async function share(page) {
+  const held = heldByPage(page);
+  const link = await linkOf(held);
+  const lines = held.inputs.length;
+  const parts = ["the program", ...(lines ? [lines === 1 ? "a line of input" : `${grouped(lines)} lines of input`] : []),
+    ...(held.step === null ? [] : [`step ${grouped(held.step)}`])];
+  const holds = `${parts.slice(0, -1).join(", ")}${parts.length > 1 ? " and " : ""}${parts[parts.length - 1]}`;
+  const text = link && (isServed() ? location.href.replace(/#.*$/, "") : "") + "#" + link;
+  byId("share-words").textContent = link === null ? "A link holds at most 1 MiB. Save the program to a file."
+    : isServed() ? `This link holds ${holds}, in ${grouped(text.length)} signs.`
+      : `This text holds ${holds}, in ${grouped(text.length)} signs. Whoever has this page opens it by Open. `
+        + "This page is a file on your disk, so a link to it would open for nobody else.";
+  byId("share-text").value = text ?? "";
+  byId("share-text").hidden = byId("share-copy").hidden = link === null;
+  byId("share-note").textContent = "";
+  byId("share-box").showModal();
+  byId("share-text").select();
+}
+
+// Copies the link, or chooses its text, so that a key copies it.
+async function copyLink() {
+  try {
+    await navigator.clipboard.writeText(byId("share-text").value);
+    byId("share-note").textContent = "Copied.";
+  } catch {
+    byId("share-text").focus();
+    byId("share-text").select();
+    byId("share-note").textContent = "This browser does not let the page copy: the text is chosen, so copy it.";
+  }
+}
+
+// Opens a link that was pasted. If it is wrong, that is said, and nothing else changes.
+async function openPasted(page) {
+  try {
+    const held = await openedLink(byId("paste").value);
+    byId("open-box").close();
+    if (await mayDrop(page)) await openHeld(page, held);
+  } catch (fault) {
+    if (!(fault instanceof WrongLink)) throw fault;
+    byId("open-note").textContent = fault.message;
+  }
+}
+
+function startSharing(page) {
+  byId("share").addEventListener("click", () => share(page));
+  byId("share-copy").addEventListener("click", copyLink);
+  byId("share-close").addEventListener("click", () => byId("share-box").close());
+  byId("open").addEventListener("click", () => {
+    byId("paste").value = byId("open-note").textContent = "";
+    byId("open-box").showModal();
+  });
+  byId("open-file").addEventListener("click", () => {
+    byId("open-box").close();
+    byId("file").click();
+  });
+  byId("open-form").addEventListener("submit", (event) => {
+    event.preventDefault();
+    openPasted(page);
+  });
+  byId("open-close").addEventListener("click", () => byId("open-box").close());
+  addEventListener("hashchange", () => openAddress(page));
+}

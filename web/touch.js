@@ -1,0 +1,43 @@
+// Fingers: a swipe over the text is a step, and a tap beside a sign is for it.
+
+// So far a finger moves at least, and so far beside a sign it may tap, in pixels of the page.
+const SWIPE = 40;
+const BESIDE = 22;
+
+// A swipe to the right is a step forward, as the key and the slider; to the left, a step back.
+function startSwipes(page) {
+  const tape = byId("tape");
+  let from = null;
+  tape.addEventListener("pointerdown", (event) => {
+    from = event.pointerType === "touch" && event.isPrimary ? event : null;
+  });
+  tape.addEventListener("pointercancel", () => {
+    from = null;
+  });
+  tape.addEventListener("pointerup", (event) => {
+    if (!from) return;
+    const across = event.clientX - from.clientX, along = event.clientY - from.clientY;
+    from = null;
+    if (Math.abs(across) < SWIPE || Math.abs(across) < 2 * Math.abs(along)) return;
+    page.act(page.actions.find(({ id }) => id === (across > 0 ? "forward" : "back")));
+  });
+}
+
+// The byte under a finger, or the nearest in the text that it taps.
+function byteNear(x, y) {
+  const found = byteUnder(x, y);
+  if (found || !matchMedia("(pointer: coarse)").matches) return found;
+  const text = document.elementFromPoint(x, y)?.closest(`${TEXTS}, [data-place], .way-row .code, .head, .rule`);
+  const near = text ? nearestRect(text, x, y) : null;
+  if (!near) return null;
+  const within = (at, from, to) => Math.min(Math.max(at, from + 1), to - 1);
+  return byteUnder(within(x, near.left, near.right), within(y, near.top, near.bottom));
+}
+
+// The box of the nearest run of signs in a text, not too far away.
+function nearestRect(text, x, y) {
+  const away = (box) => Math.hypot(Math.max(box.left - x, x - box.right, 0), Math.max(box.top - y, y - box.bottom, 0));
+  const boxes = [...text.querySelectorAll("[data-byte]")].flatMap((cell) => [...cell.getClientRects()]);
+  const least = boxes.reduce((best, box) => (!best || away(box) < away(best) ? box : best), null);
+  return least && away(least) <= BESIDE ? least : null;
+}
