@@ -28,8 +28,9 @@ class Announcer {
   }
 
   now() {
-    const words = SAID.map((kind) => this.words.get(kind)).filter((said) => said).join(" ");
+    const parts = SAID.map((kind) => this.words.get(kind)).filter((said) => said);
     this.words.clear();
+    const words = parts.map((said, at) => (at + 1 === parts.length || /[.:?!]\s*$/.test(said) ? said : `${said}.`)).join(" ");
     if (words) this.box.replaceChildren(words);
   }
 

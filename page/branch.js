@@ -1,5 +1,6 @@
-// Why a call gave what it gave: `eq` compares bytes, and `gr` and the decimals take the numbers at the ends of their
-// arguments, as docs/language.md says. Where the value is another than these rules give, nothing is said.
+// Why a call gave what it gave: `eq` compares bytes, `gr` and the decimals take the numbers at the ends of their
+// arguments, and `cs`, `cc`, `cn` and `in` give their default where they read nothing, as docs/language.md says. Where the
+// value is another than these rules give, nothing is said.
 
 // How many bits a number of the decimals may have.
 const WIDTH = 128;
@@ -64,6 +65,7 @@ function reasonOf(move) {
   const name = move.call.texts[0].toLowerCase();
   if (name === "eq") return reasonOfEqual(move);
   if (name === "gr") return reasonOfGreater(move);
+  if (isReader(move.call)) return reasonOfDefault(move, name);
   return Object.hasOwn(OPERATIONS, name) ? reasonOfResult(move, name) : null;
 }
 
@@ -145,4 +147,43 @@ function wordsOfResult(name, value, one, other, prefix) {
   if (!fits(value)) return [` is a ${OPERATIONS[name].words} that does not fit in ${WIDTH} bits`];
   const cut = name === "dv" && value * other !== one ? ", cut toward zero," : "";
   return [`${cut} is `, [String(value)], ...(prefix === "" ? [] : [", and ", [prefix, "text"], " stays before it"])];
+}
+
+// Calls that read a form at its pointer, and which argument they give where they read nothing.
+const READERS = { cs: 2, cc: 2, cn: 3, in: 3 };
+
+function isReader(call) {
+  return Object.hasOwn(READERS, call.texts[0].toLowerCase());
+}
+
+// Why such a call gave its default. `move.form` is the text of the form, if that stands as it did: it does where nothing was
+// read.
+function reasonOfDefault(move, name) {
+  const { call, form } = move;
+  const place = READERS[name];
+  if (form === undefined || argumentAt(call, place) !== move.value) return null;
+  const words = name === "in" ? wordsOfSearch(call, form) : wordsOfPointer(call, form, name);
+  return words && [...words, ...wordsOfBranch(call, place, ", the default")];
+}
+
+// What was not found. (A null text is found at once.)
+function wordsOfSearch(call, form) {
+  const text = argumentAt(call, 2);
+  // (other signs like that of the pointer are text)
+  const isAtEnd = form.endsWith("<^>") && form.split("<^>").length === 2;
+  return text === "" ? null : [[text, "text"], " is not found after the pointer of ", [argumentAt(call, 1), "text"],
+    isAtEnd ? ", which stands at its end" : ""];
+}
+
+// Where the pointer stands, if nothing is to be read there. (`cn` reads back where its number is negative, and gives null where
+// that is 0 or does not fit.)
+function wordsOfPointer(call, form, name) {
+  const number = numberAt(argumentAt(call, 2));
+  if (name === "cn" && (number.digits === "" || fittingNumber(number) === null)) return null;
+  const isBack = name === "cn" && number.isNegative;
+  const of = [argumentAt(call, 1), "text"];
+  if (!(isBack ? form.startsWith("<^>") : form.endsWith("<^>"))) {
+    return [`only gaps stand ${isBack ? "before" : "after"} the pointer of `, of];
+  }
+  return ["the pointer of ", of, ` stands at its ${isBack ? "start" : "end"}${name === "cs" ? ": no segment is left" : ""}`];
 }

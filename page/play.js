@@ -20,7 +20,7 @@ function draw() {
   const isBack = document.documentElement.dataset.way === "back";
   const last = moveOf(step - 1), next = moveOf(step);
   const parts = partsOf(run.lines, data.before);
-  showRules(step, parts.calls);
+  showRules(step, parts);
   const most = { ...(looks.whole ? MOST_WHOLE : MOST_SHOWN), isBack };
   showScanned(parts, last, most);
   showActive(parts, last, next, most);

@@ -2,12 +2,14 @@
 // number in the list of calls too.
 
 // The words of the step that led here, and of the next one.
-function showRules(step, calls) {
+function showRules(step, parts) {
   const last = moveOf(step - 1), next = moveOf(step);
   const number = data.first + step;
   const early = data.first ? ["the first step that this page has"] : ["the idle program is there. ", ...IDLE_WORDS];
-  markComma(last, calls, 2);
-  markComma(next, calls, 1);
+  markComma(last, parts.calls, 2);
+  markComma(next, parts.calls, 1);
+  markForm(last, parts, step, 0);
+  markForm(next, parts, step + 1, 1);
   showWords(document.getElementById("last"), last ? `Step ${grouped(number - 1)}: ` : `At ${grouped(number)}: `,
     last ? wordsOfStep(last, step - 1) : early);
   showWords(document.getElementById("next"), next ? `Next, step ${grouped(number)}: ` : "Next: ",
@@ -31,6 +33,14 @@ function markComma(move, calls, back) {
   if (!move || move.rule !== ",") return;
   const call = calls[calls.length - 1];
   move.ended = { call, index: call.texts.length - back };
+}
+
+// Tells the form that a call reads, if the call leaves it as it is. `after` is the step after it, when so many lines that the
+// state has before the form are gone.
+function markForm(move, { forms }, after, gone) {
+  if (!move?.call || !isReader(move.call)) return;
+  const form = forms.find(({ name }) => name === (move.call.texts[1] ?? ""));
+  if (form && !changedLines(after).has(form.line - gone)) move.form = form.text;
 }
 
 // Why there is no next step.

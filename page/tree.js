@@ -156,13 +156,13 @@ class Tree {
     [row.dataset.index, row.dataset.looks] = [String(index), looks];
     row.style.top = `${place * height}px`;
     row.append(make("span", "number", grouped(this.calls.steps[index])));
-    if (!this.isFlat) row.append("\u00a0".repeat(Math.min(this.levels[index], 40)));
+    row.append("\u00a0".repeat(this.isFlat ? 1 : 1 + Math.min(this.levels[index], 40)));
     const isOpen = attributes["aria-expanded"];
     const fold = make("span", "fold", isOpen === undefined ? "" : isOpen ? "▾" : "▸");
     fold.setAttribute("aria-hidden", "true");
     row.append(fold);
     this.fill(row, index);
-    if (doubt) row.append(" ", make("span", "doubt", doubt));
+    if (doubt) row.append(doubtSign(doubt));
     return row;
   }
 

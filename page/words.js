@@ -137,6 +137,13 @@ function emptySign() {
   return sign;
 }
 
+// What is doubted. For those who do not see the sign before it there is a word.
+function doubtSign(words) {
+  const sign = make("span", "doubt");
+  sign.append(make("span", "unseen", ". Doubt: "), words);
+  return sign;
+}
+
 // Adds an argument, of which `add` adds the text and returns its element: where it is protected it stands in quotes,
 // and where it is empty there is the sign for that. One that is gathered still is open at its end.
 function addArgument(parent, text, add, isOpen = false) {

@@ -5,6 +5,9 @@ const TEXTS = "#output, #rules, #neutral, #active, #begun, [data-place][tabindex
 // In these, the first sign is chosen first, and not the last.
 const FORWARD = new Set(["active", "rules"]);
 
+// What signs are called that nobody sees or hears.
+const BLANKS = { " ": "a blank", "\n": "LF", "\t": "TAB" };
+
 // The signs of a text: the number of each, and the element that says where it stands.
 function signsIn(text) {
   return [...text.querySelectorAll("[data-byte]")].flatMap((cell) => {
@@ -52,7 +55,7 @@ function showChosen(page, text, { holder, number }) {
   if (!range) return;
   if (window.Highlight) CSS.highlights.set("chosen", new Highlight(range));
   bringInView(text, range);
-  page.note(`byte ${grouped(number + 1)}: ${range}`);
+  page.note(`byte ${grouped(number + 1)}: ${BLANKS[range] ?? range}`);
 }
 
 // Brings a range in view of its text, which scrolls, or is one line that is cut at its ends.

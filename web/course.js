@@ -71,7 +71,8 @@ class Course {
     const bar = make("p", "bar");
     const check = this.button("Check", () => this.check(runs));
     check.className = "main";
-    const hinted = (at) => addMarkdown(at, `\n${hint}`, (name, text) => this.program(name, text));
+    // (a hint has no title)
+    const hinted = (at) => addMarkdown(at, `#\n${hint}`, (name, text) => this.program(name, text));
     const solved = (at) => at.append(this.program("solution.trac", solution));
     bar.append(check, this.button("Hint", (button) => this.unfold(button, hinted)));
     bar.append(this.button("A solution", (button) => this.unfold(button, solved)));
@@ -98,13 +99,15 @@ class Course {
     return block;
   }
 
-  // Shows what a button is for below the buttons, once.
+  // Shows what a button is for below the buttons, once, and says it.
   unfold(button, adds) {
-    button.disabled = true;
+    if (isOff(button)) return;
+    setOff(button, true);
     const place = make("div", "unfolded");
     adds(place);
     this.said.before(place);
     place.scrollIntoView({ block: "nearest" });
+    this.page.announcer.say("note", `${button.textContent}: ${place.textContent}`);
   }
 
   // Checks the program of the editor, and says what differs.

@@ -67,7 +67,7 @@ function markDoubts({ tree, step }) {
   for (const [id, of] of [["last", step - 1], ["next", step]]) {
     const words = tree.doubts.get(of);
     byId(id).querySelector(".doubt")?.remove();
-    if (words) byId(id).append(" ", make("span", "doubt", words));
+    if (words) byId(id).append(doubtSign(words));
   }
 }
 
@@ -87,8 +87,8 @@ function showDoubts(page, doubts) {
     const row = make("p", "way-row");
     const link = make("button", "", `step ${grouped(step)}`);
     link.type = "button";
-    link.addEventListener("click", () => page.go(step));
-    row.append(link, make("span", "doubt", words));
+    link.addEventListener("click", () => page.visit(step));
+    row.append(link, doubtSign(words));
     if (byte !== null && byte < page.program.length) row.append(make("span", "deed", lineAndColumn(page.program, byte)));
     return row;
   }));

@@ -14,10 +14,18 @@ function isOn(key) {
 function onKey(page, event, keys) {
   if ((event.ctrlKey || event.metaKey) && event.key === "Enter") {
     event.preventDefault();
-    page.start().then(() => byId("output").focus());
+    startByKeys(page);
     return;
   }
   if (event.ctrlKey || event.altKey || event.metaKey || event.isComposing) return;
+  if (event.key === "Escape" && !event.defaultPrevented && !byId("stop").hidden && !event.target.closest("dialog")) {
+    page.stop();
+    return;
+  }
+  if (event.key === "Enter" && event.target.id === "filter") {
+    page.visitFound();
+    return;
+  }
   if (event.key === "Escape" && isWriting(event.target) && !event.target.closest("dialog")) {
     event.target.blur();
     return;
@@ -30,6 +38,13 @@ function onKey(page, event, keys) {
   if (!action || !isOn(event.key)) return;
   event.preventDefault();
   page.act(action);
+}
+
+// Runs the program. The output has the focus then, if nothing else was given it meanwhile.
+async function startByKeys(page) {
+  const held = document.activeElement;
+  await page.start();
+  if (document.activeElement === held || !isShown(held)) byId("output").focus();
 }
 
 // Does something with what is chosen in a list, and shows its first line again. Where arrows or letters go through the

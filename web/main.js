@@ -4,6 +4,7 @@
 function openProgram(page, name, bytes) {
   page.editor.open(name, bytes);
   page.forget();
+  page.announcer.say("ending", `${byId("program-name").textContent} is opened.`);
 }
 
 // Whether what was typed may be dropped.

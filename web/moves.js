@@ -67,6 +67,13 @@ function performed(move, before, after) {
   move.grown = move.scanned ? "" : currentOf(now).slice(outer.length);
   move.value = move.scanned ? move.put : move.grown;
   move.printed = now.output.slice(old.output.length);
+  if (isReader(move.call)) move.form = formLeft(move.call, before, after);
+}
+
+// The text of the form that a call names, if the call left it as it was.
+function formLeft({ texts }, before, after) {
+  const [was, is] = [before, after].map((state) => formIn(state, texts[1] ?? ""));
+  return was === is ? was : undefined;
 }
 
 // Why the debugger takes no step from a state: it waits for input, or halts, or something was refused.

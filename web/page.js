@@ -4,6 +4,8 @@ const BUDGET = 2000000;
 const SPEED = 8;
 // After so many milliseconds an answer can be stopped.
 const LATE = 300;
+// After so many it is said that a run goes on.
+const SAID_LATE = 1500;
 // Less than so much output may be had with each state.
 const SMALL_OUTPUT = 1 << 16;
 // So many begun calls are shown, and so many signs of an argument, of a form, and on each side of the mark.
@@ -36,7 +38,7 @@ class Page {
     this.turn = 0;
     this.playing = 0;
     this.view = { redraw: () => this.redraw() };
-    this.tree = new CallTree((step) => this.go(step));
+    this.tree = new CallTree((step) => this.visit(step));
     this.way = new Way(this);
     this.announcer = new Announcer();
     this.actions = actionsOf(this);
@@ -127,8 +129,10 @@ class Page {
     const ending = byId("ending");
     const sentence = STANDS[this.endKind()].words;
     ending.textContent = `After ${grouped(end)} steps: ${sentence}.`;
-    if (stand === "done" && !this.isClosed && this.hasText(this.run.read)) {
-      ending.textContent = `After ${grouped(end)} steps the program waits: its last text has no ' at its end, so it is not run.`;
+    if ((stand === "done" || stand === "waits") && !this.isClosed && this.hasText(this.run.read)) {
+      const lacks = `has no ${plainOf(this.run.state.parts.meta, 8)} at its end`;
+      const why = stand === "done" ? `: its last text ${lacks}, so it is not run` : ` for more: what it is to read ${lacks}`;
+      ending.textContent = `After ${grouped(end)} steps the program waits${why}.`;
     }
     this.announcer.say("ending", endingSaid(ending.textContent, this.run.output));
     if (stand === "spent") ending.append(this.button("go on", () => this.goOn()));
@@ -150,6 +154,7 @@ class Page {
   async goOn() {
     this.budget += BUDGET;
     await this.perform();
+    if (document.activeElement === byId("output")) byId("ending").querySelector("button")?.focus();
   }
 
   // Gathers the calls of the run, its doubts, and where it prints.
@@ -164,7 +169,9 @@ class Page {
       this.tree.mark(this.step);
       this.timeline.show(calls, run.end);
       const doubts = await doubtsOf(this.background, this, run);
-      if (run === this.run) showDoubts(this, doubts);
+      if (run !== this.run) return;
+      showDoubts(this, doubts);
+      if (doubts.length) this.announcer.say("note", `${doubts.length === 1 ? "1 doubt is" : `${grouped(doubts.length)} doubts are`} listed`);
       calls.prints = await printsOf(this.background, this.tape, calls, run);
       calls.idles = await idlesOf(this.background, this.tape, calls, run);
       if (run === this.run) this.timeline.show(calls, run.end);
@@ -197,8 +204,21 @@ class Page {
     if (this.run) byId("program-note").textContent = "changed since the run";
   }
 
-  // Goes to a step, and shows it; where a token was passed on the way, with what that came to.
-  async go(wanted, passed = null) {
+  // Goes to a step that was asked for by itself: so what it does is said, and not what led there.
+  visit(step) {
+    return this.go(step, null, "next");
+  }
+
+  // Goes to the first call that a search leaves.
+  visitFound() {
+    const { calls, shown } = this.tree;
+    if (shown.length) this.visit(calls.steps[shown[0]]);
+    else this.note("no call has this");
+  }
+
+  // Goes to a step, and shows it; where a token was passed on the way, with what that came to. Says what led there, or what is
+  // next.
+  async go(wanted, passed = null, said = "last") {
     if (!this.run) return;
     const step = Math.min(Math.max(wanted, 0), this.run.end);
     const turn = ++this.turn;
@@ -209,7 +229,7 @@ class Page {
       [this.step, this.passed] = [step, passed];
       keepFocus(() => this.draw(states));
       // (the end of a run is said in place of its last step)
-      if (step < this.run.end || !this.announcer.words.has("ending")) this.announcer.step();
+      if (step < this.run.end || !this.announcer.words.has("ending")) this.announcer.step(byId(said).textContent);
       this.story.widen(this.run.end);
     } catch (fault) {
       this.say(fault);
@@ -317,35 +337,37 @@ class Page {
     await this.go(from, { from, to });
   }
 
-  // A move of trac-walk. What it says beside where it stands is shown.
+  // A move of trac-walk. What it says beside where it stands is shown. Of a move to a call, or to where one begins, that is said.
   async walk(line) {
     const { story } = this;
     const isSmall = story.isSmall && this.run.output.length < SMALL_OUTPUT;
     const { said, step, window } = await movedTo(this.engine, this.tape, this.step, line, isSmall);
     if (window && story === this.story) story.keep(window);
-    await this.go(step);
-    this.note(noteOf(said));
+    const note = noteOf(said, line);
+    if (step !== this.step || !note) await this.go(step, null, "urNO".includes(line) ? "next" : "last");
+    this.note(note);
   }
 
   async returnTo() {
-    await this.go(this.from);
+    await this.visit(this.from);
   }
 
   async whoChanged(name) {
     const forms = (await this.story.around(this.step, this.run.end)).at.parts.forms;
     const wanted = name ?? (forms.length === 1 ? forms[0].name : null);
-    if (wanted === null) byId("forms").querySelector("button")?.focus();
-    else await this.go(await this.changeOf(wanted));
+    if (forms.length === 0) this.note("there is no form at this step");
+    else if (wanted === null) byId("forms").querySelector("button")?.focus();
+    else await this.goToChange(wanted);
   }
 
-  // The step of the call that changed a form last.
-  async changeOf(name) {
+  // Goes to the call that changed a form last.
+  async goToChange(name) {
     const { engine, tape, story, step } = this;
     const { calls } = this.tree;
     const listed = calls.steps.length ? calls : await callsOf(engine, tape, step);
     const found = await lastChange(engine, tape, story, listed, step, name);
     if (found === null) this.note("no call that is listed changed it");
-    return found ?? step;
+    else await this.visit(found);
   }
 
   async followName() {
@@ -359,7 +381,7 @@ class Page {
     const steps = [...this.tree.doubts.keys()].sort((a, b) => a - b);
     const found = way > 0 ? steps.find((step) => step > this.step) : steps.findLast((step) => step < this.step);
     if (found === undefined) this.note(way > 0 ? "no doubt after this step" : "no doubt before this step");
-    else return this.go(found);
+    else return this.visit(found);
     return undefined;
   }
 
@@ -378,7 +400,10 @@ class Page {
     clearTimeout(this.playing);
     this.playing = 0;
     const button = byId("play");
-    if (button) button.textContent = way ? "pause" : "play";
+    if (button) {
+      button.textContent = way ? "pause" : "play";
+      button.setAttribute("aria-label", button.textContent);
+    }
     this.announcer.playing(Boolean(way));
     if (way) this.playOn();
   }
@@ -393,11 +418,20 @@ class Page {
     }, 1000 / SPEED);
   }
 
+  // Opens the help or closes it. By a key the help has the focus then, and after that what had it before.
   help() {
-    const isHidden = byId("help").hidden;
-    byId("help").hidden = !isHidden;
-    byId("help-button").setAttribute("aria-expanded", String(isHidden));
-    if (isHidden) byId("help").scrollIntoView({ block: "nearest" });
+    const help = byId("help"), isOpening = help.hidden;
+    const held = document.activeElement;
+    help.hidden = !isOpening;
+    byId("help-button").setAttribute("aria-expanded", String(isOpening));
+    if (isOpening) {
+      help.scrollIntoView({ block: "nearest" });
+      this.beforeHelp = held;
+      if (held !== byId("help-button")) help.focus({ preventScroll: true });
+    } else if (held !== byId("help-button")) {
+      const before = this.beforeHelp;
+      (before?.isConnected && before !== document.body ? before : byId("help-button")).focus();
+    }
   }
 
   // Ends what goes on.
@@ -424,10 +458,12 @@ class Page {
 
   busy(isBusy) {
     this.isBusy = isBusy;
+    clearTimeout(this.saying);
     keepFocus(() => {
       byId("stop").hidden = !isBusy;
+      if (isBusy) byId("ending").textContent = "It runs.";
     });
-    if (isBusy) byId("ending").textContent = "It runs.";
+    if (isBusy) this.saying = setTimeout(() => this.announcer.say("ending", "It runs. Escape stops it."), SAID_LATE);
     else if (byId("ending").textContent === "It runs.") byId("ending").textContent = "The run was stopped.";
   }
 
@@ -446,9 +482,11 @@ class Page {
   }
 }
 
-// What trac-walk says beside where it stands, without its own commands.
-function noteOf(text) {
-  return text.replace(/: i TEXT feeds a line, e ends the input/g, "")
+// What trac-walk says beside where it stands after a command, without its own commands.
+function noteOf(text, line) {
+  const met = line === "u" ? text.replace(/^not met; /, "there is no call after this step: ")
+    : line === "r" ? text.replace(/^not met since the first step that is kept, step 0$/, "there is no call before this step") : text;
+  return met.replace(/: i TEXT feeds a line, e ends the input/g, "")
     .replace(/ ?\bm goes to step (\d+), where the search ended/g, " (step $1)");
 }
 

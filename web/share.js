@@ -85,6 +85,7 @@ async function openPasted(page) {
   } catch (fault) {
     if (!(fault instanceof WrongLink)) throw fault;
     byId("open-note").textContent = fault.message;
+    byId("paste").setAttribute("aria-invalid", "true");
   }
 }
 
@@ -94,6 +95,7 @@ function startSharing(page) {
   byId("share-close").addEventListener("click", () => byId("share-box").close());
   byId("open").addEventListener("click", () => {
     byId("paste").value = byId("open-note").textContent = "";
+    byId("paste").removeAttribute("aria-invalid");
     byId("open-box").showModal();
   });
   byId("open-file").addEventListener("click", () => {

@@ -112,7 +112,7 @@ class Timeline {
 
   go(step) {
     this.page.play(0);
-    this.page.go(step);
+    this.page.visit(step);
   }
 
   // How far from the left a step is, of 1.

@@ -23,7 +23,7 @@ function actionsOf(page) {
 // What keys do beside those.
 function moreKeys(page) {
   return [
-    { keys: ["m"], words: "back to where the last of these began", does: () => page.returnTo() },
+    { keys: ["m"], words: "back to where the last of these moves began", does: () => page.returnTo() },
     { keys: ["y"], words: "where the name of the next call comes from", does: () => page.followName() },
     { keys: ["w"], words: "back to the call that changed a form last", does: () => page.whoChanged(null) },
     { keys: ["d"], words: "forward to the next doubt", does: () => page.doubt(1) },
@@ -78,8 +78,10 @@ function placeBox(page) {
   box.inputMode = "numeric";
   box.setAttribute("aria-label", "The number of the step");
   box.addEventListener("change", () => {
-    const wanted = Number(box.value.replaceAll(",", "").trim());
-    if (Number.isInteger(wanted) && box.value.trim() !== "") page.go(wanted);
+    const digits = box.value.replaceAll(",", "").trim();
+    const isStep = /^\d+$/.test(digits) && Number(digits) <= page.run.end;
+    page.note(isStep ? "" : `the run has steps 0 to ${grouped(page.run.end)}`);
+    if (/^\d+$/.test(digits)) page.visit(Number(digits));
     else page.redraw();
   });
   return box;

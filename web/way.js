@@ -12,7 +12,7 @@ class Way {
     this.turn = 0;
     byId("way-list").addEventListener("click", (event) => {
       const link = event.target.closest("[data-go]");
-      if (link) page.go(Number(link.dataset.go));
+      if (link) page.visit(Number(link.dataset.go));
     });
   }
 
@@ -36,6 +36,22 @@ class Way {
     if (range && window.Highlight) CSS.highlights.set("followed", new Highlight(range));
     let from = { place: holder.dataset.place, step: Number(holder.dataset.step), number };
     for (let hop = 0; from && hop < MOST_HOPS && turn === this.turn; hop++) from = await this.hop(from, turn);
+    if (turn === this.turn) this.page.announcer.say("note", this.said());
+  }
+
+  // What is said of the way: of a short one each call, of a long one how many there are, and the last.
+  said() {
+    const { rows } = this;
+    const told = (row) => [`step ${grouped(row.step)}:`, plainOf(this.textOf(row), 60), this.words(row)].join(" ");
+    const count = rows.reduce((sum, { left }) => sum + (left ?? 1), 0);
+    const all = rows.length < 4 ? rows.map(told).join("; ") : `${grouped(count)} calls, the last is ${told(rows[rows.length - 1])}`;
+    return `Where it comes from: ${all}`;
+  }
+
+  // The call of a row, as it was performed or as it is listed; else the idle program was loaded.
+  textOf(row) {
+    const call = callOf(row);
+    return call ? callText(call) : this.page.tree.textAt(row.step) ?? "the idle program";
   }
 
   // One way of a byte. It is shown as soon as it is known, and its calls once they are. Returns from where to go on, if from
@@ -61,7 +77,7 @@ class Way {
   draw() {
     const list = byId("way-list");
     byId("way-section").hidden = false;
-    list.replaceChildren(...this.rows.map((row, index) => this.row(row, index)));
+    keepFocus(() => list.replaceChildren(...this.rows.map((row, index) => this.row(row, index))));
     const last = this.rows[this.rows.length - 1];
     this.page.editor.light("read", last?.deed === "reads" ? [last.byte] : []);
     list.lastChild?.scrollIntoView({ block: "nearest" });
@@ -81,10 +97,10 @@ class Way {
     // (until the state comes, the call stands as it is listed)
     const listed = row.state ? undefined : this.page.tree.textAt(row.step);
     if (listed !== undefined) line.append(make("span", "code", listed.length > 60 ? `${listed.slice(0, 60)}…` : listed));
-    const calls = row.state?.parts.calls ?? [];
-    if (calls.length && ruleOf(row.state) === "p") {
+    const own = callOf(row);
+    if (own) {
       const call = make("span", "code");
-      addCall(call, calls[calls.length - 1], calls.length - 1, row.step, 60, false);
+      addCall(call, own, row.state.parts.calls.length - 1, row.step, 60, false);
       if (row.deed === "makes") {
         call.querySelectorAll(".argument:not(.name)").forEach((text, at) => reachable(text, `argument ${at + 1}`));
       } else reachable(call, "call");
@@ -96,12 +112,18 @@ class Way {
 
   // What the call did with the byte.
   words(row) {
-    if (row.deed === "makes" && row === this.rows[this.rows.length - 1]) return "makes it: click an argument to follow that";
+    const isLast = row === this.rows[this.rows.length - 1];
+    if (row.deed === "makes" && isLast && callOf(row)?.texts.length > 1) return "makes it: follow one of its arguments";
     if (row.deed !== "reads") return DEEDS[row.deed];
     const { program } = this.page;
     if (row.byte < program.length) return `reads it: ${lineAndColumn(program, row.byte)}`;
     return `reads it: byte ${grouped(row.byte - program.length + 1)} of the input after the program`;
   }
+}
+
+// The call that is performed at a row of a way, if its state is known.
+function callOf({ state }) {
+  return state && ruleOf(state) === "p" ? state.parts.calls[state.parts.calls.length - 1] : null;
 }
 
 // Lets a text be reached by keys, under a name.

@@ -1,6 +1,13 @@
 """The page by keys alone: the order of the focus, every control, the tree of calls, keys that are switched off, and a focus that
 stays where it is."""
-from pages import FACTORIAL, check
+import os
+
+from pages import FACTORIAL, TOP, check
+
+ENDLESS = os.path.join(TOP, "examples", "endless.trac")
+# A program that takes long.
+SLOW = ("#(ds,A,0123456789abcdef)'#(ds,D,(#(ds,A,##(cl,A)##(cl,A))))'" + "#(cl,D)" * 15 + "#(ds,L,(#(ds,B,##(cl,A)##(cl,A))#(cl,L)))'"
+        "#(cl,L)'")
 
 # What has the focus: its id, or what it is called and where it stands.
 FOCUS = ("(() => { const it = document.activeElement; const within = it.closest('[id]'); return it === document.body ? '' : it.id || "
@@ -249,11 +256,44 @@ def check_input(page):
     page.until(FOCUS + " === 'output'", "the output has the focus then")
 
 
+def check_comes_back(page):
+    """The focus goes to the help and comes back; it stays where a way is shown anew, at `go on`, and where Escape stops a run."""
+    again(page, open(FACTORIAL).read())
+    page.go(100)
+    focus(page, "rules")
+    page.press("?", shift=True)
+    check(page.script(FOCUS) == "help", "{}: the help has the focus: {}".format(page.name, page.script(FOCUS)))
+    page.press("Tab")
+    check(page.script(FOCUS) == "single-keys", "the switch is next: " + page.script(FOCUS))
+    page.press("?", shift=True)
+    check(page.script(FOCUS) == "rules", "{}: the focus comes back: {}".format(page.name, page.script(FOCUS)))
+    page.press("y")
+    page.until("document.querySelector('#way-list [data-go]') !== null", "the name of a call is followed")
+    page.script("document.querySelector('#way-list [data-go]').focus()")
+    page.press("y")
+    page.until("document.getElementById('said').textContent.startsWith('Where it comes from: ')", "that is said")
+    check(page.script(FOCUS) != "", "{}: a way that is shown anew keeps the focus".format(page.name))
+    again(page, open(ENDLESS).read())
+    page.press("Tab")
+    page.press("Enter")
+    page.until("document.getElementById('ending').textContent.startsWith('After 4,000,000 steps')", "it goes on")
+    page.until(FOCUS + " === 'ending: go on'", "{}: `go on` has the focus still: {}".format(page.name, page.script(FOCUS)), 10)
+    focus(page, "source")
+    page.script("document.getElementById('source').select()")
+    page.insert(SLOW)
+    page.press("Enter", control=True)
+    page.until("!document.getElementById('stop').hidden", "it runs")
+    page.press("Escape")
+    page.until("document.getElementById('ending').textContent === 'The run was stopped.'", "Escape stops it")
+    page.until(FOCUS + " === 'output'", "{}: the output has the focus then: {}".format(page.name, page.script(FOCUS)), 10)
+
+
 def check_by_keys(kind, file):
     """All that, in one browser."""
     page = started(kind, file)
     try:
-        for part in (check_order, check_others, check_buttons, check_texts, check_focus_stays, check_tree, check_switch, check_input):
+        for part in (check_order, check_others, check_buttons, check_texts, check_focus_stays, check_tree, check_switch, check_input,
+                     check_comes_back):
             part(page)
             page.well(part.__name__)
     finally:

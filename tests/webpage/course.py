@@ -85,8 +85,11 @@ def check_exercises(page):
         check(part in said, "a check of {!r} says {!r}".format(program, said[:300]))
     press(page, "Hint")
     press(page, "A solution")
-    unfolded = page.script("[...document.querySelectorAll('.unfolded')].map((one) => one.textContent).join()")
-    check("`" not in unfolded and "#(ds,down," in unfolded, "a hint and a solution: " + unfolded)
+    press(page, "Hint")
+    unfolded = page.script("[...document.querySelectorAll('.unfolded')].map((one) => one.textContent)")
+    hint = read("05/1/hint.md").replace("`", "").split("\n")[0]
+    check(len(unfolded) == 2 and unfolded[0].startswith(hint) and "`" not in "".join(unfolded), "a hint: {}".format(unfolded))
+    check("#(ds,down," in unfolded[-1], "a solution: {}".format(unfolded))
 
 
 def check_failure(page):

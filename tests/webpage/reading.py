@@ -1,5 +1,6 @@
 """What the page says to those who do not see it: roles and names, one region that speaks, and what a step changed."""
 import difflib
+import json
 import os
 
 import names
@@ -22,7 +23,7 @@ def check_stored(page):
     page.until("document.getElementById('way-list').children.length === 2", "where the 0 comes from")
     page.go(90)
     page.until("document.getElementById('program-note').textContent === 'here: line 1, column 29'", "the place in the program")
-    page.until("document.getElementById('said').textContent.startsWith('Step ')", "the step is said")
+    page.until("document.getElementById('said').textContent.startsWith('Next, step 90')", "the step is said")
     page.until("document.querySelector('#tree .quote') !== null", "protected arguments stand in quotes")
     text = names.text(page)
     if os.environ.get("STORE_NAMES"):
@@ -58,8 +59,9 @@ def check_changes(page):
 
 
 def quiet(page):
-    """Waits until the last step is said, perhaps after the end of the run. What is said is noted from here on."""
-    page.until("document.getElementById('said').textContent.endsWith(document.getElementById('last').textContent)", "the last step is said")
+    """Waits until the step is said that was asked for, or what led there. What is said is noted from here on."""
+    page.until("['last', 'next'].some((id) => document.getElementById('said').textContent.endsWith(document.getElementById(id).textContent))",
+               "the step is said")
     page.script("window.said = []")
 
 
@@ -90,12 +92,57 @@ def check_said(page):
     check(page.script("window.said") == [page.text("last")], "once, at its end: {}".format(page.script("window.said")))
 
 
+def hears(page, does, words):
+    """Something is done, and this is said of it."""
+    page.script("window.said = []")
+    does()
+    page.until("window.said.join('|').includes({})".format(json.dumps(words)), "it says " + words, 20)
+    return page.script("window.said.join('|')")
+
+
+def press_in(page, selector, *keys):
+    """Gives the focus to an element, or to none, and presses keys."""
+    page.script("document.querySelector({})?.focus()".format(json.dumps(selector)) if selector else "document.activeElement.blur()")
+    for key in keys:
+        page.press(key)
+
+
+def check_heard(page):
+    """What was asked for is said: a call that one goes to, where a byte comes from, how much is doubted, and what is opened."""
+    page.script(SAID)
+    page.type("#(pr,a)#(ps,Hello, world)'")
+    hears(page, page.run, "Printed is: Hello")
+    page.until("window.said.join('|').includes('2 doubts are listed')", "how much is doubted: {}".format(page.script("window.said")))
+    said = hears(page, lambda: press_in(page, "#doubts button", "Enter"), "Next, step 13: ) ends the function, and #(pr,a) is performed")
+    check(said.endswith("its value is empty. Doubt: no primitive is named pr"), "what is doubted: " + said)
+    said = hears(page, lambda: press_in(page, None, "r"), "there is no call before this step")
+    check("Step" not in said and "step 13" not in said, "a step is not said again: " + said)
+    hears(page, lambda: page.press("u"), ") ends the function, and #(ps,Hello, world) is performed")
+    hears(page, lambda: page.press("u"), "there is no call after this step: ")
+    hears(page, lambda: page.press("y"), "Where it comes from: step 7: #(rs) reads it: line 1, column 10")
+    hears(page, lambda: page.press("w"), "there is no form at this step")
+    page.script("document.getElementById('place').value = '999'")
+    hears(page, lambda: press_in(page, "#place", "9", "Enter"), "the run has steps 0 to ")
+    page.script("document.getElementById('filter').focus()")
+    hears(page, lambda: page.insert("hello"), "1 of 2 calls")
+    hears(page, lambda: page.press("Enter"), ") ends the function, and #(ps,Hello, world) is performed")
+    name = "document.getElementById('play').getAttribute('aria-label')"
+    page.go(0)
+    press_in(page, "#play", "Enter")
+    check(page.script(name) == "pause", "the name of the button while it plays: " + page.script(name))
+    page.press("Enter")
+    check(page.script(name) == "play", "the name of the button then: " + page.script(name))
+    press_in(page, "#library", "f", "Enter")
+    page.until("document.getElementById('question').open", "it asks, since a program was typed")
+    hears(page, lambda: page.press("Enter"), "first.trac is opened.")
+
+
 def check_reading(kind, file):
     """All that, in Chromium."""
     page = kind(file)
     try:
         check(names.nameless(page) == [], "without names, at the start: {}".format(names.nameless(page)))
-        for part in (check_stored, check_named, check_changes, check_said):
+        for part in (check_stored, check_named, check_changes, check_said, check_heard):
             part(page)
             page.well(part.__name__)
     finally:

@@ -4,6 +4,7 @@ import os
 import time
 
 from pages import FACTORIAL, KEPT, check
+from readers import PROGRAM, READERS
 
 # The least number that is too great for 128 bits, and that less one.
 WIDE = "170141183460469231731687303715884105728"
@@ -72,12 +73,19 @@ def says(page, name, words):
 
 def check_reasons(page):
     """Sentences of decisions and decimals; the number of the list is that of the sentence, the slider and the box."""
+    check_sentences(page, "".join(call for call, _ in REASONS[:12]) + "'" + "".join(call for call, _ in REASONS[12:]) + "'", REASONS)
+    # (why the default of a call that reads a form)
+    check_sentences(page, PROGRAM, READERS)
+
+
+def check_sentences(page, program, rows):
+    """Of each call of a program, one after the other, the sentence before its step and after it."""
     wrong = []
-    page.type("".join(call for call, _ in REASONS[:12]) + "'" + "".join(call for call, _ in REASONS[12:]) + "'")
+    page.type(program)
     page.run()
-    page.until("document.getElementById('tree-count').textContent === '{}'".format(len(REASONS)), "all are listed")
+    page.until("document.getElementById('tree-count').textContent === '{}'".format(len(rows)), "all are listed")
     page.script("document.getElementById('tree').scrollTop = 0")
-    for index, (call, said) in enumerate(REASONS):
+    for index, (call, said) in enumerate(rows):
         page.script("document.getElementById('tree').focus()")
         page.press("ArrowDown" if index else "Home")
         step = page.script("document.querySelector('#tree .chosen .number').textContent")
@@ -92,6 +100,8 @@ def check_reasons(page):
         page.press("s")
         done = "document.getElementById('last').textContent.startsWith('Step {}: ) ends')".format(step)
         page.until(done, "step {} is done".format(step), 10)
+        if said not in page.text("last"):
+            wrong.append((call, page.text("last")))
     check(not wrong, "{}: sentences: {}".format(page.name, wrong[:3]))
 
 
