@@ -112,6 +112,7 @@ function letFollow(form, text, head) {
   const who = make("button", "link", "who changed it");
   who.type = "button";
   who.dataset.who = form.name;
+  who.setAttribute("aria-label", `who changed it: ${plainOf(form.name, 30)}`);
   head.append(make("br"), who);
 }
 

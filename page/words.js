@@ -14,7 +14,7 @@ const RULES = {
   n: () => [["##("], " begins a neutral function: its value will not be scanned, unless it is the default"],
   "#": () => ["a ", ["#"], " that begins no function goes to the current text"],
   ")": () => ["a ", [")"], " outside any function is deleted"],
-  x: (move) => [[move.taken], " goes to the current text"],
+  x: (move) => [movedWords(move.taken), " goes to the current text"],
   p: (move) => wordsOfCall(move),
 };
 
@@ -70,6 +70,12 @@ const REASONS = {
   Memory: "there was not the memory for the next step that a page has",
   Large: "the next state is too large to be shown",
 };
+
+// What is moved: blanks have a word, since nobody hears them.
+function movedWords(text) {
+  if (!/^ +$/.test(text)) return [text];
+  return text.length === 1 ? "a blank" : `${grouped(text.length)} blanks`;
+}
 
 // What it means that a text was protected.
 function protectedWords(text) {

@@ -81,7 +81,8 @@ class Page {
       if (run.window) this.story.keep(run.window);
       this.view.outputTo = undefined;
       keepFocus(() => this.shown());
-      await this.go(run.end);
+      // (the end of the run is said, and not its last step)
+      await this.go(run.end, null, null);
       this.gather(this.run);
     } catch (fault) {
       this.say(fault);
@@ -217,7 +218,7 @@ class Page {
   }
 
   // Goes to a step, and shows it; where a token was passed on the way, with what that came to. Says what led there, or what is
-  // next.
+  // next, or nothing.
   async go(wanted, passed = null, said = "last") {
     if (!this.run) return;
     const step = Math.min(Math.max(wanted, 0), this.run.end);
@@ -228,8 +229,7 @@ class Page {
       if (turn !== this.turn || !states) return;
       [this.step, this.passed] = [step, passed];
       keepFocus(() => this.draw(states));
-      // (the end of a run is said in place of its last step)
-      if (step < this.run.end || !this.announcer.words.has("ending")) this.announcer.step(byId(said).textContent);
+      if (said) this.announcer.step(byId(said).textContent);
       this.story.widen(this.run.end);
     } catch (fault) {
       this.say(fault);
@@ -237,7 +237,7 @@ class Page {
   }
 
   redraw() {
-    return this.go(this.step, this.passed);
+    return this.go(this.step, this.passed, null);
   }
 
   // Shows a state, with what the last step did and the next one does.
@@ -356,7 +356,10 @@ class Page {
     const forms = (await this.story.around(this.step, this.run.end)).at.parts.forms;
     const wanted = name ?? (forms.length === 1 ? forms[0].name : null);
     if (forms.length === 0) this.note("there is no form at this step");
-    else if (wanted === null) byId("forms").querySelector("button")?.focus();
+    else if (wanted === null) {
+      byId("forms").querySelector("button")?.focus();
+      this.note("which form? each has a button");
+    }
     else await this.goToChange(wanted);
   }
 

@@ -23,7 +23,7 @@ async function openHeld(page, held) {
   page.budget = BUDGET * Math.ceil(Math.min(Math.max(held.step, 1), MOST_LINK_STEPS) / BUDGET);
   await page.perform();
   if (!page.run) return;
-  await page.go(held.step);
+  await page.visit(held.step);
   if (held.step > page.run.end) page.note(`the link is to step ${grouped(held.step)}, and the run ends before it`);
 }
 

@@ -65,7 +65,7 @@ function keptTokenStart(page, step) {
 
 // A run of plain bytes as one move.
 function runMove(move, text) {
-  return { ...move, taken: text, moved: text, words: [[text], " goes to the current text, a byte a step"] };
+  return { ...move, taken: text, moved: text, words: [movedWords(text), " goes to the current text, a byte a step"] };
 }
 
 // What led to the state where the cursor is: from which step, by what move, and in which words, if not in those of its

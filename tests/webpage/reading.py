@@ -121,6 +121,7 @@ def check_heard(page):
     hears(page, lambda: page.press("u"), "there is no call after this step: ")
     hears(page, lambda: page.press("y"), "Where it comes from: step 7: #(rs) reads it: line 1, column 10")
     hears(page, lambda: page.press("w"), "there is no form at this step")
+    hears(page, lambda: page.go(24), "Next, step 24: a blank goes to the current text")
     page.script("document.getElementById('place').value = '999'")
     hears(page, lambda: press_in(page, "#place", "9", "Enter"), "the run has steps 0 to ")
     page.script("document.getElementById('filter').focus()")
