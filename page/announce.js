@@ -5,6 +5,13 @@ const PAUSE = 80;
 // What is said first.
 const SAID = ["ending", "note", "step"];
 
+// The words of a sentence. A byte that has no letter stands apart from what is beside it.
+function wordsSaid(sentence) {
+  const copy = sentence.cloneNode(true);
+  for (const byte of copy.querySelectorAll(".byte")) byte.replaceWith(` ${byte.textContent} `);
+  return copy.textContent;
+}
+
 class Announcer {
   constructor() {
     this.box = byId("said");
@@ -23,7 +30,7 @@ class Announcer {
   }
 
   // Says what the step did that was shown last.
-  step(words = byId("last").textContent) {
+  step(words = wordsSaid(byId("last"))) {
     this.say("step", words);
   }
 

@@ -71,11 +71,17 @@ function labelled(element, label) {
   return element;
 }
 
+// A byte that has no letter. Who does not see its frame is told that its sign is no text.
+function asByte(element, byte) {
+  element.textContent = signOf(byte);
+  return labelled(element, byte > 127 ? `byte ${signOf(byte)}` : signOf(byte));
+}
+
 // Adds a text to an element, all of it.
 function addText(parent, text) {
   for (const piece of piecesOf(text)) {
     if (piece.plain !== undefined) parent.append(piece.plain);
-    else parent.append(make("span", "byte", signOf(piece.byte)));
+    else parent.append(asByte(make("span", "byte"), piece.byte));
   }
 }
 

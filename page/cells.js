@@ -39,7 +39,7 @@ function addCells(parent, bytes, first = 0, lines = false) {
     } else if (lines && (run.byte === 10 || run.byte === 9)) {
       cell.className = run.byte === 10 ? "end-of-line" : "";
       cell.textContent = String.fromCharCode(run.byte);
-    } else cell.textContent = signOf(run.byte);
+    } else asByte(cell, run.byte);
     parent.append(cell);
   }
 }

@@ -11,7 +11,7 @@ function go(step) {
   goToStep(wanted);
   byId("missing").textContent = "";
   draw();
-  player.announcer.step(isBack ? `Back: ${byId("next").textContent}` : undefined);
+  player.announcer.step(isBack ? `Back: ${wordsSaid(byId("next"))}` : undefined);
 }
 
 // Shows the state where the run is.

@@ -88,7 +88,7 @@ function showDoubts(page, doubts) {
     const link = make("button", "", `step ${grouped(step)}`);
     link.type = "button";
     link.addEventListener("click", () => page.visit(step));
-    row.append(link, doubtSign(words));
+    row.append(link, make("span", "doubt", words));
     if (byte !== null && byte < page.program.length) row.append(make("span", "deed", lineAndColumn(page.program, byte)));
     return row;
   }));

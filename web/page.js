@@ -229,7 +229,7 @@ class Page {
       if (turn !== this.turn || !states) return;
       [this.step, this.passed] = [step, passed];
       keepFocus(() => this.draw(states));
-      if (said) this.announcer.step(byId(said).textContent);
+      if (said) this.announcer.step(wordsSaid(byId(said)));
       this.story.widen(this.run.end);
     } catch (fault) {
       this.say(fault);
