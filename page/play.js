@@ -3,15 +3,16 @@
 const SPEEDS = [1, 2, 4, 8, 15, 30, 60, 120, 300, 1000];
 const player = { way: 0, speed: 3, owed: 0, then: 0, frame: 0, timer: 0, address: "", hasLetters: true, tree: null, announcer: null };
 
-// Goes to a step, and shows it. The way is that of the step, so that the colours are those of what was just done.
-function go(step) {
+// Goes to a step, and shows it. The way is that of the step, so that the colours are those of what was just done. Of a step that was
+// asked for by itself, what it does is said.
+function go(step, isAsked = false) {
   const wanted = Math.min(Math.max(step, 0), run.count);
   const isBack = wanted < run.at;
   if (wanted !== run.at) document.documentElement.dataset.way = isBack ? "back" : "forward";
   goToStep(wanted);
   byId("missing").textContent = "";
   draw();
-  player.announcer.step(isBack ? `Back: ${wordsSaid(byId("next"))}` : undefined);
+  player.announcer.step(isAsked ? wordsSaid(byId("next")) : isBack ? `Back: ${wordsSaid(byId("next"))}` : undefined);
 }
 
 // Shows the state where the run is.
@@ -97,14 +98,14 @@ function changeSpeed(by) {
 }
 
 // Stops, and goes to a step.
-function stopAndGo(step) {
+function stopAndGo(step, isAsked) {
   if (player.way) play(0);
-  go(step);
+  go(step, isAsked);
 }
 
 // Goes to the next or the last place where a call is performed next.
 function goToCall(isForward) {
-  stopAndGo(player.tree.stepBeside(data.first + run.at, isForward) - data.first);
+  stopAndGo(player.tree.stepBeside(data.first + run.at, isForward) - data.first, true);
 }
 
 const ACTIONS = {
@@ -184,7 +185,7 @@ function onKey(event) {
     filter.blur();
   } else if (event.key === "Enter" && event.target === filter) {
     const { shown, calls } = player.tree;
-    if (shown.length) stopAndGo(calls.steps[shown[0]] - data.first);
+    if (shown.length) stopAndGo(calls.steps[shown[0]] - data.first, true);
   } else {
     const name = actionOf(event);
     if (!name) return;
@@ -244,7 +245,7 @@ function start() {
     drawTicks();
   });
   player.announcer = new Announcer();
-  player.tree = new CallTree((step) => stopAndGo(step - data.first));
+  player.tree = new CallTree((step) => stopAndGo(step - data.first, true));
   player.tree.show(gatherCalls());
   startProgram();
   showExtent();
