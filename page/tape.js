@@ -67,6 +67,11 @@ function struck(text, call) {
   return part;
 }
 
+// The sign of a begun call that stands for what a step deleted: its beginning, or the comma after an argument.
+function standsFor(line, { rule }) {
+  return ["a", "n", ","].includes(rule) ? [...line.querySelectorAll(".begun")].pop() : undefined;
+}
+
 // Shows the scanned text up to the mark. What was moved or put there stands after what was deleted, but for the parenthesis
 // after protected text. On the way back nothing is known of what the last step did.
 function showScanned(parts, last, shown) {
@@ -75,7 +80,9 @@ function showScanned(parts, last, shown) {
   const come = addScanned(line, scannedParts(parts, shown.side), move, shown);
   const gone = goneOf(move);
   if (gone || move?.call) {
+    const sign = standsFor(line, move);
     if (come) come.before(struck(gone, move.call));
+    else if (sign) sign.replaceWith(struck(gone));
     else line.append(struck(gone, move.call));
   }
   if (move?.rule === "(") line.append(struck(")"));

@@ -1,13 +1,15 @@
 // What each step and each primitive does, in the words of docs/language.md. A text of the program stands in a list,
 // with what it is after it; the empty text has a sign of its own.
 
+const UNPROTECTED = [" that is not protected by ", ["( )"]];
+
 const RULES = {
   i: () => ["nothing is left: base text and begun functions are emptied, and the idle program is loaded"],
   "(": (move) => [["("], " and its matching ", [")"],
     " are deleted, and what they protect goes to the current text unchanged", protectedWords(move.moved)],
   u: () => [["("], " has no match: it is deleted, and all the rest goes to the current text"],
   w: (move) => [[move.taken], " is deleted: ",
-    { "\\x0d": "a carriage return", "\\x0a": "a line feed", "\\x09": "a tab" }[move.taken], " that is not protected"],
+    { "\\x0d": "a carriage return", "\\x0a": "a line feed", "\\x09": "a tab" }[move.taken], ...UNPROTECTED],
   ",": (move) => wordsOfComma(move.ended),
   ";": () => ["a ", [","], " outside any function is deleted"],
   a: () => [["#("], " begins an active function: its value will be scanned"],
@@ -87,11 +89,12 @@ function protectedWords(text) {
 
 // What a comma does: the argument that it ends, of which call and which one it is, where that is known.
 function wordsOfComma(ended) {
-  if (!ended) return ["a ", [","], " that is not protected ends the argument, and an empty one is begun"];
+  const comma = ["a ", [","], ...UNPROTECTED, " ends "];
+  if (!ended) return [...comma, "the argument, and an empty one is begun"];
   const { call, index } = ended;
   const text = call.texts[index];
   const which = index === 0 ? ["the name of the function, "] : [`argument ${index} of `, [call.texts[0], "text"], ": "];
-  return ["a ", [","], " that is not protected ends ", ...which, [text, "text"], `; argument ${index + 1} is begun`];
+  return [...comma, ...which, [text, "text"], `; argument ${index + 1} is begun`];
 }
 
 // What a function does, by its name. Letters of either case name a primitive.
@@ -102,7 +105,8 @@ function deedOf(name) {
 
 // A call in words: why its value is what it is, or what it is for and what it printed; and its value.
 function wordsOfCall(move) {
-  const words = [[")"], " ends the function, and ", [callText(move.call), "call", move.call], " is performed: ",
+  const whose = move.isLast ? " of the idle program" : "";
+  const words = [[")"], `${whose} ends the function, and `, [callText(move.call), "call", move.call], " is performed: ",
     ...(reasonOf(move) ?? deedOf(move.call.texts[0]))];
   if (move.printed) words.push("; printed is ", [move.printed]);
   const last = words[words.length - 1];

@@ -4,13 +4,14 @@
 const LOOKS = ["p all", "b", "p all", "s", "p all", "s", "p all"];
 
 // A move from a step: what is said of it, the step where it arrives, and the states there, if they are wanted and came whole.
-async function movedTo(engine, tape, from, line, isWanted) {
-  const lines = [`g ${from}`, line, ...(isWanted ? LOOKS : [])];
+async function movedTo(engine, { tape, isClosed }, from, line, isWanted) {
+  const ended = endOfInput(isClosed);
+  const lines = [...ended, `g ${from}`, line, ...(isWanted ? LOOKS : [])];
   const { bytes } = await engine.ask("walk", tape, { commands: `${lines.join("\n")}\n`, most: WINDOW }, 1 << 18);
   const replies = new Replies(bytes);
   const end = replies.text.indexOf("\nactive [");
   const text = end < 0 ? replies.text : replies.text.slice(0, end);
-  const said = text.trimEnd().split("\n").slice(1, -1).join(" ");
+  const said = text.trimEnd().split("\n").slice(1 + ended.length, -1).join(" ");
   return { said, step: stepSaid(text), window: end < 0 ? null : arrived(replies, stepSaid(text)) };
 }
 

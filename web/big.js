@@ -23,16 +23,18 @@ class Big {
   enter() {
     if (!this.page.run) return;
     this.before = document.activeElement;
+    this.scrolled = scrollY;
     document.documentElement.dataset.big = "yes";
     this.shown();
     this.button.focus({ preventScroll: true });
-    this.page.note("Esc leaves the large view");
+    this.page.note("Esc or this button leaves the large view");
   }
 
   leave() {
     delete document.documentElement.dataset.big;
     this.page.note("");
     this.shown();
+    scrollTo(0, this.scrolled);
     if (this.before?.isConnected && this.before !== document.body) this.before.focus();
   }
 

@@ -7,12 +7,18 @@ const MOST_LIST = 1 << 25;
 const CALL_LINE = /^(\d+) {2}((?: {2})*)(##?\(.*)$/;
 
 // The calls of a run. Where they are too long together, they are cut.
-async function callsOf(engine, tape, end) {
+async function callsOf(engine, tape, end, isClosed) {
   for (const list of [`t ${MOST_CALLS} all`, `t ${MOST_CALLS}`]) {
-    const { status, bytes } = await engine.ask("walk", tape, { commands: `s ${end}\n${list}\n`, most: MOST_LIST }, 1 << 22);
-    if (status === 0) return callsSaid(new TextDecoder("latin1").decode(bytes), end);
+    const commands = `${[...endOfInput(isClosed), `s ${end}`, list].join("\n")}\n`;
+    const { status, bytes } = await engine.ask("walk", tape, { commands, most: MOST_LIST }, 1 << 22);
+    if (status === 0) return { ...callsSaid(new TextDecoder("latin1").decode(bytes), end), isClosed };
   }
-  return callsSaid("", end);
+  return { ...callsSaid("", end), isClosed };
+}
+
+// What trac-walk is told first of a run whose input has ended: else it waits where that goes on. It says where it stands.
+function endOfInput(isClosed) {
+  return isClosed ? ["e"] : [];
 }
 
 // The calls that trac-walk lists, before the step where it stands.

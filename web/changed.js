@@ -44,7 +44,7 @@ async function changeIn(story, calls, step, name) {
 
 // The step of the call that changed a form last, before a step, or nothing. Calls before those that are listed are listed anew.
 async function lastChange(engine, tape, story, listed, step, name) {
-  for (let calls = listed; ; calls = await callsOf(engine, tape, calls.from)) {
+  for (let calls = listed; ; calls = await callsOf(engine, tape, calls.from, calls.isClosed)) {
     const found = await changeIn(story, calls, step, name);
     if (found !== null || calls.from === 0) return found;
   }

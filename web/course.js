@@ -1,6 +1,8 @@
 // The course: a lesson or an exercise beside the editor. An exercise is checked by running the program of the editor.
 
 const SHOWN_BYTES = 4096;
+// What a lesson says of the exercises in a terminal: here `next` leads to them.
+const IN_TERMINAL = /\n## Exercises\n[^]*$/;
 
 class Course {
   constructor(page, open) {
@@ -34,7 +36,7 @@ class Course {
     byId("lesson-next").hidden = !next;
     if (next) byId("lesson-next").setAttribute("aria-label", `next: ${titleOf(next.text)}`);
     place.replaceChildren();
-    addMarkdown(place, item.text, (name, text) => this.program(name, text));
+    addMarkdown(place, item.text.replace(IN_TERMINAL, ""), (name, text) => this.program(name, text));
     if (item.runs) this.addExercise(place, item);
     byId("lesson").hidden = false;
     place.scrollTop = 0;

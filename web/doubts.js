@@ -25,7 +25,7 @@ async function doubtsOf(engine, page, run) {
 async function doubtsWalked(engine, page, run) {
   const doubts = [];
   for (let from = 0, size = 1; doubts.length < MOST_DOUBTS_WALKED; size = run.stand === "spent" ? 1 : Math.min(size * 2, 16)) {
-    const text = await walked(engine, page.tape, [`g ${from}`, ...Array(size).fill("d")]);
+    const text = await walked(engine, page.tape, [...endOfInput(page.isClosed), `g ${from}`, ...Array(size).fill("d")]);
     const found = doubtsInWalk(text, page.program).filter(({ step }) => step > from && step < run.end);
     doubts.push(...found);
     if (found.length === 0 || /^not (met|understood)/m.test(text)) break;
@@ -89,7 +89,7 @@ function showDoubts(page, doubts) {
     link.type = "button";
     link.addEventListener("click", () => page.visit(step));
     row.append(link, make("span", "doubt", words));
-    if (byte !== null && byte < page.program.length) row.append(make("span", "deed", lineAndColumn(page.program, byte)));
+    if (byte !== null && byte < page.program.length) row.append(placeButton(page, byte));
     return row;
   }));
   if (doubts.length > MOST_DOUBTS) byId("doubts").append(make("p", "note", `and ${grouped(doubts.length - MOST_DOUBTS)} more`));

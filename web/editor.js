@@ -75,17 +75,31 @@ class Editor {
 
   // Lights bytes of the program in a way that has a name. Where it is wanted, they come in view.
   light(name, numbers, isShown = true) {
-    const text = this.paint.firstChild;
-    if (!window.Highlight || !text) return;
-    const ranges = numbers.map((number) => this.unitOf(number)).filter((unit) => unit < text.length).map((unit) => {
-      const range = document.createRange();
-      range.setStart(text, unit);
-      range.setEnd(text, unit + 1);
-      return range;
-    });
+    if (!window.Highlight) return;
+    const ranges = numbers.map((number) => this.rangeOf(this.unitOf(number))).filter((range) => range);
     if (ranges.length) CSS.highlights.set(name, new Highlight(...ranges));
     else CSS.highlights.delete(name);
     if (isShown && ranges.length && document.activeElement !== this.box) this.bring(ranges[0]);
+  }
+
+  // Chooses the sign of a byte, in view, so that it can be edited.
+  choose(number) {
+    const unit = this.unitOf(number);
+    this.frame.scrollIntoView({ block: "nearest" });
+    this.box.focus({ preventScroll: true });
+    this.box.setSelectionRange(unit, unit + (/[\ud800-\udbff]/.test(this.box.value[unit]) ? 2 : 1));
+    const range = this.rangeOf(unit);
+    if (range) this.bring(range);
+  }
+
+  // The range of a unit of the painted text, or nothing.
+  rangeOf(unit) {
+    const text = this.paint.firstChild;
+    if (!text || unit >= text.length) return null;
+    const range = document.createRange();
+    range.setStart(text, unit);
+    range.setEnd(text, unit + 1);
+    return range;
   }
 
   // Scrolls the box so that a range is in view.

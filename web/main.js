@@ -54,7 +54,10 @@ function startFiles(page) {
   });
   byId("save").addEventListener("click", () => saveProgram(page));
   const drop = byId("drop");
+  // (a text that is dragged is no file: the editor takes it)
+  const isFile = (event) => event.dataTransfer.types.includes("Files");
   addEventListener("dragover", (event) => {
+    if (!isFile(event)) return;
     event.preventDefault();
     drop.hidden = false;
   });
@@ -62,6 +65,7 @@ function startFiles(page) {
     if (!event.relatedTarget) drop.hidden = true;
   });
   addEventListener("drop", (event) => {
+    if (!isFile(event)) return;
     event.preventDefault();
     drop.hidden = true;
     openFile(page, event.dataTransfer.files[0]);
@@ -131,6 +135,7 @@ function startPage(page) {
   startFollowing(page);
   startChoosing(page);
   startSwipes(page);
+  startSlider(page);
   startFiles(page);
   startSharing(page);
   startLooks(page);

@@ -45,7 +45,7 @@ function addMarkdown(parent, text, shown) {
     const whole = lines.join(" ");
     const last = parent.lastElementChild;
     if (kind === "trac") parent.append(shown(name, `${lines.join("\n")}\n`));
-    else if (kind === "console") parent.append(make("pre", "block", lines.join("\n")));
+    else if (kind === "console") addConsole(parent, lines);
     else if (kind === "heading") parent.append(addMarked(make("h3"), whole));
     else if (kind === "p") parent.append(addMarked(make("p"), whole));
     else {
@@ -54,6 +54,13 @@ function addMarkdown(parent, text, shown) {
       parent.append(list);
     }
   }
+}
+
+// Adds what stands in a terminal. Of a run alone it is what that prints: here Run does it.
+function addConsole(parent, lines) {
+  const isRun = /^\$ \.\/trac run < \S+$/.test(lines[0]);
+  if (isRun) parent.append(make("p", "pale", "It prints"));
+  parent.append(make("pre", "block", (isRun ? lines.slice(1) : lines).join("\n")));
 }
 
 // The title of a text.

@@ -60,6 +60,8 @@ function endedBy(calls) {
 function performed(move, before, after) {
   const [old, now] = [before.parts, after.parts];
   move.taken = ")";
+  // (the last sign that is not scanned yet is always the idle program's)
+  move.isLast = old.active === ")";
   move.call = old.calls[old.calls.length - 1];
   move.put = now.active.slice(0, now.active.length - (old.active.length - 1));
   move.scanned = move.put !== "" || !move.call.neutral;

@@ -22,7 +22,7 @@ function showOutput(view, bytes, printed, fresh, step) {
   }
   if (last < printed) parent.append(turnButton("later", Math.min(last + SHOWN_OUTPUT, printed), view));
   byId("output-note").textContent = printed === 0 ? "nothing printed yet"
-    : first > 0 || last < printed ? `bytes ${grouped(first + 1)} to ${grouped(last)} of ${grouped(printed)}` : "";
+    : first > 0 || last < printed ? `bytes ${grouped(first + 1)} to ${grouped(last)} of ${grouped(printed)}` : view.hint;
   parent.scrollTop = parent.scrollHeight;
 }
 

@@ -8,6 +8,8 @@ const LATE = 300;
 const SAID_LATE = 1500;
 // Less than so much output may be had with each state.
 const SMALL_OUTPUT = 1 << 16;
+// So much input is shown.
+const MOST_GIVEN = 400;
 // So many begun calls are shown, and so many signs of an argument, of a form, and on each side of the mark.
 const MOST_SHOWN = { side: 300, boxes: 12, mostOfCall: 400, mostOfForm: 2000 };
 
@@ -37,7 +39,7 @@ class Page {
     this.from = 0;
     this.turn = 0;
     this.playing = 0;
-    this.view = { redraw: () => this.redraw() };
+    this.view = { redraw: () => this.redraw(), hint: "click a character to see its origin" };
     this.tree = new CallTree((step) => this.visit(step));
     this.way = new Way(this);
     this.announcer = new Announcer();
@@ -118,7 +120,7 @@ class Page {
     this.run = null;
     this.isTyped = false;
     this.way.clear();
-    for (const id of ["player", "panels", "input-form", "doubts-section"]) byId(id).hidden = true;
+    for (const id of ["player", "panels", "given", "input-form", "doubts-section"]) byId(id).hidden = true;
     byId("output").replaceChildren();
     this.view.outputKey = null;
     for (const id of ["ending", "output-note", "program-note"]) byId(id).textContent = "";
@@ -135,9 +137,20 @@ class Page {
       const why = stand === "done" ? `: its last text ${lacks}, so it is not run` : ` for more: what it is to read ${lacks}`;
       ending.textContent = `After ${grouped(end)} steps the program waits${why}.`;
     }
+    this.showGiven();
     this.announcer.say("ending", endingSaid(ending.textContent, this.run.output));
     if (stand === "spent") ending.append(this.button("go on", () => this.goOn()));
     byId("input-form").hidden = this.isClosed || (stand !== "waits" && stand !== "done");
+  }
+
+  // Shows the end of what came as input after the program.
+  showGiven() {
+    const given = this.tape.subarray(this.program.length);
+    const text = byId("given-text");
+    byId("given").hidden = given.length === 0;
+    const first = startOfSign(given, Math.max(given.length - MOST_GIVEN, 0));
+    text.replaceChildren(...(first > 0 ? [leftOut(first)] : []));
+    addCells(text, given.subarray(first), first);
   }
 
   // Whether what is not read has more than line ends and blanks.
@@ -162,7 +175,7 @@ class Page {
   async gather(run) {
     byId("tree-count").textContent = "are listed ..";
     try {
-      const calls = await callsOf(this.background, this.tape, run.end);
+      const calls = await callsOf(this.background, this.tape, run.end, this.isClosed);
       if (run !== this.run) return;
       this.tree.note = calls.from > 0 ? ", the last of the run" : "";
       this.view.hasMarks = calls.texts.some((text) => /^##?\(ds,.*<(\d+|\^)>/i.test(text));
@@ -175,6 +188,8 @@ class Page {
       if (doubts.length) this.announcer.say("note", `${doubts.length === 1 ? "1 doubt is" : `${grouped(doubts.length)} doubts are`} listed`);
       calls.prints = await printsOf(this.background, this.tape, calls, run);
       calls.idles = await idlesOf(this.background, this.tape, calls, run);
+      if (run === this.run) this.timeline.show(calls, run.end);
+      calls.begun = await depthsOf(this.background, this.tape, run, this.isClosed);
       if (run === this.run) this.timeline.show(calls, run.end);
     } catch (fault) {
       this.say(fault);
@@ -341,7 +356,7 @@ class Page {
   async walk(line) {
     const { story } = this;
     const isSmall = story.isSmall && this.run.output.length < SMALL_OUTPUT;
-    const { said, step, window } = await movedTo(this.engine, this.tape, this.step, line, isSmall);
+    const { said, step, window } = await movedTo(this.engine, this, this.step, line, isSmall);
     if (window && story === this.story) story.keep(window);
     const note = noteOf(said, line);
     if (step !== this.step || !note) await this.go(step, null, "urNO".includes(line) ? "next" : "last");
@@ -367,7 +382,7 @@ class Page {
   async goToChange(name) {
     const { engine, tape, story, step } = this;
     const { calls } = this.tree;
-    const listed = calls.steps.length ? calls : await callsOf(engine, tape, step);
+    const listed = calls.steps.length ? calls : await callsOf(engine, tape, step, this.isClosed);
     const found = await lastChange(engine, tape, story, listed, step, name);
     if (found === null) this.note("no call that is listed changed it");
     else await this.visit(found);

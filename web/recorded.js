@@ -59,9 +59,13 @@ class Replay {
 }
 
 // What trac-walk says to the lines that the page has for it: the end of the run, all calls, and moves from a step.
-function walkRecorded({ end, calls, moves }, commands) {
+function walkRecorded(run, commands) {
+  const { end, calls, moves } = run;
   const lines = commands.trimEnd().split("\n");
   const stands = (step) => `${step}  at this step\n`;
+  // (a recorded run is the same where its input has ended)
+  if (lines[0] === "e") return stands(0) + walkRecorded(run, lines.slice(1).join("\n"));
+  if (lines[0] === "p") return begunRecorded(run, lines);
   if (lines[0].startsWith("s ")) return lines.length > 1 ? calls : stands(end);
   const from = Number(lines[0].slice("g ".length));
   if (lines[1] === "d") return `${stands(from)}not met\n`;
@@ -69,6 +73,16 @@ function walkRecorded({ end, calls, moves }, commands) {
   if (found === null) throw new NotUnderstood(ONLY_RECORDED);
   const [step, note] = [found].flat();
   return `${stands(from)}${note === undefined ? "" : `${note}\n`}${stands(step)}`;
+}
+
+// How many calls are begun at some of its states, in lines as trac-walk shows them.
+function begunRecorded({ states }, lines) {
+  let at = 0, shown = "";
+  for (const line of lines) {
+    if (line === "p") shown += `${"begun   \n".repeat(states[at].match(/^call #/gm)?.length ?? 0)}text    \n`;
+    else at = Math.min(at + Number(line.slice("s ".length)), states.length - 1);
+  }
+  return shown;
 }
 
 // Stands for the processor where that does not run.
@@ -118,6 +132,7 @@ function lackSaid(fault) {
 async function playRecorded(page, fault) {
   const runs = await recordedRuns();
   page.engine = page.ahead = page.background = new Recorded(runs);
+  page.view.hint = "";
   const notice = make("section", "notice");
   const words = `The processor does not run in this browser: ${lackSaid(fault)}. You can read and write programs here, `
     + "and play these recorded runs:";

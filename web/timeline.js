@@ -43,7 +43,7 @@ async function printsOf(engine, tape, calls, { end, output }) {
 
 // The steps by which the idle program reads on: before each `rs` that is none of the program's own. Of a long run,
 // none.
-async function idlesOf(engine, tape, calls, { end }) {
+async function idlesOf(engine, tape, calls, { end, stand }) {
   if (end > MOST_IDLE_STEPS || calls.from > 0) return [];
   const own = new Set(calls.steps);
   const reads = calls.texts.filter((text) => nameSaid(text) === "rs").length;
@@ -54,10 +54,32 @@ async function idlesOf(engine, tape, calls, { end }) {
   for (let step = 0, left = count; left > 0; left--) {
     const { done, why } = replies.moved("until");
     step += done;
-    if (why || step > end) break;
+    // (where the run stands, the program's own one waits too, and is not listed)
+    if (why || step > end || (step === end && stand !== "done")) break;
     if (!own.has(step)) spans.push({ from: Math.max(step - IDLE_TEXTS.length, 0), to: Math.min(step + 1, end) });
   }
   return spans;
+}
+
+// At so many steps it is looked how many calls are begun, and so many bytes tell that of one step, more or less.
+const MOST_DEPTHS = 1500;
+const SCREEN = 1200;
+
+// How many calls are begun at steps that are equally far apart, the first one and the last one too, as trac-walk shows it.
+async function depthsOf(engine, tape, { end }, isClosed) {
+  const stride = Math.max(Math.ceil(end / MOST_DEPTHS), 1);
+  const turns = Math.floor(end / stride), rest = end - turns * stride;
+  const moves = [...Array(turns).fill(stride), ...(rest ? [rest] : [])].flatMap((steps) => [`s ${steps}`, "p"]);
+  const text = await walked(engine, tape, [...endOfInput(isClosed), "p", ...moves], (turns + 2) * SCREEN);
+  const depths = [];
+  let depth = 0;
+  for (const line of text.split("\n")) {
+    const more = /^begun {3}\.\. (\d+) more \.\.$/.exec(line);
+    if (more) depth += Number(more[1]);
+    else if (line.startsWith("begun   ")) depth++;
+    else if (line.startsWith("text    ")) [depths[depths.length], depth] = [depth, 0];
+  }
+  return { stride, depths };
 }
 
 // The kinds of marks, from above: the colour, and how high it is.
@@ -232,20 +254,24 @@ class Timeline {
       if (kind === "print") pen.fillRect(left, from, 2 * scale, long);
       else [0, 0.4, 0.8].forEach((part) => pen.fillRect(left, from + part * long, 2 * scale, 2 * scale));
     }
-    byId("timeline-note").textContent = this.calls.steps.length ? `, at most ${grouped(deepest)} at once` : "";
+    byId("timeline-note").textContent = this.calls.begun ? `, at most ${grouped(deepest)} at once` : "";
   }
 
+  // Draws how many calls are begun, as soon as it is known: a stair, each tread from one step to the next. Returns the most.
   drawDepth({ pen, scale, width, height, colour }) {
-    const { steps, depths } = this.calls;
-    // (the call itself is begun too, and that of the idle program around it)
-    const deepest = depths.reduce((most, depth) => Math.max(most, depth + 2), 1);
+    const { stride, depths } = this.calls.begun ?? { stride: 1, depths: [] };
+    // (a step that is not looked at may have more: where all calls are listed, those that are performed there say it)
+    const listed = this.calls.from === 0 ? this.calls.depths : [];
+    const deepest = Math.max(listed.reduce((most, depth) => Math.max(most, depth + 2), 1), ...depths);
     const floor = height * 0.56;
     [pen.fillStyle, pen.strokeStyle, pen.lineWidth] = [colour("--depth"), colour("--moved-line"), scale];
     pen.beginPath();
     pen.moveTo(0, floor);
-    const above = (depth) => floor - (depth + 2) / deepest * (floor - 2 * scale);
-    steps.forEach((step, index) => pen.lineTo(this.across(step) * width, above(depths[index])));
-    pen.lineTo(this.across(steps[steps.length - 1] ?? 0) * width, floor);
+    depths.forEach((depth, index) => {
+      const above = floor - depth / deepest * (floor - 2 * scale);
+      for (const at of [index, index + 1]) pen.lineTo(this.across(Math.min(at * stride, this.end)) * width, above);
+    });
+    pen.lineTo(width, floor);
     pen.fill();
     pen.stroke();
     return deepest;

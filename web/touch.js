@@ -23,6 +23,15 @@ function startSwipes(page) {
   });
 }
 
+// A finger that only scrolls the page has moved the slider where it came down: it goes back to its step.
+function startSlider(page) {
+  let from = null;
+  byId("slider").addEventListener("pointerdown", () => {
+    from = page.step;
+  });
+  byId("slider").addEventListener("pointercancel", () => page.go(from, null, null));
+}
+
 // The byte under a finger, or the nearest in the text that it taps.
 function byteNear(x, y) {
   const found = byteUnder(x, y);

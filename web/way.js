@@ -36,7 +36,10 @@ class Way {
     if (range && window.Highlight) CSS.highlights.set("followed", new Highlight(range));
     let from = { place: holder.dataset.place, step: Number(holder.dataset.step), number };
     for (let hop = 0; from && hop < MOST_HOPS && turn === this.turn; hop++) from = await this.hop(from, turn);
-    if (turn === this.turn) this.page.announcer.say("note", this.said());
+    if (turn !== this.turn) return;
+    // (the large view leaves out the list, so there it is shown what is said of it)
+    if (this.page.big.isOn) this.page.note(`${this.said()}; Esc shows the list`);
+    else this.page.announcer.say("note", this.said());
   }
 
   // What is said of the way: of a short one each call, of a long one how many there are, and the last.
@@ -79,8 +82,17 @@ class Way {
     byId("way-section").hidden = false;
     keepFocus(() => list.replaceChildren(...this.rows.map((row, index) => this.row(row, index))));
     const last = this.rows[this.rows.length - 1];
-    this.page.editor.light("read", last?.deed === "reads" ? [last.byte] : []);
+    this.light(last?.deed === "reads" ? last.byte : null);
     list.lastChild?.scrollIntoView({ block: "nearest" });
+  }
+
+  // Lights the byte that was read, in the program or in what came after it.
+  light(byte) {
+    const { editor, program } = this.page;
+    const isInput = byte !== null && byte >= program.length;
+    editor.light("read", byte === null || isInput ? [] : [byte]);
+    const range = isInput && rangeOfByte(byId("given-text"), byte - program.length);
+    if (range && window.Highlight) CSS.highlights.get("followed")?.add(range);
   }
 
   row(row, index) {
@@ -106,7 +118,10 @@ class Way {
       } else reachable(call, "call");
       line.append(call);
     }
-    line.append(make("span", row === this.rows[this.rows.length - 1] ? "deed way-end" : "deed", this.words(row)));
+    const isRead = row.deed === "reads" && row.byte < this.page.program.length;
+    const deed = make("span", row === this.rows[this.rows.length - 1] ? "deed way-end" : "deed", isRead ? "reads it: " : this.words(row));
+    if (isRead) deed.append(placeButton(this.page, row.byte));
+    line.append(deed);
     return line;
   }
 
@@ -124,6 +139,11 @@ class Way {
 // The call that is performed at a row of a way, if its state is known.
 function callOf({ state }) {
   return state && ruleOf(state) === "p" ? state.parts.calls[state.parts.calls.length - 1] : null;
+}
+
+// A place in the program, which leads there: that byte is chosen in the editor.
+function placeButton(page, byte) {
+  return page.button(lineAndColumn(page.program, byte), () => page.editor.choose(byte));
 }
 
 // Lets a text be reached by keys, under a name.

@@ -24,6 +24,11 @@ def read(name):
         return file.read()
 
 
+def has_words(shown, text):
+    """Whether all words of a text are shown."""
+    return all(word in shown for word in text.replace("`", "").replace("*", "").split())
+
+
 def shows(page, title):
     """Opens a lesson or an exercise from the list."""
     page.script("(() => {{ const list = document.getElementById('course'); "
@@ -54,9 +59,10 @@ def check_lessons(page):
         there = [os.path.basename(file) for file in glob.glob(os.path.join(os.path.dirname(path), "*.trac"))]
         check(sorted(names) == sorted("Open " + name for name in there), "{} has its programs: {}".format(path, names))
         shown = page.text("lesson-text").replace("\n", " ")
-        last = [line for line in text.split("\n") if line and line[0].isalpha()][-1]
-        check(all(word in shown for word in last.replace("`", "").replace("*", "").split()), "{} is shown to its end".format(path))
+        last = [line for line in text.split("\n## Exercises\n")[0].split("\n") if line and line[0].isalpha()][-1]
+        check(has_words(shown, last), "{} is shown to its end".format(path))
         check("```" not in shown, "{}: each block is one".format(path))
+        check("./trac run <" not in shown and "trac-course" not in shown, "{} takes no terminal for what Run does".format(path))
     shows(page, "3. Forms")
     page.put("")
     press(page, "Open scan.trac")
@@ -79,6 +85,10 @@ def check_exercises(page):
             if os.path.exists(os.path.join(folder, name)):
                 said = judged(page, read(os.path.join(folder, name)))
                 check(("It is solved" in said) == (name == "solution.trac"), "{}{}: {}".format(folder, name, said))
+        press(page, "Hint")
+        press(page, "Hint")
+        hints = page.script("[...document.querySelectorAll('.unfolded')].map((one) => one.textContent)")
+        check(len(hints) == 1 and has_words(hints[0], read(os.path.join(folder, "hint.md"))), "{}: its hint: {}".format(folder, hints))
     shows(page, "5.1 A countdown")
     for program, part in CHECKED:
         said = judged(page, program)

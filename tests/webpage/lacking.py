@@ -35,6 +35,8 @@ def check_played(page):
             printed = out.read()
         page.until("document.getElementById('slider').value === '{}'".format(end), name + " to its end")
         check(page.text("output").strip() == printed.strip(), "{} prints {}".format(name, page.text("output")))
+        page.until("document.getElementById('timeline-note').textContent.startsWith(', at most ')", name + ": how many calls are begun")
+        check(page.text("output-note") == "", "no byte can be followed: " + page.text("output-note"))
 
 
 def check_lacking(kind, file, check_moves, is_first):

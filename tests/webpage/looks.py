@@ -84,6 +84,17 @@ WIDE = """(() => {
   return [...wide, ...scrolls].slice(0, 6);
 })()"""
 
+# What of the large view stands over what comes after it, or out of what can be scrolled in view.
+OVER = """(() => {
+  const player = document.getElementById("player");
+  const boxes = ["rules", "tape", "big-key", "controls"].map((id) => document.getElementById(id).getBoundingClientRect());
+  const over = boxes.flatMap((box, index) => (index && box.top < boxes[index - 1].bottom - 1 ? [index] : []));
+  player.scrollTop = player.scrollHeight;
+  const end = document.getElementById("end").getBoundingClientRect();
+  player.scrollTop = 0;
+  return end.bottom > innerHeight + 1 ? [...over, `the end stands at ${end.bottom}`] : over;
+})()"""
+
 # States, each beside what looks the same but for them. Where the system chooses colours, lines, shapes or words tell them apart.
 STATES = [
     ("#neutral .moved", "#neutral [data-place]"), ("#active .put", "#active .line > :last-child"), (".gone", "#neutral [data-place]"),
@@ -142,6 +153,10 @@ def check_widths(page):
             page.script("new Promise((done) => requestAnimationFrame(() => requestAnimationFrame(() => done())))")
             wide = page.script(WIDE)
             check(wide == [], "{} pixels, letters of {}: too wide are {}".format(width, size, wide))
+            page.script("document.getElementById('big').click()")
+            wide, over = page.script(WIDE), page.script(OVER)
+            check(wide == [] and over == [], "large view, {} pixels, letters of {}: {}, {}".format(width, size, wide, over))
+            page.script("document.getElementById('big').click()")
     grown = page.script("getComputedStyle(document.getElementById('note')).fontSize")
     check(grown == "32px", "letters are large: " + grown)
     page.call("Page.setFontSizes", fontSizes={"standard": 16, "fixed": 13})

@@ -58,6 +58,19 @@ ROWS = ["15#(ds,A,“a,b(c)”)", "41##(eq,“a,b(c)”,empty,x,“no,no”) giv
         "47#(ps,“#(q,)”)", "61#(ds,null,null)", "70#(cl,null) gives null"]
 
 
+# How much of the height is filled over the slider in the middle of some steps, of 1.
+FILLED = """(([steps, end]) => {{
+  const canvas = document.getElementById('depth'), floor = Math.floor(canvas.height * 0.56) - 2, {{ width }} = canvas;
+  const signs = canvas.getContext('2d').getImageData(0, 0, width, floor).data;
+  return steps.map((step) => {{
+    const across = Math.round((step + 0.5) / end * (width - 2));
+    let empty = 0;
+    while (empty < floor && signs[4 * (empty * width + across) + 3] === 0) empty++;
+    return (floor - empty) / floor;
+  }});
+}})({})"""
+
+
 def at(page, step):
     """Waits until the page is at a step."""
     shown = "document.getElementById('slider').value"
@@ -124,9 +137,13 @@ def check_protected(page):
     says(page, "next", "( and its matching ) are deleted, and what they protect goes to the current text unchanged: "
          "no comma in it ends an argument")
     page.go(11)
-    says(page, "next", "a , that is not protected ends the name of the function, ds; argument 1 is begun")
+    says(page, "next", "a , that is not protected by ( ) ends the name of the function, ds; argument 1 is begun")
     page.go(13)
-    says(page, "next", "a , that is not protected ends argument 1 of ds: A; argument 2 is begun")
+    says(page, "next", "a , that is not protected by ( ) ends argument 1 of ds: A; argument 2 is begun")
+    page.go(14)
+    scanned = page.script("document.getElementById('neutral').textContent")
+    check(scanned == "#(ps,#(ds,A,", "a comma that was deleted stands there once: " + scanned)
+    check(page.script("document.querySelector('#neutral .gone').textContent") == ",", "and is struck")
     page.go(71)
     says(page, "last", "its value is null, which is scanned next")
 
@@ -151,6 +168,8 @@ def check_tokens(page):
             says(page, "next", "Next, steps 17 to 25: the idle program reads on")
         if step == 26:
             says(page, "last", "Steps 17 to 25: the idle program reads on: its rs gives LF##(zz)")
+        if step == 16:
+            says(page, "next", ") of the idle program ends the function, and #(ps,empty) is performed")
         if step == 28:
             says(page, "last", "##( begins a neutral function: its value will not be scanned")
     says(page, "last", "Steps 32 to 39: the idle program waits to read on")
@@ -181,6 +200,10 @@ def check_marks(page):
     page.type(open(FACTORIAL).read())
     page.run()
     page.until("document.querySelectorAll('#marks [role=option]').length === 3", "three marks")
+    page.until("document.getElementById('timeline-note').textContent === ', at most 7 at once'", "how deep it goes: " + page.text("timeline-note"))
+    # (of 7 begun calls 2, then 3, then 6: so many parts of the height above the floor are filled)
+    heights = page.script(FILLED.format([[80, 100, 232], 276]))
+    check([round(height * 7) for height in heights] == [2, 3, 6], "how many calls are begun: {}".format(heights))
     page.go(90)
     page.script("document.getElementById('marks').focus()")
     page.until(name + " === 'step 50, a form: #(ss,Factorial,X)'", "the mark before the step", 10)
@@ -219,9 +242,14 @@ def check_large_view(page):
     page.press("/")
     check(not page.script(is_open) and page.script(focus) == "filter", page.name + ": to search leaves it")
     page.press("Escape")
+    page.go(5)
+    page.script("(document.activeElement.blur(), scrollTo(0, 150))")
     page.press("f")
+    page.click("document.querySelector('#neutral [data-byte]')")
+    page.until("document.getElementById('note').textContent.endsWith('it is there already; Esc shows the list')", "where it comes from is said", 10)
     page.click("document.getElementById('big')")
     check(not page.script(is_open) and page.script(pressed) == "false", page.name + ": the button closes it")
+    check(page.script("scrollY") == 150, "{}: the page stands where it stood: {}".format(page.name, page.script("scrollY")))
 
 
 def check_sizes(kind, file):

@@ -6,6 +6,9 @@ SMALL = ("[...document.querySelectorAll('button, select, input, textarea, summar
          ".map((it) => [it, (it.closest('label') ?? it).getBoundingClientRect()])"
          ".filter(([, box]) => box.width > 0 && (box.width < 43.9 || box.height < 43.9))"
          ".map(([it, box]) => `${it.id || it.className || it.textContent}: ${box.width} by ${box.height}`)")
+# Waits until the page scrolls no more.
+RESTS = ("new Promise((done) => { let last = null; const look = () => { if (scrollY === last) done(); else { last = scrollY; "
+         "setTimeout(look, 300); } }; look(); })")
 STEP = "document.getElementById('slider').value"
 
 
@@ -52,6 +55,16 @@ def check_swipes(page):
     page.touch((x, y), (x + 2, y - 60), (x + 4, y - 200))
     page.until("scrollY > {}".format(before + 50), "it scrolls: {} from {}".format(page.script("scrollY"), before), 10)
     check(page.script(STEP) == "101", "that is no step: " + page.script(STEP))
+    page.script(RESTS)
+    x, y = middle(page, "document.getElementById('slider')")
+    before = page.script("scrollY")
+    page.touch((x, y), (x + 1, y - 30), (x + 2, y - 100), (x + 2, y - 200))
+    page.until("scrollY > {}".format(before + 50), "it scrolls over the slider too: {} from {}".format(page.script("scrollY"), before), 10)
+    page.script(RESTS)
+    check(page.script(STEP) == "101", "the slider stays: " + page.script(STEP))
+    x, y = middle(page, "document.getElementById('slider')")
+    page.touch((x, y), (x + 30, y + 1), (x + 60, y + 2))
+    page.until("{} > 150".format(STEP), "a finger moves the slider: " + page.script(STEP), 10)
 
 
 def check_touching(kind, file):
