@@ -4,7 +4,7 @@ use Rattle.std.specs.Io.KnownBytes.{IsAtEnd}
 use Rattle.std.proofs.lemmas.Option.{option_and_then_some}
 use Rattle.std.specs.Prelude.{Option, Some}
 use Rattle.trac_rules.specs.declared.refusal.Refusal.{Refusal}
-use Rattle.trac_rules.specs.Session.{PlainSession, Command, Feed, End, Step, Back, Commit, done, accepted_by, answer, repeated}
+use Rattle.trac_rules.specs.Session.{PlainSession, Command, Feed, End, Step, Back, Commit, done, accepted_by, answer, repeated, no_goal}
 use Rattle.trac_rules.proofs.Replies.{accepted_done}
 use Rattle.trac_session.specs.Within.{IsWalkWithin}
 use Rattle.trac_streams.specs.declared.ending.Ending.{Ending}
@@ -69,13 +69,13 @@ steps_many (suc k) p q h =
 -- ---- a turn
 
 -- a walk, and what comes after it, which takes no step
-pub steps_turn : {most n m k : ℕ} {why : Option Refusal} {p q : PlainSession} (r : PlainSession) → k ≤ m → IsWalkWithin most n p k why q → TakesSteps 0 q r → TakesSteps (m - (m - k)) p r
+pub steps_turn : {most n m k : ℕ} {why : Option Refusal} {p q : PlainSession} (r : PlainSession) → k ≤ m → IsWalkWithin most no_goal n p k why q → TakesSteps 0 q r → TakesSteps (m - (m - k)) p r
 steps_turn {most} {n} {m} {k} {why} {p} {q} r within walk rest =
     let count : k + 0 ≡ m - (m - k) = omega arith in
     subst (λ l. TakesSteps l p r) count (steps_both k 0 p q r (steps_many k p q walk.walk.walked) rest)
 
 -- nothing comes after it
-pub steps_walk : {most n m k : ℕ} {why : Option Refusal} {p q : PlainSession} → k ≤ m → IsWalkWithin most n p k why q → TakesSteps (m - (m - k)) p q
+pub steps_walk : {most n m k : ℕ} {why : Option Refusal} {p q : PlainSession} → k ≤ m → IsWalkWithin most no_goal n p k why q → TakesSteps (m - (m - k)) p q
 steps_walk {most} {n} {m} {k} {why} {p} {q} within walk = steps_turn {m = m} q within walk (steps_none q q refl)
 
 -- a commit, and a read that gave more, or the end

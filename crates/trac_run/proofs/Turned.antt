@@ -42,7 +42,7 @@ unmoved_by_none zero p q h e = cc
 unmoved_by_none (suc k) p q h e = absurd (omega arith)
 
 -- what a walk of n steps at most leaves, where m are left
-pub after_walk : {most n : ℕ} {p : PlainSession} {m k : ℕ} {why : Option Refusal} {q : PlainSession} → n ≤ m → IsFresh p → IsWalkWithin most n p k why q → AfterWalk p m k q
+pub after_walk : {most n : ℕ} {p : PlainSession} {m k : ℕ} {why : Option Refusal} {q : PlainSession} → n ≤ m → IsFresh p → IsWalkWithin most no_goal n p k why q → AfterWalk p m k q
 after_walk {most} {n} {p} {m} {k} {why} {q} fewer fresh walk =
     let start : p.last.position ≤ length p.tape.bytes = omega (arith, fresh.nothing_read) in
     let after = after_repeated k p q start walk.walk.walked in
@@ -104,7 +104,7 @@ unread_after_Commit q r h =
     (kept, omega (arith, kept, (after_Commit q r h).2))
 
 -- why a walk was stopped
-pub stopped_for : {most : ℕ} {p : PlainSession} {m k : ℕ} {why : Option Refusal} {q : PlainSession} {refusal r : Refusal} → IsWalkWithin most m p k why q → why ≡ Some refusal → refusal ≡ r →
+pub stopped_for : {most : ℕ} {p : PlainSession} {m k : ℕ} {why : Option Refusal} {q : PlainSession} {refusal r : Refusal} → IsWalkWithin most no_goal m p k why q → why ≡ Some refusal → refusal ≡ r →
     (k < m) × Answers Step q (Refused r) q
 stopped_for {most} {p} {m} {k} {why} {q} {refusal} {r} walk e same =
     let n : ℕ = walk.allowed in
@@ -121,7 +121,7 @@ not_stopped p m k why q walk e =
     (subst (λ w. MatchOption w (HasEnded no_goal m k q) (λ x. (k < m) × (0 < k → no_goal q.last ≡ false) × Answers Step q (Refused x) q)) e walk.stopped)
 
 -- a walk that no refusal stopped took a step at least, where it may take any: all of these, or until its records were heavy
-pub taken_unstopped : {most : ℕ} {p : PlainSession} {n k : ℕ} {why : Option Refusal} {q : PlainSession} → IsWalkWithin most n p k why q → why ≡ None → 0 < n → 0 < k
+pub taken_unstopped : {most : ℕ} {p : PlainSession} {n k : ℕ} {why : Option Refusal} {q : PlainSession} → IsWalkWithin most no_goal n p k why q → why ≡ None → 0 < n → 0 < k
 taken_unstopped {most} {p} {n} {k} {why} {q} walk e some =
     let all : k ≡ walk.allowed = not_stopped p walk.allowed k why q walk.walk e in
     ⊎_elim

@@ -1,14 +1,15 @@
 //! Walks over several steps.
-ghost use Rattle.std.specs.Prelude.{◌≡◌, ◌<◌, ◌≤◌, ◌&&◌, IfErr, IfOk, None, Some, length, max, nat_lt, ℕ};
+ghost use Rattle.std.specs.Prelude.{◌≡◌, ◌<◌, ◌≤◌, ◌&&◌, IfErr, IfOk, None, Some, drop, length, max, nat_lt, ℕ};
 ghost use Rattle.trac_rules.specs.declared.reply.Reply.TheVariants.{Refused};
 ghost use Rattle.trac_rules.specs.Session.{PlainSession, Step, Back, Answers, IsWalk, no_goal, repeated};
+ghost use Rattle.trac_rules.specs.Weights.{weights_from};
 ghost use Rattle.trac_session.specs.declared.walking.Direction.TheVariants.{Forward};
 ghost use Rattle.trac_session.specs.Directions.{command_towards};
 ghost use Rattle.trac_session.specs.Goals.{IsSearch, goal_of, is_call_of, outcome};
 ghost use Rattle.trac_session.specs.Replies.{reply_of};
 ghost use Rattle.trac_session.specs.Returns.{IsReturn};
 ghost use Rattle.trac_session.specs.Runs.{HasNoPlain, IsAsked, IsQuiet};
-ghost use Rattle.trac_session.specs.Within.{IsWalkWithin};
+ghost use Rattle.trac_session.specs.Within.{IsSearchWithin, IsWalkWithin};
 
 use crate::goal::{Goal, is_met};
 use crate::session::Session;
@@ -48,6 +49,7 @@ impl<A: Allocator + Copy> Session<A> {
         ensures most { result ≤ most }
         ensures quiet { (k : ℕ) → (p : PlainSession) → 0 < k → k < result → repeated (command_towards direction) k self.old ≡ Some p → IsQuiet p.last }
         ensures end { direction ≡ Forward → result < most → HasNoPlain self.new }
+        ensures weight { direction ≡ Forward → weights_from self.new.earlier ≡ weights_from self.old.earlier }
     {
         // For what it says: the states are steps of one another, so that a step that moved a byte does nothing else.
         let _machine = self.machine();
@@ -66,6 +68,7 @@ impl<A: Allocator + Copy> Session<A> {
         ensures some { IfOk result (λ steps. 0 < steps) }
         ensures most { IfOk result (λ steps. steps ≤ most) }
         ensures walk { IfOk result (λ steps. IsWalk (command_towards direction) (goal_of goal.now) steps self.old steps None self.new) }
+        ensures light { direction ≡ Forward → IfOk result (λ steps. weights_from (drop 1 self.new.earlier) ≤ weights_from self.old.earlier) }
     {
         if goal.is_never_met_quietly() {
             let passed = self.pass(direction, most);
@@ -122,6 +125,44 @@ impl<A: Allocator + Copy> Session<A> {
         Walk { done, why: None }
     }
 
+    // Goes forward by up to `n` steps, until one is refused, which the walk returns, or the goal is met, or the records weigh
+    // more than `most`.
+    fn walk_within(&mut self, goal: &Goal<'_, A>, n: u64, most: u64) -> Walk
+        ensures { IsWalkWithin most (goal_of goal.now) n self.old result.done result.why self.new }
+    {
+        let mut done = 0;
+        while done < n {
+            let steps = match self.go_on(
+                Direction::Forward,
+                goal,
+                self.steps_within(n - done, most),
+            ) {
+                Ok(steps) => steps,
+                Err(refusal) => {
+                    return Walk {
+                        done,
+                        why: Some(refusal),
+                    };
+                }
+            };
+            done += steps;
+            if self.has_met(goal) || self.weight() > most {
+                return Walk { done, why: None };
+            }
+        }
+        Walk { done, why: None }
+    }
+
+    // How many steps may be taken at once: one alone where the records weigh more than `most` already.
+    fn steps_within(&self, n: u64, most: u64) -> u64
+        requires { 0 < n }
+        ensures some { 0 < result }
+        ensures most { result ≤ n }
+        ensures one { most < weights_from self.now.earlier → result ≡ 1 }
+    {
+        if self.weight() > most { 1 } else { n }
+    }
+
     // The same walk, which returns `NotMet` where no refusal ended it and its goal is not met.
     fn searched(&self, goal: &Goal<'_, A>, walk: Walk) -> Walk
         ensures done { result.done ≡ walk.done }
@@ -155,7 +196,7 @@ impl<A: Allocator + Copy> Session<A> {
     /// (`Session::weight`): then no refusal is answered, and fewer than `n` steps may be done. So whoever never goes back can
     /// commit before the records hold much memory (this project's profile).
     pub fn forward_within(&mut self, n: u64, most: u64) -> Walk
-        ensures { IsWalkWithin most n self.old result.done result.why self.new }
+        ensures { IsWalkWithin most no_goal n self.old result.done result.why self.new }
     {
         let mut done = 0;
         while done < n {
@@ -189,6 +230,16 @@ impl<A: Allocator + Copy> Session<A> {
         ensures { IsSearch Step (goal_of goal.entry) n self.old result.done result.why self.new }
     {
         let walk = self.walk(Direction::Forward, &goal, n);
+        self.searched(&goal, walk)
+    }
+
+    /// Goes forward to a goal as `forward_to` does, and stops also after a step after which the records weigh more than `most`
+    /// (`Session::weight`): then it returns `NotMet` too, and fewer than `n` steps may be done. So a search that never goes back
+    /// further can commit before the records hold much memory (this project's profile).
+    pub fn forward_to_within(&mut self, goal: Goal<'_, A>, n: u64, most: u64) -> Walk
+        ensures { IsSearchWithin most (goal_of goal.entry) n self.old result.done result.why self.new }
+    {
+        let walk = self.walk_within(&goal, n, most);
         self.searched(&goal, walk)
     }
 

@@ -1,3 +1,4 @@
 pub mod Ended
 pub mod SaidOfWays
+pub mod Searched
 pub mod SteppedBack

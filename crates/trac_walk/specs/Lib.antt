@@ -1,3 +1,5 @@
+-- What a walker is sent to.
+pub mod Aims
 -- How a walk ends.
 pub mod Ends
 -- Steps to go back to.

@@ -1,9 +1,13 @@
 -- Searches forward that stay where they began unless they meet something.
-use Rattle.std.specs.Prelude.{◌≡◌, Option, None, Some}
+use Rattle.std.specs.Prelude.{◌≡◌, ◌⊎◌, ℕ, ◌<◌, Option, None, Some}
+use Rattle.trac_rules.specs.declared.refusal.Refusal.{Refusal}
+use Rattle.trac_rules.specs.declared.refusal.Refusal.TheVariants.{JournalFull, NotMet, TooLong}
+use Rattle.trac_rules.specs.Session.{PlainSession, Goal}
+use Rattle.trac_session.specs.Within.{IsSearchWithin}
 use Rattle.trac_screen.specs.declared.notes.Stop.{Stop}
 use Rattle.trac_screen.specs.declared.notes.Stop.TheVariants as stops
 use Rattle.trac_walk.specs.declared.searching.Search.{Search}
-use Rattle.trac_walk.specs.declared.searching.Search.TheVariants.{Unmet}
+use Rattle.trac_walk.specs.declared.searching.Search.TheVariants.{Met, Spent, Unmet}
 
 -- a search that met nothing before a step was refused has left this as it was
 abbrev pub HasStayed : {X : Type 0} → Search → X → X → Type 0
@@ -15,3 +19,30 @@ abbrev pub IsAsToldOf : {X : Type 0} → Option Stop → X → X → Type 0
 IsAsToldOf (Some (stops.Unmet why)) old new = new ≡ old
 IsAsToldOf (Some (stops.UnmetUpTo why step)) old new = new ≡ old
 IsAsToldOf other old new = Unit {0}
+
+-- ---- within the room that there is
+
+-- why a search of at most so many steps ended, after so many: as it says, but it may lack room where it has steps left, and where the
+-- output is too long
+abbrev pub IsReason : ℕ → ℕ → Option Refusal → Option Refusal → Type 0
+IsReason steps most (Some NotMet) why = (steps < most → why ≡ Some JournalFull) × (steps ≡ most → why ≡ Some NotMet)
+IsReason steps most (Some TooLong) why = (why ≡ Some TooLong) ⊎ (why ≡ Some JournalFull)
+IsReason steps most said why = why ≡ said
+
+-- a search that stops where the records weigh more than `weight`, and why it ended
+abbrev pub HasWalked : ℕ → Goal → ℕ → PlainSession → ℕ → Option Refusal → PlainSession → Type 0
+HasWalked weight goal most old steps why new =
+    (said : Option Refusal) × IsSearchWithin weight goal most old steps said new × IsReason steps most said why
+
+-- what is answered of it, with where it came to: it stays there if it met its goal or took all its steps; that it lacked room is no
+-- answer, and then nothing is said here
+abbrev pub IsAnswered : ℕ → Option Refusal → PlainSession → Search → PlainSession → Type 0
+IsAnswered steps None there found new = (found ≡ Met) × (new ≡ there)
+IsAnswered steps (Some NotMet) there found new = (found ≡ Spent) × (new ≡ there)
+IsAnswered steps (Some JournalFull) there found new = Unit {0}
+IsAnswered steps (Some refusal) there found new = found ≡ Unmet refusal steps
+
+-- so a search ends for which there is room
+abbrev pub IsAsNear : ℕ → Goal → ℕ → PlainSession → Search → PlainSession → Type 0
+IsAsNear weight goal most old found new =
+    (steps : ℕ) × (why : Option Refusal) × (there : PlainSession) × HasWalked weight goal most old steps why there × IsAnswered steps why there found new

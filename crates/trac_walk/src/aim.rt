@@ -1,4 +1,7 @@
 //! What a walker is sent to.
+ghost use Rattle.std.specs.Prelude.{◌≡◌};
+ghost use Rattle.trac_session.specs.Goals.{goal_of};
+ghost use Rattle.trac_walk.specs.Aims.{goal_of_aim};
 
 use std::alloc::Allocator;
 use trac_rules::width::Width;
@@ -24,7 +27,9 @@ pub enum Aim<'a> {
 }
 
 /// The goal that this is for a session.
-pub fn goal_for<'a, A: Allocator + Copy>(aim: Aim<'a>) -> Goal<'a, A> {
+pub fn goal_for<'a, A: Allocator + Copy>(aim: Aim<'a>) -> Goal<'a, A>
+    ensures { goal_of result ≡ goal_of_aim aim.entry }
+{
     match aim {
         Aim::Call(call) => Goal::Call(call),
         Aim::OwnCall => Goal::OwnCall,

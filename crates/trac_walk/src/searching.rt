@@ -1,21 +1,16 @@
 //! Searches forward that stay where they began unless they meet something.
-ghost use Rattle.std.specs.Prelude.{◌≡◌, Some};
+ghost use Rattle.std.specs.Prelude.{◌≡◌, ◌≤◌, None, Some, true};
 ghost use Rattle.trac_rules.specs.Session.{Step, repeated};
-ghost use Rattle.trac_walk.specs.Searches.{HasStayed};
+ghost use Rattle.trac_rules.specs.Weights.{weights_from};
+ghost use Rattle.trac_walk.specs.Aims.{goal_of_aim};
+ghost use Rattle.trac_walk.specs.Searches.{HasStayed, HasWalked, IsAsNear, IsReason};
 
 use crate::aim::{Aim, goal_for};
 use crate::walker::Walker;
 use std::alloc::Allocator;
 use std::mem;
 use trac_screen::lacks_output_room;
-use trac_session::{Machine, Refusal, Session, Walk};
-use trac_text::front::plain_front;
-
-// A search looks after so many steps whether the records weigh too much; the plain bytes that stand first, which weigh
-// nothing, are not counted, up to so many.
-const SEARCH_STEPS: u64 = 16;
-
-const PLAIN_STEPS: usize = 65_536;
+use trac_session::{Refusal, Session, Walk};
 
 /// How a search forward ended.
 #[derive(Clone, Copy)]
@@ -32,7 +27,9 @@ impl<A: Allocator + Copy> Walker<A> {
     /// Goes forward to a goal, by so many steps at most. Where a step is refused before, also for memory, all that is kept is as
     /// it was. To go further than that leaves room for, the walker runs the program anew from its start, beside it.
     pub fn search(&mut self, aim: Aim<'_>, most: u64) -> Search
-        ensures { HasStayed result self.old.window self.new.window }
+        ensures stayed { HasStayed result self.old.window self.new.window }
+        ensures met { result ≡ Search.Met → goal_of_aim aim.entry self.new.window.session.last ≡ true }
+        ensures near { weights_from self.old.window.session.earlier ≤ self.old.weight → IsAsNear self.old.weight (goal_of_aim aim.entry) most self.old.window.session result self.new.window.session }
     {
         let weight = self.weight();
         match search_near(&mut self.window.session, aim, most, weight) {
@@ -46,7 +43,8 @@ impl<A: Allocator + Copy> Walker<A> {
     // The same after so many steps on which nothing was met, in a run of the program anew. What that keeps takes the place of
     // what was kept, but where a step is refused.
     fn search_far(&mut self, aim: Aim<'_>, done: u64, most: u64) -> Search
-        ensures { HasStayed result self.old.window self.new.window }
+        ensures stayed { HasStayed result self.old.window self.new.window }
+        ensures met { result ≡ Search.Met → goal_of_aim aim.entry self.new.window.session.last ≡ true }
     {
         let window = match self.window_anew() {
             Ok(window) => window,
@@ -67,7 +65,9 @@ impl<A: Allocator + Copy> Walker<A> {
     }
 
     // Goes forward from the start to this step and so many further, and from there to a goal.
-    fn search_from(&mut self, start: u64, aim: Aim<'_>, done: u64, most: u64) -> Search {
+    fn search_from(&mut self, start: u64, aim: Aim<'_>, done: u64, most: u64) -> Search
+        ensures { result ≡ Search.Met → goal_of_aim aim.entry self.new.window.session.last ≡ true }
+    {
         if let Some(refusal) = self.forward(start.saturating_add(done)) {
             return Search::Unmet(refusal, done);
         }
@@ -88,13 +88,17 @@ fn search_near<A: Allocator + Copy>(
     most: u64,
     weight: u64,
 ) -> Search
-    ensures { HasStayed result session.old session.new }
+    ensures stayed { HasStayed result session.old session.new }
+    ensures met { result ≡ Search.Met → goal_of_aim aim.entry session.new.last ≡ true }
+    ensures near { weights_from session.old.earlier ≤ weight → IsAsNear weight (goal_of_aim aim.entry) most session.old result session.new }
 {
     let walk = walk_near(session, aim, most, weight);
-    match walk.why {
-        None => Search::Met,
-        Some(Refusal::NotMet) => Search::Spent,
-        Some(refusal) => {
+    let Some(refusal) = walk.why else {
+        return Search::Met;
+    };
+    match refusal {
+        Refusal::NotMet => Search::Spent,
+        _ => {
             session.back(walk.done);
             Search::Unmet(refusal, walk.done)
         }
@@ -102,58 +106,39 @@ fn search_near<A: Allocator + Copy>(
 }
 
 // The same, and stays where it has come to: `NotMet` after all the steps.
-#[tactic(auto, using(crate::proofs::SteppedBack::steps_more))]
 fn walk_near<A: Allocator + Copy>(
     session: &mut Session<A>,
     aim: Aim<'_>,
     most: u64,
     weight: u64,
 ) -> Walk
-    ensures { repeated Step result.done session.old ≡ Some session.new }
+    ensures walked { repeated Step result.done session.old ≡ Some session.new }
+    ensures met { result.why ≡ None → goal_of_aim aim.entry session.new.last ≡ true }
+    ensures near { weights_from session.old.earlier ≤ weight → HasWalked weight (goal_of_aim aim.entry) most session.old result.done result.why session.new }
 {
-    let mut done = 0;
-    for turn in 0..most {
-        if done >= most {
-            break;
-        }
-        if session.weight() > weight {
-            return Walk {
-                done,
-                why: Some(Refusal::JournalFull),
-            };
-        }
-        let walk = session.forward_to(
-            goal_for(aim),
-            search_steps(session.machine()).min(most - done),
-        );
-        done += walk.done;
-        if !matches!(walk.why, Some(Refusal::NotMet)) {
-            return Walk {
-                done,
-                why: full_for_output(session, walk.why),
-            };
-        }
+    if session.weight() > weight {
+        return Walk {
+            done: 0,
+            why: Some(Refusal::JournalFull),
+        };
     }
+    let walk = session.forward_to_within(goal_for(aim), most, weight);
     Walk {
-        done,
-        why: Some(Refusal::NotMet),
+        done: walk.done,
+        why: full_for(session, walk, most),
     }
 }
 
-// The same reason; where what is printed next has no room beside what is kept, that there is none for the step.
-fn full_for_output<A: Allocator + Copy>(
-    session: &Session<A>,
-    why: Option<Refusal>,
-) -> Option<Refusal> {
-    match why {
+// Why a walk towards a goal ended. Where its records weigh too much before so many steps, or what is printed next has no room
+// beside what is kept, there is no room for the next step.
+fn full_for<A: Allocator + Copy>(session: &Session<A>, walk: Walk, most: u64) -> Option<Refusal>
+    ensures { IsReason walk.done most walk.why result }
+{
+    match walk.why {
+        Some(Refusal::NotMet) if walk.done < most => Some(Refusal::JournalFull),
         Some(Refusal::TooLong) if session.len() > 0 && lacks_output_room(session.machine()) => {
             Some(Refusal::JournalFull)
         }
         why => why,
     }
-}
-
-// How many steps a search takes before it looks at what the records weigh.
-pub(crate) fn search_steps<A: Allocator + Copy>(machine: &Machine<A>) -> u64 {
-    (plain_front(machine.active(), PLAIN_STEPS) as u64).saturating_add(SEARCH_STEPS)
 }

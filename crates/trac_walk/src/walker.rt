@@ -1,12 +1,12 @@
 //! A walker: a session whose way back never stops a walk, and where it stands.
-ghost use Rattle.std.specs.Prelude.{◌≡◌, ◌≤◌, length, IfErr, OnOk};
+ghost use Rattle.std.specs.Prelude.{◌≡◌, ◌≤◌, length, not, true, IfErr, None, OnOk};
 ghost use Rattle.trac_follow.specs.Places.{place_of};
 ghost use Rattle.trac_follow.specs.Tracing.{IsTold, way_of};
 ghost use Rattle.trac_streams.specs.Tape.{MayRefuseTape};
+ghost use Rattle.trac_walk.specs.Aims.{MeetsAim, goal_of_aim};
 ghost use Rattle.trac_walk.specs.Ways.{number_of_step};
 
 use crate::aim::{Aim, goal_for};
-use crate::searching::search_steps;
 use std::alloc::{AllocError, Allocator};
 use trac_follow::{Place, Traced, Witness, trace};
 use trac_forms::{Form, FormError, Store};
@@ -85,7 +85,9 @@ impl<A: Allocator + Copy> Walker<A> {
     }
 
     /// How much the records may weigh.
-    pub(crate) fn weight(&self) -> u64 {
+    pub(crate) fn weight(&self) -> u64
+        ensures { result ≡ self.now.weight }
+    {
         self.weight
     }
 
@@ -220,7 +222,9 @@ impl<A: Allocator + Copy> Walker<A> {
 
     /// Goes forward to a goal, by so many steps at most, until one is refused, which is returned; `NotMet` where the steps
     /// were taken and the goal was not met.
-    pub fn forward_to(&mut self, aim: Aim<'_>, most: u64) -> Option<Refusal> {
+    pub fn forward_to(&mut self, aim: Aim<'_>, most: u64) -> Option<Refusal>
+        ensures { result ≡ None → goal_of_aim aim.entry self.new.window.session.last ≡ true }
+    {
         self.go(Some(aim), most)
     }
 
@@ -241,7 +245,9 @@ impl<A: Allocator + Copy> Walker<A> {
     }
 
     // Goes forward, to a goal where there is one, walk by walk: after each that ended for want of room it makes room.
-    fn go(&mut self, aim: Option<Aim<'_>>, most: u64) -> Option<Refusal> {
+    fn go(&mut self, aim: Option<Aim<'_>>, most: u64) -> Option<Refusal>
+        ensures { result ≡ None → MeetsAim aim.entry self.new.window.session.last }
+    {
         let mut left = most;
         for _ in 0..u64::MAX {
             if left == 0 {
@@ -262,7 +268,9 @@ impl<A: Allocator + Copy> Walker<A> {
 
     // Whether a walk goes on that has ended so, with a goal or without one: the journal was full or weighed enough, there is
     // room for the output now, or some steps of a search were taken.
-    fn goes_on(&mut self, walk: Walk, has_aim: bool) -> bool {
+    fn goes_on(&mut self, walk: Walk, has_aim: bool) -> bool
+        ensures { walk.why ≡ None → (result ≡ not has_aim) × (self.new ≡ self.old) }
+    {
         match walk.why {
             None => !has_aim,
             Some(Refusal::NotMet) => has_aim,
@@ -319,18 +327,20 @@ impl<A: Allocator + Copy> Walker<A> {
     }
 }
 
-// The functions over a session here promise nothing of it, so that whoever calls them has none of its clauses in his proof.
+// The functions over a session here promise little of it, so that whoever calls them has few of its clauses in his proof.
 
-// A walk forward by so many steps at most, or by a few towards a goal where there is one. It stops also where the records weigh
-// more than this.
+// A walk forward by so many steps at most, towards a goal where there is one. It stops also where the records weigh more than
+// this.
 fn walk_on<A: Allocator + Copy>(
     session: &mut Session<A>,
     aim: Option<Aim<'_>>,
     most: u64,
     weight: u64,
-) -> Walk {
+) -> Walk
+    ensures { result.why ≡ None → MeetsAim aim.entry session.new.last }
+{
     match aim {
-        Some(aim) => session.forward_to(goal_for(aim), most.min(search_steps(session.machine()))),
+        Some(aim) => session.forward_to_within(goal_for(aim), most, weight),
         None => session.forward_within(most, weight),
     }
 }

@@ -1,10 +1,11 @@
 use Rattle.std.proofs.Common.{arith}
+use Rattle.trac_rules.specs.Session.{no_goal}
 use Rattle.trac_session.proofs.Heavy.{light_further, within_heavy, within_refused, within_whole}
 use Rattle.trac_session.proofs.session.Session.forward_within.Goals as goal
 
 pub returns-in-Err : goal.returns-in-Err
 returns-in-Err g c =
-    within_refused c.args.most c.args.n c.loop-done.done c.args.self.now c.loop-done.self c.step.new.self c.in-Err.refusal
+    within_refused c.args.most no_goal c.args.n c.loop-done.done c.args.self.now c.loop-done.self c.step.new.self c.in-Err.refusal
     c.loop-done.invariant.1 c.loop-done-test.true c.in-Err.ensures
 
 pub returns-then-weight-most : goal.returns-then-weight-most
@@ -20,4 +21,4 @@ loop-done-preserved g c = (
 )
 
 pub returns : goal.returns
-returns g c = within_whole c.args.most c.args.n c.loop-done.done c.args.self.now c.loop-done.self c.loop-done.invariant.1 (omega arith)
+returns g c = within_whole c.args.most no_goal c.args.n c.loop-done.done c.args.self.now c.loop-done.self c.loop-done.invariant.1 (omega arith)

@@ -1,0 +1,88 @@
+-- What a search within the room that there is answers.
+use Rattle.std.proofs.Common.{◌≡◌, ℕ, ◌<◌, ◌≤◌, ◌&&◌, Bool, true, false, refl, sym, ap, subst, ◌∙◌, arith, inl, inr, ⊎_elim}
+use Rattle.std.proofs.lemmas.Bool.{cases_lt}
+use Rattle.std.specs.Prelude.{Option, None, Some, nat_lt}
+use Rattle.trac_rules.specs.declared.refusal.Refusal.{Refusal}
+use Rattle.trac_rules.specs.declared.refusal.Refusal.TheVariants.{Memory, TooLong, NeedInput, Ended, JournalFull, AtStart, Closed, NotMet}
+use Rattle.trac_rules.specs.Session.{PlainSession, Goal}
+use Rattle.trac_rules.specs.Weights.{weights_from}
+use Rattle.trac_session.specs.Goals.{outcome}
+use Rattle.trac_session.specs.Within.{IsSearchWithin}
+use Rattle.trac_walk.specs.declared.searching.Search.{Search}
+use Rattle.trac_walk.specs.declared.searching.Search.TheVariants.{Met, Spent, Unmet}
+use Rattle.trac_walk.specs.Searches.{HasWalked, IsAnswered, IsAsNear, IsReason}
+
+-- ---- why it ended
+
+-- no reason is given only where none is said
+none_said : (steps most : ℕ) (said why : Option Refusal) → steps ≤ most → IsReason steps most said why → why ≡ None → said ≡ None
+none_said steps most None why few is none = refl
+none_said steps most (Some NotMet) why few is none = ⊎_elim
+    (λ (less : steps < most). let full = is.0 less in absurd (cc))
+    (λ (all : most ≤ steps). let spent = is.1 (omega (arith, few, all)) in absurd (cc))
+    (cases_lt steps most)
+none_said steps most (Some TooLong) why few is none = ⊎_elim (λ long. absurd (cc)) (λ full. absurd (cc)) is
+none_said steps most (Some other) why few is none = absurd (cc)
+
+-- then the goal is met
+both_true : (one other : Bool) → None ≡ outcome (one && other) None → other ≡ true
+both_true true true said = refl
+both_true true false said = absurd (cc)
+both_true false other said = absurd (cc)
+
+met_outcome : (steps : ℕ) (met : Bool) (ended said : Option Refusal) → said ≡ None → said ≡ outcome (nat_lt 0 steps && met) ended → met ≡ true
+met_outcome steps met None said none is = both_true (nat_lt 0 steps) met (sym none ∙ is)
+met_outcome steps met (Some refusal) said none is = absurd (cc)
+
+-- a search stays within its steps
+pub few_steps : {weight : ℕ} {goal : Goal} {most steps : ℕ} {said : Option Refusal} {old new : PlainSession} → IsSearchWithin weight goal most old steps said new → steps ≤ most
+few_steps found = omega (arith, found.1.within, found.1.walk.within)
+
+pub goal_met : {weight : ℕ} {goal : Goal} {most steps : ℕ} {said why : Option Refusal} {old new : PlainSession} → IsSearchWithin weight goal most old steps said new →
+    IsReason steps most said why → why ≡ None → goal new.last ≡ true
+goal_met {weight} {goal} {most} {steps} {said} {why} {old} {new} found reason none =
+    met_outcome steps (goal new.last) found.0 said (none_said steps most said why (few_steps found) reason none) found.2
+
+-- ---- what is answered
+
+-- it met its goal
+pub near_met : {weight : ℕ} {goal : Goal} {most steps : ℕ} {why : Option Refusal} {old new : PlainSession} → HasWalked weight goal most old steps why new → why ≡ None →
+    IsAsNear weight goal most old Met new
+near_met {weight} {goal} {most} {steps} {why} {old} {new} walked none =
+    (steps, None, new, subst (λ w. HasWalked weight goal most old steps w new) none walked, (refl, refl))
+
+-- it took all its steps
+pub near_spent : {weight : ℕ} {goal : Goal} {most steps : ℕ} {why : Option Refusal} {old new : PlainSession} → HasWalked weight goal most old steps why new → why ≡ Some NotMet →
+    IsAsNear weight goal most old Spent new
+near_spent {weight} {goal} {most} {steps} {why} {old} {new} walked spent =
+    (steps, Some NotMet, new, subst (λ w. HasWalked weight goal most old steps w new) spent walked, (refl, refl))
+
+-- a step was refused
+unmet_answered : (steps : ℕ) (refusal : Refusal) (there new : PlainSession) → (refusal ≡ NotMet → ⊥) → IsAnswered steps (Some refusal) there (Unmet refusal steps) new
+unmet_answered steps NotMet there new other = absurd (other refl)
+unmet_answered steps JournalFull there new other = tt
+unmet_answered steps refusal there new other = refl
+
+pub near_unmet : {weight : ℕ} {goal : Goal} {most steps : ℕ} {why : Option Refusal} {old there : PlainSession} (refusal : Refusal) (new : PlainSession) →
+    HasWalked weight goal most old steps why there → why ≡ Some refusal → (refusal ≡ NotMet → ⊥) → IsAsNear weight goal most old (Unmet refusal steps) new
+near_unmet {weight} {goal} {most} {steps} {why} {old} {there} refusal new walked is other =
+    (steps, Some refusal, there, subst (λ w. HasWalked weight goal most old steps w there) is walked, unmet_answered steps refusal there new other)
+
+-- where it lacked room, whatever is answered in its place
+lacking : (steps k : ℕ) (why : Option Refusal) (there new : PlainSession) (found : Search) (last : PlainSession) → IsAnswered steps why there (Unmet JournalFull k) new →
+    IsAnswered steps why there found last
+lacking steps k None there new found last answered = let no = answered.0 in absurd (cc)
+lacking steps k (Some NotMet) there new found last answered = let no = answered.0 in absurd (cc)
+lacking steps k (Some JournalFull) there new found last answered = tt
+lacking steps k (Some other) there new found last answered = absurd (cc)
+
+pub near_far : {weight : ℕ} {goal : Goal} {most k : ℕ} {old new : PlainSession} {refusal : Refusal} (found : Search) (last : PlainSession) → refusal ≡ JournalFull →
+    IsAsNear weight goal most old (Unmet refusal k) new → IsAsNear weight goal most old found last
+near_far {weight} {goal} {most} {k} {old} {new} {refusal} found last full near =
+    (near.0, near.1, near.2, near.3, lacking near.0 k near.1 near.2 new found last (subst (λ r. IsAnswered near.0 near.1 near.2 (Unmet r k) new) full near.4))
+
+-- where the records may weigh as much
+pub near_at : {weight w : ℕ} {goal : Goal} {most : ℕ} {old new : PlainSession} {found : Search} → w ≡ weight →
+    (weights_from old.earlier ≤ w → IsAsNear w goal most old found new) → weights_from old.earlier ≤ weight → IsAsNear weight goal most old found new
+near_at {weight} {w} {goal} {most} {old} {new} {found} same near light =
+    subst (λ n. IsAsNear n goal most old found new) same (near (omega (arith, light, same)))
