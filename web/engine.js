@@ -30,7 +30,7 @@ class Engine {
     return new Engine(this.module, this.source);
   }
 
-  // Begins a Worker. What an earlier one still says is dropped. It is ready once it has said what the module has.
+  // Begins a Worker. What an earlier one still says is dropped. It is ready once it has compiled the module.
   start() {
     this.ready = new Promise((resolve, reject) => {
       this.isReady = { resolve, reject };
@@ -48,15 +48,9 @@ class Engine {
     worker.postMessage(this.module);
   }
 
-  // Whether the module has a call of this name.
-  can(call) {
-    return this.exports?.includes(`trac_web_${call}`) ?? false;
-  }
-
   // Takes an answer.
   take(answer) {
-    if (answer.exports) {
-      this.exports = answer.exports;
+    if (answer.isReady) {
       this.isReady.resolve();
       return;
     }

@@ -50,7 +50,7 @@
       const place = [step, kind, ...numbers].map(BigInt);
       return ["trac_web_way", [...instance.put(tape), ...place, ...instance.put(name), JOURNAL, DECIMALS]];
     },
-    doubts: (instance, { tape, budget }) => ["trac_web_doubts", [...instance.put(tape), BigInt(budget), DECIMALS]],
+    doubts: (instance, { tape, budget }) => ["trac_web_doubts", [...instance.put(tape), BigInt(budget), DECIMALS], 1],
   };
 
   // Answers a request: a reply that is too long for its room is asked for again with twice the room or more. Where so much is not
@@ -80,8 +80,7 @@
 
   self.onmessage = ({ data }) => {
     const compiled = WebAssembly.compile(data);
-    const names = compiled.then((module) => WebAssembly.Module.exports(module).map(({ name }) => name));
-    names.then((list) => self.postMessage({ exports: list }), (fault) => self.postMessage({ fault: fault.message }));
+    compiled.then(() => self.postMessage({ isReady: true }), (fault) => self.postMessage({ fault: fault.message }));
     self.onmessage = (event) => reply(compiled, event.data);
   };
 })();

@@ -1,4 +1,5 @@
-// Compares the module with the built programs: bytes that runs print, replies of the debugger, states, dialogues, and ways of bytes.
+// Compares the module with the built programs: bytes that runs print, replies of the debugger, states, dialogues, ways of bytes, and
+// doubts.
 //
 //     node compare.mjs PAGE TRAC TRAC_WALK PROGRAMS WALKS     PAGE is trac.html, or a module; PROGRAMS and WALKS are folders
 //
@@ -81,8 +82,11 @@ function hostile() {
 // Numbers that no request takes: nothing is done.
 function wrongNumbers() {
     const text = Buffer.from("#(ps,A)'"), none = Buffer.of()
-    for (const budget of [0n, 1_000_000_000_001n, 2n ** 64n - 1n]) same(`a budget of ${budget}`, engine.ask('run', [text, budget, 128], 64, 1), 10, none)
+    for (const budget of [0n, 1_000_000_000_001n, 2n ** 64n - 1n]) {
+        for (const name of ['run', 'doubts']) same(`a budget of ${budget}, ${name}`, engine.ask(name, [text, budget, 128], 64, 1), 10, none)
+    }
     for (const decimals of [0, 63, 65, 127, 129, 2n ** 64n - 1n]) {
+        same(`decimals of ${decimals}, doubts`, engine.ask('doubts', [text, 100, decimals], 64, 1), 12, none)
         same(`decimals of ${decimals}, run`, engine.ask('run', [text, 100, decimals], 64, 1), 12, none)
         same(`decimals of ${decimals}, debug`, engine.ask('debug', [text, text, 1, decimals], 64), 12, none)
         same(`decimals of ${decimals}, walk`, engine.ask('walk', [text, text, 1, 1, decimals], 64), 12, none)
@@ -105,6 +109,9 @@ function rooms() {
         same(`5 bytes in a buffer of ${size}`, answer, TOO_LONG, Buffer.from('ABCDE'.slice(0, size)))
     }
     same('5 bytes in a buffer of 5', engine.ask('run', [text, 1000, 128], 5, 1), ENDED, Buffer.from('ABCDE'))
+    const wrong = Buffer.from("#(pr,a)'"), row = Buffer.from(':1:3: no primitive is named pr (step 13)\n')
+    for (const size of [0, 1, row.length - 1]) same(`a row in a buffer of ${size}`, engine.once('doubts', [wrong, 1000, 128], size, 1), TOO_LONG, row.subarray(0, size))
+    same('a row in a buffer for it', engine.once('doubts', [wrong, 1000, 128], row.length, 1), ENDED, row)
 }
 
 // Memory: a request past the declared most is refused, and so is what a program needs there.
@@ -199,7 +206,35 @@ function ways() {
     }
 }
 
-const parts = { wholePrograms, hostile, wrongNumbers, rooms, memory, randomPrograms, scripts, dialogues, ways, story: () => story(holds), worker: () => worker(engine, holds) }
+// How a search for doubts ended, by what trac-lint says of it.
+function searchStatus(status, said) {
+    if (/: stopped after \d+ steps; --steps allows more$/m.test(said)) return BUDGET
+    if (/: stopped after \d+ steps, where a limit is passed/m.test(said)) return LIMIT
+    return said === '' && status < 2 ? ENDED : undefined
+}
+
+// The doubts of all programs that are here: the lines of trac-lint, for the program and what it reads in one file, without its name.
+function doubts() {
+    const top = path.join(programs, '..', '..')
+    for (const folder of ['tests/lint', 'tests/lint/mistakes', 'tests/programs', 'examples']) {
+        const names = fs.readdirSync(path.join(top, folder)).filter((it) => it.endsWith('.trac'))
+        holds(`${folder} has programs`, names.length > 0)
+        for (const name of names) {
+            const it = path.join(top, folder, name.slice(0, -5)), options = read(`${it}.options`, '').toString()
+            const input = /--input (\S+)/.exec(options), decimals = /--decimals (\d+)/.exec(options)
+            const tape = Buffer.concat([fs.readFileSync(`${it}.trac`), input && folder === 'tests/lint' ? fs.readFileSync(path.join(top, folder, input[1])) : Buffer.of()])
+            const file = inFile(tape), width = decimals ? decimals[1] : '128'
+            const linted = spawnSync(tracWalk, ['--lint', '--decimals', width, file], { encoding: 'latin1', maxBuffer: 1 << 28 })
+            const lines = linted.stdout.split('\n').map((line) => (line.startsWith(`${file}:`) ? line.slice(file.length) : line))
+            const answer = engine.doubts(tape, 10_000_000, Number(width))
+            same(`doubts of ${folder}/${name}`, answer, searchStatus(linted.status, linted.stderr), Buffer.from(lines.join('\n'), 'latin1'))
+            const told = lines.filter((line) => line.startsWith(':')).length
+            holds(`doubts of ${folder}/${name}: ${answer.others[0]} places, and not ${told}`, answer.others[0] === told)
+        }
+    }
+}
+
+const parts = { wholePrograms, hostile, wrongNumbers, rooms, memory, randomPrograms, scripts, dialogues, ways, doubts, story: () => story(holds), worker: () => worker(engine, holds) }
 try {
     for (const [name, part] of Object.entries(parts)) {
         const from = process.hrtime.bigint()

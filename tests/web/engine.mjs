@@ -79,4 +79,8 @@ export class Engine {
         const [first, second, third] = [...numbers, 0, 0, 0]
         return this.ask('way', [tape, step, kind, first, second, third, name, journal, decimals])
     }
+
+    doubts(tape, budget = 10_000_000, decimals = 128) {
+        return this.ask('doubts', [tape, budget, decimals], 65536, 1)
+    }
 }

@@ -20,7 +20,7 @@ function workerOver(module, rooms) {
         return { exports: { ...exports, trac_web_allocate: allocate } }
     }
     const compile = () => Promise.resolve(module)
-    vm.runInNewContext(source, { self, TextEncoder, RangeError, WebAssembly: { compile, Instance, Module: WebAssembly.Module } })
+    vm.runInNewContext(source, { self, TextEncoder, RangeError, WebAssembly: { compile, Instance } })
     self.onmessage({ data: null })
     return async (request) => {
         await self.onmessage({ data: { number: answers.length, ...request } })

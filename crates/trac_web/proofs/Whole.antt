@@ -1,5 +1,5 @@
 -- What was read and written of whole texts.
-use Rattle.std.proofs.Common.{◌≡◌, ◌<◌, ℕ, List, [], ◌++◌, length, sym, ap, subst, ◌∙◌}
+use Rattle.std.proofs.Common.{◌≡◌, ◌<◌, ◌≤◌, ℕ, List, [], ◌++◌, length, refl, sym, ap, subst, ◌∙◌}
 use Rattle.std.specs.Prelude.{Some, ◌↔◌}
 use Rattle.std.specs.Io.KnownBytes.{Keeps}
 use Rattle.trac_rules.specs.declared.limit.TheConstants.{TAPE_LIMIT}
@@ -12,7 +12,10 @@ use Rattle.trac_run.specs.Runs.{Runs, Shows}
 use Rattle.trac_debug.specs.Debugging.{MayShow, RepliesToFirst}
 use Rattle.trac_debug.specs.Debugs.{Debugs, UnlessFault, UnlessWrite}
 use Rattle.trac_walk.specs.Ends.{MayEnd}
-use Rattle.trac_web.specs.Requests.{WritesReplies, WritesRun, WritesTalk}
+use Rattle.trac_lint.specs.declared.report.TheConstants.{PLACE_LIMIT}
+use Rattle.trac_lint.specs.declared.report.Found.{Found}
+use Rattle.trac_lint.specs.Findings.{IsWritten}
+use Rattle.trac_web.specs.Requests.{WritesDoubts, WritesReplies, WritesRun, WritesTalk, search_ending}
 
 -- a run that read this text, of which a rest was left, and wrote all of that, where nothing was before
 pub whole_run : (width : Width) (budget most : ℕ) (text rest before all : List ℕ) (ending : Ending) → before ≡ [] →
@@ -52,3 +55,16 @@ whole_replies tape limit width commands rest before all ending none d too_long =
 pub whole_talk : (program before all : List ℕ) (ending : Ending) → before ≡ [] → MayEnd ending → (ending ≡ Limit) ↔ (TAPE_LIMIT < length program) →
     (ending ≡ Limit → Keeps (Some before) (Some all)) → WritesTalk program all ending
 whole_talk program before all ending none ends too_long nothing = record { ends = ends; too_long = too_long; nothing = λ is. nothing is ∙ none }
+
+-- a search for doubts, which wrote all of that
+pub whole_doubts : (before all : List ℕ) (found : Found) → before ≡ [] → found.told ≤ PLACE_LIMIT → IsWritten (Some before) (Some all) found →
+    WritesDoubts found.told all (search_ending found.halt)
+whole_doubts before all found none few w =
+    let is_all : w.written ≡ all = sym (w.gave ∙ ap (λ b. b ++ w.written) none) in
+    record {
+      few = few;
+      none = λ zero. subst (λ t. t ≡ []) is_all (w.none zero);
+      some = λ positive other. subst (λ t. 0 < length t) is_all (w.some positive (λ is. other (ap search_ending is)));
+      halt = found.halt;
+      ends = refl;
+    }

@@ -1,17 +1,20 @@
 -- What each request writes, of whole texts.
-use Rattle.std.specs.Prelude.{◌≡◌, ◌↔◌, ℕ, ◌<◌, ◌≤◌, List, [], length}
+use Rattle.std.specs.Prelude.{◌≡◌, ◌≢◌, ◌↔◌, ℕ, ◌<◌, ◌≤◌, List, [], length}
 use Rattle.trac_rules.specs.declared.width.Width.{Width}
 use Rattle.trac_rules.specs.declared.limit.TheConstants.{JOURNAL_LIMIT, TAPE_LIMIT}
 use Rattle.trac_rules.specs.Fronts.{IsFrontOf}
 use Rattle.trac_rules.specs.Running.{output_of}
 use Rattle.trac_streams.specs.declared.ending.Ending.{Ending}
-use Rattle.trac_streams.specs.declared.ending.Ending.TheVariants.{Limit}
+use Rattle.trac_streams.specs.declared.ending.Ending.TheVariants.{Ended, Budget, Limit, Memory, Write}
 use Rattle.trac_streams.specs.declared.lines.TheConstants.{LINE_COUNT_LIMIT}
 use Rattle.trac_streams.specs.declared.options.TheConstants.{BUDGET_LIMIT}
 use Rattle.trac_run.specs.Runs.{Shows}
 use Rattle.trac_debug.specs.Debugging.{MayShow, RepliesToFirst}
 use Rattle.trac_debug.specs.Debugs.{UnlessFault, UnlessWrite}
 use Rattle.trac_walk.specs.Ends.{MayEnd}
+use Rattle.trac_lint.specs.declared.report.TheConstants.{PLACE_LIMIT}
+use Rattle.trac_lint.specs.declared.report.Halt.{Halt}
+use Rattle.trac_lint.specs.declared.report.Halt.TheVariants as halts
 
 -- ---- numbers that are taken
 
@@ -46,3 +49,21 @@ pub record WritesTalk (program written : List ℕ) (ending : Ending) : Type 0 wh
   pub ends : MayEnd ending
   pub too_long : (ending ≡ Limit) ↔ (TAPE_LIMIT < length program)
   pub nothing : ending ≡ Limit → written ≡ []
+
+-- how a search for doubts ended, as a run does
+abbrev pub search_ending : Halt → Ending
+search_ending halts.Ended = Ended
+search_ending halts.Spent = Budget
+search_ending (halts.Limit steps) = Limit
+search_ending halts.TooLong = Limit
+search_ending halts.Memory = Memory
+search_ending halts.Write = Write
+
+-- a search for doubts told so many places by this, and ended so: it wrote nothing just where no place is told, but where the buffer is full.
+-- Which doubts and places these are is not stated
+pub record WritesDoubts (told : ℕ) (written : List ℕ) (ending : Ending) : Type 0 where
+  pub few : told ≤ PLACE_LIMIT
+  pub none : told ≡ 0 → written ≡ []
+  pub some : 0 < told → ending ≢ Write → 0 < length written
+  pub halt : Halt
+  pub ends : ending ≡ search_ending halt

@@ -1,13 +1,15 @@
 //! What a host calls: each over slices alone, with any numbers.
 ghost use Rattle.std.specs.Prelude.{◌≡◌, ◌≤◌, ◌<◌, None, Some};
+ghost use Rattle.trac_lint.specs.declared.report.TheConstants.{PLACE_LIMIT};
 ghost use Rattle.trac_rules.specs.declared.width.Width.{Width};
 ghost use Rattle.trac_streams.specs.Widths.{width_of};
 ghost use Rattle.trac_web.specs.declared.outcome.Outcome.TheVariants.{WrongBudget, WrongDecimals, WrongJournal};
 ghost use Rattle.trac_web.specs.Replies.{Answers, Refuses};
-ghost use Rattle.trac_web.specs.Requests.{IsBudget, IsJournal, WritesReplies, WritesRun, WritesTalk};
+ghost use Rattle.trac_web.specs.Requests.{IsBudget, IsJournal, WritesDoubts, WritesReplies, WritesRun, WritesTalk};
 ghost use Rattle.trac_web.specs.Ways.{AnswersWay};
 
 use crate::debugging::debug_texts;
+use crate::doubting::doubts_text;
 use crate::judging::{width_for_run, width_for_walk};
 use crate::running::run_text;
 use crate::walking::walk_texts;
@@ -150,6 +152,32 @@ pub extern "C" fn trac_web_way(
             written,
         )
         .status(),
+        Err(why) => why.status(),
+    }
+}
+
+/// Runs a program with all of its input by so many steps at most, and looks for what a person is unlikely to have meant, as
+/// `trac-lint` does. The rows of these doubts go into `output`, one for each place, how many bytes they are into `written`, and how
+/// many places they tell into `places`. Returns the number of an `Outcome`.
+#[unsafe(no_mangle)]
+pub extern "C" fn trac_web_doubts(
+    alloc: Global,
+    tape: &[u8],
+    budget: u64,
+    decimals: u64,
+    output: &mut [u8],
+    written: &mut usize,
+    places: &mut usize,
+) -> u32
+    ensures budget { (IsBudget budget → ⊥) → Refuses WrongBudget output.old output.new written.new result }
+    ensures decimals { IsBudget budget → width_of decimals ≡ None → Refuses WrongDecimals output.old output.new written.new result }
+    ensures answers { (width : Width) → IsBudget budget → width_of decimals ≡ Some width → Answers (WritesDoubts places.new) output.old output.new written.new result }
+    ensures places { places.new ≤ PLACE_LIMIT }
+{
+    *written = 0;
+    *places = 0;
+    match width_for_run(budget, decimals) {
+        Ok(width) => doubts_text(alloc, tape, budget, width, output, written, places).status(),
         Err(why) => why.status(),
     }
 }

@@ -2,6 +2,7 @@
 #![tactic(auto)]
 
 mod debugging;
+mod doubting;
 mod exports;
 mod judging;
 mod outcome;
@@ -11,5 +12,5 @@ mod running;
 mod walking;
 mod ways;
 
-pub use exports::{trac_web_debug, trac_web_run, trac_web_walk, trac_web_way};
+pub use exports::{trac_web_debug, trac_web_doubts, trac_web_run, trac_web_walk, trac_web_way};
 pub use outcome::Outcome;
