@@ -1,4 +1,4 @@
-use Rattle.std.proofs.Common.{sym, subst, ◌×◌}
+use Rattle.std.proofs.Common.{sym, subst}
 use Rattle.trac_web.specs.Requests.{WritesDoubts, search_ending}
 use Rattle.trac_web.proofs.Whole.{whole_doubts}
 use Rattle.trac_web.proofs.doubting.doubts_text.Goals as goal
