@@ -56,7 +56,7 @@ function showDoubts(page, doubts) {
     link.type = "button";
     link.addEventListener("click", () => page.visit(step));
     row.append(link, make("span", "doubt", words));
-    if (byte < page.program.length) row.append(make("span", "deed", lineAndColumn(page.program, byte)));
+    if (byte < page.program.length) row.append(placeButton(page, byte));
     return row;
   }));
   if (doubts.length > MOST_DOUBTS) byId("doubts").append(make("p", "note", `and ${grouped(doubts.length - MOST_DOUBTS)} more`));
