@@ -2,6 +2,8 @@
 
 // So many milliseconds it waits whether more is to be said.
 const PAUSE = 80;
+// So many it waits with a note after the end of a run, which would else be lost to some.
+const REST = 1000;
 // What is said first.
 const SAID = ["ending", "note", "step"];
 
@@ -17,6 +19,7 @@ class Announcer {
     this.box = byId("said");
     this.words = new Map();
     this.isSilent = false;
+    this.rests = 0;
   }
 
   // Says words of a kind soon, in place of those of that kind which are not said yet.
@@ -35,10 +38,17 @@ class Announcer {
   }
 
   now() {
+    if (this.words.size === 0) return;
+    const left = this.rests - performance.now();
+    if (left > 0 && this.words.size === 1 && this.words.has("note")) {
+      this.later = setTimeout(() => this.now(), left);
+      return;
+    }
+    this.rests = this.words.has("ending") ? performance.now() + REST : 0;
     const parts = SAID.map((kind) => this.words.get(kind)).filter((said) => said);
     this.words.clear();
-    const words = parts.map((said, at) => (at + 1 === parts.length || /[.:?!]\s*$/.test(said) ? said : `${said}.`)).join(" ");
-    if (words) this.box.replaceChildren(words);
+    const words = parts.map((said, at) => (at + 1 === parts.length || /[.:?!]\s*$/.test(said) ? said : `${said}.`));
+    this.box.replaceChildren(words.join(" "));
   }
 
   // Nothing is said while it plays; at the end of that, where it stands.

@@ -39,7 +39,7 @@ class Page {
     this.from = 0;
     this.turn = 0;
     this.playing = 0;
-    this.view = { redraw: () => this.redraw(), hint: "click a character to see its origin" };
+    this.view = { redraw: () => this.redraw(), hint: "choose a character to see its origin" };
     this.tree = new CallTree((step) => this.visit(step));
     this.way = new Way(this);
     this.announcer = new Announcer();
