@@ -68,7 +68,6 @@ function walkRecorded(run, commands) {
   if (lines[0] === "p") return begunRecorded(run, lines);
   if (lines[0].startsWith("s ")) return lines.length > 1 ? calls : stands(end);
   const from = Number(lines[0].slice("g ".length));
-  if (lines[1] === "d") return `${stands(from)}not met\n`;
   const found = moves[lines[1]]?.[from] ?? null;
   if (found === null) throw new NotUnderstood(ONLY_RECORDED);
   const [step, note] = [found].flat();
@@ -101,7 +100,9 @@ class Recorded {
 
   async ask(call, tape, { commands }) {
     const run = this.runs.find(({ program }) => isEqual(program, tape));
-    if (!run || (call !== "debug" && call !== "walk")) throw new NotUnderstood(ONLY_RECORDED);
+    if (!run || !["debug", "walk", "doubts"].includes(call)) throw new NotUnderstood(ONLY_RECORDED);
+    // (no recorded run has a doubt)
+    if (call === "doubts") return { status: 0, bytes: new Uint8Array(0) };
     const replay = new Replay(run);
     const text = call === "walk" ? walkRecorded(run, commands)
       : commands.trimEnd().split("\n").map((line) => replay.line(line)).join("");
