@@ -6,7 +6,7 @@ milliseconds: the least, the median and the most of all rounds, as the page itse
 
 PAGE is release/trac.html if none is given. The run is examples/long-way-back.trac, of 1,024,773 steps. A click is timed until the
 calls on the way are shown; `move` goes out of a call, to where one begins, and to calls, and `who` to the one that changed a form last;
-`tree` lists all calls of the run after a search, until they are painted.
+`tree` lists all calls of the run after a search, until they are painted; `stop` ends the Worker of a run without end.
 """
 import json
 import os
@@ -22,7 +22,8 @@ sys.dont_write_bytecode = True
 import browser  # noqa: E402
 
 PROGRAM = (ROOT / "examples" / "long-way-back.trac").read_text()
-GOALS = {"ready": 300, "run": 500, "step": 100, "jump": 100, "move": 100, "click": 100, "who": 100, "tree": 300}
+ENDLESS = (ROOT / "examples" / "endless.trac").read_text()
+GOALS = {"ready": 300, "run": 500, "step": 100, "jump": 100, "move": 100, "click": 100, "who": 100, "tree": 300, "stop": 200}
 END = 1_024_773
 READY = "new MutationObserver(() => { if (document.documentElement.dataset.ready) window.readyAt ??= performance.now(); })" \
         ".observe(document, { attributes: true, subtree: true });"
@@ -38,6 +39,21 @@ TIMED = """new Promise((done) => {{
   {does};
 }})"""
 
+
+# Stops a run once it is known to go on; its value is how long it takes until the Worker is ended.
+STOPPED = """new Promise((done) => {
+  const end = Worker.prototype.terminate, stop = document.getElementById('stop');
+  let from = 0;
+  Worker.prototype.terminate = function () {
+    end.call(this);
+    if (from) done(performance.now() - from);
+  };
+  document.getElementById('run').click();
+  setTimeout(() => {
+    from = performance.now();
+    stop.click();
+  }, 50);
+})"""
 
 # Ends a search of the calls, and waits until all are listed and painted; its value is how long that took.
 LISTED = """new Promise((done) => {
@@ -117,6 +133,9 @@ def one_round(file, times):
             times["click"].append(timed(page, clicked(selector), "document.querySelector('#way-list .code')"))
             rest(page)
         times["who"].append(timed(page, "[...document.querySelectorAll('[data-who]')].at(-1).click()", pressed("")[1]))
+        rest(page)
+        page.script("document.getElementById('source').value = " + json.dumps(ENDLESS))
+        times["stop"].append(page.script(STOPPED))
     finally:
         page.end()
 
