@@ -1,5 +1,5 @@
 """A page in a browser without a window: in Chromium, spoken to by its DevTools protocol over two pipes, or in Firefox. Both
-classes have the same methods: load, script, press, insert, click_at, touch, choose_file, faults, picture, end."""
+classes have the same methods: become, load, script, press, insert, click_at, touch, choose_file, faults, picture, end."""
 import base64
 import json
 import os
@@ -7,9 +7,9 @@ import select
 import shutil
 import subprocess
 import tempfile
-import time
 
 from firefox import Firefox  # noqa: F401
+from waiting import SILENCE, Gone, Waiting
 
 # What keys have beside their names.
 CODES = {
@@ -23,24 +23,29 @@ def find():
     return shutil.which("chromium") or shutil.which("chromium-browser")
 
 
-class Browser:
+# That all input reaches the page, also before its first frame, and that nothing in it is put off, since nobody looks.
+SETTINGS = ("--allow-pre-commit-input", "--disable-background-timer-throttling", "--disable-backgrounding-occluded-windows",
+            "--disable-renderer-backgrounding", "--disable-hang-monitor")
+
+
+class Browser(Waiting):
     """One page of it: at a size, light or dark, with forced colours, without motion, or without modules of WebAssembly."""
 
-    name = "Chromium"
+    name, is_slow = "Chromium", False
 
     @staticmethod
     def is_here():
         """Whether it is installed."""
         return find() is not None
 
-    def __init__(self, width=1280, height=800, dark=False, forced=False, still=False, modules=True):
+    def __init__(self, modules=True, **looks):
         self.room = tempfile.mkdtemp(prefix="trac-page-browser-")
         for_it, to_it = os.pipe()
         from_it, by_it = os.pipe()
         command = [
             "bash", "-c", 'exec "${@:3}" 3<&"$1" 4>&"$2"', "-", str(for_it), str(by_it),
             find(), "--headless=new", "--no-sandbox", "--disable-gpu", "--disable-dev-shm-usage", "--no-first-run",
-            "--remote-debugging-pipe", "--user-data-dir=" + self.room,
+            "--remote-debugging-pipe", "--user-data-dir=" + self.room, *SETTINGS,
             # (without compiled code it has no modules either)
             *([] if modules else ["--js-flags=--jitless"]), "about:blank",
         ]
@@ -49,13 +54,25 @@ class Browser:
         )
         os.close(for_it)
         os.close(by_it)
-        self.reader, self.writer = from_it, to_it
-        self.read, self.number, self.session, self.events = b"", 0, None, []
+        self.reader, self.writer, self.modules = from_it, to_it, modules
+        self.read, self.number, self.session, self.events, self.replies = b"", 0, None, [], {}
+        try:
+            self.target = next(one for one in self.call("Target.getTargets")["targetInfos"] if one["type"] == "page")["targetId"]
+            self.become(**looks)
+        except OSError:
+            self.end()
+            raise
+
+    def can_be(self, modules=True, **_):
+        """Whether it can have these looks without a new process."""
+        return modules == self.modules
+
+    def become(self, width=1280, height=800, dark=False, forced=False, still=False, modules=True):
+        """Opens an empty page with these looks."""
         looks = {"prefers-color-scheme": "dark" if dark else "light", "forced-colors": "active" if forced else "none",
                  "prefers-reduced-motion": "reduce" if still else "no-preference"}
         self.looks = [{"name": name, "value": value} for name, value in looks.items()]
         self.size = {"width": width, "height": height, "deviceScaleFactor": 1, "mobile": width < 500}
-        self.target = next(one for one in self.call("Target.getTargets")["targetInfos"] if one["type"] == "page")["targetId"]
         self.open()
 
     def open(self):
@@ -65,52 +82,76 @@ class Browser:
         self.call("Target.closeTarget", targetId=old)
         self.is_new = True
         self.session = self.call("Target.attachToTarget", targetId=self.target, flatten=True)["sessionId"]
-        for part in ("Page", "Runtime", "Log", "Network"):
+        for part in ("Page", "Runtime", "Log", "Network", "Inspector"):
             self.call(part + ".enable")
         self.call("Emulation.setDeviceMetricsOverride", **self.size)
         self.call("Emulation.setEmulatedMedia", features=self.looks)
+        self.call("Emulation.setFocusEmulationEnabled", enabled=True)
 
-    def call(self, method, **words):
-        """Has it do something, and returns what it says."""
+    def tell(self, method, **words):
+        """Tells it to do something. Returns the number of its reply."""
         self.number += 1
         message = {"id": self.number, "method": method, "params": words}
         if self.session:
             message["sessionId"] = self.session
         data = json.dumps(message).encode() + b"\0"
-        while data:
-            data = data[os.write(self.writer, data):]
-        while True:
+        try:
+            while data:
+                data = data[os.write(self.writer, data):]
+        except BrokenPipeError:
+            raise Gone("Chromium has ended") from None
+        return self.number
+
+    def reply(self, number):
+        """What it says to that."""
+        while number not in self.replies:
             said = self.message()
-            if said.get("id") == self.number:
-                if "error" in said:
-                    raise OSError("{}: {}".format(method, said["error"]))
-                return said["result"]
-            self.events.append(said)
+            if "id" in said:
+                self.replies[said["id"]] = said
+            elif said["method"] == "Inspector.targetCrashed" and said.get("sessionId") == self.session:
+                raise Gone("the page has crashed")
+            else:
+                self.events.append(said)
+        said = self.replies.pop(number)
+        if "error" in said:
+            raise OSError(str(said["error"]))
+        return said["result"]
+
+    def call(self, method, **words):
+        """Has it do something, and returns what it says."""
+        try:
+            return self.reply(self.tell(method, **words))
+        except Gone as fault:
+            raise Gone("{} ({})".format(fault, method)) from None
 
     def message(self):
-        """The next message; within a minute."""
+        """The next message."""
         while b"\0" not in self.read:
-            if not select.select([self.reader], [], [], 60)[0]:
-                raise OSError("the browser says nothing")
+            if not select.select([self.reader], [], [], SILENCE)[0]:
+                self.process.kill()
+                raise Gone("Chromium says nothing")
             more = os.read(self.reader, 1 << 20)
             if not more:
-                raise OSError("the browser has ended")
+                raise Gone("Chromium has ended")
             self.read += more
         message, self.read = self.read.split(b"\0", 1)
         return json.loads(message)
 
     def load(self, file, place=""):
-        """Loads a page, from a file if no address is given, and waits until it has started."""
+        """Loads a page, from a file if no address is given, and waits until it is there and shown."""
         if not self.is_new:
             self.open()
         self.is_new = False
         self.events, self.address = [], file if "://" in file else "file://" + file
         self.call("Page.navigate", url=self.address + place)
-        for _ in range(600):
-            if self.script("document.readyState") == "complete" and self.script("location.protocol") != "about:":
-                return
-            time.sleep(0.05)
-        raise OSError("the page was not loaded")
+        self.until("document.readyState === 'complete' && location.protocol !== 'about:'", "the page is loaded")
+        self.frames()
+
+    def resize(self, width, height):
+        """Gives the page another size, and waits until it has it."""
+        self.call("Emulation.setDeviceMetricsOverride", width=width, height=height, deviceScaleFactor=1, mobile=False)
+        self.until("innerWidth === {} && innerHeight === {}".format(width, height), "{} by {} pixels".format(width, height))
+        self.frames()
 
     def script(self, text):
         """The value of a script in the page; where that is a promise, of what it comes to."""
@@ -139,10 +180,14 @@ class Browser:
 
     def touch(self, *places):
         """Puts a finger down at the first place, draws it over the others, and takes it up."""
-        for index, (x, y) in enumerate(places):
-            kind = "touchMove" if index else "touchStart"
-            self.call("Input.dispatchTouchEvent", type=kind, touchPoints=[{"x": x, "y": y}])
-        self.call("Input.dispatchTouchEvent", type="touchEnd", touchPoints=[])
+        kinds = ["touchStart"] + ["touchMove"] * (len(places) - 1)
+        deeds = [(kind, [{"x": x, "y": y}]) for kind, (x, y) in zip(kinds, places)] + [("touchEnd", [])]
+        # (the first two are told together: a finger that rests between them does something else)
+        told = [self.tell("Input.dispatchTouchEvent", type=kind, touchPoints=points) for kind, points in deeds[:2]]
+        for number in told:
+            self.reply(number)
+        for kind, points in deeds[2:]:
+            self.call("Input.dispatchTouchEvent", type=kind, touchPoints=points)
 
     def choose_file(self, selector, path):
         """Gives a file to a control."""
@@ -172,7 +217,7 @@ class Browser:
         try:
             self.session = None
             self.call("Browser.close")
-            self.process.wait(20)
+            self.process.wait(SILENCE)
         except (OSError, subprocess.TimeoutExpired):
             self.process.kill()
             self.process.wait()

@@ -8,6 +8,8 @@ import subprocess
 import tempfile
 import time
 
+from waiting import SILENCE, Gone, Missed, Waiting
+
 # What stands for keys that write no sign.
 KEYS = {
     "Backspace": "\ue003", "Tab": "\ue004", "Enter": "\ue006", "Shift": "\ue008", "Control": "\ue009", "Escape": "\ue00c",
@@ -17,6 +19,8 @@ KEYS = {
 # How the browser itself is to look, and that it asks nobody for anything.
 SETTINGS = {
     "marionette.port": 0,
+    # (a search that it begins at "/" would take the keys after it)
+    "accessibility.typeaheadfind.manual": False,
     "app.normandy.enabled": False,
     "app.update.disabledForTesting": True,
     "browser.shell.checkDefaultBrowser": False,
@@ -28,13 +32,19 @@ SETTINGS = {
     "services.settings.server": "data:,#remote-settings-dummy/v1",
     "toolkit.telemetry.server": "",
 }
-# In the browser's own part: the page has so many pixels, and what it asks for is noted.
-SIZE = """
-const [width, height] = arguments;
+# In the browser's own part: the page has so many pixels and these looks; and what it asks for is noted.
+LOOKS = """
+const [width, height, looks] = arguments;
 const { style } = gBrowser.selectedBrowser;
 for (const [name, size] of [["width", width], ["height", height]]) {
   for (const part of ["", "min-", "max-"]) style.setProperty(part + name, `${size}px`, "important");
 }
+for (const [name, value] of Object.entries(looks)) {
+  if (typeof value === "boolean") Services.prefs.setBoolPref(name, value);
+  else Services.prefs.setIntPref(name, value);
+}
+"""
+NOTED = """
 window.askedFor = [];
 Services.obs.addObserver((request) => {
   const { triggeringPrincipal } = request.QueryInterface(Ci.nsIHttpChannel).loadInfo;
@@ -55,52 +65,70 @@ def find():
     return shutil.which("firefox-esr") or shutil.which("firefox")
 
 
-class Firefox:
+class Firefox(Waiting):
     """One page of it: at a size, light or dark, with forced colours, without motion, or without modules of WebAssembly."""
 
-    name = "Firefox"
+    name, is_slow = "Firefox", True
 
     @staticmethod
     def is_here():
         """Whether it is installed."""
         return find() is not None
 
-    def __init__(self, width=1280, height=800, dark=False, forced=False, still=False, modules=True):
-        self.room = tempfile.mkdtemp(prefix="trac-page-browser-")
-        looks = {
+    def __init__(self, **looks):
+        self.room, self.socket = tempfile.mkdtemp(prefix="trac-page-browser-"), None
+        with open(os.path.join(self.room, "user.js"), "w") as settings:
+            for name, value in SETTINGS.items():
+                settings.write("user_pref({}, {});\n".format(json.dumps(name), json.dumps(value)))
+        command = [find(), "--headless", "--marionette", "--remote-allow-system-access", "--no-remote", "--profile", self.room]
+        nothing = subprocess.DEVNULL
+        self.process = subprocess.Popen(command + ["about:blank"], stdin=nothing, stdout=nothing, stderr=nothing)
+        try:
+            self.socket, self.read, self.number = socket.create_connection(("127.0.0.1", self.port()), SILENCE), b"", 0
+            self.message()
+            times = {"script": SILENCE * 1000, "pageLoad": SILENCE * 1000}
+            self.call("WebDriver:NewSession", capabilities={"alwaysMatch": {"pageLoadStrategy": "normal", "timeouts": times}})
+            self.inside(NOTED)
+            self.become(**looks)
+        except (OSError, Missed) as fault:
+            self.end()
+            raise Gone("Firefox does not begin: {}".format(fault)) from None
+
+    def can_be(self, **_):
+        """Whether it can have these looks without a new process."""
+        return True
+
+    def become(self, width=1280, height=800, dark=False, forced=False, still=False, modules=True):
+        """Opens an empty page with these looks."""
+        self.call("WebDriver:Navigate", url="about:blank")
+        self.inside(LOOKS, width, height, {
             "layout.css.prefers-color-scheme.content-override": 0 if dark else 1,
             "browser.display.document_color_use": 2 if forced else 0,
             "ui.useAccessibilityTheme": int(forced),
             "ui.prefersReducedMotion": int(still),
             "javascript.options.wasm": modules,
-        }
-        with open(os.path.join(self.room, "user.js"), "w") as settings:
-            for name, value in {**SETTINGS, **looks}.items():
-                settings.write("user_pref({}, {});\n".format(json.dumps(name), json.dumps(value)))
-        command = [find(), "--headless", "--marionette", "--remote-allow-system-access", "--no-remote", "--profile", self.room]
-        nothing = subprocess.DEVNULL
-        self.process = subprocess.Popen(command + ["about:blank"], stdin=nothing, stdout=nothing, stderr=nothing)
-        self.socket, self.read, self.number = socket.create_connection(("127.0.0.1", self.port()), 60), b"", 0
-        self.message()
-        self.call("WebDriver:NewSession", capabilities={"alwaysMatch": {"pageLoadStrategy": "normal"}})
-        self.inside(SIZE, width, height)
+        })
+        asked = ("prefers-color-scheme: dark", "forced-colors: active", "prefers-reduced-motion: reduce")
+        wanted = [width, height, dark and not forced, forced, still]
+        self.until("[innerWidth, innerHeight, ...{}.map((one) => matchMedia(`(${{one}})`).matches)].join() === '{}'".format(
+            list(asked), ",".join(str(one).lower() for one in wanted)), "these looks")
 
     def port(self):
         """Where it listens, once it does."""
-        place = os.path.join(self.room, "MarionetteActivePort")
-        for _ in range(6000):
+        place, end = os.path.join(self.room, "MarionetteActivePort"), time.monotonic() + SILENCE
+        while time.monotonic() < end:
             if os.path.exists(place):
                 with open(place) as said:
                     text = said.read()
                 if text.strip():
                     return int(text)
             if self.process.poll() is not None:
-                raise OSError("Firefox has ended")
+                raise Gone("it has ended")
             time.sleep(0.01)
-        raise OSError("Firefox does not listen")
+        raise Gone("it does not listen")
 
     def message(self):
-        """The next message: its length, a colon, and JSON. Within a minute."""
+        """The next message: its length, a colon, and JSON."""
         while b":" not in self.read:
             self.more()
         length, self.read = self.read.split(b":", 1)
@@ -111,17 +139,24 @@ class Firefox:
 
     def more(self):
         """Takes more of what it says."""
-        more = self.socket.recv(1 << 20)
+        try:
+            more = self.socket.recv(1 << 20)
+        except TimeoutError:
+            self.process.kill()
+            raise Gone("Firefox says nothing") from None
         if not more:
-            raise OSError("the browser has ended")
+            raise Gone("Firefox has ended")
         self.read += more
 
     def call(self, method, **words):
         """Has it do something, and returns what it says."""
         self.number += 1
         message = json.dumps([0, self.number, method, words]).encode()
-        self.socket.sendall(b"%d:" % len(message) + message)
-        _, _, fault, result = self.message()
+        try:
+            self.socket.sendall(b"%d:" % len(message) + message)
+            _, _, fault, result = self.message()
+        except (Gone, ConnectionError) as gone:
+            raise Gone("{} ({})".format(gone, method)) from None
         if fault:
             raise OSError("{}: {}: {}".format(method, fault["error"], fault["message"]))
         return result
@@ -135,11 +170,12 @@ class Firefox:
             self.call("Marionette:SetContext", value="content")
 
     def load(self, file, place=""):
-        """Loads a page, from a file if no address is given, and waits until it has started."""
+        """Loads a page, from a file if no address is given, and waits until it is there and shown."""
         self.call("WebDriver:Navigate", url="about:blank")
         self.address = file if "://" in file else "file://" + file
         self.inside(CLEAR)
         self.call("WebDriver:Navigate", url=self.address + place)
+        self.frames()
 
     def script(self, text):
         """The value of an expression in the page."""
@@ -148,7 +184,6 @@ class Firefox:
     def perform(self, kind, actions, **words):
         """What a finger, the mouse or the keys do, one after the other."""
         self.call("WebDriver:PerformActions", actions=[{"type": kind, "id": kind, "actions": actions, **words}])
-        self.call("WebDriver:ReleaseActions")
 
     def press(self, key, times=1, shift=False, control=False):
         """Presses a key."""
@@ -175,6 +210,8 @@ class Firefox:
                  for index, (x, y) in enumerate(places)]
         down, up = ({"type": way, "button": 0} for way in ("pointerDown", "pointerUp"))
         self.perform("pointer", [moves[0], down] + moves[1:] + [up], parameters={"pointerType": kind})
+        # (else a click soon after this one were the second of two, which choose a word)
+        self.call("WebDriver:ReleaseActions")
 
     def choose_file(self, selector, path):
         """Gives a file to a control."""
@@ -194,10 +231,14 @@ class Firefox:
     def end(self):
         """Ends it."""
         try:
-            self.call("Marionette:Quit", flags=["eForceQuit"])
-            self.process.wait(20)
+            if self.socket:
+                self.call("Marionette:Quit", flags=["eForceQuit"])
+                self.process.wait(SILENCE)
         except (OSError, subprocess.TimeoutExpired):
+            pass
+        finally:
             self.process.kill()
             self.process.wait()
-        self.socket.close()
+        if self.socket:
+            self.socket.close()
         shutil.rmtree(self.room, ignore_errors=True)

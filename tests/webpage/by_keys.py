@@ -2,7 +2,7 @@
 stays where it is."""
 import os
 
-from pages import FACTORIAL, TOP, check
+from pages import FACTORIAL, IS_FOLLOWED, IS_GATHERED, TOP, check, opened
 
 ENDLESS = os.path.join(TOP, "examples", "endless.trac")
 # A program that takes long.
@@ -16,12 +16,8 @@ FOCUS = ("(() => { const it = document.activeElement; const within = it.closest(
 STOPS = ("[...document.querySelectorAll('button, select, input, textarea, [tabindex]')].filter((it) => it.checkVisibility() && it.tabIndex >= 0 "
          "&& !it.disabled && it.type !== 'file').map((it) => it.id || `${it.closest('[id]').id}: ${it.getAttribute('aria-label') ?? it.textContent}`)")
 STEP = "document.getElementById('slider').value"
+IN_WAY = "document.activeElement.closest('.way-row') !== null"
 CHOSEN = "document.getElementById(document.getElementById('tree').getAttribute('aria-activedescendant'))"
-
-
-def at_step(page, step, what):
-    """Waits until the page is at a step."""
-    page.until("{} === '{}'".format(STEP, step), "{}: step {}, not {}".format(what, step, page.script(STEP)), 20)
 
 
 def focus(page, name):
@@ -29,17 +25,16 @@ def focus(page, name):
     page.script("document.getElementById('{}').focus()".format(name))
 
 
-def started(kind, file, **words):
-    """The page with the wrong factorial run, its calls listed, and where its 0 comes from; all of that by keys."""
-    page = kind(file, **words)
+def start(page):
+    """Has the wrong factorial run, its calls listed, and where its 0 comes from; all of that by keys."""
     focus(page, "source")
     page.insert(open(FACTORIAL).read())
     page.press("Enter", control=True)
     page.until("document.activeElement.id === 'output'", "the output has the focus")
-    page.until("document.querySelectorAll('#tree .row').length > 5", "the calls are listed")
+    page.until(IS_GATHERED, "the calls are listed")
     page.press("Enter")
-    page.until("document.getElementById('way-list').children.length === 2", "where the 0 comes from")
-    return page
+    page.until(IS_FOLLOWED, "where the 0 comes from")
+    page.until(IN_WAY, "where it comes from has the focus")
 
 
 def check_order(page):
@@ -53,7 +48,7 @@ def check_order(page):
         page.press("Tab")
         seen.append(page.script(FOCUS))
     page.script("document.querySelector('h1').removeAttribute('tabindex')")
-    check(seen == wanted, "{}: the order of the focus: {}".format(page.name, [pair for pair in zip(seen, wanted) if pair[0] != pair[1]][:3]))
+    check(seen == wanted, "the order of the focus: {}".format([pair for pair in zip(seen, wanted) if pair[0] != pair[1]][:3]))
     check(sum("tree" in name for name in seen) == 1, "the tree is one stop: {}".format(seen))
     places = page.script("[...document.querySelectorAll('header, #help, #program-section, #result, #rules, #tape, #timeline, #buttons, #begun, #forms, #tree')]"
                          ".map((it) => it.compareDocumentPosition(document.getElementById('tree')))")
@@ -69,29 +64,37 @@ def check_buttons(page):
         page.go(before)
         focus(page, name)
         page.press("Enter")
-        at_step(page, after, "the button {} from {}".format(name, before))
-        check(page.script(FOCUS) == name, "{}: {} has the focus still, not {}".format(page.name, name, page.script(FOCUS)))
+        page.at(after, "the button {} from {}".format(name, before))
+        check(page.script(FOCUS) == name, "{} has the focus still, not {}".format(name, page.script(FOCUS)))
     focus(page, "slider")
     page.press("ArrowRight")
-    at_step(page, 133, "an arrow on the slider")
+    page.at(133, "an arrow on the slider")
     focus(page, "place")
     page.script("document.getElementById('place').select()")
     page.insert("50")
     page.press("Enter")
-    at_step(page, 50, "a number that is typed")
+    page.at(50, "a number that is typed")
     page.press("Escape")
+
+
+def check_playing(page):
+    """The player's button by Enter, in a run that plays for minutes."""
+    again(page, "#(ad,1,1)" * 300 + "'")
+    page.go(0)
     focus(page, "play")
     page.press("Enter")
-    page.until("Number({}) > 52".format(STEP), "it plays")
+    page.until("Number({}) > 2".format(STEP), "it plays")
+    name = "document.getElementById('play').getAttribute('aria-label')"
+    check(page.script(name) == "pause", "the name of the button while it plays: " + page.script(name))
     page.press("Enter")
-    check(page.text("play") == "play", "it pauses")
+    check(page.text("play") == "play" and page.script(name) == "play", "it pauses: " + page.script(name))
 
 
 def check_others(page):
     """A step on the way of a byte, the other looks, a program of the list, a doubt, and earlier output."""
     page.script("document.querySelector('#way-list [data-go]').focus()")
     page.press("Enter")
-    at_step(page, 267, "a call on the way")
+    page.at(267, "a call on the way")
     focus(page, "theme")
     for looks in ("dark", "light"):
         page.press("Enter")
@@ -103,20 +106,20 @@ def check_others(page):
     page.until("document.getElementById('question').open", "it asks, since a program was typed")
     focus(page, "question-yes")
     page.press("Enter")
-    page.until("document.getElementById('program-name').textContent === 'first.trac'", "first.trac: " + page.text("program-name"))
+    page.until("document.getElementById('program-name').textContent === 'first.trac'", "first.trac is opened")
     again(page, "#(pr,a)#(ps,({}))'".format("long " * 2000))
     page.until("document.querySelector('#doubts button') !== null", "a doubt is listed")
     page.script("document.querySelector('#doubts button').focus()")
     page.press("Enter")
-    at_step(page, 13, "a doubt")
+    page.at(13, "a doubt")
     page.press("End")
-    page.until("document.getElementById('output-note').textContent.startsWith('bytes 1,809 to 10,000')", page.text("output-note"))
+    page.until("document.getElementById('output-note').textContent.startsWith('bytes 1,809 to 10,000')", "the end of the output")
     page.script("document.querySelector('#output button').focus()")
     page.press("Enter")
-    page.until("document.getElementById('output-note').textContent.startsWith('bytes 1 to 1,808')", page.text("output-note"))
-    check("output" in page.script(FOCUS), "{}: earlier output keeps the focus: {}".format(page.name, page.script(FOCUS)))
+    page.until("document.getElementById('output-note').textContent.startsWith('bytes 1 to 1,808')", "earlier output")
+    check("output" in page.script(FOCUS), "earlier output keeps the focus: {}".format(page.script(FOCUS)))
     again(page, open(FACTORIAL).read())
-    page.until("document.querySelectorAll('#tree .row').length > 5", "the calls are listed")
+    page.until(IS_GATHERED, "the calls are listed")
 
 
 def again(page, text):
@@ -137,16 +140,16 @@ def check_texts(page):
         page.script("document.getElementById('way-list').replaceChildren()")
         focus(page, name)
         page.press("ArrowRight", max(keys, 1))
-        check(page.text("note").startswith("byte "), "{}: the chosen sign of {}: {}".format(page.name, name, page.text("note")))
+        check(page.text("note").startswith("byte "), "the chosen sign of {}: {}".format(name, page.text("note")))
         page.press("Enter")
-        page.until("document.getElementById('way-list').children.length > 0", "a sign of {} is followed".format(name), 20)
+        page.until(IN_WAY, "a sign of {} is followed".format(name))
     page.script("document.querySelector('#forms [data-place]').focus()")
     page.press("ArrowLeft")
     page.press("Enter")
-    page.until("document.activeElement.closest('.way-row') !== null", "a sign of a form is followed", 20)
+    page.until(IN_WAY, "a sign of a form is followed")
     page.script("document.querySelector('#forms [data-who]').focus()")
     page.press("Enter")
-    at_step(page, 50, "who changed the form")
+    page.at(50, "who changed the form")
 
 
 def check_focus_stays(page):
@@ -165,9 +168,8 @@ def check_focus_stays(page):
             dropped.append((held, page.script(FOCUS)))
     page.script("document.querySelector('#forms [data-place]').focus()")
     page.go(0)
-    check(page.script(FOCUS) == "active", "{}: a form that is not there any more leaves the focus to the text: {}".format(
-        page.name, page.script(FOCUS)))
-    check(stops > 15 and not dropped, "{}: the focus was dropped by a step: {}".format(page.name, dropped))
+    check(page.script(FOCUS) == "active", "a form that is not there any more leaves the focus to the text: " + page.script(FOCUS))
+    check(stops > 15 and not dropped, "the focus was dropped by a step: {}".format(dropped))
 
 
 def check_tree(page):
@@ -181,7 +183,7 @@ def check_tree(page):
                       ("ArrowLeft", "119"), ("ArrowLeft", "119"), ("ArrowDown", "131"), ("ArrowLeft", "265"), ("End", "257")):
         page.press(key)
         shown = page.script(number)
-        check(shown == step, "{}: {} chooses the call at {}, not {}".format(page.name, key, step, shown))
+        check(shown == step, "{} chooses the call at {}, not {}".format(key, step, shown))
     wanted = ["role", "aria-level", "aria-posinset", "aria-setsize"]
     # (beside it stand the calls of ds, ss, cl and eq; within it those of cl, which is folded, eq and ml)
     page.press("Home")
@@ -192,10 +194,10 @@ def check_tree(page):
     said = page.script("[...{}, 'aria-expanded'].map((name) => {}.getAttribute(name))".format(wanted, CHOSEN))
     check(said == ["treeitem", "2", "1", "3", "false"], "what is told of the call at 119: {}".format(said))
     page.press("Enter")
-    at_step(page, 119, "Enter in the tree")
+    page.at(119, "Enter in the tree")
     check(page.script(FOCUS) == "tree", "the tree has the focus after that: " + page.script(FOCUS))
     page.script("document.getElementById('tree').scrollTop = 100000")
-    page.script("new Promise((done) => requestAnimationFrame(() => requestAnimationFrame(() => done())))")
+    page.frames()
     check(page.script(FOCUS) == "tree" and page.script(number) == "119", "scrolling keeps the focus and the chosen call")
     page.press("Home")
 
@@ -205,26 +207,25 @@ def check_switch(page):
     page.go(100)
     page.script("document.activeElement.blur()")
     page.press("s")
-    at_step(page, 101, "s")
+    page.at(101, "s")
     page.press("?", shift=True)
     page.until("!document.getElementById('help').hidden", "the help is there")
     focus(page, "single-keys")
     page.press(" ")
     check(not page.script("document.getElementById('single-keys').checked"), "the switch is off")
     page.script("document.activeElement.blur()")
-    # (Firefox has a search of its own at "/", where the page does not take that key)
-    for key in "sbnNoOruywdDmgh? " + ("/" if page.name == "Chromium" else ""):
+    for key in "sbnNoOruywdDmgh? /":
         page.press(key)
     check(page.script(STEP) == "101", "no key of one sign is a step: " + page.script(STEP))
     page.press("Home")
-    at_step(page, 0, "Home, while they are off")
+    page.at(0, "Home, while they are off")
     check(page.text("play") == "play" and page.script(FOCUS) == "", "no key of one sign did anything: " + page.script(FOCUS))
     focus(page, "single-keys")
     page.press(" ")
     page.press("Escape")
     page.script("document.activeElement.blur()")
     page.press("s")
-    at_step(page, 1, "s, after they are on again")
+    page.at(1, "s, after they are on again")
     focus(page, "help-button")
     page.press("Enter")
     page.until("document.getElementById('help').hidden", "the help is gone")
@@ -262,22 +263,23 @@ def check_comes_back(page):
     page.go(100)
     focus(page, "rules")
     page.press("?", shift=True)
-    check(page.script(FOCUS) == "help", "{}: the help has the focus: {}".format(page.name, page.script(FOCUS)))
+    check(page.script(FOCUS) == "help", "the help has the focus: " + page.script(FOCUS))
     page.press("Tab")
     check(page.script(FOCUS) == "single-keys", "the switch is next: " + page.script(FOCUS))
     page.press("?", shift=True)
-    check(page.script(FOCUS) == "rules", "{}: the focus comes back: {}".format(page.name, page.script(FOCUS)))
+    check(page.script(FOCUS) == "rules", "the focus comes back: " + page.script(FOCUS))
+    is_said = "document.getElementById('said').textContent.includes('Where it comes from: ')"
     page.press("y")
-    page.until("document.querySelector('#way-list [data-go]') !== null", "the name of a call is followed")
-    page.script("document.querySelector('#way-list [data-go]').focus()")
+    page.until(is_said, "the name of a call is followed, and that is said")
+    page.script("(document.getElementById('said').replaceChildren(), document.querySelector('#way-list [data-go]').focus())")
     page.press("y")
-    page.until("document.getElementById('said').textContent.startsWith('Where it comes from: ')", "that is said")
-    check(page.script(FOCUS) != "", "{}: a way that is shown anew keeps the focus".format(page.name))
+    page.until(is_said, "it is followed again")
+    check(page.script(FOCUS) != "", "a way that is shown anew keeps the focus")
     again(page, open(ENDLESS).read())
     page.press("Tab")
     page.press("Enter")
     page.until("document.getElementById('ending').textContent.startsWith('After 4,000,000 steps')", "it goes on")
-    page.until(FOCUS + " === 'ending: go on'", "{}: `go on` has the focus still: {}".format(page.name, page.script(FOCUS)), 10)
+    page.until(FOCUS + " === 'ending: go on'", "`go on` has the focus still")
     focus(page, "source")
     page.script("document.getElementById('source').select()")
     page.insert(SLOW)
@@ -285,16 +287,14 @@ def check_comes_back(page):
     page.until("!document.getElementById('stop').hidden", "it runs")
     page.press("Escape")
     page.until("document.getElementById('ending').textContent === 'The run was stopped.'", "Escape stops it")
-    page.until(FOCUS + " === 'output'", "{}: the output has the focus then: {}".format(page.name, page.script(FOCUS)), 10)
+    page.until(FOCUS + " === 'output'", "the output has the focus then")
 
 
 def check_by_keys(kind, file):
     """All that, in one browser."""
-    page = started(kind, file)
-    try:
-        for part in (check_order, check_others, check_buttons, check_texts, check_focus_stays, check_tree, check_switch, check_input,
-                     check_comes_back):
+    with opened(kind, file) as page:
+        start(page)
+        for part in (check_order, check_others, check_buttons, check_texts, check_focus_stays, check_tree, check_switch, check_playing,
+                     check_input, check_comes_back):
             part(page)
             page.well(part.__name__)
-    finally:
-        page.end()

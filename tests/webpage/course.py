@@ -6,6 +6,11 @@ import os
 from pages import TOP, check
 
 COURSE = os.path.join(TOP, "course")
+# A check that is stopped after a minute tells no more than how slow the machine is: so it may take an hour.
+PATIENT = """(() => {
+  const set = window.setTimeout;
+  window.setTimeout = (does, time, ...words) => set(does, time === 60000 ? 3600000 : time, ...words);
+})()"""
 # Programs for exercise 5.1, and what a check says of each, as trac-course says it.
 CHECKED = (
     ("#(ds,down,(#(cl,down)))'", "Run 1 of 2: it has not ended within 10,000,000 steps"),
@@ -45,6 +50,7 @@ def press(page, word):
 def judged(page, program):
     """What a check says of a program."""
     page.put(program)
+    page.script("document.querySelector('.judged').replaceChildren()")
     press(page, "Check")
     page.until("!['', 'It is checked ..'].includes(document.querySelector('.judged').textContent)", "a check says something")
     return page.script("document.querySelector('.judged').textContent")
@@ -117,5 +123,6 @@ def check_failure(page):
 
 def check_course(page):
     """All of it."""
+    page.script(PATIENT)
     for part in (check_lessons, check_exercises, check_failure):
         part(page)

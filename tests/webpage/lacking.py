@@ -3,7 +3,7 @@ import os
 import subprocess
 import tempfile
 
-from pages import TOP, check
+from pages import TOP, check, opened, ready
 
 BUTTONS = "[...document.querySelectorAll('#lacking button')]"
 
@@ -23,7 +23,7 @@ def check_played(page):
         path = next(filter(os.path.exists, [os.path.join(TOP, folder, name) for folder in ("examples", "library")]))
         page.click(BUTTONS + "[{}]".format(number))
         page.until("document.getElementById('program-name').textContent === {!r}".format(name), name + " is opened")
-        page.until("document.getElementById('slider').value === '0' && !document.getElementById('player').hidden", name)
+        page.until("document.getElementById('place').value === '0' && !document.getElementById('player').hidden", name + " is run")
         end = int(page.script("document.getElementById('slider').max"))
         steps = range(0, end + 1, max(end // 5, 1))
         for step, text in zip(steps, texts_at(path, steps)):
@@ -40,9 +40,8 @@ def check_played(page):
 
 
 def check_lacking(kind, file, check_moves, is_first):
-    """Without WebAssembly; in the first browser each run, and the page with a policy that forbids modules."""
-    page = kind(file, modules=False)
-    try:
+    """Without WebAssembly; in the first browser each run."""
+    with opened(kind, file, modules=False) as page:
         check("has no WebAssembly" in page.text("lacking"), "what is lacking: " + page.text("lacking"))
         if is_first:
             check_played(page)
@@ -54,10 +53,6 @@ def check_lacking(kind, file, check_moves, is_first):
         page.run()
         check("only the recorded runs play" in page.text("ending"), "another program: " + page.text("ending"))
         page.well("recorded runs")
-    finally:
-        page.end()
-    if is_first:
-        check_forbidden(kind, file)
 
 
 def check_forbidden(kind, file):
@@ -68,14 +63,11 @@ def check_forbidden(kind, file):
         for copy, words in zip(copies, ("'wasm-unsafe-eval' ", "worker-src blob:; ")):
             with open(copy, "w") as out:
                 out.write(text.replace(words, "", 1))
-        page = kind(copies[0])
-        try:
+        with opened(kind, copies[0]) as page:
             check_hello(page)
             page.load(copies[1])
-            page.until("document.documentElement.dataset.ready === 'yes'", "the page is ready without a Worker")
+            ready(page)
             check_hello(page)
-        finally:
-            page.end()
 
 
 def check_hello(page):

@@ -1,7 +1,7 @@
 """How the page looks, as far as it can be computed: contrast, widths, large type, the colours of a system, and no motion."""
 import os
 
-from pages import FACTORIAL, KEPT, check
+from pages import KEPT, check, opened
 
 # Colours that a person sees: of text on what is behind it, of controls' borders, and of the ring around what has the focus. The worst
 # pairs whose contrast is less than it should be.
@@ -114,12 +114,9 @@ LINES = """((selector) => {
 
 def to_middle(page):
     """The wrong factorial in a run, at a step that performs a call, with where its 0 comes from."""
-    page.type(open(FACTORIAL).read())
-    page.run()
-    page.until("document.querySelectorAll('#tree .row').length > 5", "the calls are listed")
-    page.click("document.querySelector('#output [data-byte]')")
-    page.until("document.getElementById('way-list').children.length === 2", "where the 0 comes from")
+    page.followed()
     page.go(90)
+    page.until("document.getElementById('program-note').textContent.startsWith('here: ')", "the place in the program")
 
 
 def check_contrast(page):
@@ -136,6 +133,8 @@ def check_contrast(page):
             page.run()
             page.until("!document.getElementById('doubts-section').hidden", "doubts are listed")
             page.go(0)
+        # (a border that changes little by little has other colours until then)
+        page.until("document.getAnimations().length === 0", "nothing changes any more")
         count, low = page.script(CONTRAST)
         counts.append(count)
         check(low == [], "contrast, {}, {}: {}".format(looks, state, low[:8]))
@@ -149,8 +148,7 @@ def check_widths(page):
     for size in (16, 32):
         page.call("Page.setFontSizes", fontSizes={"standard": size, "fixed": size * 13 // 16})
         for width in (320, 390, 640, 1024, 1280, 1920, 2560):
-            page.call("Emulation.setDeviceMetricsOverride", width=width, height=800, deviceScaleFactor=1, mobile=False)
-            page.script("new Promise((done) => requestAnimationFrame(() => requestAnimationFrame(() => done())))")
+            page.resize(width, 800)
             wide = page.script(WIDE)
             check(wide == [], "{} pixels, letters of {}: too wide are {}".format(width, size, wide))
             page.script("document.getElementById('big').click()")
@@ -198,14 +196,14 @@ def check_still(page):
     page.script("document.getElementById('play').click()")
 
 
-def check_looks(kind, file):
-    """All that, in Chromium."""
-    for words, parts in (({}, [check_contrast, check_widths]), ({"dark": True}, [check_contrast]), ({"forced": True}, [check_forced]),
-                         ({"still": True}, [check_still])):
-        page = kind(file, **words)
-        try:
-            for part in parts:
-                part(page)
-                page.well(part.__name__)
-        finally:
-            page.end()
+# The looks of a page, and what is tried of each.
+LOOKS = [({}, [check_contrast, check_widths]), ({"dark": True}, [check_contrast]), ({"forced": True}, [check_forced]),
+         ({"still": True}, [check_still])]
+
+
+def check_looks(kind, file, looks, checks):
+    """The page with some looks, in Chromium."""
+    with opened(kind, file, **looks) as page:
+        for one in checks:
+            one(page)
+            page.well(one.__name__)

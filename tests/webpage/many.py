@@ -1,6 +1,6 @@
 """Much of what the page shows: 72,000 calls in the tree, and a step with 1,000 begun calls."""
 import names
-from pages import check
+from pages import check, opened
 
 # A form that calls itself: 3 calls at each turn, of cl, su and eq; before that ds, ss and a first cl, and at last eq.
 TURNS = "#(ds,L,(#(eq,N,0,,(#(cl,L,#(su,N,1))))))'#(ss,L,N)'#(cl,L,{})'"
@@ -11,20 +11,20 @@ def check_calls(page):
     """72,000 calls: those that can be seen are rows, and keys reach the first and the last."""
     page.put(TURNS.format(24000))
     page.run()
-    page.until("document.getElementById('tree-count').textContent === '72,004'", "72,004 calls are listed: " + page.text("tree-count"))
+    page.until("document.getElementById('tree-count').textContent === '72,004'", "72,004 calls are listed")
     page.script("document.getElementById('filter').focus()")
     page.press("Tab")
     page.press("End")
     last = page.script(NUMBER).replace(",", "")
     page.press("Enter")
-    page.until("document.getElementById('slider').value === '{}'".format(last), "Enter goes to the last call, at " + last)
+    page.at(last, "Enter goes to the last call")
     said = page.script("['aria-posinset', 'aria-setsize'].map((name) => document.querySelector('.row.chosen').getAttribute(name))")
     check(said[0] == said[1], "it is the last of those beside it: {}".format(said))
     page.press("Home")
     check(page.script(NUMBER) == "15", "the first call: " + page.script(NUMBER))
     check(page.script("document.querySelectorAll('#tree .row').length") < 60, "only rows that can be seen are made")
     page.script("document.getElementById('tree').scrollTop = 1e7")
-    page.script("new Promise((done) => requestAnimationFrame(() => requestAnimationFrame(() => done())))")
+    page.frames()
     check(page.script("document.activeElement.id") == "tree" and page.script(NUMBER) == "15", "scrolling keeps the focus and the chosen call")
 
 
@@ -38,21 +38,19 @@ def check_begun(page):
     check(page.text("begun-count").startswith("1,001"), "how many calls are begun: " + page.text("begun-count"))
     check(page.script("document.querySelectorAll('#begun .box').length") <= 20, "the innermost are shown")
     check(page.script("document.getElementById('neutral').textContent").endswith("deep"), "the text before the mark")
-    check(names.nameless(page) == [], "all of them have names")
+    nameless = names.nameless(page)
+    check(nameless == [], "without names, with many begun calls: {}".format(nameless))
     page.script("document.getElementById('begun').focus()")
     page.press("ArrowRight")
     check(page.text("note").startswith("byte 4: p"), "the innermost sign is chosen first: " + page.text("note"))
     page.press("b")
-    page.until("document.getElementById('slider').value === '4011'", "a step back")
+    page.at(4011, "a step back")
     check(page.script("document.activeElement.id") == "begun", "the focus stays")
 
 
 def check_many(kind, file):
     """All that, in Chromium."""
-    page = kind(file)
-    try:
+    with opened(kind, file) as page:
         for part in (check_calls, check_begun):
             part(page)
             page.well(part.__name__)
-    finally:
-        page.end()

@@ -1,44 +1,55 @@
-"""The page trac.html in a browser, and what tests do with it; and how many checks held."""
+"""The page trac.html in a browser, and what tests do with it."""
+import contextlib
 import json
 import os
 import sys
-import time
 
 TOP = os.path.dirname(os.path.dirname(os.path.dirname(os.path.realpath(__file__))))
 sys.path.insert(0, os.path.join(TOP, "tests", "support"))
 import browser  # noqa: E402
+import parts  # noqa: E402
+from parts import check  # noqa: E402, F401
+from waiting import Missed  # noqa: E402
 
 KEPT = os.path.join(TOP, "out", "webpage")
-counts = {"passed": 0, "failed": 0}
 
 # A program with a fault that a newcomer looks for: it prints 0.
 FACTORIAL = os.path.join(TOP, "examples", "wrong-factorial.trac")
+# All is told of its run: its calls as they stood when they were performed, and what it prints.
+IS_GATHERED = ("document.querySelector('#tree .quote') !== null && document.querySelectorAll('#marks [role=option]').length === 3 "
+               "&& document.getElementById('stop').hidden")
+# All is told of where its 0 comes from: two calls, with their arguments.
+IS_FOLLOWED = "[...document.querySelectorAll('#way-list .way-row')].filter((row) => row.querySelector('[tabindex]')).length === 2"
 
-
-def check(holds, what):
-    """Counts a check."""
-    counts["passed" if holds else "failed"] += 1
-    if not holds:
-        print("FAILED: " + what, file=sys.stderr)
+# Keeps from the page what the mouse does beside an element, which may have moved meanwhile, and after the first click on it. (Where
+# the element is too thin to be hit, what is around it is the goal.)
+AIM = """((find, goal = find) => {
+  const kinds = ['pointerdown', 'mousedown', 'pointerup', 'mouseup', 'click'];
+  let isHit = false;
+  const judge = (event) => {
+    if (!isHit && goal()?.contains(event.target)) isHit = event.type === 'click';
+    else {
+      event.preventDefault();
+      event.stopImmediatePropagation();
+    }
+  };
+  kinds.forEach((kind) => addEventListener(kind, judge, true));
+  window.aim = {
+    place: () => {
+      const it = find();
+      if (!it?.getClientRects().length) return null;
+      it.scrollIntoView({ block: 'nearest' });
+      const box = it.getBoundingClientRect();
+      return [box.x + box.width / 2, box.y + box.height / 2];
+    },
+    isHit: () => isHit,
+    end: () => kinds.forEach((kind) => removeEventListener(kind, judge, true)),
+  };
+})"""
 
 
 class Deeds:
     """What is done with the page, in any browser."""
-
-    def __init__(self, file, width=1280, height=800, dark=False, **words):
-        super().__init__(width, height, dark, **words)
-        self.load(file)
-        self.until("document.documentElement.dataset.ready === 'yes'", "the page is ready")
-
-    def until(self, test, what, most=60):
-        """Waits until this holds."""
-        end = time.time() + most
-        while time.time() < end:
-            if self.script(test):
-                return True
-            time.sleep(0.01)
-        check(False, "{}: {}, within {} seconds".format(self.name, what, most))
-        return False
 
     def text(self, name):
         """The text of an element."""
@@ -54,29 +65,51 @@ class Deeds:
         self.script("(() => {{ const box = document.getElementById('source'); box.value = {}; "
                     "box.dispatchEvent(new Event('input')); }})()".format(json.dumps(text)))
 
-    def click(self, element):
-        """Clicks the middle of an element, by the mouse."""
-        self.click_at(*self.script(
-            "(() => {{ const it = {}; it.scrollIntoView({{ block: 'nearest' }}); const box = it.getBoundingClientRect(); "
-            "return [box.x + box.width / 2, box.y + box.height / 2]; }})()".format(element)))
+    def click(self, element, around=None):
+        """Clicks the middle of an element by the mouse, once it is there; and again if the page moved under the mouse."""
+        self.script("{}({})".format(AIM, ", ".join("() => " + one for one in (element, around) if one)))
+        for _ in range(100):
+            self.until("window.aim.place() !== null", "it is there to be clicked: " + element)
+            self.click_at(*self.script("window.aim.place()"))
+            if self.script("window.aim.isHit()"):
+                break
+            self.frames()
+            if self.script("window.aim.isHit()"):
+                break
+        else:
+            raise Missed("{}: no click comes to {}".format(self.name, element))
+        self.script("window.aim.end()")
 
-    def run(self, most=60):
+    def run(self):
         """Runs what is there, and waits for its end."""
-        self.script("document.getElementById('place').value = ''")
         self.click("document.getElementById('run')")
-        return self.until("document.getElementById('stop').hidden && document.getElementById('ending').textContent !== 'It runs.'",
-                          "the run ends", most)
+        self.until("document.getElementById('stop').hidden && document.getElementById('ending').textContent !== 'It runs.'", "the run ends")
 
     def go(self, step):
-        """Goes to a step."""
-        self.script("(() => {{ const box = document.getElementById('place'); box.value = '{}'; "
+        """Goes to a step, and waits until it is shown."""
+        # (the page writes the number anew when it shows the step)
+        self.script("(() => {{ const box = document.getElementById('place'); box.value = ' {}'; "
                     "box.dispatchEvent(new Event('change')); }})()".format(step))
-        return self.until("document.getElementById('slider').value === '{}'".format(step), "it goes to step {}".format(step))
+        self.until("document.getElementById('slider').value === '{}' && document.getElementById('place').value === '{:,}'".format(
+            step, int(step)), "it goes to step {}".format(step))
+
+    def at(self, step, what="it goes"):
+        """Waits until the page is at a step."""
+        self.until("document.getElementById('slider').value === '{}'".format(step), "{} to step {}".format(what, step))
+
+    def followed(self):
+        """Runs the wrong factorial, and asks where its 0 comes from; waits until all of that is told."""
+        self.type(open(FACTORIAL).read())
+        self.run()
+        self.until(IS_GATHERED, "the calls are listed")
+        self.click("document.querySelector('#output [data-byte]')")
+        self.until(IS_FOLLOWED, "where the 0 comes from")
+        self.until("document.getElementById('said').textContent.includes('Where it comes from: ')", "that is said")
 
     def well(self, what):
         """Nothing went wrong, and nothing of a program was run."""
         faults = self.faults()
-        check(not faults, "{}: {}: {}".format(self.name, what, str(faults)[:400]))
+        check(not faults, "{}: {}".format(what, str(faults)[:400]))
         check(self.script("window.hostile === undefined"), what + ": nothing of the program was run")
 
 
@@ -94,3 +127,17 @@ PAGES = [ChromiumPage, FirefoxPage]
 def installed():
     """The kinds of pages whose browsers are here."""
     return [page for page in PAGES if page.is_here()]
+
+
+def ready(page):
+    """Waits until the page takes programs."""
+    page.until("document.documentElement.dataset.ready === 'yes'", "the page is ready")
+
+
+@contextlib.contextmanager
+def opened(kind, file, **looks):
+    """The page in a browser of a kind, for some time."""
+    with parts.lent(kind, **looks) as page:
+        page.load(file)
+        ready(page)
+        yield page

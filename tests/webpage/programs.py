@@ -48,4 +48,4 @@ def check_programs(page):
         page.until("document.getElementById('note').textContent.startsWith('the link is to step')", path + " is run")
         if page.text("output") != wanted:
             wrong.append((os.path.basename(path), page.text("output")[:100], wanted[:100]))
-    check(len(paths) > 50 and not wrong, "{}: programs: {}".format(page.name, wrong[:3]))
+    check(len(paths) > 50 and not wrong, "programs: {}".format(wrong[:3]))

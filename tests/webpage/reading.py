@@ -4,11 +4,13 @@ import json
 import os
 
 import names
-from pages import FACTORIAL, check
+from pages import IS_GATHERED, check, opened
 
 STORED = os.path.join(os.path.dirname(os.path.realpath(__file__)), "names.txt")
 SAID = ("(() => { window.said = []; new MutationObserver(() => window.said.push(document.getElementById('said').textContent))"
         ".observe(document.getElementById('said'), { childList: true }); })()")
+# So many milliseconds the page waits at most before it says something.
+PAUSE = 80
 # (what stands in a box speaks there: all else is silent while that is open)
 LIVE = ("[...document.querySelectorAll('[aria-live], [role=status], [role=alert], [role=log], output')]"
         ".filter((it) => it.getAttribute('aria-live') !== 'off' && !it.closest('dialog')).map((it) => it.id).join()")
@@ -16,15 +18,12 @@ LIVE = ("[...document.querySelectorAll('[aria-live], [role=status], [role=alert]
 
 def check_stored(page):
     """The roles and names of a fixed program at a step, with where its 0 comes from, are those that are stored."""
-    page.type(open(FACTORIAL).read())
-    page.run()
-    page.until("document.querySelectorAll('#tree .row').length > 5", "the calls are listed")
-    page.click("document.querySelector('#output [data-byte]')")
-    page.until("document.getElementById('way-list').children.length === 2", "where the 0 comes from")
+    page.followed()
     page.go(90)
     page.until("document.getElementById('program-note').textContent === 'here: line 1, column 29'", "the place in the program")
+    quiet(page)
     page.until("document.getElementById('said').textContent.startsWith('Next, step 90')", "the step is said")
-    page.until("document.querySelector('#tree .quote') !== null", "protected arguments stand in quotes")
+    page.until(IS_GATHERED, "protected arguments stand in quotes")
     text = names.text(page)
     if os.environ.get("STORE_NAMES"):
         with open(STORED, "w") as stored:
@@ -34,16 +33,22 @@ def check_stored(page):
     check(not rows, "roles and names are others than in tests/webpage/names.txt (STORE_NAMES=1 stores these):\n" + "\n".join(rows[:40]))
 
 
+def all_named(page, when):
+    """Nothing that takes the focus lacks a name now."""
+    nameless = names.nameless(page)
+    check(nameless == [], "without names, {}: {}".format(when, nameless))
+
+
 def check_named(page):
     """Nothing that takes the focus lacks a name: at the start, in a run, with the help, where input is wanted, and doubted."""
-    check(names.nameless(page) == [], "without names, in a run: {}".format(names.nameless(page)))
+    all_named(page, "in a run")
     page.script("document.getElementById('help-button').click()")
-    check(names.nameless(page) == [], "without names, in the help: {}".format(names.nameless(page)))
+    all_named(page, "in the help")
     page.script("document.getElementById('help-button').click()")
     page.type("#(pr,a)'\n#(ps,Hello, world)'\n#(sb,B)'#(ps,##(rs))'")
     page.run()
     page.until("!document.getElementById('doubts-section').hidden", "doubts are listed")
-    check(names.nameless(page) == [], "without names, with doubts: {}".format(names.nameless(page)))
+    all_named(page, "with doubts")
 
 
 def check_changes(page):
@@ -62,7 +67,15 @@ def quiet(page):
     """Waits until the step is said that was asked for, or what led there. What is said is noted from here on."""
     page.until("['last', 'next'].some((id) => document.getElementById('said').textContent.endsWith(document.getElementById(id).textContent))",
                "the step is said")
+    page.rest(PAUSE)
     page.script("window.said = []")
+
+
+def all_said(page, what):
+    """What is said, once no more is to come."""
+    page.until("window.said.length > 0", what)
+    page.rest(PAUSE)
+    return page.script("window.said")
 
 
 def check_said(page):
@@ -72,31 +85,31 @@ def check_said(page):
     page.script(SAID)
     page.type("#(ps,7)'")
     page.run()
-    page.until("window.said.length > 0", "a run is said")
-    said = page.script("window.said.join('|')")
-    check("all of the program is run" in said and said.endswith("Printed is: 7") and "|" not in said, "what is said of a run: " + said)
+    said = all_said(page, "a run is said")
+    check("all of the program is run" in said[0] and said[0].endswith("Printed is: 7") and len(said) == 1, "what is said of a run: {}".format(said))
     page.go(3)
     quiet(page)
     page.script("document.activeElement.blur()")
     page.press("s")
-    page.until("window.said.length > 0", "a step is said")
-    said = page.script("window.said")
+    said = all_said(page, "a step is said")
     check(said == [page.text("last")], "what is said of a step: {}".format(said))
     page.go(0)
     quiet(page)
     page.press(" ")
     page.until("document.getElementById('slider').value > 4", "it plays")
-    check(page.script("window.said.length") == 0, "it is silent while it plays: {}".format(page.script("window.said")))
     page.until("document.getElementById('play').textContent === 'play'", "it plays to its end")
-    page.until("window.said.length > 0", "the end of playing is said")
-    check(page.script("window.said") == [page.text("last")], "once, at its end: {}".format(page.script("window.said")))
+    # (had it spoken while it played, that would stand among what is said)
+    said = all_said(page, "the end of playing is said")
+    check(said == [page.text("last")], "once, at its end: {}".format(said))
 
 
 def hears(page, does, words):
     """Something is done, and this is said of it."""
+    page.rest(PAUSE)
     page.script("window.said = []")
     does()
-    page.until("window.said.join('|').includes({})".format(json.dumps(words)), "it says " + words, 20)
+    page.until("window.said.join('|').includes({})".format(json.dumps(words)), "it says " + words)
+    page.rest(PAUSE)
     return page.script("window.said.join('|')")
 
 
@@ -112,7 +125,7 @@ def check_heard(page):
     page.script(SAID)
     page.type("#(pr,a)#(ps,Hello, world)'")
     hears(page, page.run, "Printed is: Hello")
-    page.until("window.said.join('|').includes('2 doubts are listed')", "how much is doubted: {}".format(page.script("window.said")))
+    page.until("window.said.join('|').includes('2 doubts are listed')", "how much is doubted")
     said = hears(page, lambda: press_in(page, "#doubts button", "Enter"), "Next, step 13: ) ends the function, and #(pr,a) is performed")
     check(said.endswith("its value is empty. Doubt: no primitive is named pr"), "what is doubted: " + said)
     said = hears(page, lambda: press_in(page, None, "r"), "there is no call before this step")
@@ -127,12 +140,6 @@ def check_heard(page):
     page.script("document.getElementById('filter').focus()")
     hears(page, lambda: page.insert("hello"), "1 of 2 calls")
     hears(page, lambda: page.press("Enter"), ") ends the function, and #(ps,Hello, world) is performed")
-    name = "document.getElementById('play').getAttribute('aria-label')"
-    page.go(0)
-    press_in(page, "#play", "Enter")
-    check(page.script(name) == "pause", "the name of the button while it plays: " + page.script(name))
-    page.press("Enter")
-    check(page.script(name) == "play", "the name of the button then: " + page.script(name))
     press_in(page, "#library", "f", "Enter")
     page.until("document.getElementById('question').open", "it asks, since a program was typed")
     hears(page, lambda: page.press("Enter"), "first.trac is opened.")
@@ -140,11 +147,8 @@ def check_heard(page):
 
 def check_reading(kind, file):
     """All that, in Chromium."""
-    page = kind(file)
-    try:
-        check(names.nameless(page) == [], "without names, at the start: {}".format(names.nameless(page)))
+    with opened(kind, file) as page:
+        all_named(page, "at the start")
         for part in (check_stored, check_named, check_changes, check_said, check_heard):
             part(page)
             page.well(part.__name__)
-    finally:
-        page.end()

@@ -8,7 +8,7 @@ import random
 import threading
 import zlib
 
-from pages import FACTORIAL, check
+from pages import FACTORIAL, check, ready
 
 ASKING = "#(ps,(Who? ))#(ps,Hello ##(rs)!)'"
 # Programs whose bytes are to stay as they are.
@@ -76,6 +76,7 @@ def held(text):
 
 def shared(page):
     """What Share gives."""
+    page.until("document.getElementById('stop').hidden", "nothing goes on")
     page.click("document.getElementById('share')")
     page.until("document.getElementById('share-box').open", "Share opens its box")
     text = page.script("document.getElementById('share-text').value")
@@ -86,13 +87,11 @@ def shared(page):
 def follow(page, text):
     """Follows a link within the page."""
     is_opened = "document.getElementById('program-name').textContent !== ''"
-    for name in ("program-name", "ending"):
-        page.script("(document.getElementById('{}').textContent = '')".format(name))
-    page.script("(location.hash = {!r})".format(text))
-    page.until("document.getElementById('question').open || " + is_opened, "a link: " + text[:40])
-    if page.script("document.getElementById('question').open"):
+    page.script("(() => {{ for (const name of ['program-name', 'ending']) document.getElementById(name).textContent = ''; "
+                "location.hash = {!r}; }})()".format(text))
+    if page.until("document.getElementById('question').open ? 'asks' : {} && 'opens'".format(is_opened), "a link: " + text[:40]) == "asks":
         page.click("document.getElementById('question-yes')")
-    return page.until(is_opened, "a link is opened: " + text[:40])
+        page.until(is_opened, "a link is opened: " + text[:40])
 
 
 def check_run(page, file):
@@ -114,7 +113,7 @@ def check_run(page, file):
     check(page.script("location.hash") == "", "the address stays as it is")
     page.well("sharing")
     page.load(file, text)
-    page.until("document.getElementById('slider').value === '29'", "the link goes to step 29")
+    page.at(29, "the link goes")
     page.until("document.getElementById('slider').max !== '29'", "the whole run is there")
     check(page.script("document.getElementById('source').value") == ASKING, "the program of the link")
     page.press("End")
@@ -170,7 +169,7 @@ def check_pasted(page):
     page.script("document.getElementById('paste').select()")
     page.insert("https://example.org/trac.html" + good[:20] + " " + good[20:])
     page.press("Enter")
-    page.until("document.getElementById('slider').value === '4'", "it is opened")
+    page.at(4, "what was pasted goes")
     check(page.script("document.getElementById('source').value") == "#(ps,pasted)'", "what was pasted is opened")
     check(not page.script("document.getElementById('open-box').open"), "the box is closed")
 
@@ -195,7 +194,7 @@ def check_served(page, file):
     address = "http://127.0.0.1:{}/{}".format(server.server_port, os.path.basename(file))
     try:
         page.load(address)
-        page.until("document.documentElement.dataset.ready === 'yes'", "the page is ready")
+        ready(page)
         page.type("#(ps,(served))'")
         page.run()
         text = shared(page)
@@ -232,4 +231,4 @@ def check_share(page):
     check_without_packing(page)
     check_served(page, file)
     page.load(file)
-    page.until("document.documentElement.dataset.ready === 'yes'", "the page is ready")
+    ready(page)

@@ -1,9 +1,8 @@
 """What a teacher shows with the page: why a comma ends an argument and a decision took its branch, what was protected,
 steps by token, marks over the slider, the idle program, and the large view."""
 import os
-import time
 
-from pages import FACTORIAL, KEPT, check
+from pages import FACTORIAL, IS_GATHERED, KEPT, check, opened
 from readers import PROGRAM, READERS
 
 # The least number that is too great for 128 bits, and that less one.
@@ -71,17 +70,10 @@ FILLED = """(([steps, end]) => {{
 }})({})"""
 
 
-def at(page, step):
-    """Waits until the page is at a step."""
-    shown = "document.getElementById('slider').value"
-    return page.until("{} === '{}'".format(shown, step), "to step {}, not to {}".format(step, page.script(shown)), 10)
-
-
-
 def says(page, name, words):
     """What the page says of the last step or the next one has these words."""
     text = page.text(name)
-    check(words in text, "{}: it says: {}, without: {}".format(page.name, text[:300], words))
+    check(words in text, "it says: {}, without: {}".format(text[:300], words))
 
 
 def check_reasons(page):
@@ -103,7 +95,7 @@ def check_sentences(page, program, rows):
         page.press("ArrowDown" if index else "Home")
         step = page.script("document.querySelector('#tree .chosen .number').textContent")
         page.press("Enter")
-        at(page, step.replace(",", ""))
+        page.at(step.replace(",", ""))
         lead = "Next, step {}: ) ends the function, and {}".format(step, call[:5])
         text = page.text("next")
         place = page.script("document.getElementById('place').value")
@@ -112,10 +104,10 @@ def check_sentences(page, program, rows):
         page.script("document.activeElement.blur()")
         page.press("s")
         done = "document.getElementById('last').textContent.startsWith('Step {}: ) ends')".format(step)
-        page.until(done, "step {} is done".format(step), 10)
+        page.until(done, "step {} is done".format(step))
         if said not in page.text("last"):
             wrong.append((call, page.text("last")))
-    check(not wrong, "{}: sentences: {}".format(page.name, wrong[:3]))
+    check(not wrong, "sentences: {}".format(wrong[:3]))
 
 
 def check_protected(page):
@@ -125,7 +117,7 @@ def check_protected(page):
     page.until("document.querySelectorAll('#tree .quote').length === 8", "protected arguments stand in quotes")
     rows = page.script("[...document.querySelectorAll('#tree .row')]"
                        ".map((row) => row.textContent.replace(/[▾▸\\u00a0]| has an empty value/g, ''))")
-    check(rows == ROWS, "{}: the list of calls: {}".format(page.name, rows))
+    check(rows == ROWS, "the list of calls: {}".format(rows))
     check(page.script("document.querySelector('#tree .empty').getAttribute('aria-label')") == "empty", "its name")
     page.go(41)
     says(page, "next", "##(eq,“a,b(c)”,empty,x,“no,no”) is performed: “a,b(c)” and empty differ")
@@ -155,13 +147,13 @@ def check_tokens(page):
     page.run()
     page.script("document.activeElement.blur()")
     page.press("Home")
-    at(page, 0)
+    page.at(0)
     says(page, "last", explained)
     # (the idle program; `#(` `ps` `,` `abc` `)` and its own `)`; the idle program; the line end, `##(` `zz` `)` and `)`)
     steps = (1, 3, 4, 5, 7, 8, 9, 11, 12, 15, 16, 17, 26, 27, 28, 30, 31, 32, 40)
     for step in steps:
         page.press("ArrowRight")
-        at(page, step)
+        page.at(step)
         if step == 15:
             says(page, "last", "Steps 12 to 14: abc goes to the current text")
         if step == 17:
@@ -175,13 +167,13 @@ def check_tokens(page):
     says(page, "last", "Steps 32 to 39: the idle program waits to read on")
     for step in (*reversed(steps[:-1]), 0):
         page.script("document.getElementById('token-back').click()")
-        at(page, step)
+        page.at(step)
     page.script("document.getElementById('token').click()")
-    at(page, 1)
+    page.at(1)
     page.press("End")
-    at(page, 40)
+    page.at(40)
     page.press("b")
-    at(page, 39)
+    page.at(39)
     says(page, "last", "Step 38: the idle program reads on: ")
     page.put("#(ps," + "long" * 5000 + ")'")
     page.run()
@@ -189,7 +181,7 @@ def check_tokens(page):
     page.script("document.activeElement.blur()")
     for key, step in (("ArrowRight", 20012), ("ArrowLeft", 12)):
         page.press(key)
-        at(page, step)
+        page.at(step)
     check(page.text("next").startswith("Next, steps 12 to 20,011: longlong"), "a long token: " + page.text("next")[:80])
 
 
@@ -200,28 +192,26 @@ def check_marks(page):
     page.type(open(FACTORIAL).read())
     page.run()
     page.until("document.querySelectorAll('#marks [role=option]').length === 3", "three marks")
-    page.until("document.getElementById('timeline-note').textContent === ', at most 7 at once'", "how deep it goes: " + page.text("timeline-note"))
+    page.until("document.getElementById('timeline-note').textContent === ', at most 7 at once'", "how deep it goes")
     # (of 7 begun calls 2, then 3, then 6: so many parts of the height above the floor are filled)
     heights = page.script(FILLED.format([[80, 100, 232], 276]))
     check([round(height * 7) for height in heights] == [2, 3, 6], "how many calls are begun: {}".format(heights))
     page.go(90)
     page.script("document.getElementById('marks').focus()")
-    page.until(name + " === 'step 50, a form: #(ss,Factorial,X)'", "the mark before the step", 10)
+    page.until(name + " === 'step 50, a form: #(ss,Factorial,X)'", "the mark before the step")
     page.press("ArrowRight")
     check(page.script(name) == "step 267: prints 0", "the next mark: " + page.script(name))
     page.press("Enter")
-    at(page, 267)
+    page.at(267)
     says(page, "next", "printed is 0")
     page.press("Home")
-    page.until(name + ".startsWith('step 23, a form: #(ds,Factorial,“#(eq,X,1,0,')", "the first mark", 10)
+    page.until(name + ".startsWith('step 23, a form: #(ds,Factorial,“#(eq,X,1,0,')", "the first mark")
     page.press(" ")
-    at(page, 23)
+    page.at(23)
     check(page.script("document.activeElement.id") == "marks", "the focus stays")
     page.script("document.activeElement.blur()")
-    x, y = page.script("(() => { const mark = document.querySelectorAll('#marks [role=option]')[1]; "
-                       "const box = mark.getBoundingClientRect(); return [box.x + box.width / 2, box.y + box.height / 2]; })()")
-    page.click_at(x, y)
-    at(page, 50)
+    page.click("document.querySelectorAll('#marks [role=option]')[1]", "document.getElementById('marks')")
+    page.at(50)
 
 
 def check_large_view(page):
@@ -232,24 +222,25 @@ def check_large_view(page):
     page.run()
     page.script("document.getElementById('active').focus()")
     page.press("f")
-    check(page.script(is_open) and page.script(pressed) == "true", page.name + ": f opens the large view")
+    check(page.script(is_open) and page.script(pressed) == "true", "f opens the large view")
     page.press("ArrowLeft")
     page.press("Escape")
     focus = "document.activeElement.id"
-    check(not page.script(is_open) and page.script(focus) == "active", page.name + ": Esc leaves it")
+    check(not page.script(is_open) and page.script(focus) == "active", "Esc leaves it")
     page.click("document.getElementById('big')")
-    check(page.script(is_open), page.name + ": the button opens it")
+    check(page.script(is_open), "the button opens it")
     page.press("/")
-    check(not page.script(is_open) and page.script(focus) == "filter", page.name + ": to search leaves it")
+    check(not page.script(is_open) and page.script(focus) == "filter", "to search leaves it")
     page.press("Escape")
     page.go(5)
     page.script("(document.activeElement.blur(), scrollTo(0, 150))")
     page.press("f")
     page.click("document.querySelector('#neutral [data-byte]')")
-    page.until("document.getElementById('note').textContent.endsWith('it is there already; Esc shows the list')", "where it comes from is said", 10)
+    page.until("document.getElementById('note').textContent.endsWith('it is there already; Esc shows the list')", "where it comes from is said")
     page.click("document.getElementById('big')")
-    check(not page.script(is_open) and page.script(pressed) == "false", page.name + ": the button closes it")
-    check(page.script("scrollY") == 150, "{}: the page stands where it stood: {}".format(page.name, page.script("scrollY")))
+    check(not page.script(is_open) and page.script(pressed) == "false", "the button closes it")
+    page.frames()
+    check(page.script("scrollY") == 150, "the page stands where it stood: {}".format(page.script("scrollY")))
 
 
 def check_sizes(kind, file):
@@ -259,25 +250,23 @@ def check_sizes(kind, file):
             "return box.left < 0 || box.top < 0 || box.right > {0} || box.bottom > {1} || box.height < 4; }}).join()")
     fits = "document.getElementById('rules').scrollHeight <= document.getElementById('rules').clientHeight"
     for width, height in ((1024, 768), (1920, 1080)):
-        page = kind(file, width, height)
-        try:
+        with opened(kind, file, width=width, height=height) as page:
             page.type(open(FACTORIAL).read())
             page.run()
+            page.until(IS_GATHERED, "the calls are listed")
             page.go(90)
             page.script("document.activeElement.blur()")
             page.press("f")
             for step in (90, 258, 131, 0):
                 page.go(step)
                 out = page.script(seen.format(width, height))
-                check(out == "", "{}, {} by {}, step {}: out of view: {}".format(page.name, width, height, step, out))
+                check(out == "", "{} by {}, step {}: out of view: {}".format(width, height, step, out))
             check(page.script(fits), "the sentence fits")
             size = page.script("parseFloat(getComputedStyle(document.getElementById('tape')).fontSize)")
             check(size >= width / 32, "the text is large: {}".format(size))
             page.go(90)
             page.picture(os.path.join(KEPT, "large-{}.png".format(width)))
             page.well("the large view")
-        finally:
-            page.end()
 
 
 PARTS = [check_reasons, check_protected, check_tokens, check_marks, check_large_view]

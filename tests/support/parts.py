@@ -1,0 +1,106 @@
+"""Parts of a test beside each other, as many at once as there are processors, each counted by itself. A browser that has done its part
+does the next one, since it is slow to begin."""
+import contextlib
+import os
+import sys
+import threading
+import time
+import traceback
+
+from waiting import Gone, Missed
+
+# Of each thread the part that it does, and its browsers that have nothing to do.
+here = threading.local()
+choosing = threading.Lock()
+
+
+def check(holds, words):
+    """Counts a check of the part that is done here, and keeps what failed."""
+    if holds:
+        here.part.passed += 1
+    else:
+        here.part.faults.append(words)
+
+
+class Part:
+    """A part: its name, the kind of browser that it takes, if any, and what it does."""
+
+    def __init__(self, name, kind, does):
+        self.name, self.kind, self.does = name + (" in " + kind.name if kind else ""), kind, does
+        self.passed, self.faults, self.seconds = 0, [], 0
+
+    def run(self):
+        """Does it, and once more in a new browser if the browser was gone; prints what failed."""
+        here.part, began = self, time.monotonic()
+        try:
+            try:
+                self.does()
+            except Gone as fault:
+                print("tried once more: {}, since {}".format(self.name, fault), file=sys.stderr)
+                self.passed, self.faults = 0, []
+                self.does()
+        except Missed as fault:
+            self.faults.append(str(fault))
+        except Exception:
+            self.faults.append(traceback.format_exc())
+        self.seconds = time.monotonic() - began
+        sys.stderr.write("".join("FAILED: {}: {}\n".format(self.name, words) for words in self.faults))
+
+
+@contextlib.contextmanager
+def lent(kind, **looks):
+    """A browser of a kind, with these looks: one of this thread that has nothing to do, or a new one. One that failed is not used again."""
+    idle = here.__dict__.setdefault("idle", [])
+    page = next((one for one in idle if type(one) is kind and one.can_be(**looks)), None)
+    is_new = page is None
+    if is_new:
+        page = kind(**looks)
+    else:
+        idle.remove(page)
+    try:
+        if not is_new:
+            page.become(**looks)
+        yield page
+    except BaseException:
+        page.end()
+        raise
+    idle.append(page)
+
+
+def chosen(waiting, kind, others):
+    """Takes the first part of a kind out of what waits, or else the first that is left to no others; or nothing."""
+    with choosing:
+        fitting = [one for one in waiting if one.kind is kind] or [one for one in waiting if one.kind not in others]
+        if not fitting:
+            return None
+        waiting.remove(fitting[0])
+        return fitting[0]
+
+
+def lane(waiting, kind, others):
+    """Does what waits, one part after the other: those of one kind first."""
+    while part := chosen(waiting, kind, others):
+        kind = part.kind
+        part.run()
+    for page in here.__dict__.pop("idle", []):
+        page.end()
+
+
+def run(parts, tells_times=False):
+    """Does all of them, in their order, as many at once as there are processors. These take one kind of browser each in turn, and then help
+    with other kinds, but not with one that is slow to begin and is in other hands."""
+    waiting, kinds = list(parts), list(dict.fromkeys(part.kind for part in parts))
+    first = [kinds[at % len(kinds)] for at in range(min(len(os.sched_getaffinity(0)), len(parts)))]
+    slow = {kind for kind in first if kind and kind.is_slow}
+    threads = [threading.Thread(target=lane, args=(waiting, kind, slow), daemon=True) for kind in first]
+    for thread in threads:
+        thread.start()
+    for thread in threads:
+        thread.join()
+    for part in parts if tells_times else ():
+        print("{:5.1f} s  {}".format(part.seconds, part.name))
+
+
+def totals(parts):
+    """How many checks held, and how many did not."""
+    return sum(part.passed for part in parts), sum(len(part.faults) for part in parts)

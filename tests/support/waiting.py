@@ -1,0 +1,41 @@
+"""What tests wait for in a page, in any browser. All that a test asks for has its time: a slow machine is no fault."""
+import time
+
+# So many seconds what was asked for may take to hold, and a browser to say something: only what hangs takes so long.
+PATIENCE = 300
+SILENCE = 600
+
+
+class Gone(OSError):
+    """A browser that does not begin, has ended, or says nothing."""
+
+
+class Missed(Exception):
+    """What was waited for did not come."""
+
+
+class Waiting:
+    """What is waited for; a browser's class has `script` and `name` beside that."""
+
+    def until(self, test, what):
+        """Waits until a script tells that this holds, and returns what it tells. Else what comes after cannot be tried."""
+        end, pause = time.monotonic() + PATIENCE, 0.002
+        while not (told := self.script(test)):
+            if time.monotonic() > end:
+                raise Missed("{}: {}, within {} seconds; {}".format(self.name, what, PATIENCE, self.where()))
+            time.sleep(pause)
+            pause = min(pause * 1.5, 0.05)
+        return told
+
+    def where(self):
+        """Where a page stands, for those who read that something did not come."""
+        return self.script("['slider', 'note', 'ending', 'said'].map((id) => document.getElementById(id))"
+                           ".map((it) => it?.value ?? it?.textContent ?? '').join(' | ')")
+
+    def frames(self):
+        """Waits until what was scrolled, changed in size or drawn for the next frame is there."""
+        self.script("new Promise((done) => { let left = 4; const next = () => (left-- ? requestAnimationFrame(next) : done()); next(); })")
+
+    def rest(self, milliseconds):
+        """Lets those timers of the page come first that it has set for so many milliseconds at most."""
+        self.script("new Promise((done) => setTimeout(done, {}))".format(milliseconds + 1))
