@@ -30,21 +30,27 @@ class Part:
         self.passed, self.faults, self.seconds = 0, [], 0
 
     def run(self):
-        """Does it, and once more in a new browser if the browser was gone; prints what failed."""
+        """Does it, and once more in a new browser if something failed, since a busy machine can stop a browser; prints what failed, also
+        at first."""
         here.part, began = self, time.monotonic()
+        self.attempt()
+        if self.faults:
+            sys.stderr.write("".join("tried once more: {}: {}\n".format(self.name, words) for words in self.faults))
+            for page in here.__dict__.pop("idle", []):
+                page.end()
+            self.passed, self.faults = 0, []
+            self.attempt()
+        self.seconds = time.monotonic() - began
+        sys.stderr.write("".join("FAILED: {}: {}\n".format(self.name, words) for words in self.faults))
+
+    def attempt(self):
+        """Does it, and keeps what failed."""
         try:
-            try:
-                self.does()
-            except Gone as fault:
-                print("tried once more: {}, since {}".format(self.name, fault), file=sys.stderr)
-                self.passed, self.faults = 0, []
-                self.does()
-        except Missed as fault:
+            self.does()
+        except (Gone, Missed) as fault:
             self.faults.append(str(fault))
         except Exception:
             self.faults.append(traceback.format_exc())
-        self.seconds = time.monotonic() - began
-        sys.stderr.write("".join("FAILED: {}: {}\n".format(self.name, words) for words in self.faults))
 
 
 @contextlib.contextmanager
