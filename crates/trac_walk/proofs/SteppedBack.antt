@@ -8,7 +8,6 @@ use Rattle.trac_rules.specs.declared.reply.Reply.TheVariants.{Refused}
 use Rattle.trac_rules.specs.Session.{PlainSession, Step, Back, Answers, IsWalk, accepted_by, answer, done, no_goal, repeated}
 use Rattle.trac_rules.proofs.Replies.{Back_refused, Step_done, accepted_done, answer_Back_from}
 use Rattle.trac_rules.proofs.TakenAgain.{Back_done, repeated_after_one}
-use Rattle.trac_session.proofs.Walked.{repeated-from}
 
 -- back over a step is where it began
 one_back : (p q : PlainSession) → answer Step p ≡ done q → answer Back q ≡ done p
@@ -22,10 +21,6 @@ steps_back zero p q taken = sym taken
 steps_back (suc n) p q taken =
     option_and_then_some (λ (r : PlainSession). accepted_by (answer Step r)) (repeated Step n p) q taken
     (λ r there last. repeated_after_one Back n q r (one_back r q (accepted_done (answer Step r) q last)) ∙ steps_back n p r there)
-
--- so many steps, and then so many more
-pub steps_more : (m k : ℕ) (p q r : PlainSession) → repeated Step m p ≡ Some q → repeated Step k q ≡ Some r → repeated Step (m + k) p ≡ Some r
-steps_more m k p q r first then = repeated-from Step m k p q first ∙ then
 
 -- each step back takes one state away
 back_count : (k : ℕ) (p q : PlainSession) → repeated Back k p ≡ Some q → length q.earlier + k ≡ length p.earlier
