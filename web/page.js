@@ -64,6 +64,8 @@ class Page {
     this.program = this.editor.bytes();
     this.isStale = false;
     await this.perform();
+    // (on a phone a lesson stands over it)
+    byId("ending").scrollIntoView({ block: "nearest" });
   }
 
   // Runs the program with its input, and goes to the end.

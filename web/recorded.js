@@ -92,10 +92,6 @@ class Recorded {
     this.waiting = new Map();
   }
 
-  can() {
-    return false;
-  }
-
   stop() {}
 
   async ask(call, tape, { commands }) {

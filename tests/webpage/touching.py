@@ -9,13 +9,15 @@ SMALL = ("[...document.querySelectorAll('button, select, input, textarea, summar
 # Waits until the page scrolls no more: for some frames it stays where it is.
 RESTS = ("new Promise((done) => { let last = null, count = 0; const look = () => { count = scrollY === last ? count + 1 : 0; last = scrollY; "
          "if (count < 20) requestAnimationFrame(look); else done(); }; look(); })")
+# Where the middle of an element is.
+MIDDLE = "(() => {{ const box = {}.getBoundingClientRect(); return [box.x + box.width / 2, box.y + box.height / 2]; }})()"
 STEP = "document.getElementById('slider').value"
 
 
 def middle(page, element):
     """The middle of an element, in view."""
-    return page.script("(() => {{ const it = {}; it.scrollIntoView({{ block: 'center' }}); const box = it.getBoundingClientRect(); "
-                       "return [box.x + box.width / 2, box.y + box.height / 2]; }})()".format(element))
+    page.script("{}.scrollIntoView({{ block: 'center' }})".format(element))
+    return page.script(MIDDLE.format(element))
 
 
 def check_newcomer(page):
@@ -30,6 +32,20 @@ def check_newcomer(page):
     page.until(IS_FOLLOWED, "a tap beside the 0 is for it")
     page.touch(middle(page, "document.querySelector('#way-list .way-row:last-child [data-place$=\" 2\"]')"))
     page.until("document.getElementById('way-list').textContent.endsWith('reads it: line 1, column 26')", "where it was written")
+
+
+def check_lesson(page):
+    """With a lesson open, what a program prints comes in view."""
+    page.script("(() => { const list = document.getElementById('course'); list.value = '4'; list.dispatchEvent(new Event('change')); })()")
+    page.until("document.getElementById('lesson-title').textContent === '2. Commas and protection'", "a lesson is open")
+    page.script(RESTS)
+    page.script("scrollTo(0, 0)")
+    page.script(RESTS)
+    page.touch(page.script(MIDDLE.format("document.getElementById('run')")))
+    page.until("document.getElementById('ending').textContent.startsWith('After ')", "it is run")
+    seen = "(() => { const box = document.getElementById('ending').getBoundingClientRect(); return box.top >= 0 && box.bottom <= innerHeight; })()"
+    page.until(seen, "what it prints is in view")
+    page.script("document.getElementById('lesson-close').click()")
 
 
 def check_sizes(page):
@@ -74,6 +90,6 @@ def check_touching(kind, file):
     """All that, in Chromium."""
     with opened(kind, file, width=390, height=844) as page:
         page.call("Emulation.setTouchEmulationEnabled", enabled=True)
-        for part in (check_newcomer, check_sizes, check_swipes):
+        for part in (check_newcomer, check_sizes, check_swipes, check_lesson):
             part(page)
             page.well(part.__name__)
