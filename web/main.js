@@ -80,6 +80,9 @@ function startFiles(page) {
   });
 }
 
+// What is said where a sign that stands for a begun call is clicked.
+const NO_BYTE = "this sign is no byte any more: it was deleted, and shows where a call or an argument begins";
+
 // A click on a sign follows it.
 function startFollowing(page) {
   document.addEventListener("click", (event) => {
@@ -88,6 +91,7 @@ function startFollowing(page) {
     if (!page.run || event.target.closest("button, .link") || !getSelection().isCollapsed) return undefined;
     const found = byteNear(event.clientX, event.clientY);
     if (found) page.follow(found.holder, found.number);
+    else if (event.target.closest("#tape .begun")) page.note(NO_BYTE);
     return undefined;
   });
 }

@@ -135,6 +135,8 @@ def check_protected(page):
     page.go(14)
     scanned = page.script("document.getElementById('neutral').textContent")
     check(scanned == "#(ps,#(ds,A,", "a comma that was deleted stands there once: " + scanned)
+    page.click("document.querySelector('#neutral .comma')")
+    page.until("document.getElementById('note').textContent.startsWith('this sign is no byte any more')", "a click on one says what it is")
     check(page.script("document.querySelector('#neutral .gone').textContent") == ",", "and is struck")
     page.go(71)
     says(page, "last", "its value is null, which is scanned next")
