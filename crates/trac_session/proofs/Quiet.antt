@@ -1,19 +1,16 @@
 -- Steps that move a byte perform no call, and there is no doubt of them.
 use Rattle.std.proofs.Common.{◌≡◌, ℕ, zero, suc, ◌+◌, ◌-◌, ◌<◌, ◌≤◌, Bool, true, false, List, [], ◌∷◌, ◌++◌, length, take, drop, refl, sym, ap, subst, ◌∙◌, arith}
-use Rattle.std.specs.Prelude.{Option, None, Some, Result, Ok, is_some, nat_lt, not, option_map, ◌==◌, ◌&&◌, ◌||◌}
+use Rattle.std.specs.Prelude.{Option, None, Some, Result, Ok, option_map, ◌==◌, ◌&&◌, ◌||◌}
 use Rattle.std.specs.FinMap as finite
 use Rattle.std.proofs.lemmas.List.{length-append, length-drop, length-take}
-use Rattle.trac_rules.specs.declared.doubt.Doubt.{Doubt}
 use Rattle.trac_rules.specs.declared.kind.Kind.{Kind}
 use Rattle.trac_rules.specs.declared.kind.Kind.TheVariants.{Active, Neutral}
 use Rattle.trac_rules.specs.declared.refusal.Refusal.{Refusal}
 use Rattle.trac_rules.specs.declared.scan.Front.{Front}
 use Rattle.trac_rules.specs.declared.scan.Front.TheVariants as front
-use Rattle.trac_rules.specs.declared.width.Width.{Width}
-use Rattle.trac_rules.specs.Doubts.{doubts, doubts_of_call, doubts_of_scanning, is_doubtful}
+use Rattle.trac_rules.specs.Doubts.{doubts, doubts_of_call, doubts_of_scanning}
 use Rattle.trac_rules.specs.Effect.{Effect}
-use Rattle.trac_rules.specs.Form.{Form}
-use Rattle.trac_rules.specs.Goals.{begins_with, call_asked, has_other_form, is_call_with, is_end_of, is_form_as, is_idle_printing, is_idle_reading, is_own_call, next_call}
+use Rattle.trac_rules.specs.Goals.{call_asked, next_call}
 use Rattle.trac_rules.specs.Limits.{argument_bytes, texts_fit}
 use Rattle.trac_rules.specs.Matching.{Protected, match_of, protected, protected_up_to}
 use Rattle.trac_rules.specs.Performing.{after_call, changed_by, performed, placed}
@@ -197,20 +194,3 @@ quiet_back n k old new p moved trail some few walked =
     let here = back_there n k (n - k) old new moved (omega (arith, few)) in
     let same : after (n - k) new ≡ p = cc in
     subst (λ (q : PlainSession). IsQuiet q.last) same (is_quiet_there n (n - k) old new moved trail (omega (arith, some, few)))
-
--- ---- goals that are not met there
-
-pub call_unmet : (wanted : List (List ℕ)) (s : State) → IsQuiet s → is_call_with wanted s ≡ false
-call_unmet wanted s quiet = ap (begins_with wanted) quiet.no_call
-
-pub own_call_unmet : (s : State) → IsQuiet s → is_own_call s ≡ false
-own_call_unmet s quiet = ap (λ (call : Option Call). is_some call && not (is_idle_reading s || is_idle_printing s)) quiet.no_call
-
-pub end_unmet : (depth : ℕ) (s : State) → IsQuiet s → is_end_of depth s ≡ false
-end_unmet depth s quiet = ap (λ (call : Option Call). is_some call && (length s.frames == depth)) quiet.no_call
-
-pub other_form_unmet : (name : List ℕ) (form : Option Form) (s : State) → IsQuiet s → has_other_form name form s ≡ false
-other_form_unmet name form s quiet = ap (λ (call : Option Call). is_some call && not (is_form_as (finite.get s.forms name) form)) quiet.no_call
-
-pub doubt_unmet : (width : Width) (s : State) → IsQuiet s → is_doubtful width s ≡ false
-doubt_unmet width s quiet = ap (λ (said : List Doubt). nat_lt 0 (length said)) (quiet.no_doubt width)

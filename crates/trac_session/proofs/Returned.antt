@@ -34,7 +34,7 @@ one_end : (command : Command) (n : ℕ) (p q r : PlainSession) → repeated comm
 one_end command n p q r first second = let both : Some q ≡ Some r = sym first ∙ second in cc
 
 -- each step back takes one state away
-back_count : (k : ℕ) (p q : PlainSession) → repeated Back k p ≡ Some q → length q.earlier + k ≡ length p.earlier
+pub back_count : (k : ℕ) (p q : PlainSession) → repeated Back k p ≡ Some q → length q.earlier + k ≡ length p.earlier
 back_count zero p q h = let same : p ≡ q = cc in omega (arith, ap (λ (s : PlainSession). length s.earlier) same)
 back_count (suc k) p q h =
     option_and_then_some (λ (m : PlainSession). accepted_by (answer Back m)) (repeated Back k p) q h
@@ -57,7 +57,7 @@ none_meets goal (s ∷ rest) p steps is few unmet =
     (λ k q some l there. unmet (suc k) q (omega arith) (omega arith) (repeated_after_one Back k p back one ∙ there)))
 
 -- no step back is refused but at the first state
-refused_at_start : (refusal : Refusal) (p q : PlainSession) → Answers Back p (Refused refusal) q → p.earlier ≡ []
+pub refused_at_start : (refusal : Refusal) (p q : PlainSession) → Answers Back p (Refused refusal) q → p.earlier ≡ []
 refused_at_start Memory p q h = absurd h.0
 refused_at_start other p q h = (Back_refused p q other h).2
 

@@ -171,11 +171,6 @@ one_walk command goal p q h = record {
   stopped = inl refl;
 }
 
--- so are so many, where no state before the last of them meets it
-pub run_walk : (command : Command) (goal : Goal) (n : ℕ) (p q : PlainSession) → repeated command n p ≡ Some q →
-    ((k : ℕ) → (r : PlainSession) → 0 < k → k < n → repeated command k p ≡ Some r → goal r.last ≡ false) → IsWalk command goal n p n None q
-run_walk command goal n p q walked unmet = record { within = omega arith; walked = walked; unmet = unmet; stopped = inl refl }
-
 -- the goal is met
 pub met_walk : (command : Command) (goal : Goal) (n m k : ℕ) (old p q : PlainSession) → GoesOn command goal old m p → IsWalk command goal k p k None q → 0 < k → m + k ≤ n →
     goal q.last ≡ true → IsWalk command goal n old (m + k) None q
