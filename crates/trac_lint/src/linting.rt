@@ -3,7 +3,7 @@ ghost use Rattle.std.specs.Prelude.{◌≤◌};
 ghost use Rattle.trac_lint.specs.Findings.{IsWritten};
 ghost use Rattle.trac_lint.specs.declared.report.TheConstants.{PLACE_LIMIT};
 
-use crate::memory::{Meeting, Memory};
+use crate::memory::{Meeting, Memory, kind_of, number_of};
 use crate::report::{Found, Halt, Report, halt_of, write_found};
 use crate::source::{Origins, read_number};
 use crate::sources::Sources;
@@ -16,6 +16,9 @@ use trac_screen::{ScreenLine, doubt_into};
 use trac_session::Doubt;
 use trac_streams::Ending;
 use trac_walk::{Aim, Walker};
+
+// What is said beside a doubt of which no place is known, after its words.
+const UNPLACED: &[u8] = b"; its place is not known: this text was read last";
 
 /// How doubts are looked for.
 #[derive(Clone, Copy, Debug, PartialEq, Eq)]
@@ -126,22 +129,45 @@ impl<'s, A: Allocator + Copy> Linter<'s, A> {
     // Tells the doubts of the state at which it stands, of those that are not told.
     fn tell_all(&mut self, report: &mut Report<A>) -> Result<(), Refusal> {
         let doubts = self.walker.doubts(self.alloc)?;
-        let is_new = self.memory.is_new(meeting_at(&self.walker))?;
         for doubt in doubts.iter() {
+            let words = said_of(self.alloc, &self.walker, *doubt)?;
+            let meeting = self.meeting(*doubt, words.bytes());
+            let is_new = self.memory.is_new(meeting)?;
             if report.is_full() && self.origins.is_spent() {
                 // no place is found any more: each meeting counts for one
                 self.more = self.more.saturating_add(u64::from(is_new));
-            } else if is_new || !self.memory.is_tired() {
-                self.tell(*doubt, report)?;
+            } else if is_new || self.origins.is_free() || !self.memory.is_tired() {
+                self.tell(*doubt, words, report)?;
             }
         }
         Ok(())
     }
 
-    // Tells a doubt of the state at which it stands, unless it was told, or counts it where no more are told. One of which no
-    // place is known has that of the text that was read last, and is not counted.
-    fn tell(&mut self, doubt: Doubt, report: &mut Report<A>) -> Result<(), Refusal> {
-        let words = said_of(self.alloc, &self.walker, doubt)?;
+    // Where scanning stands, at a doubt of these words.
+    fn meeting(&self, doubt: Doubt, words: &[u8]) -> Meeting {
+        let glance = self.walker.glance();
+        let words = if self.origins.minds_words() {
+            number_of(words)
+        } else {
+            0
+        };
+        Meeting {
+            read: read_number(&self.walker),
+            depth: glance.depth,
+            rest: glance.rest,
+            kind: kind_of(doubt),
+            words,
+        }
+    }
+
+    // Tells a doubt of the state at which it stands in these words, unless it was told, or counts it where no more are told.
+    // One of which no place is known has that of the text that was read last, which is said, and is not counted.
+    fn tell(
+        &mut self,
+        doubt: Doubt,
+        mut words: ScreenLine<A>,
+        report: &mut Report<A>,
+    ) -> Result<(), Refusal> {
         let number = self.origins.number(&mut self.walker, doubt)?;
         if self.memory.is_kept(doubt, number, words.bytes()) {
             return Ok(());
@@ -149,12 +175,17 @@ impl<'s, A: Allocator + Copy> Linter<'s, A> {
         if report.is_full() {
             return self.count(doubt, number);
         }
-        let number = match number {
-            Some(number) => number,
-            None => self.text(),
-        };
-        self.memory.keep(doubt, number)?;
         self.memory.keep_words(words.bytes())?;
+        let number = match number {
+            Some(number) => {
+                self.memory.keep(doubt, number)?;
+                number
+            }
+            None => {
+                words.say(UNPLACED)?;
+                self.text()
+            }
+        };
         let spot = self.origins.sources.spot(number);
         report.tell(self.alloc, spot, words.bytes(), self.walker.step())?;
         Ok(())
@@ -175,16 +206,6 @@ impl<'s, A: Allocator + Copy> Linter<'s, A> {
         self.origins
             .sources
             .text_before(read_number(&self.walker), meta)
-    }
-}
-
-// Where scanning stands.
-fn meeting_at<A: Allocator + Copy>(walker: &Walker<A>) -> Meeting {
-    let glance = walker.glance();
-    Meeting {
-        read: read_number(walker),
-        depth: glance.depth,
-        rest: glance.rest,
     }
 }
 

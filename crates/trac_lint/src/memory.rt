@@ -2,6 +2,7 @@
 
 use std::alloc::{AllocError, Allocator};
 use std::collections::BTreeSet;
+use std::hash::{FoldHasher, Hasher};
 use trac_rules::doubt::Doubt;
 
 // So many meetings are told apart; later ones are taken for some that were before (this project's profile).
@@ -10,25 +11,34 @@ const MEETING_LIMIT: usize = 1_000_000;
 // So many places are told apart; later ones are taken for some that were before (this project's profile).
 const KEPT_LIMIT: usize = 1_000_000;
 
-// After so many doubts in a row at places that were told, while the same text is read, only those of new meetings are
-// followed (this project's profile).
+// So many doubts in a row, while the same text is read, may be followed in vain: they were told, or have no place that is
+// known (this project's profile).
 const REPEAT_LIMIT: u32 = 64;
 
-/// Where scanning stands when doubts are met: how much is read, begun and left to scan. A loop mostly meets its doubts
-/// where it met them before, and two places of a program seldom stand so.
+/// Which doubt is met, and where scanning stands then: how much is read, begun and left to scan. A loop mostly meets its
+/// doubts where it met them before, and two doubts of a program seldom stand so.
 #[derive(Clone, Copy, PartialEq, Eq, PartialOrd, Ord, Debug)]
 pub(crate) struct Meeting {
     pub(crate) read: u64,
     pub(crate) depth: usize,
     pub(crate) rest: usize,
+    pub(crate) kind: Kind,
+    // a number of its words; 0 where these tell nothing apart
+    pub(crate) words: u64,
 }
 
-// A doubt of the byte of this number: its kind, and the number that it has beside.
+/// The kind of a doubt, and the number that it has beside.
+#[derive(Clone, Copy, PartialEq, Eq, PartialOrd, Ord, Debug)]
+pub(crate) struct Kind {
+    kind: u8,
+    detail: usize,
+}
+
+// A doubt of the byte of this number.
 #[derive(Clone, Copy, PartialEq, Eq, PartialOrd, Ord, Debug)]
 struct Place {
     number: u64,
-    kind: u8,
-    detail: usize,
+    kind: Kind,
 }
 
 /// What was met, and told or counted.
@@ -40,7 +50,7 @@ pub(crate) struct Memory<A: Allocator + Copy> {
     // the places of doubts, and the words of those that were told
     places: BTreeSet<Place, A>,
     told: Vec<Vec<u8, A>, A>,
-    // how many doubts in a row were kept before, and how much was read then
+    // how many doubts in a row were followed in vain, and how much was read then
     repeats: u32,
     read: u64,
 }
@@ -58,12 +68,12 @@ impl<A: Allocator + Copy> Memory<A> {
         }
     }
 
-    /// Whether so many doubts in a row were kept before that only those of new meetings are followed.
+    /// Whether so many doubts in a row were followed in vain that only those of new meetings are followed.
     pub(crate) fn is_tired(&self) -> bool {
         self.repeats >= REPEAT_LIMIT
     }
 
-    /// Whether no doubts were met so before; from now on they were. The error is that memory was refused.
+    /// Whether no doubt was met so before; from now on it was. The error is that memory was refused.
     pub(crate) fn is_new(&mut self, meeting: Meeting) -> Result<bool, AllocError> {
         if self.read != meeting.read {
             self.read = meeting.read;
@@ -78,8 +88,8 @@ impl<A: Allocator + Copy> Memory<A> {
         }
     }
 
-    /// Whether this doubt of the byte of this number is kept, or, where none is known, it was told in these words; counted
-    /// if so. Where no more places can be kept, each is taken for one that is.
+    /// Whether this doubt of the byte of this number is kept, or, where none is known, it was told in these words. Where no
+    /// more places can be kept, each is taken for one that is. If so, or where none is known, it was followed in vain.
     pub(crate) fn is_kept(&mut self, doubt: Doubt, number: Option<u64>, words: &[u8]) -> bool {
         let is_kept = match number {
             Some(number) => {
@@ -87,7 +97,8 @@ impl<A: Allocator + Copy> Memory<A> {
             }
             None => self.told.iter().any(|told| told.as_slice() == words),
         };
-        self.repeats = self.repeats.saturating_add(u32::from(is_kept));
+        let in_vain = is_kept || number.is_none();
+        self.repeats = self.repeats.saturating_add(u32::from(in_vain));
         is_kept
     }
 
@@ -109,6 +120,14 @@ impl<A: Allocator + Copy> Memory<A> {
 
 // A doubt of the byte of this number, as places are told apart.
 fn place_of(doubt: Doubt, number: u64) -> Place {
+    Place {
+        number,
+        kind: kind_of(doubt),
+    }
+}
+
+/// The kind of a doubt.
+pub(crate) fn kind_of(doubt: Doubt) -> Kind {
     let (kind, detail) = match doubt {
         Doubt::NoPrimitive => (0, 0),
         Doubt::FormUncalled => (1, 0),
@@ -122,9 +141,12 @@ fn place_of(doubt: Doubt, number: u64) -> Place {
         Doubt::Unclosed => (9, 0),
         Doubt::EndsNothing => (10, 0),
     };
-    Place {
-        number,
-        kind,
-        detail,
-    }
+    Kind { kind, detail }
+}
+
+/// A number of words, by which they are told apart: two of the same number are taken for the same words.
+pub(crate) fn number_of(words: &[u8]) -> u64 {
+    let mut hasher = FoldHasher::default();
+    hasher.write(words);
+    hasher.finish()
 }

@@ -187,7 +187,11 @@ fn place_of<A: Allocator + Copy>(alloc: A, spot: Spot<'_>) -> Result<Vec<u8, A>,
 fn more_of<A: Allocator + Copy>(alloc: A, more: u64) -> Result<Vec<u8, A>, AllocError> {
     let mut line = Vec::from_slice(alloc, b".. and ")?;
     number_into(more, &mut line)?;
-    line.extend_from_slice(b" more places\n")?;
+    line.extend_from_slice(b" more place")?;
+    if more > 1 {
+        line.extend_from_slice(b"s")?;
+    }
+    line.extend_from_slice(b"\n")?;
     Ok(line)
 }
 

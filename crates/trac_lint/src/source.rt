@@ -13,6 +13,12 @@ const MADE_LIMIT: usize = 1_000;
 // So many steps are gone back over at most to find where doubts come from, all ways together (this project's profile).
 const WAYS_LIMIT: u64 = 20_000_000;
 
+// Until so many are gone back over, each doubt is followed, also where it was met before (this project's profile).
+const FREE_WAYS: u64 = 2_000_000;
+
+// After so many, doubts that are met in the same place are not told apart by their words (this project's profile).
+const WORD_WAYS: u64 = 10_000_000;
+
 /// Finds from which bytes of the files the bytes come that doubts are about, until it has gone back over 20,000,000 steps.
 #[derive(Clone, Copy)]
 pub struct Origins<'s> {
@@ -28,6 +34,21 @@ impl<'s> Origins<'s> {
             sources,
             ways: WAYS_LIMIT,
         }
+    }
+
+    /// Whether so few steps were gone back over that a doubt may be followed again.
+    pub(crate) fn is_free(&self) -> bool {
+        self.gone() < FREE_WAYS
+    }
+
+    /// Whether so few steps were gone back over that doubts are told apart by their words.
+    pub(crate) fn minds_words(&self) -> bool {
+        self.gone() < WORD_WAYS
+    }
+
+    // How many steps were gone back over.
+    fn gone(&self) -> u64 {
+        WAYS_LIMIT.saturating_sub(self.ways)
     }
 
     /// Whether so many steps were gone back over that no place is found any more.
