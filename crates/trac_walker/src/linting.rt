@@ -1,6 +1,6 @@
 //! The command line of `trac-lint`, carried out.
 
-use crate::{MIB, not_understood, shown};
+use crate::{MIB, not_understood};
 use std::alloc::{AllocError, Global};
 use std::process::ExitCode;
 use trac_lint::{Found, Halt, Settings, Sources, lint};
@@ -10,61 +10,75 @@ use trac_words::lint_words::{LintLine, read_lint_line};
 // What is said where memory was refused.
 const NO_MEMORY: &str = "there is no memory";
 
+// What is said where the writer failed.
+const NO_OUTPUT: &str = "the output cannot be written";
+
 // The status where a file is not looked through.
 const FAILED: u8 = 2;
 
-/// Looks for doubts as the words of a command line ask for. The error is that memory was refused for the words.
-pub(crate) fn lint_by(rt: &HostRuntime, words: &[&str]) -> Result<ExitCode, AllocError> {
-    Ok(match read_lint_line(rt.alloc(), words)? {
-        LintLine::Lint {
-            paths,
-            input,
-            steps,
-            keep,
-            decimals,
-        } => {
+/// Looks for doubts as the words of a command line ask for.
+pub(crate) fn lint_by(rt: &HostRuntime, words: &[&str]) -> ExitCode {
+    match read_lint_line(rt.alloc(), words) {
+        Ok(
+            LintLine::Lint {
+                paths,
+                input,
+                steps,
+                keep,
+                decimals,
+            },
+        ) => {
             let settings = Settings {
                 steps,
                 keep: keep * MIB,
                 decimals,
             };
             let input = match &input {
-                Some(path) => path.as_str(),
-                None => "",
+                Some(path) => Some(path.as_str()),
+                None => None,
             };
             ExitCode::from(lint_all(rt, paths.as_slice(), input, settings))
         }
-        LintLine::Help(text) => shown(rt, text.as_str()),
-        LintLine::Bad(text) => not_understood(rt, text.as_str()),
-    })
+        Ok(LintLine::Help(text)) => match print!(rt; "{text}") {
+            Ok(()) => ExitCode::SUCCESS,
+            Err(_) => failed(rt, NO_OUTPUT),
+        },
+        Ok(LintLine::Bad(text)) => not_understood(rt, text.as_str()),
+        Err(AllocError) => failed(rt, NO_MEMORY),
+    }
 }
 
-// Looks through the programs in the files at these paths, each with the text in the file at that one after it, if that
-// has a name; the highest of their statuses.
-fn lint_all(rt: &HostRuntime, paths: &[String], input: &str, settings: Settings) -> u8 {
+// Looks through the programs in the files at these paths, each with the text in the file at that one after it, if there is
+// one; the highest of their statuses. Where the output cannot be written the others are not looked through.
+fn lint_all(rt: &HostRuntime, paths: &[String], input: Option<&str>, settings: Settings) -> u8 {
     let mut status = 0;
     for path in paths {
-        status = status.max(lint_file(rt, path.as_str(), input, settings));
+        match lint_file(rt, path.as_str(), input, settings) {
+            Some(other) => status = status.max(other),
+            None => return FAILED,
+        }
     }
     status
 }
 
-// The status of one.
-fn lint_file(rt: &HostRuntime, path: &str, input: &str, settings: Settings) -> u8 {
-    let (Ok(name), Ok(input_name)) = (one_line(rt.alloc(), path), one_line(rt.alloc(), input))
-    else {
-        return told(rt, path, NO_MEMORY);
+// The status of one; none where the output cannot be written.
+fn lint_file(rt: &HostRuntime, path: &str, input: Option<&str>, settings: Settings) -> Option<u8> {
+    let (Ok(name), Ok(input_name)) = (
+        one_line(rt.alloc(), path),
+        one_line(rt.alloc(), input.unwrap_or("")),
+    ) else {
+        return Some(told(rt, path, NO_MEMORY));
     };
     let Some(mut tape) = file_at(rt, path, name.as_str()) else {
-        return FAILED;
+        return Some(FAILED);
     };
     let len = tape.len();
-    if !input.is_empty() {
+    if let Some(input) = input {
         let Some(more) = file_at(rt, input, input_name.as_str()) else {
-            return FAILED;
+            return Some(FAILED);
         };
         if tape.extend_from_slice(more.as_slice()).is_err() {
-            return told(rt, name.as_str(), NO_MEMORY);
+            return Some(told(rt, name.as_str(), NO_MEMORY));
         }
     }
     let sources = Sources {
@@ -75,12 +89,16 @@ fn lint_file(rt: &HostRuntime, path: &str, input: &str, settings: Settings) -> u
     };
     let found = lint(rt.alloc(), sources, &mut rt.stdout(), settings);
     tell_halt(rt, name.as_str(), found, settings.steps);
-    found.status()
+    (found.halt != Halt::Write).then_some(found.status())
 }
 
-// A path as it stands in a line: of a control character, such as a line feed, `\x` and two hexadecimal digits.
+// A path as it stands in a line: of a control character, such as a line feed, `\x` and two hexadecimal digits; of an empty
+// one two quotes.
 fn one_line(alloc: Global, path: &str) -> Result<String, AllocError> {
     let mut line = String::new(alloc);
+    if path.is_empty() {
+        line.push_str("''")?;
+    }
     for character in path.chars() {
         if !character.is_control() {
             line.push(character)?;
@@ -112,26 +130,42 @@ fn told(rt: &HostRuntime, name: &str, why: &str) -> u8 {
     FAILED
 }
 
+// Says why nothing is looked through.
+fn failed(rt: &HostRuntime, why: &str) -> ExitCode {
+    let _ = eprint!(rt; "trac-lint: {why}\n");
+    ExitCode::from(FAILED)
+}
+
 // Says why a program was not run to its end, if it was not.
 fn tell_halt(rt: &HostRuntime, name: &str, found: Found, steps: u64) {
     let why = match found.halt {
         Halt::Ended => return,
         Halt::Spent => {
+            let unit = unit_of(steps);
             let _ = eprint!(rt;
-                "trac-lint: {name}: stopped after {steps} steps; --steps allows more\n"
+                "trac-lint: {name}: stopped after {steps} {unit}; --steps allows more\n"
             );
             return;
         }
         Halt::Limit(steps) => {
+            let unit = unit_of(steps);
             let _ = eprint!(rt;
-                "trac-lint: {name}: stopped after {steps} steps, where a limit is passed: \
+                "trac-lint: {name}: stopped after {steps} {unit}, where a limit is passed: \
                 too much text, or too many arguments, forms or blocks\n"
             );
             return;
         }
         Halt::TooLong => "with its input it has more than 33554432 bytes",
         Halt::Memory => "stopped, there is no memory to go on",
-        Halt::Write => "the output cannot be written",
+        Halt::Write => NO_OUTPUT,
     };
     told(rt, name, why);
+}
+
+// What stands after a number of steps.
+fn unit_of(steps: u64) -> &'static str {
+    match steps {
+        1 => "step",
+        _ => "steps",
+    }
 }

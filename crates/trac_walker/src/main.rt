@@ -51,7 +51,7 @@ fn obey_words(rt: &HostRuntime, words: Args<Global>) -> Result<ExitCode, AllocEr
 fn obey_texts(rt: &HostRuntime, words: &[String]) -> Result<ExitCode, AllocError> {
     let texts: Vec<&str> = words.iter().map(|word| word.as_str()).collect(rt.alloc())?;
     match texts.as_slice() {
-        [_, first, ..] if *first == LINT => lint_by(rt, texts.as_slice().split_at(1).1),
+        [_, first, ..] if *first == LINT => Ok(lint_by(rt, texts.as_slice().split_at(1).1)),
         texts => walk_by(rt, texts),
     }
 }
@@ -79,7 +79,7 @@ fn walk_by(rt: &HostRuntime, words: &[&str]) -> Result<ExitCode, AllocError> {
 }
 
 // Shows a text that was asked for.
-pub(crate) fn shown(rt: &HostRuntime, text: &str) -> ExitCode {
+fn shown(rt: &HostRuntime, text: &str) -> ExitCode {
     match print!(rt; "{text}") {
         Ok(()) => ExitCode::SUCCESS,
         Err(_) => say(rt, Ending::Write),

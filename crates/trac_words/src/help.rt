@@ -118,6 +118,6 @@ For more information, try '--help'.
 pub const NOT_TEXT: &str = "\
 error: invalid UTF-8 was detected in one or more arguments
 
-  tip: have the shell open such a file: trac run < FILE, trac debug /dev/fd/3 3< FILE, or
-       trac-walk /dev/fd/3 3< FILE
+  tip: have the shell open such a file: trac run < FILE, trac debug /dev/fd/3 3< FILE,
+       trac-walk /dev/fd/3 3< FILE, or trac-lint /dev/fd/3 3< FILE
 ";
