@@ -28,15 +28,21 @@ def tail(text):
     m = re.search(rb"[+-]?[0-9]+$", text)
     return (text[:m.start()], int(m.group())) if m else (text, 0)
 
+def closing(a):
+    """Where the ")" stands that closes the "(" with which a text begins, if one does."""
+    d = 0
+    for i, b in enumerate(a):
+        d += (b == 40) - (b == 41)
+        if d == 0: return i
+    return None
+
 def step(s, tape, ended):
     a = s.active
     if not a: return s.but(base=b"", frames=(), active=IDLE)
     c = a[:1]
     if c == b"(":
-        d = 0
-        for i, b in enumerate(a):
-            d += (b == 40) - (b == 41)
-            if d == 0: return gather(s.but(active=a[i + 1:]), a[1:i])
+        i = closing(a)
+        if i is not None: return gather(s.but(active=a[i + 1:]), a[1:i])
         return gather(s.but(active=b""), a[1:])
     if c in b"\r\n\t": return s.but(active=a[1:])
     if c == b",":
@@ -156,6 +162,7 @@ def rule(s):
     if s.frames and a[:1] == b",": return '"," ends an argument of ' + function(s.frames[-1])
     if a[:1] in (b")", b","): return '"%s" outside any call is deleted' % a[:1].decode()
     if not a: return "nothing is left: the idle program is loaded"
+    if a[:1] == b"(" and closing(a) is None: return '"(" has no ")", and protects all the rest: ' + esc(a)
     if a[:1] == b"(": return '"(" protects what stands up to its ")": ' + esc(a)
     if a[:2] == b"#(": return '"#(" begins a call: ' + esc(a)
     if a[:3] == b"##(": return '"##(" begins a call: ' + esc(a)

@@ -5,6 +5,7 @@ use crate::sight::Sight;
 use std::alloc::{AllocError, Allocator};
 use trac_step::{Args, Kind};
 use trac_text::front::beginning_of;
+use trac_text::matching::match_in;
 
 /// Puts a line at the end of a text: the number of the next step, which is this, and what that step does. The error is that
 /// memory was refused, here and below.
@@ -70,16 +71,20 @@ fn anywhere_into<A: Allocator + Copy>(
 ) -> Result<(), AllocError> {
     match active {
         [] => line.say(b"nothing is left: the idle program is loaded"),
-        [b'(', ..] => quoted_into(
-            b"\"(\" protects what stands up to its \")\": ",
-            active,
-            line,
-        ),
+        [b'(', rest @ ..] => quoted_into(words_of_opening(rest), active, line),
         [b'#', b'(', ..] => quoted_into(b"\"#(\" begins a call: ", active, line),
         [b'#', b'#', b'(', ..] => quoted_into(b"\"##(\" begins a call: ", active, line),
         [b'\r' | b'\n', rest @ ..] => quoted_into(b"a line end is deleted, before: ", rest, line),
         [b'\t', rest @ ..] => quoted_into(b"a tab is deleted, before: ", rest, line),
         active => taken_into(active, line),
+    }
+}
+
+// What is said of a `(` that stands before this text.
+fn words_of_opening(rest: &[u8]) -> &'static [u8] {
+    match match_in(rest) {
+        Some(_) => b"\"(\" protects what stands up to its \")\": ",
+        None => b"\"(\" has no \")\", and protects all the rest: ",
     }
 }
 
