@@ -1,10 +1,10 @@
 //! What segmenting cuts: the gaps that it makes, kept so that they can be filled again.
-ghost use Rattle.std.specs.Prelude.{◌≡◌, ◌+◌, ◌++◌, ◌<◌, ◌≤◌, ◌∷◌, [], length, take, drop, is_some, option_map, Some, IfOk, IfSome, IsOkUnless, IsTrue, OnOk};
+ghost use Rattle.std.specs.Prelude.{◌≡◌, ◌+◌, ◌++◌, ◌<◌, ◌≤◌, ◌∷◌, [], length, take, drop, is_some, option_map, Some, IfOk, IfSome, IsOkUnless, IsTrue};
 ghost use Rattle.std.specs.List.{All};
 ghost use Rattle.trac_gap.specs.Ends.{item_count};
 ghost use Rattle.trac_rules.specs.Cuts.{begins_with_gap, cut_between, cut_of, joined};
 ghost use Rattle.trac_rules.specs.Form.{IsWide, all_items, as_items, at_start, defined, extent};
-ghost use Rattle.trac_rules.specs.Segmenting.{part, segmented};
+ghost use Rattle.trac_rules.specs.Segmenting.{segmented};
 ghost use Rattle.trac_rules.specs.Weights.{gap_count};
 ghost use Rattle.trac_rules.specs.declared.item.Item.TheVariants.{Gap};
 ghost use Rattle.trac_forms.specs.Layout.{IsKept, divided};
@@ -15,8 +15,8 @@ use crate::error::FormError;
 use crate::filling::text;
 use crate::form::{Form, Items, pack};
 use crate::packed::PackedItem;
+use crate::run_gaps::cut_run;
 use crate::text_lists::Texts;
-use memchr::memmem::Finder;
 use std::alloc::{Allocator, Global};
 use std::marker::Model;
 use trac_gap::TwoEnds;
@@ -58,10 +58,11 @@ impl<A: Allocator + Copy> Form<A> {
         ensures cut { IfOk result (λ c. c ≡ cut_of (T.texts texts.now) self.now) }
         ensures err { IsOkUnless result FormError.Memory }
     {
-        match (self.whole_text(), only_text(texts)) {
-            (Some(run), Some(text)) => cut_in_run(self.alloc, text, run),
-            _ => self.cut_among_items(texts),
-        }
+        let Some(run) = self.whole_text() else {
+            return self.cut_among_items(texts);
+        };
+        let gaps = cut_run(self.alloc, texts, run)?;
+        Ok(Cut { gaps })
     }
 
     /// Cuts these texts out of the form: for each text in turn, every run of bytes between gaps is searched from the left,
@@ -146,57 +147,6 @@ impl<A: Allocator + Copy> Form<A> {
             None => false,
         }
     }
-}
-
-// The text to cut out, where there is one alone and it is not empty.
-fn only_text<T: Texts>(texts: &T) -> Option<&[u8]>
-    ensures only { IfSome result (λ text. T.texts texts.now ≡ text.now ∷ []) }
-    ensures some { IfSome result (λ text. 0 < length text.now) }
-{
-    let text = texts.get(0);
-    if texts.count() == 1 && !text.is_empty() {
-        return Some(text);
-    }
-    None
-}
-
-// What segmenting with this text alone would cut out of a form of this run of bytes. The gaps are found in the run itself:
-// its items need not be made, so no memory for them is touched.
-fn cut_in_run<A: Allocator + Copy>(alloc: A, text: &[u8], run: &[u8]) -> Result<Cut<A>, FormError>
-    requires some { 0 < length text.now }
-    requires fits { length run.now ≤ FORM_LIMIT }
-    ensures cut { IfOk result (λ c. c ≡ cut_of (text.now ∷ []) (defined run.now)) }
-    ensures err { IsOkUnless result FormError.Memory }
-{
-    let mut gaps = Vec::new(alloc);
-    gaps_in_run(text, run, &mut gaps)?;
-    // a cut may be kept for long: what growing took too much is given back
-    gaps.shrink_to_fit();
-    Ok(Cut { gaps })
-}
-
-// Puts the gaps that this text alone would make in this run of bytes at the end of `gaps`.
-fn gaps_in_run<A: Allocator>(
-    text: &[u8],
-    run: &[u8],
-    gaps: &mut Vec<CutGap, A>,
-) -> Result<(), FormError>
-    requires some { 0 < length text.now }
-    requires fits { length run.now ≤ FORM_LIMIT }
-    ensures made { OnOk result (gaps.new.items ≡ gaps.old.items ++ cut_between 0 (as_items run.now) (part 1 text.now run.now)) }
-    ensures err { IsOkUnless result FormError.Memory }
-{
-    let finder = Finder::new(text);
-    let mut rest = run;
-    // the place of the first item of the rest, among the items with gaps
-    let mut place = 0;
-    'occurrences: while let Some(passed) = finder.find(rest) {
-        place += passed;
-        push_item(CutGap { place, ordinal: 1 }, gaps)?;
-        place += 1;
-        rest = rest.split_at(passed + text.len()).1;
-    }
-    Ok(())
 }
 
 // How many of these items are gaps.

@@ -13,6 +13,7 @@ pub mod form;
 mod name;
 mod packed;
 pub mod piece;
+mod run_gaps;
 mod showing;
 pub mod store;
 pub mod text_lists;

@@ -1,0 +1,181 @@
+//! Segmenting a form that is one run of bytes: the gaps are found in the run itself, and no byte is moved.
+ghost use Rattle.std.specs.Prelude.{◌≡◌, ◌<◌, ◌≤◌, [], length, IfOk, IsOkUnless, OnOk};
+ghost use Rattle.trac_rules.specs.Cuts.{cut_of};
+ghost use Rattle.trac_rules.specs.Form.{as_items, defined};
+ghost use Rattle.trac_rules.specs.Segmenting.{cut_out, segmented_from};
+ghost use Rattle.trac_forms.specs.RunGaps.{AreWithin, IsCutOut, gapped, gaps_from};
+
+use crate::cutting::push_item;
+use crate::error::FormError;
+use crate::text_lists::Texts;
+use memchr::memmem::Finder;
+use std::alloc::Allocator;
+use trac_rules::item::CutGap;
+use trac_rules::limit::{FORM_LIMIT, MARK_LIMIT};
+
+/// A gap that is made in a run of bytes.
+#[derive(Clone, Copy)]
+pub(crate) struct RunGap {
+    /// How many bytes stand before it, after the gap before it.
+    pub(crate) passed: u32,
+    /// How many bytes it takes.
+    pub(crate) width: u32,
+    pub(crate) ordinal: u32,
+}
+
+/// The gaps that segmenting a form of this run with these texts would make.
+pub(crate) fn cut_run<T: Texts, A: Allocator + Copy>(
+    alloc: A,
+    texts: &T,
+    run: &[u8],
+) -> Result<Vec<CutGap, A>, FormError>
+    requires count { length (T.texts texts.now) ≤ MARK_LIMIT }
+    requires fits { length run.now ≤ FORM_LIMIT }
+    ensures cut { IfOk result (λ gaps. gaps.items ≡ cut_of (T.texts texts.now) (defined run.now)) }
+    ensures err { IsOkUnless result FormError.Memory }
+{
+    let gaps = gaps_in_run(alloc, texts, run)?;
+    places_of(alloc, gaps.as_slice())
+}
+
+// The gaps that these texts make in turn.
+fn gaps_in_run<T: Texts, A: Allocator + Copy>(
+    alloc: A,
+    texts: &T,
+    run: &[u8],
+) -> Result<Vec<RunGap, A>, FormError>
+    requires count { length (T.texts texts.now) ≤ MARK_LIMIT }
+    requires fits { length run.now ≤ FORM_LIMIT }
+    ensures cut { IfOk result (λ gaps.
+        gapped run.now gaps.items ≡ segmented_from 1 (T.texts texts.now) (as_items run.now)) }
+    ensures within { IfOk result (λ gaps. AreWithin (length run.now) gaps.items) }
+    ensures err { IsOkUnless result FormError.Memory }
+{
+    let mut gaps = Vec::new(alloc);
+    let mut number = 0;
+    for i in 0..texts.count() {
+        number += 1;
+        gaps = with_text(alloc, number, texts.get(i), run, gaps)?;
+    }
+    Ok(gaps)
+}
+
+// The gaps with those of the text of this number; an empty text makes none.
+fn with_text<A: Allocator + Copy>(
+    alloc: A,
+    number: u32,
+    text: &[u8],
+    run: &[u8],
+    gaps: Vec<RunGap, A>,
+) -> Result<Vec<RunGap, A>, FormError>
+    requires fits { length run.now ≤ FORM_LIMIT }
+    requires within { AreWithin (length run.now) gaps.items }
+    ensures cut { IfOk result (λ out. gapped run.now out.items ≡ cut_out number text.now (gapped run.now gaps.items)) }
+    ensures within { IfOk result (λ out. AreWithin (length run.now) out.items) }
+    ensures err { IsOkUnless result FormError.Memory }
+{
+    if text.is_empty() {
+        return Ok(gaps);
+    }
+    with_more(alloc, number, text, run, gaps.as_slice())
+}
+
+// The same for a text that is not empty.
+fn with_more<A: Allocator + Copy>(
+    alloc: A,
+    number: u32,
+    text: &[u8],
+    run: &[u8],
+    gaps: &[RunGap],
+) -> Result<Vec<RunGap, A>, FormError>
+    requires some { 0 < length text.now }
+    requires fits { length run.now ≤ FORM_LIMIT }
+    requires within { AreWithin (length run.now) gaps.now }
+    ensures cut { IfOk result (λ out. gapped run.now out.items ≡ cut_out number text.now (gapped run.now gaps.now)) }
+    ensures within { IfOk result (λ out. AreWithin (length run.now) out.items) }
+    ensures err { IsOkUnless result FormError.Memory }
+{
+    let mut out = Vec::with_capacity(alloc, gaps.len())?;
+    gaps_into(number, text, run, gaps, &mut out)?;
+    Ok(out)
+}
+
+// Puts these gaps of a run into `out`, which is empty, with those that the text of this number makes between them.
+fn gaps_into<A: Allocator>(
+    number: u32,
+    text: &[u8],
+    run: &[u8],
+    gaps: &[RunGap],
+    out: &mut Vec<RunGap, A>,
+) -> Result<(), FormError>
+    requires some { 0 < length text.now }
+    requires fits { length run.now ≤ FORM_LIMIT }
+    requires within { AreWithin (length run.now) gaps.now }
+    requires empty { out.old.items ≡ [] }
+    ensures cut { OnOk result (gapped run.now out.new.items ≡ cut_out number text.now (gapped run.now gaps.now)) }
+    ensures within { OnOk result (AreWithin (length run.now) out.new.items) }
+    ensures err { IsOkUnless result FormError.Memory }
+{
+    let finder = Finder::new(text);
+    let mut rest = run;
+    for gap in gaps {
+        let (bytes, after) = rest.split_at(gap.passed as usize);
+        let passed = new_gaps_into(number, text, &finder, bytes, out)?;
+        let moved = RunGap {
+            passed: passed as u32,
+            ..*gap
+        };
+        push_item(moved, out)?;
+        rest = after.split_at(gap.width as usize).1;
+    }
+    new_gaps_into(number, text, &finder, rest, out)?;
+    Ok(())
+}
+
+// Puts the gaps that the text of this number makes in a run at the end of `gaps`. The result says how many bytes are
+// left after them.
+fn new_gaps_into<A: Allocator>(
+    number: u32,
+    text: &[u8],
+    finder: &Finder<'_>,
+    run: &[u8],
+    gaps: &mut Vec<RunGap, A>,
+) -> Result<usize, FormError>
+    requires finds { finder.now ≡ text.now }
+    requires some { 0 < length text.now }
+    requires fits { length run.now ≤ FORM_LIMIT }
+    ensures cut { IfOk result (λ left. IsCutOut number text.now run.now gaps.old.items gaps.new.items left) }
+    ensures err { IsOkUnless result FormError.Memory }
+{
+    let mut rest = run;
+    'occurrences: while let Some(passed) = finder.find(rest) {
+        let gap = RunGap {
+            passed: passed as u32,
+            width: text.len() as u32,
+            ordinal: number,
+        };
+        push_item(gap, gaps)?;
+        rest = rest.split_at(passed + text.len()).1;
+    }
+    Ok(rest.len())
+}
+
+// The places of these gaps, among the items that the run is with them.
+fn places_of<A: Allocator + Copy>(alloc: A, gaps: &[RunGap]) -> Result<Vec<CutGap, A>, FormError>
+    requires { AreWithin FORM_LIMIT gaps.now }
+    ensures places { IfOk result (λ places. places.items ≡ gaps_from 0 gaps.now) }
+    ensures err { IsOkUnless result FormError.Memory }
+{
+    let mut places = Vec::with_capacity(alloc, gaps.len())?;
+    let mut place = 0;
+    for gap in gaps {
+        place += gap.passed as usize;
+        let made = CutGap {
+            place,
+            ordinal: gap.ordinal,
+        };
+        push_item(made, &mut places)?;
+        place += 1;
+    }
+    Ok(places)
+}
