@@ -18,6 +18,8 @@ pub enum Stop {
     UnmetUpTo(Refusal, u64),
     /// The steps of a search were spent, which can go on from there.
     Spent,
+    /// So too, at the step of this number, and the walk went back to where it began.
+    SpentUpTo(u64),
     /// So many steps were taken on the way to where the program waits or ends.
     Going,
     /// The steps of a search were spent, which looked for the end of a call. The same command would be about another call
@@ -87,7 +89,7 @@ pub fn stop_into<A: Allocator + Copy>(
     line.end_into(out)?;
     match stop {
         Stop::NoForm => out.extend_from_slice(NO_FORM),
-        Stop::UnmetUpTo(_, step) => recall_into(alloc, step, out),
+        Stop::UnmetUpTo(_, step) | Stop::SpentUpTo(step) => recall_into(alloc, step, out),
         _ => Ok(()),
     }
 }
@@ -115,7 +117,7 @@ fn say_stop<A: Allocator + Copy>(
     }
     line.say(reason(stop))?;
     match stop {
-        Stop::Spent | Stop::Going => say_count(
+        Stop::Spent | Stop::SpentUpTo(_) | Stop::Going => say_count(
             SEARCH_LIMIT,
             b" steps; an empty line goes on",
             line,
@@ -177,7 +179,7 @@ fn reason(stop: Stop) -> &'static [u8] {
         Stop::Refused(refusal) | Stop::Unmet(refusal) | Stop::UnmetUpTo(refusal, _) => {
             refused(refusal)
         }
-        Stop::Spent => b"not met after ",
+        Stop::Spent | Stop::SpentUpTo(_) => b"not met after ",
         Stop::Going => b"the program goes on after ",
         Stop::Unended => b"the call has not ended after ",
         Stop::AtFirst => b"this is the first step that is kept, step ",

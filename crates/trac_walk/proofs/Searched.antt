@@ -1,15 +1,15 @@
 -- What a search within the room that there is answers.
-use Rattle.std.proofs.Common.{◌≡◌, ℕ, ◌<◌, ◌≤◌, ◌&&◌, Bool, true, false, refl, sym, ap, subst, ◌∙◌, arith, inl, inr, ⊎_elim}
+use Rattle.std.proofs.Common.{◌≡◌, ℕ, ◌<◌, ◌≤◌, ◌&&◌, Bool, true, false, refl, sym, subst, ◌∙◌, arith, ⊎_elim}
 use Rattle.std.proofs.lemmas.Bool.{cases_lt}
 use Rattle.std.specs.Prelude.{Option, None, Some, nat_lt}
 use Rattle.trac_rules.specs.declared.refusal.Refusal.{Refusal}
-use Rattle.trac_rules.specs.declared.refusal.Refusal.TheVariants.{Memory, TooLong, NeedInput, Ended, JournalFull, AtStart, Closed, NotMet}
+use Rattle.trac_rules.specs.declared.refusal.Refusal.TheVariants.{TooLong, JournalFull, NotMet}
 use Rattle.trac_rules.specs.Session.{PlainSession, Goal}
 use Rattle.trac_rules.specs.Weights.{weights_from}
 use Rattle.trac_session.specs.Goals.{outcome}
 use Rattle.trac_session.specs.Within.{IsSearchWithin}
 use Rattle.trac_walk.specs.declared.searching.Search.{Search}
-use Rattle.trac_walk.specs.declared.searching.Search.TheVariants.{Met, Spent, Unmet}
+use Rattle.trac_walk.specs.declared.searching.Search.TheVariants.{Met, Unmet}
 use Rattle.trac_walk.specs.Searches.{HasWalked, IsAnswered, IsAsNear, IsReason}
 
 -- ---- why it ended
@@ -38,11 +38,6 @@ met_outcome steps met (Some refusal) said none is = absurd (cc)
 pub few_steps : {weight : ℕ} {goal : Goal} {most steps : ℕ} {said : Option Refusal} {old new : PlainSession} → IsSearchWithin weight goal most old steps said new → steps ≤ most
 few_steps found = omega (arith, found.1.within, found.1.walk.within)
 
-pub goal_met : {weight : ℕ} {goal : Goal} {most steps : ℕ} {said why : Option Refusal} {old new : PlainSession} → IsSearchWithin weight goal most old steps said new →
-    IsReason steps most said why → why ≡ None → goal new.last ≡ true
-goal_met {weight} {goal} {most} {steps} {said} {why} {old} {new} found reason none =
-    met_outcome steps (goal new.last) found.0 said (none_said steps most said why (few_steps found) reason none) found.2
-
 -- ---- what is answered
 
 -- it met its goal
@@ -51,28 +46,20 @@ pub near_met : {weight : ℕ} {goal : Goal} {most steps : ℕ} {why : Option Ref
 near_met {weight} {goal} {most} {steps} {why} {old} {new} walked none =
     (steps, None, new, subst (λ w. HasWalked weight goal most old steps w new) none walked, (refl, refl))
 
--- it took all its steps
-pub near_spent : {weight : ℕ} {goal : Goal} {most steps : ℕ} {why : Option Refusal} {old new : PlainSession} → HasWalked weight goal most old steps why new → why ≡ Some NotMet →
-    IsAsNear weight goal most old Spent new
-near_spent {weight} {goal} {most} {steps} {why} {old} {new} walked spent =
-    (steps, Some NotMet, new, subst (λ w. HasWalked weight goal most old steps w new) spent walked, (refl, refl))
-
 -- a step was refused
-unmet_answered : (steps : ℕ) (refusal : Refusal) (there new : PlainSession) → (refusal ≡ NotMet → ⊥) → IsAnswered steps (Some refusal) there (Unmet refusal steps) new
-unmet_answered steps NotMet there new other = absurd (other refl)
-unmet_answered steps JournalFull there new other = tt
-unmet_answered steps refusal there new other = refl
+unmet_answered : (steps : ℕ) (refusal : Refusal) (there new : PlainSession) → IsAnswered steps (Some refusal) there (Unmet refusal steps) new
+unmet_answered steps JournalFull there new = tt
+unmet_answered steps refusal there new = refl
 
 pub near_unmet : {weight : ℕ} {goal : Goal} {most steps : ℕ} {why : Option Refusal} {old there : PlainSession} (refusal : Refusal) (new : PlainSession) →
-    HasWalked weight goal most old steps why there → why ≡ Some refusal → (refusal ≡ NotMet → ⊥) → IsAsNear weight goal most old (Unmet refusal steps) new
-near_unmet {weight} {goal} {most} {steps} {why} {old} {there} refusal new walked is other =
-    (steps, Some refusal, there, subst (λ w. HasWalked weight goal most old steps w there) is walked, unmet_answered steps refusal there new other)
+    HasWalked weight goal most old steps why there → why ≡ Some refusal → IsAsNear weight goal most old (Unmet refusal steps) new
+near_unmet {weight} {goal} {most} {steps} {why} {old} {there} refusal new walked is =
+    (steps, Some refusal, there, subst (λ w. HasWalked weight goal most old steps w there) is walked, unmet_answered steps refusal there new)
 
 -- where it lacked room, whatever is answered in its place
 lacking : (steps k : ℕ) (why : Option Refusal) (there new : PlainSession) (found : Search) (last : PlainSession) → IsAnswered steps why there (Unmet JournalFull k) new →
     IsAnswered steps why there found last
 lacking steps k None there new found last answered = let no = answered.0 in absurd (cc)
-lacking steps k (Some NotMet) there new found last answered = let no = answered.0 in absurd (cc)
 lacking steps k (Some JournalFull) there new found last answered = tt
 lacking steps k (Some other) there new found last answered = absurd (cc)
 

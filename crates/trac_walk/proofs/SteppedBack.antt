@@ -1,13 +1,12 @@
 -- Steps that are gone back over.
-use Rattle.std.proofs.Common.{◌≡◌, ℕ, zero, suc, ◌+◌, ◌<◌, [], length, refl, sym, ap, subst, ◌∙◌, arith, ⊎_elim}
+use Rattle.std.proofs.Common.{◌≡◌, ℕ, zero, suc, ◌<◌, length, refl, sym, ap, subst, ◌∙◌, arith, ⊎_elim}
 use Rattle.std.specs.Prelude.{Option, None, Some, true, false}
 use Rattle.std.proofs.lemmas.Option.{option_and_then_some}
 use Rattle.trac_rules.specs.declared.refusal.Refusal.{Refusal}
-use Rattle.trac_rules.specs.declared.refusal.Refusal.TheVariants.{Memory}
-use Rattle.trac_rules.specs.declared.reply.Reply.TheVariants.{Refused}
-use Rattle.trac_rules.specs.Session.{PlainSession, Step, Back, Answers, IsWalk, accepted_by, answer, done, no_goal, repeated}
-use Rattle.trac_rules.proofs.Replies.{Back_refused, Step_done, accepted_done, answer_Back_from}
-use Rattle.trac_rules.proofs.TakenAgain.{Back_done, repeated_after_one}
+use Rattle.trac_rules.specs.Session.{PlainSession, Step, Back, IsWalk, accepted_by, answer, done, no_goal, repeated}
+use Rattle.trac_rules.proofs.Replies.{Step_done, accepted_done, answer_Back_from}
+use Rattle.trac_rules.proofs.TakenAgain.{repeated_after_one}
+use Rattle.trac_session.proofs.Returned.{back_count, refused_at_start}
 
 -- back over a step is where it began
 one_back : (p q : PlainSession) → answer Step p ≡ done q → answer Back q ≡ done p
@@ -21,20 +20,6 @@ steps_back zero p q taken = sym taken
 steps_back (suc n) p q taken =
     option_and_then_some (λ (r : PlainSession). accepted_by (answer Step r)) (repeated Step n p) q taken
     (λ r there last. repeated_after_one Back n q r (one_back r q (accepted_done (answer Step r) q last)) ∙ steps_back n p r there)
-
--- each step back takes one state away
-back_count : (k : ℕ) (p q : PlainSession) → repeated Back k p ≡ Some q → length q.earlier + k ≡ length p.earlier
-back_count zero p q h = let same : p ≡ q = cc in omega (arith, ap (λ (s : PlainSession). length s.earlier) same)
-back_count (suc k) p q h =
-    option_and_then_some (λ (m : PlainSession). accepted_by (answer Back m)) (repeated Back k p) q h
-    (λ m there next.
-    let at = Back_done m q (accepted_done (answer Back m) q next) in
-    omega (arith, back_count k p m there, ap length at.2, ap (λ (s : PlainSession). length s.earlier) at.3))
-
--- no step back is refused but at the first state
-refused_at_start : (refusal : Refusal) (p q : PlainSession) → Answers Back p (Refused refusal) q → p.earlier ≡ []
-refused_at_start Memory p q h = absurd h.0
-refused_at_start other p q h = (Back_refused p q other h).2
 
 -- a walk back by as many steps as were taken comes to where they began
 pub came_back : (n : ℕ) (p q r : PlainSession) (steps : ℕ) (why : Option Refusal) → repeated Step n p ≡ Some q → IsWalk Back no_goal n q steps why r → r ≡ p

@@ -7,17 +7,18 @@ use Rattle.trac_session.specs.Within.{IsSearchWithin}
 use Rattle.trac_screen.specs.declared.notes.Stop.{Stop}
 use Rattle.trac_screen.specs.declared.notes.Stop.TheVariants as stops
 use Rattle.trac_walk.specs.declared.searching.Search.{Search}
-use Rattle.trac_walk.specs.declared.searching.Search.TheVariants.{Met, Spent, Unmet}
+use Rattle.trac_walk.specs.declared.searching.Search.TheVariants.{Met, Unmet}
 
--- a search that met nothing before a step was refused has left this as it was
+-- a search that did not meet its goal has left this as it was
 abbrev pub HasStayed : {X : Type 0} → Search → X → X → Type 0
+HasStayed Met old new = Unit {0}
 HasStayed (Unmet why step) old new = new ≡ old
-HasStayed ended old new = Unit {0}
 
 -- where this is said of a search, it has left that as it was
 abbrev pub IsAsToldOf : {X : Type 0} → Option Stop → X → X → Type 0
 IsAsToldOf (Some (stops.Unmet why)) old new = new ≡ old
 IsAsToldOf (Some (stops.UnmetUpTo why step)) old new = new ≡ old
+IsAsToldOf (Some (stops.SpentUpTo step)) old new = new ≡ old
 IsAsToldOf other old new = Unit {0}
 
 -- ---- within the room that there is
@@ -34,11 +35,10 @@ abbrev pub HasWalked : ℕ → Goal → ℕ → PlainSession → ℕ → Option 
 HasWalked weight goal most old steps why new =
     (said : Option Refusal) × IsSearchWithin weight goal most old steps said new × IsReason steps most said why
 
--- what is answered of it, with where it came to: it stays there if it met its goal or took all its steps; that it lacked room is no
--- answer, and then nothing is said here
+-- what is answered of it, with where it came to: it stays there if it met its goal; that it lacked room is no answer, and then
+-- nothing is said here
 abbrev pub IsAnswered : ℕ → Option Refusal → PlainSession → Search → PlainSession → Type 0
 IsAnswered steps None there found new = (found ≡ Met) × (new ≡ there)
-IsAnswered steps (Some NotMet) there found new = (found ≡ Spent) × (new ≡ there)
 IsAnswered steps (Some JournalFull) there found new = Unit {0}
 IsAnswered steps (Some refusal) there found new = found ≡ Unmet refusal steps
 

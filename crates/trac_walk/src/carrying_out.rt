@@ -79,7 +79,7 @@ fn until<A: Allocator + Copy>(walker: &mut Walker<A>, aim: Aim<'_>) -> Option<St
     let start = walker.step();
     match walker.search(aim, SEARCH_LIMIT) {
         Search::Met => None,
-        Search::Spent => Some(Stop::Spent),
+        Search::Unmet(Refusal::NotMet, done) => Some(Stop::SpentUpTo(start.saturating_add(done))),
         Search::Unmet(refusal, 0) => Some(Stop::Unmet(refusal)),
         Search::Unmet(refusal, done) => {
             Some(Stop::UnmetUpTo(refusal, start.saturating_add(done)))

@@ -33,6 +33,8 @@ pub struct Memo<'p, A: Allocator + Copy> {
     places: Places<A>,
     // whether an empty line follows on from where a byte of the output came from
     follows_on: bool,
+    // whether an empty line goes on from the latest place, where the steps of a search were spent
+    goes_on: bool,
 }
 
 impl<'p, A: Allocator + Copy> Memo<'p, A> {
@@ -44,6 +46,7 @@ impl<'p, A: Allocator + Copy> Memo<'p, A> {
             told: false,
             places: Places::new(alloc),
             follows_on: false,
+            goes_on: false,
         }
     }
 
@@ -51,13 +54,14 @@ impl<'p, A: Allocator + Copy> Memo<'p, A> {
     fn keep_line(&mut self, alloc: A, line: &[u8]) -> Result<(), AllocError> {
         self.last = Vec::from_slice(alloc, line)?;
         self.follows_on = false;
+        self.goes_on = false;
         Ok(())
     }
 }
 
 /// Does what a line asks for, and puts what is to be said of it at the end of a text; whether the dialogue goes on. An empty
-/// line asks for the last move again, or to follow a byte as the last line that did; before the first of these it says where
-/// the walk stands. The error is that memory was refused, here and below.
+/// line asks for the last move again, for a search whose steps were spent from where it ended, or to follow a byte as the last
+/// line that did; before the first of these it says where the walk stands. The error is that memory was refused, here and below.
 pub fn reply_into<A: Allocator + Copy>(
     alloc: A,
     walker: &mut Walker<A>,
@@ -76,8 +80,32 @@ pub fn reply_into<A: Allocator + Copy>(
         stand_into(alloc, walker, out)?;
         return Ok(true);
     }
+    let stop = go_on(walker, memo)?;
+    if stop.is_some() {
+        tell(alloc, walker, stop, &mut memo.told, out)?;
+        stand_into(alloc, walker, out)?;
+        return Ok(true);
+    }
     let last = Vec::from_slice(alloc, memo.last.as_slice())?;
     obey_line(alloc, walker, memo, last.as_slice(), out)
+}
+
+// Goes to where the steps of a search were spent, if the last move was such a search, and keeps where the walk stood in place
+// of that.
+fn go_on<A: Allocator + Copy>(
+    walker: &mut Walker<A>,
+    memo: &mut Memo<'_, A>,
+) -> Result<Option<Stop>, AllocError> {
+    if !memo.goes_on {
+        return Ok(None);
+    }
+    let start = walker.step();
+    let Some(place) = memo.places.take(start, walker.first_step()) else {
+        return Ok(None);
+    };
+    let stop = carry_out(walker, Move::To(place));
+    memo.places.keep(start, walker.step())?;
+    Ok(stop)
 }
 
 // Does what a line asks for that has words; whether the dialogue goes on.
@@ -177,6 +205,10 @@ fn keep_start<A: Allocator + Copy>(
     stop: Option<Stop>,
 ) -> Result<(), AllocError> {
     match (way, stop) {
+        (_, Some(Stop::SpentUpTo(reached))) => {
+            memo.goes_on = true;
+            memo.places.keep(reached, walker.step())
+        }
         (_, Some(Stop::UnmetUpTo(_, reached))) => memo.places.keep(reached, walker.step()),
         (Move::Forward(_) | Move::Back(_), _) => Ok(()),
         _ => memo.places.keep(start, walker.step()),
@@ -251,7 +283,13 @@ fn follow_on<A: Allocator + Copy>(
 fn is_unmet(stop: Option<Stop>) -> bool {
     matches!(
         stop,
-        Some(Stop::Unmet(_) | Stop::UnmetUpTo(_, _) | Stop::NotMet | Stop::Spent)
+        Some(
+            Stop::Unmet(_)
+                | Stop::UnmetUpTo(_, _)
+                | Stop::NotMet
+                | Stop::Spent
+                | Stop::SpentUpTo(_)
+        )
     )
 }
 

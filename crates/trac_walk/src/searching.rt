@@ -17,15 +17,15 @@ use trac_session::{Refusal, Session, Walk};
 pub enum Search {
     /// It stands at what was looked for.
     Met,
-    /// All its steps were taken, and it stands after them.
-    Spent,
-    /// A step was refused so, after so many steps on which nothing was met. It stands where it began.
+    /// A step was refused so, after so many steps on which nothing was met; `NotMet` where all its steps were taken. It stands
+    /// where it began.
     Unmet(Refusal, u64),
 }
 
 impl<A: Allocator + Copy> Walker<A> {
-    /// Goes forward to a goal, by so many steps at most. Where a step is refused before, also for memory, all that is kept is as
-    /// it was. To go further than that leaves room for, the walker runs the program anew from its start, beside it.
+    /// Goes forward to a goal, by so many steps at most. Where it is not met, or a step is refused before, also for memory, all
+    /// that is kept is as it was. To go further than that leaves room for, the walker runs the program anew from its start,
+    /// beside it.
     pub fn search(&mut self, aim: Aim<'_>, most: u64) -> Search
         ensures stayed { HasStayed result self.old.window self.new.window }
         ensures met { result ≡ Search.Met → goal_of_aim aim.entry self.new.window.session.last ≡ true }
@@ -34,14 +34,13 @@ impl<A: Allocator + Copy> Walker<A> {
         let weight = self.weight();
         match search_near(&mut self.window.session, aim, most, weight) {
             Search::Met => Search::Met,
-            Search::Spent => Search::Spent,
             Search::Unmet(Refusal::JournalFull, done) => self.search_far(aim, done, most),
             Search::Unmet(refusal, done) => Search::Unmet(refusal, done),
         }
     }
 
     // The same after so many steps on which nothing was met, in a run of the program anew. What that keeps takes the place of
-    // what was kept, but where a step is refused.
+    // what was kept if it meets the goal.
     fn search_far(&mut self, aim: Aim<'_>, done: u64, most: u64) -> Search
         ensures stayed { HasStayed result self.old.window self.new.window }
         ensures met { result ≡ Search.Met → goal_of_aim aim.entry self.new.window.session.last ≡ true }
@@ -55,7 +54,6 @@ impl<A: Allocator + Copy> Walker<A> {
         let kept = mem::replace(&mut self.window, window);
         match self.search_from(start, aim, done, most) {
             Search::Met => Search::Met,
-            Search::Spent => Search::Spent,
             Search::Unmet(refusal, done) => {
                 self.window = kept;
                 self.reason = reason;
@@ -73,7 +71,6 @@ impl<A: Allocator + Copy> Walker<A> {
         }
         match self.forward_to(aim, most.saturating_sub(done)) {
             None => Search::Met,
-            Some(Refusal::NotMet) => Search::Spent,
             Some(refusal) => Search::Unmet(refusal, self.step().saturating_sub(start)),
         }
     }
@@ -96,13 +93,8 @@ fn search_near<A: Allocator + Copy>(
     let Some(refusal) = walk.why else {
         return Search::Met;
     };
-    match refusal {
-        Refusal::NotMet => Search::Spent,
-        _ => {
-            session.back(walk.done);
-            Search::Unmet(refusal, walk.done)
-        }
-    }
+    session.back(walk.done);
+    Search::Unmet(refusal, walk.done)
 }
 
 // The same, and stays where it has come to: `NotMet` after all the steps.

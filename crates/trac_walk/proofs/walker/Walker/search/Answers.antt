@@ -1,13 +1,9 @@
 use Rattle.std.proofs.Common.{ap}
-use Rattle.trac_window.specs.declared.window.Window.{Window}
 use Rattle.trac_walk.proofs.Searched.{near_at, near_far}
 use Rattle.trac_walk.proofs.walker.Walker.search.Goals as goal
 
 pub returns-in-Met-clause-near : goal.returns-in-Met-clause-near
 returns-in-Met-clause-near g c = near_at c.weight-weight.ensures c.in-Met.ensures.near
-
-pub returns-in-Spent-clause-near : goal.returns-in-Spent-clause-near
-returns-in-Spent-clause-near g c = near_at c.weight-weight.ensures c.in-Spent.ensures.near
 
 pub returns-in-Unmet-JournalFull-default-clause-near : goal.returns-in-Unmet-JournalFull-default-clause-near
 returns-in-Unmet-JournalFull-default-clause-near g c = λ light.
